@@ -1,0 +1,11 @@
+use Rattle.std.proofs.Common.{List, subst}
+use Rattle.std.specs.Prelude.{bytes_eq}
+use Rattle.std.specs.List.{IsDistinct}
+use Rattle.dom_model.specs.Attributes.{Attribute, attribute_names}
+use Rattle.dom_attrs.specs.Entries.{entries_in}
+use Rattle.dom_attrs.proofs.EntriesLemmas.{distinct_names}
+use Rattle.dom_attrs.proofs.Attrs.len.Goals as goal
+
+pub returns-in-None-clause-distinct : goal.returns-in-None-clause-distinct
+returns-in-None-clause-distinct c =
+    subst (λ (l : List Attribute). IsDistinct bytes_eq (attribute_names l)) c.self.view_is (distinct_names (entries_in c.self.inside.map) c.self.invariant)

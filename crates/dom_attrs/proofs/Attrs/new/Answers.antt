@@ -1,0 +1,5 @@
+use Rattle.dom_attrs.proofs.AttributeLemmas.{IsDistinct-nil}
+use Rattle.dom_attrs.proofs.Attrs.new.Goals as goal
+
+pub invariant_of-result : goal.invariant_of-result
+invariant_of-result c = IsDistinct-nil _

@@ -1,0 +1,84 @@
+//! A map from names to values, as the attributes that its entries are.
+ghost use Rattle.std.specs.Prelude.{◌≡◌, [], length, slice_get, option_map, option_copied, string_bytes, string_eq, bytes_eq, IfOk, OnOk, OnErr};
+ghost use Rattle.std.specs.List.{IsDistinct, list_any};
+ghost use Rattle.std.specs.Map.{keys_of};
+ghost use Rattle.dom_model.specs.Attributes.{attribute_value, attribute_names, with_attribute, without_attribute, is_attribute};
+ghost use Rattle.dom_attrs.specs.Entries.{attribute_at, attributes_of, entries_in};
+
+use dom_units::Units;
+use indexmap::IndexMap;
+use std::alloc::{AllocError, Global};
+
+// The number of attributes.
+pub fn count_in(map: &IndexMap<String, Units>) -> usize
+    ensures len { result ≡ length (attributes_of map.now.entries) }
+    ensures distinct { IsDistinct bytes_eq (attribute_names (attributes_of map.now.entries)) }
+{
+    map.len()
+}
+
+// The value of the attribute of that name.
+pub fn value_in<'a>(map: &'a IndexMap<String, Units>, name: &str) -> Option<&'a Units>
+    ensures { option_copied result ≡ attribute_value name.now (attributes_of map.now.entries) }
+{
+    map.get(name)
+}
+
+// Whether there is an attribute of that name and that value.
+pub fn has_in(map: &IndexMap<String, Units>, name: &str, value: &Units) -> bool
+    requires { IsDistinct string_eq (keys_of map.now.entries) }
+    ensures { result ≡ list_any (is_attribute (record { name = name.now; value = value.now })) (attributes_of map.now.entries) }
+{
+    match map.get(name) {
+        None => false,
+        Some(found) => value.units() == found.units(),
+    }
+}
+
+// The attribute at an index.
+pub fn pair_in(map: &IndexMap<String, Units>, index: usize) -> Option<(&str, &Units)>
+    ensures { option_map attribute_at result ≡ slice_get (attributes_of map.now.entries) index }
+{
+    match map.get_index(index) {
+        None => None,
+        Some((name, value)) => Some((name.as_str(), value)),
+    }
+}
+
+// The map, or an empty one where there is none.
+pub fn or_new(
+    alloc: Global,
+    map: Option<Box<IndexMap<String, Units>>>,
+) -> Result<Box<IndexMap<String, Units>>, AllocError>
+    ensures ok { IfOk result (λ made. made.value.entries ≡ entries_in map) }
+    ensures err { OnErr result (entries_in map ≡ []) }
+{
+    match map {
+        None => Ok(Box::new(alloc, IndexMap::new(alloc))?),
+        Some(map) => Ok(map),
+    }
+}
+
+// Sets a value, and answers the old one.
+pub fn put_in(
+    map: &mut IndexMap<String, Units>,
+    name: String,
+    value: Units,
+) -> Result<Option<Units>, AllocError>
+    ensures old { IfOk result (λ old. old ≡ attribute_value (string_bytes name) (attributes_of map.old.entries)) }
+    ensures ok { OnOk result (attributes_of map.new.entries ≡ with_attribute (string_bytes name) value (attributes_of map.old.entries)) }
+    ensures err { OnErr result (map.new.entries ≡ map.old.entries) }
+    ensures unique { IsDistinct string_eq (keys_of map.new.entries) }
+{
+    let old = map.insert(name, value)?;
+    Ok(old)
+}
+
+// Takes the attribute of that name out, and answers its value.
+pub fn take_from(map: &mut IndexMap<String, Units>, name: &str) -> Option<Units>
+    ensures value { result ≡ attribute_value name.now (attributes_of map.old.entries) }
+    ensures rest { attributes_of map.new.entries ≡ without_attribute name.now (attributes_of map.old.entries) }
+    ensures unique { IsDistinct string_eq (keys_of map.new.entries) }
+{
+    map.shift_remove(name)
+}

@@ -1,0 +1,174 @@
+//! The attributes of an element: names to values, in the order in which the names came.
+#![tactic(auto)]
+
+ghost use Rattle.std.specs.Prelude.{◌≡◌, ◌<◌, [], length, slice_get, option_map, option_copied, string_bytes, bytes_eq, IsTrue, ◌↔◌, IfOk, OnOk, OnErr};
+ghost use Rattle.dom_model.specs.Attributes.{Attribute, attribute_value, attribute_names, with_attribute, without_attribute, is_attribute, are_among, same_attributes};
+ghost use Rattle.dom_attrs.specs.Entries.{attribute_at};
+ghost use Rattle.std.specs.List.{IsDistinct, list_any};
+
+use dom_units::Units;
+use indexmap::IndexMap;
+use std::alloc::{AllocError, Global};
+use std::marker::Model;
+
+mod entries;
+#[cfg(test)]
+mod tests;
+
+/// The attributes of an element (DOM Standard, "Interface Element").
+///
+/// A contract sees them as the list of the attributes, in order. No two have the same name.
+#[derive(Debug, Drop)]
+pub struct Attrs {
+    // none until the first attribute is set, since most nodes have no attributes
+    map: Option<Box<IndexMap<String, Units>>>,
+    alloc: Global,
+}
+
+impl Model for Attrs {
+    ghost use Rattle.std.specs.Prelude.{List};
+    ghost use Rattle.dom_model.specs.Attributes.{Attribute};
+    ghost use Rattle.std.specs.Prelude.{string_eq};
+    ghost use Rattle.std.specs.List.{IsDistinct};
+    ghost use Rattle.std.specs.Map.{keys_of};
+    ghost use Rattle.dom_attrs.specs.Entries.{entries_in, attributes_of};
+
+    ghost Value = { List Attribute };
+
+    ghost view = { λ a. attributes_of (entries_in a.map) };
+
+    ghost invariant = { λ a. IsDistinct string_eq (keys_of (entries_in a.map)) };
+}
+
+impl Attrs {
+    /// No attributes.
+    pub fn new(alloc: Global) -> Attrs
+        ensures { result ≡ [] }
+    {
+        Attrs { map: None, alloc }
+    }
+
+    /// The number of attributes.
+    pub fn len(&self) -> usize
+        ensures len { result ≡ length self.now }
+
+        // no two have the same name
+        ensures distinct { IsDistinct bytes_eq (attribute_names self.now) }
+    {
+        match &self.map {
+            None => 0,
+            Some(map) => entries::count_in(map),
+        }
+    }
+
+    /// Whether there is no attribute.
+    pub fn is_empty(&self) -> bool
+        ensures { IsTrue result ↔ (self.now ≡ []) }
+    {
+        self.len() == 0
+    }
+
+    /// The value of the attribute of that name ("get an attribute by name").
+    pub fn get(&self, name: &str) -> Option<&Units>
+        ensures { option_copied result ≡ attribute_value name.now self.now }
+    {
+        match &self.map {
+            None => None,
+            Some(map) => entries::value_in(map, name),
+        }
+    }
+
+    /// The attribute at an index, its name and its value.
+    pub fn at(&self, index: usize) -> Option<(&str, &Units)>
+        ensures { option_map attribute_at result ≡ slice_get self.now index }
+    {
+        match &self.map {
+            None => None,
+            Some(map) => entries::pair_in(map, index),
+        }
+    }
+
+    /// Sets a value: in place, or last where the name is new. It answers the old value.
+    pub fn set(&mut self, name: String, value: Units) -> Result<Option<Units>, AllocError>
+        ensures old { IfOk result (λ old. old ≡ attribute_value (string_bytes name) self.old) }
+        ensures ok { OnOk result (self.new ≡ with_attribute (string_bytes name) value self.old) }
+        ensures err { OnErr result (self.new ≡ self.old) }
+    {
+        let mut map = entries::or_new(self.alloc, self.map.take())?;
+        let outcome = entries::put_in(&mut map, name, value);
+        self.map = Some(map);
+        outcome
+    }
+
+    /// Takes the attribute of that name out ("remove an attribute by name"); those after it move up. It answers the value.
+    pub fn remove(&mut self, name: &str) -> Option<Units>
+        ensures value { result ≡ attribute_value name.now self.old }
+        ensures rest { self.new ≡ without_attribute name.now self.old }
+    {
+        let mut map = self.map.take()?;
+        let value = entries::take_from(&mut map, name);
+        self.map = Some(map);
+        value
+    }
+
+    /// Whether both have the same attributes, in whatever order.
+    pub fn same(&self, other: &Attrs) -> bool
+        ensures { result ≡ same_attributes self.now other.now }
+    {
+        self.are_among(other) && other.are_among(self)
+    }
+
+    /// A copy, in memory of its own.
+    pub fn try_clone(&self, alloc: Global) -> Result<Attrs, AllocError>
+        ensures { IfOk result (λ copy. copy ≡ self.now) }
+    {
+        let count = self.len();
+        let mut copy = Attrs::new(alloc);
+        for index in 0..count {
+            let (name, value) = self.pair_at(index);
+            copy.set_copied(alloc, name, value)?;
+        }
+        Ok(copy)
+    }
+
+    // Sets a copy of a value at a copy of a name.
+    fn set_copied(&mut self, alloc: Global, name: &str, value: &Units) -> Result<(), AllocError>
+        ensures { OnOk result (self.new ≡ with_attribute name.now value.now self.old) }
+    {
+        let name = String::from_str(alloc, name)?;
+        let value = value.try_clone(alloc)?;
+        let _ = self.set(name, value)?;
+        Ok(())
+    }
+
+    // Whether each of these attributes is one of the others.
+    fn are_among(&self, other: &Attrs) -> bool
+        ensures { result ≡ are_among self.now other.now }
+    {
+        for index in 0..self.len() {
+            let (name, value) = self.pair_at(index);
+            if !other.has(name, value) {
+                return false;
+            }
+        }
+        true
+    }
+
+    // Whether there is an attribute of that name and that value.
+    fn has(&self, name: &str, value: &Units) -> bool
+        ensures { result ≡ list_any (is_attribute (record { name = name.now; value = value.now })) self.now }
+    {
+        match &self.map {
+            None => false,
+            Some(map) => entries::has_in(map, name, value),
+        }
+    }
+
+    // The attribute at an index that is below the length.
+    fn pair_at(&self, index: usize) -> (&str, &Units)
+        requires { index < length self.now }
+        ensures { slice_get self.now index ≡ Some (attribute_at result) }
+    {
+        self.at(index).unwrap()
+    }
+}

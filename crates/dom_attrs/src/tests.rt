@@ -1,0 +1,165 @@
+//! Examples of attributes: set in place or last, taken out, compared as sets, copied, and twenty thousand of them.
+use super::Attrs;
+use dom_units::Units;
+use std::alloc::{AllocError, Global};
+use std::process::Abort;
+use std::test::Fail;
+
+// Attributes of these names and texts, set in this order.
+fn made(alloc: Global, pairs: &[(&str, &str)]) -> Result<Attrs, AllocError> {
+    let mut attrs = Attrs::new(alloc);
+    for (name, value) in pairs {
+        let name = String::from_str(alloc, name)?;
+        let value = Units::from_str(alloc, value)?;
+        let _ = attrs.set(name, value)?;
+    }
+    Ok(attrs)
+}
+
+// That these are the attributes, in order; the values are ASCII.
+fn expect(rt: &impl Abort, attrs: &Attrs, pairs: &[(&str, &str)]) {
+    assert_eq!(rt; attrs.len(), pairs.len());
+    let mut index = 0;
+    for (name, value) in pairs {
+        match attrs.at(index) {
+            None => assert!(rt; false, "no attribute at {index}"),
+            Some((found, units)) => {
+                assert!(rt; found == *name, "at {index}");
+                assert!(rt;
+                    units
+                        .units()
+                        .iter()
+                        .copied()
+                        .eq(value.bytes().map(u16::from)),
+                    "at {index}"
+                );
+            }
+        }
+        index = index.saturating_add(1);
+    }
+    assert!(rt; attrs.at(index).is_none());
+}
+
+#[test]
+fn set_and_taken_out(rt: HostRuntime) -> Result<(), Fail> {
+    let alloc = rt.alloc();
+    let mut attrs = Attrs::new(alloc);
+    assert!(rt; attrs.is_empty());
+    assert!(rt; attrs.get("k").is_none());
+    assert!(rt; attrs.remove("k").is_none());
+    let none = attrs.set(String::from_str(alloc, "k")?, Units::new(alloc))?;
+    assert!(rt; none.is_none());
+    assert!(rt; !attrs.is_empty());
+    let none = attrs.set(String::from_str(alloc, "a")?, Units::from_str(alloc, "1")?)?;
+    assert!(rt; none.is_none());
+    let old = attrs.set(String::from_str(alloc, "k")?, Units::from_str(alloc, "2")?)?;
+    assert!(rt; old.ok_or("old")?.is_empty());
+    expect(&rt, &attrs, &[("k", "2"), ("a", "1")]);
+    let none = attrs.set(String::from_str(alloc, "")?, Units::from_str(alloc, "3")?)?;
+    assert!(rt; none.is_none());
+    expect(&rt, &attrs, &[("k", "2"), ("a", "1"), ("", "3")]);
+    let gone = attrs.remove("k").ok_or("k")?;
+    assert_eq!(rt; gone.units(), [50].as_slice());
+    expect(&rt, &attrs, &[("a", "1"), ("", "3")]);
+    assert!(rt; attrs.get("k").is_none());
+    assert_eq!(rt; attrs.get("").ok_or("empty name")?.units(), [51].as_slice());
+    Ok(())
+}
+
+#[test]
+fn the_order_stays(rt: HostRuntime) -> Result<(), Fail> {
+    let alloc = rt.alloc();
+    let mut attrs = made(
+        alloc,
+        &[("b", "1"), ("a", "2"), ("d", "3"), ("c", "4"), ("é", "5")],
+    )?;
+    let gone = attrs.remove("a").ok_or("a")?;
+    assert_eq!(rt; gone.units(), [50].as_slice());
+    expect(
+        &rt,
+        &attrs,
+        &[("b", "1"), ("d", "3"), ("c", "4"), ("é", "5")],
+    );
+    let none = attrs.set(String::from_str(alloc, "a")?, gone)?;
+    assert!(rt; none.is_none());
+    expect(
+        &rt,
+        &attrs,
+        &[("b", "1"), ("d", "3"), ("c", "4"), ("é", "5"), ("a", "2")],
+    );
+    let copy = attrs.try_clone(alloc)?;
+    let gone = attrs.remove("b").ok_or("b")?;
+    assert_eq!(rt; gone.units(), [49].as_slice());
+    expect(
+        &rt,
+        &attrs,
+        &[("d", "3"), ("c", "4"), ("é", "5"), ("a", "2")],
+    );
+    expect(
+        &rt,
+        &copy,
+        &[("b", "1"), ("d", "3"), ("c", "4"), ("é", "5"), ("a", "2")],
+    );
+    Ok(())
+}
+
+#[test]
+fn compared_as_sets(rt: HostRuntime) -> Result<(), Fail> {
+    let alloc = rt.alloc();
+    let first = made(alloc, &[("a", "1"), ("b", "2")])?;
+    for (pairs, wanted) in [
+        ([("b", "2"), ("a", "1")].as_slice(), true),
+        ([("a", "1")].as_slice(), false),
+        ([("a", "1"), ("b", "2"), ("c", "")].as_slice(), false),
+        ([("a", "1"), ("b", "1")].as_slice(), false),
+        ([("a", "1"), ("c", "2")].as_slice(), false),
+        ([].as_slice(), false),
+    ] {
+        let second = made(alloc, pairs)?;
+        assert!(rt; first.same(&second) == wanted);
+        assert!(rt; second.same(&first) == wanted);
+    }
+    assert!(rt; Attrs::new(alloc).same(&Attrs::new(alloc)));
+    Ok(())
+}
+
+// A call that is refused leaves the attributes as they were.
+#[test]
+fn refused_growth(rt: HostRuntime) -> Result<(), Fail> {
+    let alloc = rt.alloc();
+    let mut attrs = Attrs::new(alloc);
+    let names = ["a", "b", "c", "d", "e", "f", "g", "h", "i", "j", "k", "l"];
+    for name in names {
+        let value = Units::new(alloc);
+        let key = String::from_str(alloc, name)?;
+        let before = attrs.len();
+        match attrs.set(key, value) {
+            Ok(_) => assert!(rt; attrs.get(name).is_some()),
+            Err(_) => {
+                assert!(rt; attrs.get(name).is_none());
+                assert_eq!(rt; attrs.len(), before);
+            }
+        }
+    }
+    Ok(())
+}
+
+#[test]
+fn twenty_thousand(rt: HostRuntime) -> Result<(), Fail> {
+    let alloc = rt.alloc();
+    let mut attrs = Attrs::new(alloc);
+    for number in 0..20_000u16 {
+        let name = format!(in alloc; "data-{number}")?;
+        let value = Units::from_units(alloc, &[number])?;
+        assert!(rt; attrs.set(name, value)?.is_none());
+    }
+    assert_eq!(rt; attrs.len(), 20_000);
+    for number in 0..20_000u16 {
+        let name = format!(in alloc; "data-{number}")?;
+        let value = attrs.get(name.as_str()).ok_or("lost")?;
+        assert_eq!(rt; value.units(), [number].as_slice());
+    }
+    let copy = attrs.try_clone(alloc)?;
+    assert!(rt; copy.same(&attrs));
+    Ok(())
+}

@@ -1,0 +1,16 @@
+//! The kinds of node, what a node is labelled with, which names are valid, and the exceptions of the standard.
+#![tactic(auto)]
+
+pub mod error;
+pub mod kind;
+pub mod label;
+pub mod names;
+
+pub use dom_model::{DomError, Kind};
+pub use error::Exception;
+pub use kind::NodeType;
+pub use label::Label;
+pub use names::{is_attribute_name, is_doctype_name, is_element_name};
+
+#[cfg(test)]
+mod tests;

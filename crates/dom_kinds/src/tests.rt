@@ -1,0 +1,76 @@
+//! Examples of names at the edges of the rules, of numbers, names and codes, and of a copied label.
+use super::{
+    DomError, Exception, Kind, Label, NodeType, is_attribute_name, is_doctype_name, is_element_name,
+};
+use std::test::Fail;
+
+#[test]
+fn element_names(rt: HostRuntime) {
+    for name in [
+        "a",
+        "Z",
+        ":",
+        "_",
+        "é",
+        "a1",
+        "a=b",
+        "a\u{7F}",
+        "é-1.x:y_",
+        ":é",
+        "a\"<",
+        "\u{80}",
+    ] {
+        assert!(rt; is_element_name(name), "{name}");
+    }
+    for name in [
+        "", "1a", "-", ".", "=", "a b", "a\t", "a\n", "a\u{C}", "a\r", "a\0", "a/", "a>", "\u{7F}",
+        "_=", "_\u{7F}", ": ", "é/", "@", "[", "`", "{",
+    ] {
+        assert!(rt; !is_element_name(name), "{name}");
+    }
+}
+
+#[test]
+fn other_names(rt: HostRuntime) {
+    for name in ["1", "a<b", "\u{7F}", "\u{80}", "-", "\"", "é"] {
+        assert!(rt; is_attribute_name(name), "{name}");
+    }
+    for name in ["", " ", "a\t", "\n", "\u{C}b", "\r", "\0", "a/", "a=b", ">"] {
+        assert!(rt; !is_attribute_name(name), "{name}");
+    }
+    for name in ["", "html", "1/=", "\u{7F}", "é"] {
+        assert!(rt; is_doctype_name(name), "{name}");
+    }
+    for name in [" ", "a\t", "\n", "\u{C}", "a\rb", "\0", "a>"] {
+        assert!(rt; !is_doctype_name(name), "{name}");
+    }
+}
+
+#[test]
+fn numbers_and_names(rt: HostRuntime) {
+    assert_eq!(rt; Kind::ProcessingInstruction.number(), 7);
+    assert_eq!(rt; Kind::DocumentFragment.number(), 11);
+    assert_eq!(rt; DomError::InvalidNodeTypeError.code(), 24);
+    assert_eq!(rt; DomError::TypeError.code(), 0);
+    assert_eq!(rt;
+        DomError::HierarchyRequestError.name(),
+        "HierarchyRequestError"
+    );
+}
+
+#[test]
+fn copied_label(rt: HostRuntime) -> Result<(), Fail> {
+    let alloc = rt.alloc();
+    let label = Label {
+        kind: Kind::DocumentType,
+        name: String::from_str(alloc, "html")?,
+        public_id: String::from_str(alloc, "é")?,
+        system_id: String::new(alloc),
+    };
+    let copy = label.try_clone(alloc)?;
+    assert!(rt; copy.kind == Kind::DocumentType);
+    assert_eq!(rt; copy.name.as_str(), "html");
+    assert_eq!(rt; copy.public_id.as_str(), "é");
+    assert_eq!(rt; copy.system_id.as_str(), "");
+    Ok(())
+}

@@ -1,0 +1,133 @@
+-- `get` shows the node that the pool lends. Assumes `Logic`.
+use mathlib.Core.Path.{◌≡◌, refl, sym, subst}
+use Prim.Native.Nat.{ℕ}
+use mathlib.Core.List.{List, [], ◌∷◌, ◌++◌}
+use seplogic.Ra.Ura.{Ura}
+use base.Fraction.{full_share}
+use mir.Syntax.{Fn, named}
+use mir.MapTy.{inst_fn}
+use mir.Val.{Val, vptr}
+use base.Logic.{SProp, ent}
+use base.Fml.{Lft, Share, Fml, ftrue, fat, flft}
+use prog.Wp.{Env, Calls, Loops, WpFn, Tables}
+use types.Logic.{Logic}
+use contract.Monad.{fact}
+use contract.Running.{tables, tables_of}
+use sound.WpLaws.{WpFn-mono}
+use types.Kit.{Item, ⋆, ‵, ◌⊛◌, at_ret, ◌$◌, ◌∵◌, !, qed, by, move, keep, drop, use1, split, join, rewrite, fsplit, fjoin, feq_i, feq_l, suffices, frame, done}
+use types.Part.{whole, sub}
+use types.Run.{stop, hop, fld, from, of_opd, addr, first, blocks, exec, returns, enter}
+use types.ByLocal.{alloc_all, pass_all, free_all, look_at, look_in_at, take_at, give_at, get, sets, sets_last, env}
+use denote.Exit.{yes, no}
+use denote.RattleType.{owns}
+use denote.Memory.{hidden_shr}
+use denote.Param.{layout}
+use denote.RawPtr.{Ptr, null_ptr, in_a_block}
+use denote.Ref.{Bor, ShrRef}
+use denote.Builtin.{RefOf}
+use denote.Opens.{hide, unhide}
+use denote.Signature.{plain}
+use denote.Steps.{nothing}
+use denote.Struct.Lending.{lent_at}
+use denote.Triple.Carry.{spared}
+use denote.Triple.Clauses.{Clauses, Ended, closing}
+use denote.Triple.Entry.{on_entry}
+use denote.Triple.Spec.{Meets, triple_of}
+use denote.Triple.Table.{entered, run_framed}
+use denote.Triple.Walked.{says, needs, Stays, stay_dropped, walk_of, ends_at, Goes-dropped, walk_Meets}
+use Rattle.std.specs.Prelude.{IsSome, Some}
+use Rattle.std_alloc.proofs.VecSteps.Shapes.{after}
+use Rattle.std_alloc.proofs.RcSteps.{word, word-Good}
+use Rattle.dom_links.specs.Cells.{look}
+use Rattle.dom_links.specs.Ownership.{cells_lent}
+use Rattle.dom_links.proofs.Finding.{Found, found}
+use Rattle.dom_links.proofs.Memory.{El, args, R, Pr, Np, word_had, cell_seen}
+use Rattle.dom_links.specs.contracts.pool.Pool.get.Key.{name as #self}
+use Rattle.dom_links.proofs.pool.Pool.get.Statement as stated
+use Rattle.dom_links.proofs.pool.Pool.get.Code as code
+
+module _ (E : El) where
+  abbrev function : Fn
+  function = inst_fn (args E) code.function
+
+  abbrev ended : Ended
+  ended = record { signature = record { lifetimes = 1; outlives = []; params = RefOf (0 ∷ []) tt (plain (λ _. Pr E)) (λ _. tt) ∷ plain (λ _. Np E) ∷ []; result = RefOf (0 ∷ []) tt (plain (λ _. R E)) (λ _. tt) }; kept = (yes, (no, tt)) }
+
+  abbrev stayed : Stays ended.signature.params ended.kept
+  stayed = (stay_dropped (RefOf (0 ∷ []) tt (plain (λ _. Pr E)) (λ _. tt)) yes, (stay_dropped (plain (λ _. Np E)) no, tt))
+
+  abbrev Asks : (Pr E).Denot → (Np E).Denot → Type 0
+  Asks d node = IsSome (look node.ptr d.cells)
+
+  abbrev Gives : (Pr E).Denot → (Np E).Denot → Bor E.row.Denot → Type 0
+  Gives d node r = look node.ptr d.cells ≡ Some r.now
+
+  abbrev spec : {M : Type 1} {𝓤 : Ura M} (𝓛 : Logic 𝓤) → Clauses 𝓤 ended
+  spec {𝓤 = 𝓤} 𝓛 κs a = record { ghost = Unit {0}; requires = λ _. fact 𝓤 (Asks a.0.now a.1.0); ensures = λ _ r w. fact 𝓤 (Gives a.0.now a.1.0 r) }
+
+module _ (E : El) {M : Type 1} {𝓤 : Ura M} (𝓛 : Logic 𝓤) (C : Calls 𝓤 𝓛.H) (Λ : Loops 𝓤 𝓛.H) (κ : Lft) (q : Share) (rb ro : ℕ) (d : (Pr E).Denot) (node : (Np E).Denot) (us0 us1 : List Val) where
+  open 𝓛 use {H}
+
+  abbrev self : Bor (Pr E).Denot
+  self = record { ref_ptr = (rb, ro); now = d }
+
+  abbrev bound : (walk_of 𝓛 (ended E) (stayed E) (spec E 𝓛)).Ghost
+  bound = (((κ, tt), (q, tt), tt, (self, (node, tt)), (us0, (us1, tt))), tt)
+
+  abbrev Post : Val → SProp 𝓤
+  Post = (walk_of 𝓛 (ended E) (stayed E) (spec E 𝓛)).post bound
+
+  exits : (r : Bor E.row.Denot) (v : Val) → Gives E d node r → ent 𝓤 (⋆ 𝓛 (‵ (flft κ q) ∷ ‵ ((ShrRef (named 0) κ (R E)).own_val r (v ∷ [])) ∷ [])) (Post v)
+  exits r v g0 =
+      qed 𝓛 (‵ (flft κ q) ∷ ‵ ((ShrRef (named 0) κ (R E)).own_val r (v ∷ [])) ∷ []) ∵
+      suffices ! _ (ends_at 𝓛 (ended E) (stayed E) (spec E 𝓛) bound v r (tt, (tt, tt)) (tt, (tt, tt))) $ says ! g0 $
+      nothing ! $ move ! (1 ∷ 0 ∷ []) $ join ! $ frame ! $ nothing ! $ nothing ! $ fjoin ! $ nothing ! $ fjoin ! $ done !
+
+  abbrev Had : List (Item 𝓤)
+  Had = ‵ (hidden_shr (Pr E) κ d rb ro) ∷ ‵ (flft κ q) ∷ []
+
+  walk : Asks E d node → ent 𝓤 (⋆ 𝓛 Had) (WpFn 𝓤 H C Λ (function E) (vptr rb ro ∷ word node.ptr ∷ []) Post)
+  walk asked =
+      let f : Found node.ptr d.cells = found node.ptr d.cells asked in
+      let Lent : Ptr → Fml = λ p. lent_at (R E) p f.item κ in
+      qed 𝓛 Had ∵ enter ! C Λ (function E) (vptr rb ro ∷ word node.ptr ∷ []) _ $ alloc_all ! (λ l. pass_all ! refl ((tt, tt), (word-Good [] node.ptr, tt)) $
+      let En : Env 𝓤 H = env (function E).locals l in
+      unhide ! $ fsplit ! $ drop ! $ rewrite ! 0 (λ (cs : List (Ptr × E.row.Denot)). ‵ (cells_lent (R E) cs κ)) f.cut refl $
+      use1 𝓛 (‵ (Lent node.ptr)) (cell_seen 𝓛 (R E) κ f.before (node.ptr, f.item) f.after) $
+      in_a_block ! node.ptr Lent (qed 𝓛 (‵ (Lent null_ptr) ∷ []) ∵ fsplit ! $ keep ! (0 ∷ []) $ done !) (λ pb po e.
+      let out : Bor E.row.Denot = record { ref_ptr = (pb, po); now = f.item } in
+      let v : Val = vptr pb po in
+      take_at ! 2 $ rewrite ! 0 (λ (p : Ptr). ‵ (fat full_share (layout (Np E)) (l 2) 0 (word p))) e refl $ give_at ! 2 $
+      first ! $ blocks ! $ sets_last ! (addr ! (from ! (fld ! refl (hop ! (look_in_at ! 2 (sub ! 0 refl (whole !))) (stop !))))) refl (tt, tt) $
+      exec ! C Λ En (after 1 (function E).body) (at_ret En Post) $ sets ! (of_opd ! (get ! refl)) refl (tt, tt) $
+      fsplit ! $ drop ! $ hide ! $ feq_i ! (List Val) (v ∷ []) (v ∷ []) refl $ fjoin ! $
+      returns ! (look_at ! 0 refl) $ free_all ! refl $ keep ! (1 ∷ 0 ∷ []) $
+      by ! (exits out v f.seen)))
+
+  entry : Asks E d node → ent 𝓤 (on_entry 𝓛 (ended E).signature (κ, tt) (q, tt) (self, (node, tt)) (us0, (us1, tt))) (WpFn 𝓤 H C Λ (function E) (us0 ++ (us1 ++ [])) Post)
+  entry asked =
+      qed 𝓛 ((‵ (flft κ q) ⊛ ‵ ftrue) ∷ ‵ (owns (ShrRef (named 0) κ (Pr E) ∷ Np E ∷ []) (self, (node, tt)) (us0, (us1, tt))) ∷ []) ∵
+      split ! $ move ! (2 ∷ []) $
+      fsplit ! $
+      fsplit ! $ feq_l ! (λ e0.
+      move ! (1 ∷ []) $
+      fsplit ! $
+      word_had ! node.ptr us1 (λ e1.
+      keep ! (1 ∷ 2 ∷ []) $
+      by ! (subst (λ (ws : List Val × List Val). ent 𝓤 (⋆ 𝓛 Had) (WpFn 𝓤 H C Λ (function E) (ws.0 ++ (ws.1 ++ [])) Post)) (λ j. (sym e0 j, sym e1 j)) (walk asked))))
+
+meets : (E : El) {M : Type 1} {𝓤 : Ura M} (𝓛 : Logic 𝓤) (𝓣 : Tables 𝓤 𝓛.H)
+    → Meets 𝓛 (ended E).signature (WpFn 𝓤 𝓛.H 𝓣.C 𝓣.Λ (function E)) (closing 𝓛 (ended E) (spec E 𝓛))
+meets E {𝓤 = 𝓤} 𝓛 𝓣 =
+    walk_Meets 𝓛 (ended E) (stayed E) (Goes-dropped 𝓛 1 (RefOf (0 ∷ []) tt (plain (λ _. Pr E)) (λ _. tt)) yes (λ κs x f. refl), (Goes-dropped 𝓛 1 (plain (λ _. Np E)) no (λ κs x f. refl), tt)) (spec E 𝓛) (WpFn 𝓤 𝓛.H 𝓣.C 𝓣.Λ (function E)) (WpFn-mono 𝓤 𝓛.H 𝓛.laws 𝓣 (function E))
+    (λ z. needs 𝓤 (Asks E z.0.3.0.now z.0.3.1.0) _ (entry E 𝓛 𝓣.C 𝓣.Λ z.0.0.0 z.0.1.0 z.0.3.0.ref_ptr.0 z.0.3.0.ref_ptr.1 z.0.3.0.now z.0.3.1.0 z.0.4.0 z.0.4.1.0))
+
+pub get_spec : {M : Type 1} → stated.statement M
+unfolding tables_of
+get_spec 𝓤 𝓛 𝓜 𝓡 wired N LN y =
+    let E : El = record { row = N; laws = LN } in
+    let 𝓣 : Tables 𝓤 𝓛.H = tables_of 𝓤 𝓛.H 𝓜 (tables 𝓤 𝓛.H 𝓜 𝓡 𝓡.env) in
+    let k = #self (args E) in
+    spared 𝓛 (ended E).signature (𝓡.run (𝓡.env k)) (run_framed 𝓤 𝓛.H 𝓜 𝓡 (𝓡.env k)) 1 (N.lives, tt) (closing 𝓛 (ended E) (spec E 𝓛))
+    (entered 𝓤 𝓛.H (triple_of 𝓛 (ended E).signature (closing 𝓛 (ended E) (spec E 𝓛))) 𝓣.C 𝓣.Λ k (function E) (code.unfolded 𝓤 𝓛.H 𝓜 𝓡 wired (N, tt)) (meets E 𝓛 𝓣))
+    ((y.0.0, y.0.1, tt, y.0.3, y.0.4), y.1)

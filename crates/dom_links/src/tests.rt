@@ -1,0 +1,230 @@
+use super::{Links, Pool, Slot};
+use std::alloc::Global;
+use std::cell::Cell;
+use std::process::Abort;
+use std::rc::Rc;
+use std::test::Fail;
+use std_alloc::room::Vacant;
+
+/// A value that counts how often it is dropped.
+struct Counted {
+    drops: Rc<Cell<u32>>,
+}
+
+impl Drop for Counted {
+    fn drop(self) {
+        let count = self.drops.get();
+        self.drops.set(count.wrapping_add(1));
+        let Counted { drops: _ } = self;
+    }
+}
+
+fn added<T: Drop>(rt: &impl Abort, links: &mut Links<T>, value: T) -> Slot {
+    let slot = links.add(value);
+    assert!(rt; slot.is_ok());
+    slot.unwrap()
+}
+
+fn taken<T>(rt: &impl Abort, links: &mut Links<T>, slot: Slot) -> T {
+    assert!(rt; links.holds(slot));
+    assert_eq!(rt; links.parent(slot), None);
+    assert_eq!(rt; links.count(slot), 0);
+    links.take(slot)
+}
+
+/// Links a child that has no children of its own.
+fn put(
+    rt: &impl Abort,
+    links: &mut Links<u32>,
+    parent: Slot,
+    child: Slot,
+    before: Option<Slot>,
+) {
+    assert!(rt; parent != child);
+    assert!(rt; links.holds(parent));
+    assert!(rt; links.holds(child));
+    assert_eq!(rt; links.parent(child), None);
+    assert!(rt; links.count(child) == 0);
+    links.sound();
+    match before {
+        Some(next) => {
+            assert!(rt; links.holds(next));
+            assert_eq!(rt; links.parent(next), Some(parent));
+            links.link(parent, child, Some(next));
+        }
+        None => links.link(parent, child, None),
+    }
+}
+
+fn cut(rt: &impl Abort, links: &mut Links<u32>, child: Slot) {
+    assert!(rt; links.holds(child));
+    assert!(rt; links.parent(child).is_some());
+    links.unlink(child);
+    assert!(rt; links.holds(child));
+    assert_eq!(rt; links.parent(child), None);
+    assert_eq!(rt; links.next(child), None);
+    assert_eq!(rt; links.prev(child), None);
+}
+
+/// The children of a parent, from the first on and from the last back.
+fn has_children(rt: &impl Abort, links: &Links<u32>, parent: Slot, children: &[Slot]) {
+    assert!(rt; links.holds(parent));
+    assert_eq!(rt; links.count(parent), children.len());
+    let mut at = links.first(parent);
+    for child in children {
+        assert_eq!(rt; at, Some(*child));
+        assert!(rt; links.holds(*child));
+        assert_eq!(rt; links.parent(*child), Some(parent));
+        at = links.next(*child);
+    }
+    assert_eq!(rt; at, None);
+    at = links.last(parent);
+    for child in children.iter().rev() {
+        assert_eq!(rt; at, Some(*child));
+        assert!(rt; links.holds(*child));
+        at = links.prev(*child);
+    }
+    assert_eq!(rt; at, None);
+}
+
+#[test]
+fn order_of_children(rt: HostRuntime) {
+    let mut links = Links::new(rt.alloc());
+    let top = added(&rt, &mut links, 10);
+    let a = added(&rt, &mut links, 11);
+    let b = added(&rt, &mut links, 12);
+    let c = added(&rt, &mut links, 13);
+    put(&rt, &mut links, top, a, None);
+    put(&rt, &mut links, top, c, None);
+    put(&rt, &mut links, top, b, Some(c));
+    has_children(&rt, &links, top, &[a, b, c]);
+    cut(&rt, &mut links, b);
+    has_children(&rt, &links, top, &[a, c]);
+    put(&rt, &mut links, top, b, Some(a));
+    has_children(&rt, &links, top, &[b, a, c]);
+    cut(&rt, &mut links, c);
+    has_children(&rt, &links, top, &[b, a]);
+    cut(&rt, &mut links, b);
+    has_children(&rt, &links, top, &[a]);
+    cut(&rt, &mut links, a);
+    has_children(&rt, &links, top, &[]);
+}
+
+#[test]
+fn taken_slots_come_again(rt: HostRuntime) {
+    let mut links = Links::new(rt.alloc());
+    let a = added(&rt, &mut links, 1);
+    let b = added(&rt, &mut links, 2);
+    let c = added(&rt, &mut links, 3);
+    assert_eq!(rt; taken(&rt, &mut links, a), 1);
+    assert_eq!(rt; taken(&rt, &mut links, b), 2);
+    assert!(rt; !links.holds(a));
+    assert!(rt; !links.holds(b));
+    assert!(rt; links.holds(c));
+    assert_eq!(rt; added(&rt, &mut links, 4), b);
+    assert_eq!(rt; added(&rt, &mut links, 5), a);
+    let d = added(&rt, &mut links, 6);
+    assert_ne!(rt; d, a);
+    assert_ne!(rt; d, b);
+    assert_ne!(rt; d, c);
+    assert!(rt; links.holds(a));
+    assert_eq!(rt; *links.value(a), 5);
+    *links.value_mut(a) = 7;
+    assert!(rt; links.holds(a));
+    assert_eq!(rt; *links.value(a), 7);
+}
+
+#[test]
+fn a_thousand_children(rt: HostRuntime) -> Result<(), Fail> {
+    let mut links = Links::new(rt.alloc());
+    let mut slots = Vec::new(rt.alloc());
+    let top = added(&rt, &mut links, 5000);
+    for value in 0..1000u32 {
+        let slot = added(&rt, &mut links, value);
+        slots.push(slot)?;
+        put(&rt, &mut links, top, slot, None);
+    }
+    has_children(&rt, &links, top, slots.as_slice());
+    let mut value = 0u32;
+    for slot in &slots {
+        assert!(rt; links.holds(*slot));
+        assert_eq!(rt; *links.value(*slot), value);
+        value = value.wrapping_add(1);
+        cut(&rt, &mut links, *slot);
+    }
+    has_children(&rt, &links, top, &[]);
+    for slot in &slots {
+        assert!(rt; taken(&rt, &mut links, *slot) < 1000);
+    }
+    let last = slots.pop();
+    assert_eq!(rt; Some(added(&rt, &mut links, 1)), last);
+    Ok(())
+}
+
+#[test]
+fn each_value_is_dropped_once(rt: HostRuntime) -> Result<(), Fail> {
+    let drops = Rc::new(rt.alloc(), Cell::new(0u32))?;
+    let mut links = Links::new(rt.alloc());
+    let first = added(&rt, &mut links, Counted { drops: drops.clone()? });
+    for _ in 0..4 {
+        let _slot = added(&rt, &mut links, Counted { drops: drops.clone()? });
+    }
+    let value = taken(&rt, &mut links, first);
+    assert_eq!(rt; drops.get(), 0);
+    drop(value);
+    assert_eq!(rt; drops.get(), 1);
+    drop(links);
+    assert_eq!(rt; drops.get(), 5);
+    Ok(())
+}
+
+#[derive(Drop)]
+struct Item {
+    value: u32,
+    next: Option<*mut Item>,
+}
+
+/// Two items, the first with a pointer to the second: the first is read, the second is changed, and both are taken out.
+fn through_a_pointer(alloc: Global) -> Option<(u32, u32, u32)> {
+    let first_room: Vacant<Item, Global> = Vacant::take(alloc).ok()?;
+    match Vacant::take(alloc) {
+        Ok(second_room) => {
+            let mut pool: Pool<Item> = Pool::new();
+            let second = pool.put(
+                second_room,
+                Item {
+                    value: 2,
+                    next: None,
+                },
+            );
+            let first = pool.put(
+                first_room,
+                Item {
+                    value: 1,
+                    next: Some(second.ptr),
+                },
+            );
+            let mut seen = 0;
+            if let Some(ptr) = pool.get(first).next {
+                seen = 5;
+            }
+            pool.get_mut(second).value = 7;
+            let (last, room) = pool.take(second, alloc);
+            room.free();
+            let (head, room) = pool.take(first, alloc);
+            room.free();
+            pool.close();
+            Some((seen, last.value, head.value))
+        }
+        Err(_) => {
+            first_room.free();
+            None
+        }
+    }
+}
+
+#[test]
+fn puts_reads_changes_and_takes(rt: HostRuntime) -> Result<(), Fail> {
+    assert_eq!(rt; through_a_pointer(rt.alloc()), Some((5, 7, 1)));
+    Ok(())
+}

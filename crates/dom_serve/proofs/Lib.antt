@@ -1,0 +1,5 @@
+pub mod Texts
+pub mod Lines
+pub mod Growth
+pub mod Fed
+pub mod Told

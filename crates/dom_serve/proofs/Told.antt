@@ -1,0 +1,288 @@
+-- What reads gave and what was written for them, one more read at a time.
+use Rattle.std.proofs.Common.{◌≡◌, ℕ, ◌+◌, ◌*◌, ◌<◌, Bool, true, false, List, [], ◌∷◌, ◌++◌, length, Option, Result, Ok, Err, IfOk, refl, sym, ap, ◌∙◌, subst, arith, take, ◌≤◌, append-nil, length-append, length-take, inr}
+use Rattle.std.specs.List.{All}
+use Rattle.std.proofs.lemmas.List.Elements.{All-push}
+use Rattle.std.specs.Io.KnownBytes.{Appends, Consumes, Keeps}
+use Rattle.std.proofs.KnownBytes.{Appends-trans, Appends-nil, Consumes-nil, Consumes-trans, Consumes-kept}
+use Rattle.dom_model.specs.Answer.{Bounds}
+use Rattle.dom_model.specs.Table.{served_table}
+use Rattle.dom_model.specs.Printed.{out_of_memory_line}
+use Rattle.dom_model.specs.Output.{joined, due, whole_lines, last_piece, lines_of, output_of}
+use Rattle.dom_model.proofs.ReplyLines.{length-whole_lines-output_of, last_piece-output_of}
+use Rattle.dom_serve.specs.declared.fault.Fault.{Fault}
+use Rattle.dom_serve.specs.declared.fault.Fault.TheVariants.{Read, Write, Memory, InputTooLong}
+use Rattle.dom_serve.specs.declared.fault.Summary.{Summary}
+use Rattle.dom_serve.specs.declared.server.Server.{Server}
+use Rattle.dom_serve.specs.Writes.{IsPrefix}
+use Rattle.dom_serve.specs.Pieces.{Reads, AreWithin, is_nothing, has_end, before_last}
+use Rattle.dom_serve.specs.Tells.{is_read_fault, SaysOutOfMemory, IsCutShort, AnswersEarlier, Tells}
+use Rattle.dom_serve.specs.Server.{Stands, Grows, IsBroken, Breaks, Concludes, SaysWant, IsSoFar, IsTold}
+use Rattle.dom_serve.proofs.Lines.{joined-single}
+use Rattle.dom_serve.proofs.Growth.{Grows-written}
+
+-- ---- one more piece
+
+Reads-more : {R : Type 0} (gives : R → List ℕ → R → Type 0) (old mid new : R) (pieces : List (List ℕ)) (piece : List ℕ) → Reads gives old pieces mid → gives mid piece new
+    → Reads gives old (pieces ++ piece ∷ []) new
+Reads-more gives old mid new [] piece p q = (new, subst (λ r. gives r piece new) p q, refl)
+Reads-more gives old mid new (first ∷ pieces) piece p q = (p.0, p.1, Reads-more gives p.0 mid new pieces piece p.2 q)
+
+has_end-last : (pieces : List (List ℕ)) (piece : List ℕ) → has_end (pieces ++ piece ∷ []) ≡ is_nothing piece
+has_end-last [] piece = refl
+has_end-last (first ∷ []) piece = refl
+has_end-last (first ∷ second ∷ pieces) piece = has_end-last (second ∷ pieces) piece
+
+before_last-last : (pieces : List (List ℕ)) (piece : List ℕ) → before_last (pieces ++ piece ∷ []) ≡ pieces
+before_last-last [] piece = refl
+before_last-last (first ∷ []) piece = refl
+before_last-last (first ∷ second ∷ pieces) piece = ap (λ ls. first ∷ ls) (before_last-last (second ∷ pieces) piece)
+
+pub is_nothing-some : (piece : List ℕ) → 0 < length piece → is_nothing piece ≡ false
+is_nothing-some [] h = absurd (omega arith)
+is_nothing-some (b ∷ bytes) h = refl
+
+Consumes-more : {R : Type 0} (left : R → Option (List ℕ)) (old mid new : R) (pieces : List (List ℕ)) (piece : List ℕ) → Consumes (left old) (left mid) (joined pieces)
+    → Consumes (left mid) (left new) piece → Consumes (left old) (left new) (joined (pieces ++ piece ∷ []))
+Consumes-more left old mid new pieces piece p q =
+    subst (λ l. Consumes (left old) (left new) l) (sym (joined-single pieces piece)) (Consumes-trans (left old) (left mid) (left new) (joined pieces) piece p q)
+
+Sizes-more : (pieces : List (List ℕ)) (piece : List ℕ) → All (λ l. length l ≤ 65536) pieces → length piece ≤ 65536 → All (λ l. length l ≤ 65536) (pieces ++ piece ∷ [])
+Sizes-more pieces piece p q = All-push (λ l. length l ≤ 65536) pieces piece p q
+
+Sizes-none : All {X = List ℕ} (λ l. length l ≤ 65536) []
+Sizes-none k d h = absurd (omega arith)
+
+-- one more read was made, within the turns
+AreWithin-more : (turns turn : ℕ) (pieces : List (List ℕ)) (piece : List ℕ) → length pieces ≡ turn → turn < turns → All (λ l. length l ≤ 65536) pieces → length piece ≤ 65536
+    → AreWithin turns (pieces ++ piece ∷ [])
+AreWithin-more turns turn pieces piece e h p q = (omega (arith, length-append pieces (piece ∷ [])), Sizes-more pieces piece p q)
+
+-- ---- so far
+
+due-nothing : (b : Bounds) → joined (due served_table b [] false) ≡ []
+unfolding due whole_lines
+due-nothing b = refl
+
+pub so_far-none : {R : Type 0} (gives : R → List ℕ → R → Type 0) (left : R → Option (List ℕ)) (b : Bounds) (old : R) (s : Server) (taken : Option (List ℕ)) → Stands b [] s
+    → IsSoFar gives left b 0 old old s taken taken
+so_far-none gives left b old s taken h = record {
+  pieces = [];
+  reads = refl;
+  count = refl;
+  sizes = Sizes-none;
+  open_ended = refl;
+  consumed = Consumes-nil (left old);
+  stands = h;
+  written = subst (λ l. Appends taken taken l) (sym (due-nothing b)) (Appends-nil taken);
+}
+
+pub so_far-more : {R : Type 0} (gives : R → List ℕ → R → Type 0) (left : R → Option (List ℕ)) (b : Bounds) (turn : ℕ) (old mid new : R) (s s' : Server)
+    (taken taken' taken'' : Option (List ℕ)) (piece : List ℕ) (p : IsSoFar gives left b turn old mid s taken taken') → gives mid piece new → Consumes (left mid) (left new) piece
+    → 0 < length piece → length piece ≤ 65536
+    → Stands b (joined p.pieces ++ piece) s' × Grows (due served_table b (joined p.pieces) false) (due served_table b (joined p.pieces ++ piece) false) taken' taken''
+    → IsSoFar gives left b (turn + 1) old new s' taken taken''
+so_far-more gives left b turn old mid new s s' taken taken' taken'' piece p given consumed some size fed =
+    let e : joined p.pieces ++ piece ≡ joined (p.pieces ++ piece ∷ []) = sym (joined-single p.pieces piece) in
+    record {
+      pieces = p.pieces ++ piece ∷ [];
+      reads = Reads-more gives old mid new p.pieces piece p.reads given;
+      count = length-append p.pieces (piece ∷ []) ∙ ap (λ n. n + 1) p.count;
+      sizes = Sizes-more p.pieces piece p.sizes size;
+      open_ended = has_end-last p.pieces piece ∙ is_nothing-some piece some;
+      consumed = Consumes-more left old mid new p.pieces piece p.consumed consumed;
+      stands = subst (λ l. Stands b l s') e fed.0;
+      written = subst (λ l. Appends taken taken'' (joined (due served_table b l false))) e
+          (Grows-written (due served_table b (joined p.pieces) false) (due served_table b (joined p.pieces ++ piece) false) taken taken' taken'' p.written fed.1);
+    }
+
+-- ---- at the end
+
+-- a read failed
+pub told-read : {R : Type 0} (gives : R → List ℕ → R → Type 0) (left : R → Option (List ℕ)) (b : Bounds) (turns turn : ℕ) (old mid new : R) (s : Server)
+    (taken taken' : Option (List ℕ)) → IsSoFar gives left b turn old mid s taken taken' → turn < turns → Keeps (left mid) (left new) → IsTold gives left b turns old new taken taken' (Err Read)
+told-read gives left b turns turn old mid new s taken taken' p room kept = record {
+  pieces = p.pieces;
+  text = joined (due served_table b (joined p.pieces) false);
+  last = mid;
+  reads = p.reads;
+  within = (omega (arith, p.count), p.sizes);
+  consumed = Consumes-kept (left old) (left mid) (left new) (joined p.pieces) p.consumed kept;
+  written = p.written;
+  tells = refl;
+}
+
+-- no read is left
+pub told-too_long : {R : Type 0} (gives : R → List ℕ → R → Type 0) (left : R → Option (List ℕ)) (b : Bounds) (turns : ℕ) (old new : R) (s : Server) (taken taken' : Option (List ℕ))
+    → IsSoFar gives left b turns old new s taken taken' → IsTold gives left b turns old new taken taken' (Err InputTooLong)
+told-too_long gives left b turns old new s taken taken' p = record {
+  pieces = p.pieces;
+  text = joined (due served_table b (joined p.pieces) false);
+  last = new;
+  reads = p.reads;
+  within = (omega (arith, p.count), p.sizes);
+  consumed = p.consumed;
+  written = p.written;
+  tells = (p.count, p.open_ended, refl);
+}
+
+Tells-broken : (b : Bounds) (turns : ℕ) (pieces : List (List ℕ)) (piece text : List ℕ) (fault : Fault)
+    → IsBroken (due served_table b (joined pieces ++ piece) (is_nothing piece)) fault (joined (due served_table b (joined pieces) false) ++ text)
+    → Tells b turns (pieces ++ piece ∷ []) (joined (due served_table b (joined pieces) false) ++ text) (Err fault)
+Tells-broken b turns pieces piece text Read h = absurd h
+Tells-broken b turns pieces piece text Write h =
+    let whole = joined (due served_table b (joined pieces) false) ++ text in
+    (subst (λ l. IsCutShort (due served_table b l (has_end (pieces ++ piece ∷ []))) whole) (sym (joined-single pieces piece))
+        (subst (λ t. IsCutShort (due served_table b (joined pieces ++ piece) t) whole) (sym (has_end-last pieces piece)) h),
+     subst (λ ls. IsPrefix (joined (due served_table b (joined ls) false)) whole) (sym (before_last-last pieces piece)) (text, refl))
+Tells-broken b turns pieces piece text Memory h =
+    let whole = joined (due served_table b (joined pieces) false) ++ text in
+    (subst (λ l. SaysOutOfMemory (due served_table b l (has_end (pieces ++ piece ∷ []))) whole) (sym (joined-single pieces piece))
+        (subst (λ t. SaysOutOfMemory (due served_table b (joined pieces ++ piece) t) whole) (sym (has_end-last pieces piece)) h),
+     subst (λ ls. IsPrefix (joined (due served_table b (joined ls) false)) whole) (sym (before_last-last pieces piece)) (text, refl))
+Tells-broken b turns pieces piece text InputTooLong h = absurd h
+
+-- something failed after a read
+pub told-broken : {R : Type 0} (gives : R → List ℕ → R → Type 0) (left : R → Option (List ℕ)) (b : Bounds) (turns turn : ℕ) (old mid new : R) (s : Server)
+    (taken taken' taken'' : Option (List ℕ)) (piece : List ℕ) (fault : Fault) (p : IsSoFar gives left b turn old mid s taken taken') → turn < turns → length piece ≤ 65536
+    → gives mid piece new → Consumes (left mid) (left new) piece
+    → Breaks (due served_table b (joined p.pieces) false) (due served_table b (joined p.pieces ++ piece) (is_nothing piece)) taken' taken'' fault
+    → IsTold gives left b turns old new taken taken'' (Err fault)
+told-broken gives left b turns turn old mid new s taken taken' taken'' piece fault p room size given consumed q = record {
+  within = AreWithin-more turns turn p.pieces piece p.count room p.sizes size;
+  pieces = p.pieces ++ piece ∷ [];
+  text = joined (due served_table b (joined p.pieces) false) ++ q.text;
+  last = new;
+  reads = Reads-more gives old mid new p.pieces piece p.reads given;
+  consumed = Consumes-more left old mid new p.pieces piece p.consumed consumed;
+  written = Appends-trans taken taken' taken'' (joined (due served_table b (joined p.pieces) false)) q.text p.written q.written;
+  tells = Tells-broken b turns p.pieces piece q.text fault q.broken;
+}
+
+-- something failed after the read that gave nothing
+pub told-end-broken : {R : Type 0} (gives : R → List ℕ → R → Type 0) (left : R → Option (List ℕ)) (b : Bounds) (turns turn : ℕ) (old mid new : R) (s : Server)
+    (taken taken' taken'' : Option (List ℕ)) (fault : Fault) (p : IsSoFar gives left b turn old mid s taken taken') → turn < turns → gives mid [] new
+    → Consumes (left mid) (left new) []
+    → Breaks (due served_table b (joined p.pieces) false) (due served_table b (joined p.pieces) true) taken' taken'' fault
+    → IsTold gives left b turns old new taken taken'' (Err fault)
+told-end-broken gives left b turns turn old mid new s taken taken' taken'' fault p room given consumed q =
+    told-broken gives left b turns turn old mid new s taken taken' taken'' [] fault p room (omega arith) given consumed
+    (subst (λ l. Breaks (due served_table b (joined p.pieces) false) (due served_table b l true) taken' taken'' fault) (sym (append-nil (joined p.pieces))) q)
+
+-- the input ended, and all is answered
+pub told-ok : {R : Type 0} (gives : R → List ℕ → R → Type 0) (left : R → Option (List ℕ)) (b : Bounds) (turns turn : ℕ) (old mid new : R) (s : Server)
+    (taken taken' taken'' : Option (List ℕ)) (summary : Summary) (p : IsSoFar gives left b turn old mid s taken taken') → turn < turns → gives mid [] new
+    → Consumes (left mid) (left new) [] → summary.lines ≡ length (lines_of (joined p.pieces))
+    → Grows (due served_table b (joined p.pieces) false) (due served_table b (joined p.pieces) true) taken' taken''
+    → IsTold gives left b turns old new taken taken'' (Ok summary)
+told-ok gives left b turns turn old mid new s taken taken' taken'' summary p room given consumed lines q =
+    let e : joined p.pieces ≡ joined (p.pieces ++ [] ∷ []) = sym (joined-single p.pieces [] ∙ append-nil (joined p.pieces)) in
+    record {
+      within = AreWithin-more turns turn p.pieces [] p.count room p.sizes (omega arith);
+      pieces = p.pieces ++ [] ∷ [];
+      text = joined (due served_table b (joined p.pieces) true);
+      last = new;
+      reads = Reads-more gives old mid new p.pieces [] p.reads given;
+      consumed = Consumes-more left old mid new p.pieces [] p.consumed consumed;
+      written = Grows-written (due served_table b (joined p.pieces) false) (due served_table b (joined p.pieces) true) taken taken' taken'' p.written q;
+      tells = (has_end-last p.pieces [], ap (λ l. joined (due served_table b l true)) e, lines ∙ ap (λ l. length (lines_of l)) e);
+    }
+
+-- ---- by what was read
+
+-- the last line was answered, or that failed
+pub told-concluded : {R : Type 0} (gives : R → List ℕ → R → Type 0) (left : R → Option (List ℕ)) (b : Bounds) (turns turn : ℕ) (old mid new : R) (s : Server)
+    (taken taken' taken'' : Option (List ℕ)) (result : Result Summary Fault) (n : ℕ) (buffer : List ℕ) (p : IsSoFar gives left b turn old mid s taken taken') → turn < turns → n ≡ 0
+    → gives mid (take n buffer) new → Consumes (left mid) (left new) (take n buffer) → Concludes b (joined p.pieces) taken' taken'' result
+    → IsTold gives left b turns old new taken taken'' result
+told-concluded gives left b turns turn old mid new s taken taken' taken'' (Ok summary) n buffer p room e given consumed q =
+    told-ok gives left b turns turn old mid new s taken taken' taken'' summary p room (subst (λ m. gives mid (take m buffer) new) e given)
+    (subst (λ m. Consumes (left mid) (left new) (take m buffer)) e consumed) q.0 q.1
+told-concluded gives left b turns turn old mid new s taken taken' taken'' (Err fault) n buffer p room e given consumed q =
+    told-end-broken gives left b turns turn old mid new s taken taken' taken'' fault p room (subst (λ m. gives mid (take m buffer) new) e given)
+    (subst (λ m. Consumes (left mid) (left new) (take m buffer)) e consumed) q
+
+Breaks-read : (before after : List (List ℕ)) (taken taken' : Option (List ℕ)) (fault : Fault) → Breaks before after taken taken' fault
+    → false ≡ is_read_fault {T = Summary} (Err fault)
+Breaks-read before after taken taken' Read q = absurd q.broken
+Breaks-read before after taken taken' Write q = refl
+Breaks-read before after taken taken' Memory q = refl
+Breaks-read before after taken taken' InputTooLong q = absurd q.broken
+
+-- no fault after a read is the reader's
+pub Concludes-read : (b : Bounds) (bytes : List ℕ) (taken taken' : Option (List ℕ)) (result : Result Summary Fault) → Concludes b bytes taken taken' result
+    → false ≡ is_read_fault result
+Concludes-read b bytes taken taken' (Ok summary) q = refl
+Concludes-read b bytes taken taken' (Err fault) q = Breaks-read (due served_table b bytes false) (due served_table b bytes true) taken taken' fault q
+
+pub Fed-read : (b : Bounds) (bytes bytes' : List ℕ) (taken taken' : Option (List ℕ)) (fault : Fault)
+    → Breaks (due served_table b bytes false) (due served_table b bytes' false) taken taken' fault → false ≡ is_read_fault {T = Summary} (Err fault)
+Fed-read b bytes bytes' taken taken' fault q = Breaks-read (due served_table b bytes false) (due served_table b bytes' false) taken taken' fault q
+
+-- a read gave n bytes
+pub some-read : (n : ℕ) (buffer : List ℕ) → n ≤ length buffer → (n ≡ 0 → ⊥) → 0 < length (take n buffer)
+some-read n buffer h some = omega (arith, length-take n buffer, some)
+
+pub most-read : (n : ℕ) (buffer : List ℕ) → length buffer ≡ 65536 → length (take n buffer) ≤ 65536
+most-read n buffer e = omega (arith, length-take n buffer)
+
+-- bytes were taken, or that failed
+pub told-fed : {R : Type 0} (gives : R → List ℕ → R → Type 0) (left : R → Option (List ℕ)) (b : Bounds) (turns turn : ℕ) (old mid new : R) (s : Server)
+    (taken taken' taken'' : Option (List ℕ)) (piece : List ℕ) (fault : Fault) (p : IsSoFar gives left b turn old mid s taken taken') → turn < turns → 0 < length piece → length piece ≤ 65536
+    → gives mid piece new
+    → Consumes (left mid) (left new) piece
+    → Breaks (due served_table b (joined p.pieces) false) (due served_table b (joined p.pieces ++ piece) false) taken' taken'' fault
+    → IsTold gives left b turns old new taken taken'' (Err fault)
+told-fed gives left b turns turn old mid new s taken taken' taken'' piece fault p room some size given consumed q =
+    told-broken gives left b turns turn old mid new s taken taken' taken'' piece fault p room size given consumed
+    (subst (λ t. Breaks (due served_table b (joined p.pieces) false) (due served_table b (joined p.pieces ++ piece) t) taken' taken'' fault) (sym (is_nothing-some piece some)) q)
+
+-- each byte ends at most one line
+pub lines-more : (turn lines lines' n : ℕ) (buffer : List ℕ) → lines ≤ 65536 * turn → length buffer ≡ 65536 → lines' ≤ lines + length (take n buffer)
+    → lines' ≤ 65536 * (turn + 1)
+lines-more turn lines lines' n buffer p e q = omega (arith, length-take n buffer)
+
+-- ---- ahead of the first read
+
+earlier-none : (b : Bounds) (text : List ℕ) → AnswersEarlier b [] text
+earlier-none b text = (text, sym (ap (λ l. l ++ text) (due-nothing b)))
+
+-- memory was wanting ahead of the first read
+pub told-none : {R : Type 0} (gives : R → List ℕ → R → Type 0) (left : R → Option (List ℕ)) (b : Bounds) (turns : ℕ) (old : R) (taken taken' : Option (List ℕ)) (fault : Fault)
+    → SaysWant taken taken' fault → IsTold gives left b turns old old taken taken' (Err fault)
+told-none gives left b turns old taken taken' Read s = absurd s
+told-none gives left b turns old taken taken' Write s = record {
+  pieces = [];
+  within = (omega arith, Sizes-none);
+  text = s.0;
+  last = old;
+  reads = refl;
+  consumed = Consumes-nil (left old);
+  written = s.2;
+  tells = (inr (out_of_memory_line, ([], (due served_table b [] false, refl), refl), s.1), earlier-none b s.0);
+}
+told-none gives left b turns old taken taken' Memory s = record {
+  pieces = [];
+  within = (omega arith, Sizes-none);
+  text = out_of_memory_line;
+  last = old;
+  reads = refl;
+  consumed = Consumes-nil (left old);
+  written = s;
+  tells = (([], (due served_table b [] false, refl), refl), earlier-none b out_of_memory_line);
+}
+told-none gives left b turns old taken taken' InputTooLong s = absurd s
+
+-- ---- one line for each
+
+one-each-of : (b : Bounds) (bytes text : List ℕ) (lines : ℕ) → text ≡ output_of served_table b bytes → lines ≡ length (lines_of bytes)
+    → (length (whole_lines text) ≡ lines) × (last_piece text ≡ [])
+one-each-of b bytes text lines e h =
+    (ap (λ l. length (whole_lines l)) e ∙ length-whole_lines-output_of served_table b bytes ∙ sym h, ap last_piece e ∙ last_piece-output_of served_table b bytes)
+
+-- what was written has one whole line for each line of the input
+pub one-each : {R : Type 0} (gives : R → List ℕ → R → Type 0) (left : R → Option (List ℕ)) (b : Bounds) (turns : ℕ) (old new : R) (taken taken' : Option (List ℕ))
+    (result : Result Summary Fault) → IsTold gives left b turns old new taken taken' result
+    → IfOk result (λ summary. (text : List ℕ) × Appends taken taken' text × (length (whole_lines text) ≡ summary.lines) × (last_piece text ≡ []))
+one-each gives left b turns old new taken taken' (Ok summary) t =
+    let e = one-each-of b (joined t.pieces) t.text summary.lines t.tells.1 t.tells.2 in (t.text, t.written, e.0, e.1)
+one-each gives left b turns old new taken taken' (Err fault) t = tt

@@ -1,0 +1,14 @@
+use Rattle.std.proofs.Common.{◌≡◌, ◌*◌, ◌≤◌, false, [], length}
+use Rattle.dom_model.specs.Answer.{Bounds}
+use Rattle.dom_serve.specs.Server.{Stands, IsSoFar}
+use Rattle.dom_serve.proofs.answering.serve_all.Given as goal
+
+abbrev pub invariant-loop-turn : goal.invariant-loop-turn
+invariant-loop-turn g l = record {
+  reads : g.R.Source.has_failed l.reader ≡ false;
+  writes : g.W.Sink.has_failed l.writer ≡ false;
+  lines : l.server.lines ≤ 65536 * l._turn;
+  size : length l.buffer ≡ 65536;
+  so_far : (b : Bounds) → Stands b [] l.fn.server
+      → IsSoFar g.R.Source.gives g.R.Source.left b l._turn l.fn.reader l.reader l.server (g.W.Sink.taken l.fn.writer) (g.W.Sink.taken l.writer);
+}

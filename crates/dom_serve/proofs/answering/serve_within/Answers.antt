@@ -1,0 +1,14 @@
+use Rattle.dom_session.specs.Bounding.{bounds_of}
+use Rattle.dom_serve.proofs.Told.{told-none, one-each}
+use Rattle.dom_serve.proofs.answering.serve_within.Goals as goal
+
+pub returns-in-Ok-clause-one_each : goal.returns-in-Ok-clause-one_each
+returns-in-Ok-clause-one_each g c =
+    let b = bounds_of c.args.limits in
+    one-each g.R.Source.gives g.R.Source.left b c.args.turns _ _ _ _ c.serve_all.result (c.serve_all.ensures.told b c.in-Ok.ensures.stands)
+
+pub returns-in-Err-clause-tells : goal.returns-in-Err-clause-tells
+returns-in-Err-clause-tells g c =
+    let t = told-none g.R.Source.gives g.R.Source.left (bounds_of c.args.limits) c.args.turns c.args.reader.now (g.W.Sink.taken c.args.writer.now)
+    (g.W.Sink.taken c.write_out_of_memory.new.writer) c.write_out_of_memory.result c.write_out_of_memory.ensures.written in
+    (t.pieces, t.text, t.last, t.reads, t.within, t.consumed, t.written, t.tells)

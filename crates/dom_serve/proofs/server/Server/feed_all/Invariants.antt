@@ -1,0 +1,14 @@
+use Rattle.std.proofs.Common.{◌≡◌, ℕ, ◌+◌, ◌≤◌, false, List, ◌++◌, take}
+use Rattle.dom_model.specs.Answer.{Bounds}
+use Rattle.dom_model.specs.Table.{served_table}
+use Rattle.dom_model.specs.Output.{due}
+use Rattle.dom_serve.specs.Server.{Stands, Grows}
+use Rattle.dom_serve.proofs.server.Server.feed_all.Given as goal
+
+abbrev pub invariant-loop-byte : goal.invariant-loop-byte
+invariant-loop-byte g l = record {
+  works : g.W.Sink.has_failed l.writer ≡ false;
+  lines : l.self.lines ≤ l.fn.self.lines + l.byte-index;
+  so_far : (b : Bounds) (bytes : List ℕ) → Stands b bytes l.fn.self → Stands b (bytes ++ take l.byte-index l.piece) l.self
+      × Grows (due served_table b bytes false) (due served_table b (bytes ++ take l.byte-index l.piece) false) (g.W.Sink.taken l.fn.writer) (g.W.Sink.taken l.writer);
+}

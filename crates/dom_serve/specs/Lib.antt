@@ -1,0 +1,4 @@
+pub mod Writes
+pub mod Pieces
+pub mod Tells
+pub mod Server

@@ -1,0 +1,28 @@
+-- The pieces that reads gave, one for each read.
+use Rattle.std.specs.Prelude.{◌≡◌, ℕ, ◌≤◌, Bool, true, false, List, [], ◌∷◌, length}
+use Rattle.std.specs.List.{All}
+
+-- reads, one after the other, gave these pieces
+abbrev pub Reads : {R : Type 0} → (R → List ℕ → R → Type 0) → R → List (List ℕ) → R → Type 0
+Reads gives old [] new = new ≡ old
+Reads {R} gives old (piece ∷ pieces) new = (mid : R) × gives old piece mid × Reads gives mid pieces new
+
+abbrev pub is_nothing : List ℕ → Bool
+is_nothing [] = true
+is_nothing (b ∷ bytes) = false
+
+-- the last read gave nothing: the input has ended
+abbrev pub has_end : List (List ℕ) → Bool
+has_end [] = false
+has_end (piece ∷ []) = is_nothing piece
+has_end (piece ∷ next ∷ pieces) = has_end (next ∷ pieces)
+
+-- the pieces of the reads before the last
+abbrev pub before_last : List (List ℕ) → List (List ℕ)
+before_last [] = []
+before_last (piece ∷ []) = []
+before_last (piece ∷ next ∷ pieces) = piece ∷ before_last (next ∷ pieces)
+
+-- at most so many reads, of at most 65,536 bytes each
+abbrev pub AreWithin : ℕ → List (List ℕ) → Type 0
+AreWithin turns pieces = (length pieces ≤ turns) × All (λ piece. length piece ≤ 65536) pieces

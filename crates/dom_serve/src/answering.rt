@@ -1,0 +1,175 @@
+//! Serving: read, answer what became due, read again.
+
+ghost use Rattle.std.specs.Prelude.{◌≡◌, ℕ, ◌+◌, ◌<◌, ◌≤◌, ◌^◌, false, List, [], length, IfOk, OnOk, IfSome};
+ghost use Rattle.std.specs.Io.KnownBytes.{Appends, Consumes, IsAtEnd};
+ghost use Rattle.dom_model.specs.Answer.{Bounds};
+ghost use Rattle.dom_model.specs.Table.{served_table};
+ghost use Rattle.dom_model.specs.Output.{joined, whole_lines, last_piece, lines_of, output_of};
+ghost use Rattle.dom_session.specs.Bounding.{bounds_of};
+ghost use Rattle.dom_serve.specs.Pieces.{Reads, AreWithin};
+ghost use Rattle.dom_serve.specs.Tells.{is_read_fault, is_write_fault, Tells};
+ghost use Rattle.dom_serve.specs.Server.{Stands, Concludes, IsTold};
+
+use crate::fault::{Fault, Summary};
+use crate::server::Server;
+use crate::streams::{Failed, Sink, Source};
+use crate::writing::write_out_of_memory;
+use dom_session::Limits;
+use std::alloc::{AllocError, Global};
+
+/// How many bytes are read at once, at most.
+const READ_SIZE: usize = 65536;
+
+/// How many reads `serve` makes, at most.
+const MOST_READS: u64 = 1099511627776;
+
+fn read_buffer(alloc: Global) -> Result<Vec<u8>, AllocError>
+    ensures { IfOk result (λ buffer. length buffer.items ≡ READ_SIZE) }
+{
+    vec![in alloc; 0u8; READ_SIZE]
+}
+
+/// Answers the last line, and counts all of them.
+fn conclude<W: Sink>(server: &mut Server, writer: &mut W) -> Result<Summary, Fault>
+    requires works { W.has_failed writer.old ≡ false }
+    requires room { server.old.lines + 1 < 2 ^ 64 }
+    ensures concludes { (b : Bounds) (bytes : List ℕ) → Stands b bytes server.old →
+        Concludes b bytes (W.taken writer.old) (W.taken writer.new) result }
+    ensures failed { W.has_failed writer.new ≡ is_write_fault result }
+{
+    match server.finish(writer) {
+        Ok(()) => Ok(Summary {
+            lines: server.lines,
+        }),
+        Err(fault) => Err(fault),
+    }
+}
+
+/// Reads and answers, until the input ends or something fails.
+fn serve_all<R: Source, W: Sink>(
+    turns: u64,
+    server: &mut Server,
+    buffer: &mut [u8],
+    reader: &mut R,
+    writer: &mut W,
+) -> Result<Summary, Fault>
+    requires reads { R.has_failed reader.old ≡ false }
+    requires writes { W.has_failed writer.old ≡ false }
+    requires bounded { (1 ≤ turns) × (turns ≤ 2 ^ 40) }
+    requires lines { server.old.lines ≡ 0 }
+    requires size { length buffer.old ≡ READ_SIZE }
+    ensures told { (b : Bounds) → Stands b [] server.old →
+        IsTold R.gives R.left b turns reader.old reader.new (W.taken writer.old) (W.taken writer.new) result }
+    ensures at_end { OnOk result (IsAtEnd (R.left reader.new)) }
+    ensures reader { (b : Bounds) → Stands b [] server.old → R.has_failed reader.new ≡ is_read_fault result }
+    ensures writer { W.has_failed writer.new ≡ is_write_fault result }
+{
+    for _turn in 0..turns {
+        match reader.read(buffer) {
+            Ok(0) => return conclude(server, writer),
+            Ok(n) => {
+                if let Err(fault) = server.feed_all(&buffer[..n], writer) {
+                    return Err(fault);
+                }
+            }
+            Err(Failed) => return Err(Fault::Read),
+        }
+    }
+    Err(Fault::InputTooLong)
+}
+
+fn start(alloc: Global, limits: Limits) -> Result<(Server, Vec<u8>), AllocError>
+    requires numbers { (1 ≤ limits.numbers) × (limits.numbers ≤ 4294967295) }
+    requires line { 1 ≤ limits.line }
+    ensures stands { IfOk result (λ made. Stands (bounds_of limits) [] made.0) }
+    ensures lines { IfOk result (λ made. made.0.lines ≡ 0) }
+    ensures size { IfOk result (λ made. length made.1.items ≡ READ_SIZE) }
+{
+    let server = Server::new(alloc, limits)?;
+    let buffer = read_buffer(alloc)?;
+    Ok((server, buffer))
+}
+
+/// Answers each line of the reader, in at most so many reads of at most 65,536 bytes. A line is answered, and the reply
+/// passed on, before the next read; a last piece with no newline is a line, answered at the end of the input. A line with
+/// more bytes than the limit is skipped, and answered at its newline or at the end. For want of memory the last thing
+/// written is the out-of-memory line. No failed read, write or flush is tried again.
+pub fn serve_within<R: Source, W: Sink>(
+    alloc: Global,
+    limits: Limits,
+    turns: u64,
+    reader: &mut R,
+    writer: &mut W,
+) -> Result<Summary, Fault>
+    requires reads { R.has_failed reader.old ≡ false }
+    requires writes { W.has_failed writer.old ≡ false }
+    requires numbers { (1 ≤ limits.numbers) × (limits.numbers ≤ 4294967295) }
+    requires line { 1 ≤ limits.line }
+    requires bounded { (1 ≤ turns) × (turns ≤ 2 ^ 40) }
+
+    // Whatever the sizes of the reads, what is written is the output for all bytes of the reader.
+    ensures output { OnOk result (IfSome (R.left reader.old) (λ input.
+        Appends (W.taken writer.old) (W.taken writer.new) (output_of served_table (bounds_of limits) input))) }
+    ensures lines { IfOk result (λ summary. IfSome (R.left reader.old) (λ input.
+        summary.lines ≡ length (lines_of input))) }
+
+    // One whole line was written for each line of the input, and nothing after the last of them.
+    ensures one_each { IfOk result (λ summary. (text : List ℕ) × Appends (W.taken writer.old) (W.taken writer.new) text
+        × (length (whole_lines text) ≡ summary.lines) × (last_piece text ≡ [])) }
+
+    // For each outcome: the pieces that reads gave, and the text that was written.
+    ensures tells { (pieces : List (List ℕ)) × (text : List ℕ) × (last : _)
+        × Reads R.gives reader.old pieces last
+        × AreWithin turns pieces
+        × Consumes (R.left reader.old) (R.left reader.new) (joined pieces)
+        × Appends (W.taken writer.old) (W.taken writer.new) text
+        × Tells (bounds_of limits) turns pieces text result }
+
+    // A read failed only at `Read`, a write or a flush only at `Write`.
+    ensures reader { R.has_failed reader.new ≡ is_read_fault result }
+    ensures writer { W.has_failed writer.new ≡ is_write_fault result }
+{
+    match start(alloc, limits) {
+        Ok((mut server, mut buffer)) => {
+            serve_all(turns, &mut server, &mut buffer, reader, writer)
+        }
+        Err(AllocError) => Err(write_out_of_memory(writer)),
+    }
+}
+
+/// Answers each line of the reader, in at most 2^40 reads; otherwise as `serve_within`.
+pub fn serve<R: Source, W: Sink>(
+    alloc: Global,
+    limits: Limits,
+    reader: &mut R,
+    writer: &mut W,
+) -> Result<Summary, Fault>
+    requires reads { R.has_failed reader.old ≡ false }
+    requires writes { W.has_failed writer.old ≡ false }
+    requires numbers { (1 ≤ limits.numbers) × (limits.numbers ≤ 4294967295) }
+    requires line { 1 ≤ limits.line }
+
+    // Whatever the sizes of the reads, what is written is the output for all bytes of the reader.
+    ensures output { OnOk result (IfSome (R.left reader.old) (λ input.
+        Appends (W.taken writer.old) (W.taken writer.new) (output_of served_table (bounds_of limits) input))) }
+    ensures lines { IfOk result (λ summary. IfSome (R.left reader.old) (λ input.
+        summary.lines ≡ length (lines_of input))) }
+
+    // One whole line was written for each line of the input, and nothing after the last of them.
+    ensures one_each { IfOk result (λ summary. (text : List ℕ) × Appends (W.taken writer.old) (W.taken writer.new) text
+        × (length (whole_lines text) ≡ summary.lines) × (last_piece text ≡ [])) }
+
+    // For each outcome: the pieces that reads gave, and the text that was written.
+    ensures tells { (pieces : List (List ℕ)) × (text : List ℕ) × (last : _)
+        × Reads R.gives reader.old pieces last
+        × AreWithin (2 ^ 40) pieces
+        × Consumes (R.left reader.old) (R.left reader.new) (joined pieces)
+        × Appends (W.taken writer.old) (W.taken writer.new) text
+        × Tells (bounds_of limits) (2 ^ 40) pieces text result }
+
+    // A read failed only at `Read`, a write or a flush only at `Write`.
+    ensures reader { R.has_failed reader.new ≡ is_read_fault result }
+    ensures writer { W.has_failed writer.new ≡ is_write_fault result }
+{
+    serve_within(alloc, limits, MOST_READS, reader, writer)
+}

@@ -1,0 +1,114 @@
+//! Taking bytes, one at a time, and answering each line at its newline.
+
+ghost use Rattle.std.specs.Prelude.{◌≡◌, ℕ, ◌+◌, ◌<◌, ◌≤◌, ◌^◌, false, List, ◌++◌, ◌∷◌, [], length, IfOk};
+ghost use Rattle.dom_model.specs.Answer.{Bounds};
+ghost use Rattle.dom_session.specs.Bounding.{bounds_of};
+ghost use Rattle.dom_serve.specs.Tells.{is_write_fault};
+ghost use Rattle.dom_serve.specs.Server.{Stands, Fed, Finishes};
+
+use crate::fault::Fault;
+use crate::replies::answer;
+use crate::server::Server;
+use crate::streams::Sink;
+use crate::writing::write_out_of_memory;
+use dom_session::{Limits, Session};
+use std::alloc::{AllocError, Global};
+
+impl Server {
+    /// A server that no byte has come to.
+    pub fn new(alloc: Global, limits: Limits) -> Result<Server, AllocError>
+        requires numbers { (1 ≤ limits.numbers) × (limits.numbers ≤ 4294967295) }
+        requires line { 1 ≤ limits.line }
+        ensures stands { IfOk result (λ server. Stands (bounds_of limits) [] server) }
+        ensures lines { IfOk result (λ server. server.lines ≡ 0) }
+    {
+        let session = Session::new(alloc, limits)?;
+        let kept = Vec::new(alloc);
+        Ok(Server {
+            alloc,
+            session,
+            line: limits.line,
+            kept,
+            too_long: false,
+            lines: 0,
+        })
+    }
+
+    /// Answers the line that is held, and holds none.
+    fn end_line<W: Sink>(&mut self, writer: &mut W) -> Result<(), Fault>
+        requires works { W.has_failed writer.old ≡ false }
+        requires room { self.old.lines + 1 < 2 ^ 64 }
+        ensures fed { (b : Bounds) (bytes : List ℕ) → Stands b bytes self.old →
+            Fed b bytes (bytes ++ 10 ∷ []) self.new (W.taken writer.old) (W.taken writer.new) result }
+        ensures lines { self.new.lines ≤ self.old.lines + 1 }
+        ensures failed { W.has_failed writer.new ≡ is_write_fault result }
+    {
+        if let Err(fault) = answer(self.alloc, &mut self.session, &self.kept, self.too_long, writer) {
+            return Err(fault);
+        }
+        self.kept.clear();
+        self.too_long = false;
+        self.lines += 1;
+        Ok(())
+    }
+
+    /// Takes a byte.
+    fn feed<W: Sink>(&mut self, byte: u8, writer: &mut W) -> Result<(), Fault>
+        requires works { W.has_failed writer.old ≡ false }
+        requires room { self.old.lines + 1 < 2 ^ 64 }
+        ensures fed { (b : Bounds) (bytes : List ℕ) → Stands b bytes self.old →
+            Fed b bytes (bytes ++ byte ∷ []) self.new (W.taken writer.old) (W.taken writer.new) result }
+        ensures lines { self.new.lines ≤ self.old.lines + 1 }
+        ensures failed { W.has_failed writer.new ≡ is_write_fault result }
+    {
+        if byte == b'\n' {
+            return self.end_line(writer);
+        }
+        if self.too_long {
+            return Ok(());
+        }
+        if self.kept.len() == self.line {
+            self.kept.clear();
+            self.too_long = true;
+            return Ok(());
+        }
+        match self.kept.push(byte) {
+            Ok(()) => Ok(()),
+            Err(_) => Err(write_out_of_memory(writer)),
+        }
+    }
+
+    /// Takes bytes, and answers each line at its newline.
+    pub fn feed_all<W: Sink>(&mut self, piece: &[u8], writer: &mut W) -> Result<(), Fault>
+        requires works { W.has_failed writer.old ≡ false }
+        requires room { self.old.lines + length piece.now < 2 ^ 64 }
+        ensures fed { (b : Bounds) (bytes : List ℕ) → Stands b bytes self.old →
+            Fed b bytes (bytes ++ piece.now) self.new (W.taken writer.old) (W.taken writer.new) result }
+        ensures lines { self.new.lines ≤ self.old.lines + length piece.now }
+        ensures failed { W.has_failed writer.new ≡ is_write_fault result }
+    {
+        for byte in piece {
+            if let Err(fault) = self.feed(*byte, writer) {
+                return Err(fault);
+            }
+        }
+        Ok(())
+    }
+
+    /// Answers the last line, where the input did not end with a newline.
+    pub fn finish<W: Sink>(&mut self, writer: &mut W) -> Result<(), Fault>
+        requires works { W.has_failed writer.old ≡ false }
+        requires room { self.old.lines + 1 < 2 ^ 64 }
+        ensures finishes { (b : Bounds) (bytes : List ℕ) → Stands b bytes self.old →
+            Finishes b bytes self.new (W.taken writer.old) (W.taken writer.new) result }
+        ensures failed { W.has_failed writer.new ≡ is_write_fault result }
+    {
+        if self.too_long {
+            return self.end_line(writer);
+        }
+        if self.kept.is_empty() {
+            return Ok(());
+        }
+        self.end_line(writer)
+    }
+}

@@ -1,0 +1,22 @@
+//! The server: bytes in, lines, replies, bytes out, over any reader and writer that keep the contracts of `Source` and `Sink`.
+#![tactic(auto)]
+
+mod answering;
+mod fault;
+mod feeding;
+mod from_read;
+mod replies;
+mod server;
+mod streams;
+#[cfg(test)]
+mod tests;
+mod to_write;
+mod writing;
+
+pub use answering::{serve, serve_within};
+pub use dom_session::Limits;
+pub use fault::{Fault, Summary};
+pub use from_read::FromRead;
+pub use streams::{Failed, Sink, Source};
+pub use to_write::ToWrite;
+pub use writing::write_line;

@@ -1,0 +1,87 @@
+//! The reply to a line that is held whole, or of which there were too many bytes.
+
+ghost use Rattle.std.specs.Prelude.{◌≡◌, false, IfOk};
+ghost use Rattle.dom_model.specs.World.{World};
+ghost use Rattle.dom_session.specs.Stands.{StandsFor};
+ghost use Rattle.dom_session.specs.Views.{reply_view};
+ghost use Rattle.dom_wire.specs.Reads.{Reads};
+ghost use Rattle.dom_serve.specs.Tells.{is_write_fault};
+ghost use Rattle.dom_serve.specs.Server.{held_command, held_step, Takes, Prints, Answers};
+
+use crate::fault::Fault;
+use crate::streams::{Failed, Sink};
+use crate::writing::{write_line, write_out_of_memory};
+use dom_session::{Command, Ended, OwnError, Reply, Session};
+use dom_wire::{ReadError, read_line, write_reply};
+use std::alloc::{AllocError, Global};
+
+/// The command of a line, or the refusal of its form.
+fn command(alloc: Global, kept: &[u8], too_long: bool) -> Result<Command, ReadError>
+    ensures { Reads result (held_command kept.now too_long) }
+{
+    if too_long {
+        return Err(ReadError::Own(OwnError::LineTooLong));
+    }
+    read_line(alloc, kept)
+}
+
+/// The reply to a line, for which the session takes its command.
+fn reply(
+    alloc: Global,
+    session: &mut Session,
+    kept: &[u8],
+    too_long: bool,
+) -> Result<Reply, AllocError>
+    ensures takes { IfOk result (λ reply. (w : World) → StandsFor session.old w →
+        Takes (held_step session.old.bounds kept.now too_long w) (reply_view reply) session.new) }
+    ensures bounds { session.new.bounds ≡ session.old.bounds }
+{
+    match command(alloc, kept, too_long) {
+        Ok(command) => match session.apply(command) {
+            Ok(reply) => Ok(reply),
+            Err(Ended) => Err(AllocError),
+        },
+        Err(ReadError::Own(error)) => Ok(Reply::Own(error)),
+        Err(ReadError::Memory) => Err(AllocError),
+    }
+}
+
+/// The reply to a line, printed with its newline.
+fn reply_text(
+    alloc: Global,
+    session: &mut Session,
+    kept: &[u8],
+    too_long: bool,
+) -> Result<Vec<u8>, AllocError>
+    ensures prints { IfOk result (λ text. (w : World) → StandsFor session.old w →
+        Prints (held_step session.old.bounds kept.now too_long w) text.items session.new) }
+    ensures bounds { session.new.bounds ≡ session.old.bounds }
+{
+    match reply(alloc, session, kept, too_long) {
+        Ok(reply) => write_reply(alloc, &reply),
+        Err(AllocError) => Err(AllocError),
+    }
+}
+
+/// Writes the reply to a line and passes it on; for want of memory says that.
+pub fn answer<W: Sink>(
+    alloc: Global,
+    session: &mut Session,
+    kept: &[u8],
+    too_long: bool,
+    writer: &mut W,
+) -> Result<(), Fault>
+    requires works { W.has_failed writer.old ≡ false }
+    ensures answers { (w : World) → StandsFor session.old w →
+        Answers (held_step session.old.bounds kept.now too_long w) session.new (W.taken writer.old) (W.taken writer.new) result }
+    ensures bounds { session.new.bounds ≡ session.old.bounds }
+    ensures failed { W.has_failed writer.new ≡ is_write_fault result }
+{
+    match reply_text(alloc, session, kept, too_long) {
+        Ok(text) => match write_line(writer, &text) {
+            Ok(()) => Ok(()),
+            Err(Failed) => Err(Fault::Write),
+        },
+        Err(AllocError) => Err(write_out_of_memory(writer)),
+    }
+}

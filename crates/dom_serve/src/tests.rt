@@ -1,0 +1,81 @@
+//! The reader and the writer made of std's.
+
+use crate::{Failed, FromRead, Sink, Source, ToWrite};
+use std::io::{self, Read, Write};
+use std::test::Fail;
+
+/// A writer that takes no bytes.
+#[derive(Drop)]
+struct Full;
+
+impl Write for Full {
+    fn write(&mut self, _buf: &[u8]) -> io::Result<usize> {
+        Ok(0)
+    }
+
+    fn flush(&mut self) -> io::Result<()> {
+        Ok(())
+    }
+}
+
+/// A reader that fails once, and would then read on.
+#[derive(Drop)]
+struct FailsOnce {
+    calls: u8,
+}
+
+impl Read for FailsOnce {
+    fn read(&mut self, _buf: &mut [u8]) -> io::Result<usize> {
+        if self.calls == 0 {
+            self.calls = 1;
+            return Err(io::Error::from(io::ErrorKind::Other));
+        }
+        Ok(0)
+    }
+}
+
+#[test]
+fn reads_the_bytes_of_a_slice(rt: HostRuntime) {
+    let mut reader = FromRead::new(&b"abc"[..]);
+    let mut buffer = [0u8; 2];
+    assert_eq!(rt; reader.read(&mut buffer), Ok(2));
+    assert_eq!(rt; buffer, [b'a', b'b']);
+    assert_eq!(rt; reader.read(&mut buffer), Ok(1));
+    assert_eq!(rt; buffer[0], b'c');
+    assert_eq!(rt; reader.read(&mut buffer), Ok(0));
+    assert_eq!(rt; reader.failed(), false);
+}
+
+#[test]
+fn writes_the_bytes_to_a_vector(rt: HostRuntime) -> Result<(), Fail> {
+    let mut writer = ToWrite::new(Vec::new(rt.alloc()));
+    assert_eq!(rt; writer.write(b"ab"), Ok(2));
+    assert_eq!(rt; writer.write(b""), Ok(0));
+    assert_eq!(rt; writer.write(b"c"), Ok(1));
+    assert_eq!(rt; writer.flush(), Ok(()));
+    assert_eq!(rt; writer.failed(), false);
+    let bytes = writer.into_inner();
+    assert_eq!(rt; bytes.as_slice(), b"abc".as_slice());
+    Ok(())
+}
+
+#[test]
+fn a_write_of_no_bytes_is_a_failure(rt: HostRuntime) {
+    let mut writer = ToWrite::new(Full);
+    assert_eq!(rt; writer.write(b""), Ok(0));
+    assert_eq!(rt; writer.failed(), false);
+    assert_eq!(rt; writer.write(b"a"), Err(Failed));
+    assert_eq!(rt; writer.failed(), true);
+    assert_eq!(rt; writer.write(b""), Err(Failed));
+    assert_eq!(rt; writer.flush(), Err(Failed));
+}
+
+#[test]
+fn a_failed_read_is_not_tried_again(rt: HostRuntime) {
+    let mut reader = FromRead::new(FailsOnce { calls: 0 });
+    let mut buffer = [0u8; 2];
+    assert_eq!(rt; reader.failed(), false);
+    assert_eq!(rt; reader.read(&mut buffer), Err(Failed));
+    assert_eq!(rt; reader.failed(), true);
+    assert_eq!(rt; reader.read(&mut buffer), Err(Failed));
+}

@@ -1,0 +1,59 @@
+//! Writing a line, whole and passed on.
+
+ghost use Rattle.std.specs.Prelude.{◌≡◌, false, is_err};
+ghost use Rattle.dom_model.specs.Printed.{out_of_memory_line};
+ghost use Rattle.dom_serve.specs.Writes.{Writes};
+ghost use Rattle.dom_serve.specs.Tells.{is_write};
+ghost use Rattle.dom_serve.specs.Server.{SaysWant};
+
+use crate::fault::Fault;
+use crate::streams::{Failed, Sink};
+
+/// What is written in place of a reply for want of memory.
+const OUT_OF_MEMORY: &[u8] = b"{\"error\":\"out-of-memory\"}\n";
+
+/// Writes the bytes, by as many writes as that takes.
+fn write_whole<W: Sink>(writer: &mut W, bytes: &[u8]) -> Result<(), Failed>
+    requires works { W.has_failed writer.old ≡ false }
+    ensures written { Writes (W.taken writer.old) (W.taken writer.new) bytes.now result }
+    ensures failed { W.has_failed writer.new ≡ is_err result }
+{
+    let mut at = 0;
+    while at < bytes.len() {
+        match writer.write(&bytes[at..]) {
+            Ok(n) => at += n,
+            Err(Failed) => return Err(Failed),
+        }
+    }
+    Ok(())
+}
+
+/// Writes the bytes, by as many writes as that takes, and flushes. Where that fails, a front of them was written.
+pub fn write_line<W: Sink>(writer: &mut W, bytes: &[u8]) -> Result<(), Failed>
+    requires works { W.has_failed writer.old ≡ false }
+    ensures written { Writes (W.taken writer.old) (W.taken writer.new) bytes.now result }
+    ensures failed { W.has_failed writer.new ≡ is_err result }
+{
+    match write_whole(writer, bytes) {
+        Ok(()) => writer.flush(),
+        Err(Failed) => Err(Failed),
+    }
+}
+
+fn out_of_memory_text() -> &'static [u8]
+    ensures { result.now ≡ out_of_memory_line }
+{
+    OUT_OF_MEMORY
+}
+
+/// Says that memory was wanting.
+pub fn write_out_of_memory<W: Sink>(writer: &mut W) -> Fault
+    requires works { W.has_failed writer.old ≡ false }
+    ensures written { SaysWant (W.taken writer.old) (W.taken writer.new) result }
+    ensures failed { W.has_failed writer.new ≡ is_write result }
+{
+    match write_line(writer, out_of_memory_text()) {
+        Ok(()) => Fault::Memory,
+        Err(Failed) => Fault::Write,
+    }
+}

@@ -1,0 +1,37 @@
+-- A node without children has none but itself inside it.
+use Rattle.std.specs.Prelude.{◌==◌, if◌then◌else◌}
+use Rattle.std.proofs.Common.{◌≡◌, ℕ, ◌+◌, ◌<◌, ◌≤◌, Bool, true, false, List, [], ◌∷◌, Option, Some, None, refl, sym, ap, ◌∙◌, arith}
+use Rattle.std.proofs.lemmas.Bool.Decides.{nat_tests}
+use Rattle.dom_model.specs.Lists.{hits, head_of, among}
+use Rattle.dom_model.specs.Forest.{Forest, empty, node, Grove, IsForest, one_at, occurs, tops, tree_at, entry_in, HasNode, children_of, ancestors}
+use Rattle.dom_model.specs.World.{Content}
+use Rattle.dom_tree.proofs.Numbers.{same_or, same, apart}
+use Rattle.dom_tree.proofs.Climbing.{hits-ancestors, hits-among}
+use Rattle.dom_session.proofs.Laws.{IsOnce, Lies-own, occurs-HasNode, among-none}
+use Rattle.dom_session.proofs.Waits.{TopTree, top_tree}
+
+no_tops : (f : Forest Content) → head_of (tops f) ≡ None → f ≡ empty
+no_tops empty h = refl
+no_tops (node x kids rest) h = cc
+
+-- how often a number stands in the tree of a leaf
+occurs-leaf : (f : Forest Content) → IsOnce f → (n p : ℕ) → HasNode f n → head_of (children_of f n) ≡ None → occurs p (tree_at n f) ≡ one_at p n
+occurs-leaf f o n p held h =
+    let there = occurs-HasNode f n o held in
+    let t = top_tree (entry_in f) None f n o (Lies-own None f o) (omega arith) in
+    let bare : t.kids ≡ empty = no_tops t.kids (rw t.entry at h) in
+    let e = ap (λ k. occurs p (node t.x k empty)) bare in
+    let d = ap (λ g. occurs p g) t.are in
+    let counted : occurs p (node t.x empty empty) ≡ one_at p t.x.number = omega arith in
+    let same_one : one_at p t.x.number ≡ one_at p n = ap (λ m. one_at p m) t.number in
+    omega (arith, e, d, counted, same_one)
+
+pub among-leaf : (g : Grove Content) → IsForest g → (n p : ℕ) → HasNode g.forest n → head_of (children_of g.forest n) ≡ None → among n (ancestors p g.forest) ≡ (n == p)
+among-leaf g sound n p held h =
+    let f = g.forest in
+    let e = hits-ancestors n p f sound.once in
+    let leaf = occurs-leaf f sound.once n p held h in
+    elim (same_or n p) [
+      same d t ↦ let k = rw t at leaf in rw t (hits-among n (ancestors p f) (omega arith))
+    | apart ne t ↦ let k = rw t at leaf in rw t (among-none n (ancestors p f) (omega arith))
+    ]

@@ -1,0 +1,10 @@
+pub mod Steps
+pub mod Laws
+pub mod Siblings
+pub mod Detaching
+pub mod Standing
+pub mod Fragments
+pub mod Moves
+pub mod Waits
+pub mod Applying
+pub mod Leaves

@@ -1,0 +1,17 @@
+use Rattle.std.proofs.Common.{refl, sym, true, ◌≡◌, string_bytes, ◌∙◌}
+use Rattle.dom_model.specs.declared.Kind.TheVariants.{Element}
+use Rattle.dom_model.specs.Names.{is_element_name}
+use Rattle.dom_model.specs.World.{no_content}
+use Rattle.dom_model.specs.Answer.{named}
+use Rattle.dom_model.specs.Command.{CreateElement}
+use Rattle.dom_session.specs.Limiting.{numbered}
+use Rattle.dom_session.proofs.Steps.{IsStep-makes, answer-create_element}
+use Rattle.dom_session.proofs.making.create_element.Goals as goal
+
+pub returns-clause-step : goal.returns-clause-step
+returns-clause-step c =
+    let name = string_bytes c.args.name in
+    let valid : is_element_name name ≡ true = cc in
+    IsStep-makes c.args.tree.now c.make.new.self (numbered c.args.numbers) (CreateElement c.args.document name) c.args.document (named Element name) no_content c.number.result
+    (λ w shown. answer-create_element c.args.tree.now c.args.numbers c.args.document name w shown (sym c.in_default.ensures) valid)
+    (rw (c.label.ensures, c.new.ensures) at c.in_ok-id.ensures.made) c.sound.ensures refl (c.number.ensures ∙ c.in_ok-id.ensures.number)

@@ -1,0 +1,77 @@
+//! A tree as a list of rows.
+
+ghost use Rattle.std.specs.Prelude.{◌≡◌, ℕ, ◌++◌, IfOk, IfSome, OnOk};
+ghost use Rattle.dom_model.specs.Forest.{HasNode, entry_in};
+ghost use Rattle.dom_model.specs.Answer.{tree_rows};
+ghost use Rattle.dom_model.specs.Command.{Tree as TreeCommand};
+ghost use Rattle.dom_session.specs.Views.{reply_view};
+ghost use Rattle.dom_session.specs.Stands.{IsStep};
+ghost use Rattle.dom_session.specs.Limiting.{numbered};
+ghost use Rattle.dom_session.specs.Printing.{row_at, waiting_for};
+
+use crate::content::Content;
+use crate::reply::{Answer, Reply, TreeRow};
+use dom_model::OwnError;
+use dom_tree::{NodeId, Tree};
+use std::alloc::{AllocError, Global};
+
+// A node that waits to be printed with its following siblings and all that stands below them.
+#[derive(Drop)]
+struct Waiting {
+    first: NodeId,
+    depth: usize,
+}
+
+// The row of one node.
+fn row_of(tree: &Tree<Content>, alloc: Global, id: NodeId, depth: usize) -> Result<TreeRow, AllocError>
+    requires { HasNode tree.now.forest id }
+    ensures { IfOk result (λ row. IfSome (entry_in tree.now.forest id) (λ e. row ≡ row_at id depth e.value)) }
+{
+    let label = tree.label(id).try_clone(alloc)?;
+    let body = tree.body(id).try_clone(alloc)?;
+    Ok(TreeRow {
+        depth,
+        number: id,
+        label,
+        body,
+    })
+}
+
+// Lets a node wait, where there is one.
+fn wait_for(waiting: &mut Vec<Waiting>, first: Option<NodeId>, depth: usize) -> Result<(), AllocError>
+    ensures { OnOk result (waiting.new.items ≡ waiting.old.items ++ waiting_for first depth) }
+{
+    if let Some(first) = first {
+        waiting.push(Waiting { first, depth })?;
+    }
+    Ok(())
+}
+
+// The rows of a node and of all that stands below it, in tree order.
+fn rows_of(tree: &Tree<Content>, alloc: Global, top: NodeId) -> Result<Vec<TreeRow>, AllocError>
+    requires { HasNode tree.now.forest top }
+    ensures { IfOk result (λ rows. rows.items ≡ tree_rows tree.now.forest top) }
+{
+    tree.sound();
+    let mut rows: Vec<TreeRow> = Vec::new(alloc);
+    let mut waiting: Vec<Waiting> = Vec::new(alloc);
+    rows.push(row_of(tree, alloc, top, 0)?)?;
+    wait_for(&mut waiting, tree.first(top), 1)?;
+    while let Some(next) = waiting.pop() {
+        rows.push(row_of(tree, alloc, next.first, next.depth)?)?;
+        wait_for(&mut waiting, tree.next(next.first), next.depth)?;
+        wait_for(&mut waiting, tree.first(next.first), next.depth + 1)?;
+    }
+    Ok(rows)
+}
+
+/// Prints a node and all that stands below it.
+pub fn print_tree(tree: &Tree<Content>, numbers: u64, alloc: Global, top: NodeId) -> Result<Reply, AllocError>
+    ensures { IfOk result (IsStep tree.now tree.now (numbered numbers) (TreeCommand top)) }
+{
+    if !tree.holds(top) {
+        return Ok(Reply::Own(OwnError::NoSuchObject));
+    }
+    let rows = rows_of(tree, alloc, top)?;
+    Ok(Reply::Done(Answer::Rows(rows)))
+}

@@ -1,0 +1,177 @@
+-- Entries by number, through a table from numbers to slots.
+use Rattle.std.proofs.Common.{◌≡◌, ℕ, zero, suc, ◌+◌, ◌<◌, ◌≤◌, ◌==◌, true, false, if◌then◌else◌, List, [], ◌∷◌, ◌++◌, length, map, slice_index_or, Option, Some, None, option_map, IsSome, refl, ap, sym, ◌∙◌, subst, arith, ◌⊎◌, inl, inr, ⊎_elim}
+use Rattle.std.proofs.lemmas.Bool.{cases_lt, ne_eqb, eq-eqb, false≢true}
+use Rattle.std.specs.Option.{ForSome}
+use Rattle.dom_model.specs.Lists.{hits, is_number, entered, left_out, head_of, last_of, after, before, before_from}
+use Rattle.dom_model.specs.Arena.{Arena, Entry, entry_at, held, names, parent_in, children_in, siblings_in, list_under, next_in, previous_in, alone, IsLinked}
+use Rattle.dom_model.specs.Forest.{Node}
+use Rattle.dom_tree.specs.Spelled.{number_in, number_at, renumbered, entry_in_slot, by_number, IsTabled}
+use Rattle.dom_tree.proofs.Numbers.{same_or, same, apart}
+use Rattle.dom_tree.proofs.Changes.{Seen, seen, nothing, just, cut_at, link_at, change_at}
+use Rattle.dom_tree.proofs.Stores.{linked_at, unlinked_at}
+
+hits-first : (x : ℕ) (xs : List ℕ) → 0 < hits x (x ∷ xs)
+hits-first x xs = elim (same_or x x) [ same e t ↦ rw t (omega arith) | apart ne t ↦ absurd (ne refl) ]
+
+-- a list mapped, and a question asked of it before or after
+pub head_of-map : (f : ℕ → ℕ) (l : List ℕ) → head_of (map f l) ≡ option_map f (head_of l)
+head_of-map f [] = refl
+head_of-map f (x ∷ xs) = refl
+
+pub last_of-map : (f : ℕ → ℕ) (l : List ℕ) → last_of (map f l) ≡ option_map f (last_of l)
+last_of-map f [] = refl
+last_of-map f (x ∷ []) = refl
+last_of-map f (x ∷ y ∷ ys) = last_of-map f (y ∷ ys)
+
+pub after-map : (f : ℕ → ℕ) (s : ℕ) (l : List ℕ) → ((x : ℕ) → 0 < hits x l → (f x == f s) ≡ (x == s)) → after (f s) (map f l) ≡ option_map f (after s l)
+after-map f s [] h = refl
+after-map f s (x ∷ xs) h =
+    rw (h x (hits-first x xs)) (elim (x == s) as (λ v. (if v then head_of (map f xs) else after (f s) (map f xs)) ≡ option_map f (if v then head_of xs else after s xs)) [
+      true ↦ head_of-map f xs
+    | false ↦ after-map f s xs (λ y k. h y (omega arith))
+    ])
+
+pub before_from-map : (f : ℕ → ℕ) (s : ℕ) (passed : Option ℕ) (l : List ℕ) → ((x : ℕ) → 0 < hits x l → (f x == f s) ≡ (x == s)) → before_from (option_map f passed) (f s) (map f l) ≡ option_map f (before_from passed s l)
+before_from-map f s passed [] h = refl
+before_from-map f s passed (x ∷ xs) h =
+    rw (h x (hits-first x xs)) (elim (x == s) as (λ v. (if v then option_map f passed else before_from (Some (f x)) (f s) (map f xs)) ≡ option_map f (if v then passed else before_from (Some x) s xs)) [
+      true ↦ refl
+    | false ↦ before_from-map f s (Some x) xs (λ y k. h y (omega arith))
+    ])
+
+pub left_out-map : (f : ℕ → ℕ) (s : ℕ) (l : List ℕ) → ((x : ℕ) → 0 < hits x l → (f x == f s) ≡ (x == s)) → left_out (f s) (map f l) ≡ map f (left_out s l)
+left_out-map f s [] h = refl
+left_out-map f s (x ∷ xs) h =
+    rw (h x (hits-first x xs)) (elim (x == s) as (λ v. (if v then left_out (f s) (map f xs) else f x ∷ left_out (f s) (map f xs)) ≡ map f (if v then left_out s xs else x ∷ left_out s xs)) [
+      true ↦ left_out-map f s xs (λ y k. h y (omega arith))
+    | false ↦ ap (λ l. f x ∷ l) (left_out-map f s xs (λ y k. h y (omega arith)))
+    ])
+
+pub entered-map : (f : ℕ → ℕ) (b : Option ℕ) (s : ℕ) (l : List ℕ) → ((x : ℕ) → 0 < hits x l → is_number (option_map f b) (f x) ≡ is_number b x) → entered (option_map f b) (f s) (map f l) ≡ map f (entered b s l)
+entered-map f b s [] h = refl
+entered-map f b s (x ∷ xs) h =
+    rw (h x (hits-first x xs)) (elim (is_number b x) as (λ v. (if v then f s ∷ f x ∷ map f xs else f x ∷ entered (option_map f b) (f s) (map f xs)) ≡ map f (if v then s ∷ x ∷ xs else x ∷ entered b s xs)) [
+      true ↦ refl
+    | false ↦ ap (λ l. f x ∷ l) (entered-map f b s xs (λ y k. h y (omega arith)))
+    ])
+
+pub map-same : (f g : ℕ → ℕ) (l : List ℕ) → ((x : ℕ) → 0 < hits x l → f x ≡ g x) → map f l ≡ map g l
+map-same f g [] h = refl
+map-same f g (x ∷ xs) h = rw (h x (hits-first x xs), map-same f g xs (λ y k. h y (omega arith))) refl
+
+pub hits-head_of : (l : List ℕ) (x : ℕ) → head_of l ≡ Some x → 0 < hits x l
+hits-head_of [] x e = absurd (cc e)
+hits-head_of (y ∷ ys) x e = (let d : y ≡ x = cc e in subst (λ m. 0 < hits m (y ∷ ys)) d (hits-first y ys))
+
+pub hits-last_of : (l : List ℕ) (x : ℕ) → last_of l ≡ Some x → 0 < hits x l
+hits-last_of [] x e = absurd (cc e)
+hits-last_of (y ∷ []) x e = (let d : y ≡ x = cc e in subst (λ m. 0 < hits m (y ∷ [])) d (hits-first y []))
+hits-last_of (y ∷ z ∷ zs) x e = omega (arith, hits-last_of (z ∷ zs) x e)
+
+pub hits-after : (s : ℕ) (l : List ℕ) (x : ℕ) → after s l ≡ Some x → 0 < hits x l
+hits-after s [] x e = absurd (cc e)
+hits-after s (y ∷ ys) x e =
+    elim (same_or y s) [
+      same d t ↦ (let k = rw t at e in omega (arith, hits-head_of ys x k))
+    | apart ne t ↦ (let k = rw t at e in omega (arith, hits-after s ys x k))
+    ]
+
+pub hits-before : (passed : Option ℕ) (s : ℕ) (l : List ℕ) (x : ℕ) → before_from passed s l ≡ Some x → (passed ≡ Some x) ⊎ (0 < hits x l)
+hits-before passed s [] x e = absurd (cc e)
+hits-before passed s (y ∷ ys) x e =
+    elim (same_or y s) [
+      same d t ↦ (let k = rw t at e in inl k)
+    | apart ne t ↦
+        let k = rw t at e in
+        ⊎_elim
+          (λ (p : Some y ≡ Some x). inr (let d : y ≡ x = cc p in subst (λ m. 0 < hits m (y ∷ ys)) d (hits-first y ys)))
+          (λ (lt : 0 < hits x ys). inr (omega arith))
+          (hits-before (Some y) s ys x k)
+    ]
+
+module _ {X : Type 0} where
+  pub held-some : (o : Option (Entry (Node X))) → 0 < held o → IsSome o
+  held-some None h = absurd (omega arith)
+  held-some (Some e) h = refl
+
+  -- a child is held, and so is a parent
+  pub child-held : (at : (ℕ → Option (Entry (Node X)))) → IsLinked at → (s c : ℕ) → 0 < hits c (children_in (at s)) → IsSome (at c)
+  child-held at l s c h =
+      elim (seen (at c)) [
+        nothing e ↦
+          let k : hits c (children_in (at s)) ≡ names (parent_in (at c)) s = l s c in
+          absurd (let k2 = rw e at k in omega arith)
+      | just a e ↦ rw e refl
+      ]
+
+  pub parent-held : (at : (ℕ → Option (Entry (Node X)))) → IsLinked at → (s p : ℕ) → parent_in (at s) ≡ Some p → IsSome (at p)
+  parent-held at l s p h =
+      elim (seen (at p)) [
+        nothing e ↦
+          let k : hits s (children_in (at p)) ≡ names (parent_in (at s)) p = l p s in
+          let k2 = rw (e, h) at k in
+          absurd (elim (same_or p p) [ same d t ↦ (let k3 = rw t at k2 in omega arith) | apart ne t ↦ ne refl ])
+      | just a e ↦ rw e refl
+      ]
+
+  pub sibling-held : (at : (ℕ → Option (Entry (Node X)))) → IsLinked at → (s c : ℕ) → 0 < hits c (siblings_in at s) → IsSome (at c)
+  sibling-held at l s c h = under (parent_in (at s)) h
+    where
+      under : (p : Option ℕ) → 0 < hits c (list_under at p) → IsSome (at c)
+      under None k = absurd (omega arith)
+      under (Some p) k = child-held at l p c k
+
+  -- two held slots of one number are one
+  pub one_slot : (at : (ℕ → Option (Entry (Node X)))) (sl : ℕ → Option ℕ) → IsTabled at sl → (x y : ℕ) → IsSome (at x) → IsSome (at y) → number_at at x ≡ number_at at y → x ≡ y
+  one_slot at sl t x y hx hy e =
+      let a : sl (number_at at x) ≡ Some x = t.listed x hx in
+      let b : sl (number_at at y) ≡ Some y = t.listed y hy in
+      let c : Some x ≡ Some y = sym a ∙ ap sl e ∙ b in
+      cc c
+
+  pub same_test : (at : (ℕ → Option (Entry (Node X)))) (sl : ℕ → Option ℕ) → IsTabled at sl → (x y : ℕ) → IsSome (at x) → IsSome (at y) → (number_at at x == number_at at y) ≡ (x == y)
+  same_test at sl t x y hx hy =
+      elim (same_or x y) [
+        same e v ↦ eq-eqb (number_at at x) (number_at at y) (ap (number_at at) e) ∙ sym v
+      | apart ne v ↦ ne_eqb (number_at at x) (number_at at y) (λ d. ne (one_slot at sl t x y hx hy d)) ∙ sym v
+      ]
+
+  pub slot-there : (at : (ℕ → Option (Entry (Node X)))) (sl : ℕ → Option ℕ) (n : ℕ) → IsSome (by_number at sl n) → IsSome (sl n)
+  slot-there at sl n h = there (sl n) h
+    where
+      there : (o : Option ℕ) → IsSome (entry_in_slot at o) → IsSome o
+      there None k = k
+      there (Some s) k = refl
+
+  pub by_number-slot : (at : (ℕ → Option (Entry (Node X)))) (sl : ℕ → Option ℕ) (n s : ℕ) → sl n ≡ Some s → by_number at sl n ≡ option_map (renumbered at) (at s)
+  by_number-slot at sl n s e = rw e refl
+
+  pub parent_in-map : (at : (ℕ → Option (Entry (Node X)))) (o : Option (Entry (Node X))) → parent_in (option_map (renumbered at) o) ≡ option_map (number_at at) (parent_in o)
+  parent_in-map at None = refl
+  parent_in-map at (Some e) = refl
+
+  pub children_in-map : (at : (ℕ → Option (Entry (Node X)))) (o : Option (Entry (Node X))) → children_in (option_map (renumbered at) o) ≡ map (number_at at) (children_in o)
+  children_in-map at None = refl
+  children_in-map at (Some e) = refl
+
+  pub siblings_in-map : (at : (ℕ → Option (Entry (Node X)))) (sl : ℕ → Option ℕ) → IsTabled at sl → IsLinked at → (n s : ℕ) → sl n ≡ Some s → siblings_in (by_number at sl) n ≡ map (number_at at) (siblings_in at s)
+  siblings_in-map at sl t l n s e =
+      rw (by_number-slot at sl n s e, parent_in-map at (at s)) (under (parent_in (at s)) (λ p h. parent-held at l s p h))
+    where
+      under : (o : Option ℕ) → ((p : ℕ) → o ≡ Some p → IsSome (at p)) → list_under (by_number at sl) (option_map (number_at at) o) ≡ map (number_at at) (list_under at o)
+      under None h = refl
+      under (Some p) h = ap children_in (by_number-slot at sl (number_at at p) p (t.listed p (h p refl))) ∙ children_in-map at (at p)
+
+  pub next_in-map : (at : (ℕ → Option (Entry (Node X)))) (sl : ℕ → Option ℕ) → IsTabled at sl → IsLinked at → (n s : ℕ) → sl n ≡ Some s → next_in (by_number at sl) n ≡ option_map (number_at at) (next_in at s)
+  next_in-map at sl t l n s e =
+      let d = t.named n s e in
+      let k = after-map (number_at at) s (siblings_in at s) (λ x h. same_test at sl t x s (sibling-held at l s x h) d.0) in
+      let k2 = rw d.1 at k in
+      rw (siblings_in-map at sl t l n s e) k2
+
+  pub previous_in-map : (at : (ℕ → Option (Entry (Node X)))) (sl : ℕ → Option ℕ) → IsTabled at sl → IsLinked at → (n s : ℕ) → sl n ≡ Some s → previous_in (by_number at sl) n ≡ option_map (number_at at) (previous_in at s)
+  previous_in-map at sl t l n s e =
+      let d = t.named n s e in
+      let k = before_from-map (number_at at) s None (siblings_in at s) (λ x h. same_test at sl t x s (sibling-held at l s x h) d.0) in
+      let k2 = rw d.1 at k in
+      rw (siblings_in-map at sl t l n s e) k2

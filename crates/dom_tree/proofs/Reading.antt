@@ -1,0 +1,179 @@
+-- What is read by slot is what the forest says by number, where a tree's value is the forest that it shows.
+use Rattle.std.proofs.Common.{◌≡◌, ℕ, ◌+◌, ◌<◌, ◌==◌, true, false, List, [], ◌∷◌, length, map, Option, Some, None, option_map, IsSome, is_some, IfSome, refl, ap, sym, ◌∙◌, subst, arith, ◌⊎◌, ⊎_elim}
+use Rattle.std.proofs.lemmas.Bool.{false≢true}
+use Rattle.std.proofs.lemmas.List.{length-map}
+use Rattle.std.specs.Option.{ForSome}
+use Rattle.dom_model.specs.Lists.{hits, among, head_of, last_of}
+use Rattle.dom_model.specs.Arena.{Arena, Entry, entry_at, held, parent_in, children_in, siblings_in, next_in, previous_in, linked, unlinked, altered, with_value, StandsUnder, IsHeld, IsSound}
+use Rattle.dom_model.specs.Forest.{Node, Forest, Grove, size, entry_in, HasNode, parent_of, children_of, next_of, previous_of, ancestors, cut, put, with_node, IsForest}
+use Rattle.dom_tree.specs.Standing.{MayStand}
+use Rattle.dom_tree.specs.Spelled.{number_at, renumbered, entry_in_slot, slot_in, slot_for, numbered, shown, IsKept}
+use Rattle.dom_tree.proofs.Changes.{Seen, seen, nothing, just}
+use Rattle.dom_tree.proofs.Climbing.{not_among-hits}
+use Rattle.dom_tree.proofs.Making.{write-kept, alter-kept}
+use Rattle.dom_tree.proofs.Kept.{Keeps, cut-kept, put-kept, stands-among, entry-numbered, entry-slot, parent-slot, children-slot, next-slot, previous-slot, slot-node, slot-parent, option_map-none, option_map-some}
+use Rattle.dom_tree.proofs.Numbering.{head_of-map, last_of-map, hits-head_of, hits-last_of, hits-after, hits-before, child-held, parent-held, sibling-held, one_slot}
+use Rattle.dom_tree.proofs.Spelling.{IsForest-Spells}
+
+-- what a reading of the links names is held
+module _ {X : Type 0} {a : Arena (Node X)} (l : IsSound a) where
+  pub parent-named : (s : ℕ) (o : Option ℕ) → o ≡ parent_in (entry_at a s) → (x : ℕ) → o ≡ Some x → IsHeld a x
+  parent-named s o e x h = parent-held (entry_at a) l.linked s x (sym e ∙ h)
+
+  pub first-named : (s : ℕ) (o : Option ℕ) → o ≡ head_of (children_in (entry_at a s)) → (x : ℕ) → o ≡ Some x → IsHeld a x
+  first-named s o e x h = child-held (entry_at a) l.linked s x (hits-head_of (children_in (entry_at a s)) x (sym e ∙ h))
+
+  pub last-named : (s : ℕ) (o : Option ℕ) → o ≡ last_of (children_in (entry_at a s)) → (x : ℕ) → o ≡ Some x → IsHeld a x
+  last-named s o e x h = child-held (entry_at a) l.linked s x (hits-last_of (children_in (entry_at a s)) x (sym e ∙ h))
+
+  pub next-named : (s : ℕ) (o : Option ℕ) → o ≡ next_in (entry_at a) s → (x : ℕ) → o ≡ Some x → IsHeld a x
+  next-named s o e x h = sibling-held (entry_at a) l.linked s x (hits-after s (siblings_in (entry_at a) s) x (sym e ∙ h))
+
+  pub previous-named : (s : ℕ) (o : Option ℕ) → o ≡ previous_in (entry_at a) s → (x : ℕ) → o ≡ Some x → IsHeld a x
+  previous-named s o e x h =
+      ⊎_elim
+        (λ (z : None ≡ Some x). absurd (cc z))
+        (λ (lt : 0 < hits x (siblings_in (entry_at a) s)). sibling-held (entry_at a) l.linked s x lt)
+        (hits-before None s (siblings_in (entry_at a) s) x (sym e ∙ h))
+
+module _ {X : Type 0} {a : Arena (Node X)} {table : List (Option ℕ)} {live : ℕ} (k : IsKept a table live) {w : Grove X} (v : record { forest = shown a table; made = length table } ≡ w) where
+  pub slot-held : (n : ℕ) → HasNode w.forest n → (t : List (Option ℕ)) → t ≡ table → IsSome (slot_in t n)
+  slot-held n h t e = rw e (slot-node k n (subst (λ (g : Grove X). HasNode g.forest n) (sym v) h))
+
+  pub slot-of_child : (n : ℕ) → IsSome (parent_of w.forest n) → (t : List (Option ℕ)) → t ≡ table → IsSome (slot_in t n)
+  slot-of_child n h t e = rw e (slot-parent k n (subst (λ (g : Grove X). IsSome (parent_of g.forest n)) (sym v) h))
+
+  pub value-read : {B : Type 0} (p : Node X → B) (n s : ℕ) (t : List (Option ℕ)) → t ≡ table → slot_in t n ≡ Some s → (x y : Node X) → y ≡ x → IfSome (entry_at a s) (λ e. x ≡ e.value) → IfSome (entry_in w.forest n) (λ e. p y ≡ p e.value)
+  value-read p n s t e i x y yx h =
+      subst (λ (o : Option (Entry (Node X))). IfSome o (λ e. p y ≡ p e.value)) (sym (entry-slot k n s (ap (λ u. slot_in u n) (sym e) ∙ i)) ∙ ap (λ (g : Grove X). entry_in g.forest n) v) (go (entry_at a s) h)
+    where
+      go : (o : Option (Entry (Node X))) → IfSome o (λ e. x ≡ e.value) → IfSome (option_map (renumbered (entry_at a)) o) (λ e. p y ≡ p e.value)
+      go None z = tt
+      go (Some e) z = ap p (yx ∙ z)
+
+  pub parent-read : (n s : ℕ) (t : List (Option ℕ)) (o r : Option ℕ) → t ≡ table → slot_in t n ≡ Some s → o ≡ parent_in (entry_at a s) → r ≡ option_map (number_at (entry_at a)) o → r ≡ parent_of w.forest n
+  parent-read n s t o r e i h j =
+      j ∙ ap (option_map (number_at (entry_at a))) h ∙ sym (parent-slot k n s (ap (λ u. slot_in u n) (sym e) ∙ i)) ∙ ap (λ (g : Grove X). parent_of g.forest n) v
+
+  pub children-read : (n s : ℕ) (t : List (Option ℕ)) → t ≡ table → slot_in t n ≡ Some s → map (number_at (entry_at a)) (children_in (entry_at a s)) ≡ children_of w.forest n
+  children-read n s t e i = sym (children-slot k n s (ap (λ u. slot_in u n) (sym e) ∙ i)) ∙ ap (λ (g : Grove X). children_of g.forest n) v
+
+  pub first-read : (n s : ℕ) (t : List (Option ℕ)) (o r : Option ℕ) → t ≡ table → slot_in t n ≡ Some s → o ≡ head_of (children_in (entry_at a s)) → r ≡ option_map (number_at (entry_at a)) o → r ≡ head_of (children_of w.forest n)
+  first-read n s t o r e i h j =
+      j ∙ ap (option_map (number_at (entry_at a))) h ∙ sym (head_of-map (number_at (entry_at a)) (children_in (entry_at a s))) ∙ ap head_of (children-read n s t e i)
+
+  pub last-read : (n s : ℕ) (t : List (Option ℕ)) (o r : Option ℕ) → t ≡ table → slot_in t n ≡ Some s → o ≡ last_of (children_in (entry_at a s)) → r ≡ option_map (number_at (entry_at a)) o → r ≡ last_of (children_of w.forest n)
+  last-read n s t o r e i h j =
+      j ∙ ap (option_map (number_at (entry_at a))) h ∙ sym (last_of-map (number_at (entry_at a)) (children_in (entry_at a s))) ∙ ap last_of (children-read n s t e i)
+
+  pub count-read : (n s : ℕ) (t : List (Option ℕ)) (r : ℕ) → t ≡ table → slot_in t n ≡ Some s → r ≡ length (children_in (entry_at a s)) → r ≡ length (children_of w.forest n)
+  count-read n s t r e i h =
+      h ∙ sym (length-map (children_in (entry_at a s)) (number_at (entry_at a))) ∙ ap length (children-read n s t e i)
+
+  pub next-read : IsSound a → (n s : ℕ) (t : List (Option ℕ)) (o r : Option ℕ) → t ≡ table → slot_in t n ≡ Some s → o ≡ next_in (entry_at a) s → r ≡ option_map (number_at (entry_at a)) o → r ≡ next_of w.forest n
+  next-read l n s t o r e i h j =
+      j ∙ ap (option_map (number_at (entry_at a))) h ∙ sym (next-slot k l n s (ap (λ u. slot_in u n) (sym e) ∙ i)) ∙ ap (λ (g : Grove X). next_of g.forest n) v
+
+  pub previous-read : IsSound a → (n s : ℕ) (t : List (Option ℕ)) (o r : Option ℕ) → t ≡ table → slot_in t n ≡ Some s → o ≡ previous_in (entry_at a) s → r ≡ option_map (number_at (entry_at a)) o → r ≡ previous_of w.forest n
+  previous-read l n s t o r e i h j =
+      j ∙ ap (option_map (number_at (entry_at a))) h ∙ sym (previous-slot k l n s (ap (λ u. slot_in u n) (sym e) ∙ i)) ∙ ap (λ (g : Grove X). previous_of g.forest n) v
+
+  pub holds-read : (n : ℕ) → is_some (slot_in table n) ≡ is_some (entry_in w.forest n)
+  holds-read n =
+      sym (ap is_some (entry-numbered k n) ∙ there (slot_in table n) (λ s e. (k.tabled.named n s e).0)) ∙ ap (λ (g : Grove X). is_some (entry_in g.forest n)) v
+    where
+      there : (o : Option ℕ) → ((s : ℕ) → o ≡ Some s → IsSome (entry_at a s)) → is_some (entry_in_slot (entry_at a) o) ≡ is_some o
+      there None h = refl
+      there (Some s) h = mapped (entry_at a s) (h s refl)
+        where
+          mapped : (o : Option (Entry (Node X))) → IsSome o → is_some (option_map (renumbered (entry_at a)) o) ≡ true
+          mapped None i = i
+          mapped (Some e) i = refl
+
+  pub forest-read : IsForest w
+  forest-read = subst (λ (g : Grove X). IsForest g) v (IsForest-Spells (length table) (numbered a table) (shown a table) k.spelled k.kinds)
+
+  pub live-read : live ≡ size w.forest
+  live-read = k.alive ∙ ap (λ (g : Grove X). size g.forest) v
+
+  -- the value after a change of the forest alone
+  pub changed-shown : (a' : Arena (Node X)) (change : Forest X → Forest X) → shown a' table ≡ change (shown a table) → ◌≡◌ {A = Grove X} (record { forest = shown a' table; made = length table }) (record { forest = change w.forest; made = w.made })
+  changed-shown a' change h =
+      λ i. record { forest = forest i; made = made i }
+    where
+      forest : shown a' table ≡ change w.forest
+      forest = h ∙ ap (λ (g : Grove X). change g.forest) v
+      made : length table ≡ w.made
+      made = ap (λ (g : Grove X). g.made) v
+
+  pub keeps-shown : {a' : Arena (Node X)} (change : Forest X → Forest X) → Keeps a' table live (change (shown a table)) → ◌≡◌ {A = Grove X} (record { forest = shown a' table; made = length table }) (record { forest = change w.forest; made = w.made })
+  keeps-shown {a'} change h = changed-shown a' change h.same
+
+  pub parent-there : (n s : ℕ) (t : List (Option ℕ)) → t ≡ table → slot_in t n ≡ Some s → IsSome (parent_of w.forest n) → IsSome (parent_in (entry_at a s))
+  parent-there n s t e i h =
+      let j : IsSome (parent_of (shown a table) n) = subst (λ (g : Grove X). IsSome (parent_of g.forest n)) (sym v) h in
+      let d = parent-slot k n s (ap (λ u. slot_in u n) (sym e) ∙ i) in
+      option_map-some (number_at (entry_at a)) (parent_in (entry_at a s)) (let j2 = rw d at j in j2)
+
+  pub parent-none : (n s : ℕ) (t : List (Option ℕ)) → t ≡ table → slot_in t n ≡ Some s → parent_of w.forest n ≡ None → parent_in (entry_at a s) ≡ None
+  parent-none n s t e i h =
+      option_map-none (number_at (entry_at a)) (parent_in (entry_at a s)) (sym (parent-slot k n s (ap (λ u. slot_in u n) (sym e) ∙ i)) ∙ ap (λ (g : Grove X). parent_of g.forest n) v ∙ h)
+
+  -- the slot before which a child goes stands under the parent's slot
+  pub parent-same : IsSound a → (nb : Option ℕ) (np sp : ℕ) (sb : Option ℕ) (t u : List (Option ℕ)) → t ≡ table → u ≡ table → slot_in t np ≡ Some sp → slot_for u nb ≡ sb → ForSome nb (λ b. parent_of w.forest b ≡ Some np) → (x : ℕ) → sb ≡ Some x → parent_in (entry_at a x) ≡ Some sp
+  parent-same l None np sp sb t u e eu ep eb h x d = absurd (let z : None ≡ Some x = eb ∙ d in cc z)
+  parent-same l (Some n) np sp sb t u e eu ep eb h x d =
+      let i : slot_in table n ≡ Some x = ap (λ r. slot_in r n) (sym eu) ∙ eb ∙ d in
+      let ip : slot_in table np ≡ Some sp = ap (λ r. slot_in r np) (sym e) ∙ ep in
+      let j : option_map (number_at (entry_at a)) (parent_in (entry_at a x)) ≡ Some np = sym (parent-slot k n x i) ∙ ap (λ (g : Grove X). parent_of g.forest n) v ∙ h n refl in
+      elim (seen (parent_in (entry_at a x))) [
+        nothing z ↦ absurd (let j2 = rw z at j in cc j2)
+      | just q z ↦
+          let j2 = rw z at j in
+          let m : number_at (entry_at a) q ≡ np = cc j2 in
+          let hq = parent-held (entry_at a) l.linked x q z in
+          let hp = k.tabled.named np sp ip in
+          z ∙ ap Some (one_slot (entry_at a) (slot_in table) k.tabled q sp hq hp.0 (m ∙ sym hp.1))
+      ]
+
+  pub slots-held : (nb : Option ℕ) (t : List (Option ℕ)) → t ≡ table → (p : ℕ) → ForSome nb (λ b. parent_of w.forest b ≡ Some p) → (n : ℕ) → nb ≡ Some n → IsSome (slot_in t n)
+  slots-held nb t e p h n d = slot-of_child n (rw (h n d) refl) t e
+
+  pub no_cycle-slots : IsSound a → (np sp nc sc : ℕ) (t u : List (Option ℕ)) → t ≡ table → u ≡ table → slot_in t np ≡ Some sp → slot_in u nc ≡ Some sc → among nc (ancestors np w.forest) ≡ false → StandsUnder (entry_at a) sc sp → ⊥
+  no_cycle-slots l np sp nc sc t u e eu ep ec h st =
+      let i : slot_in table np ≡ Some sp = ap (λ r. slot_in r np) (sym e) ∙ ep in
+      let j : slot_in table nc ≡ Some sc = ap (λ r. slot_in r nc) (sym eu) ∙ ec in
+      let m = stands-among k l sc sp st np nc i j in
+      let z : hits nc (ancestors np (shown a table)) ≡ 0 = not_among-hits nc (ancestors np (shown a table)) (ap (λ (g : Grove X). among nc (ancestors np g.forest)) v ∙ h) in
+      omega arith
+
+  pub cut-done : IsSound a → (n s : ℕ) (t : List (Option ℕ)) → t ≡ table → slot_in t n ≡ Some s → IsSome (parent_of w.forest n) → (a' : Arena (Node X)) → a' ≡ unlinked a s → Keeps a' table live (cut n (shown a table))
+  cut-done l n s t e i h a' ea = rw ea (cut-kept k l n s (ap (λ u. slot_in u n) (sym e) ∙ i) (parent-there n s t e i h))
+
+  pub put-done : IsSound a → (np sp nc sc : ℕ) (nb sb : Option ℕ) (t u r : List (Option ℕ)) → t ≡ table → u ≡ table → r ≡ table → slot_in t np ≡ Some sp → slot_in u nc ≡ Some sc → slot_for r nb ≡ sb → parent_of w.forest nc ≡ None → among nc (ancestors np w.forest) ≡ false → ForSome nb (λ b. parent_of w.forest b ≡ Some np) → MayStand w.forest np nc → (a' : Arena (Node X)) → a' ≡ linked a sp sc sb → Keeps a' table live (put np nc nb (shown a table))
+  put-done l np sp nc sc nb sb t u r e eu er ep ec eb root cy under may a' ea =
+      rw ea (put-kept k l np sp nc sc nb sb (ap (λ y. slot_in y np) (sym e) ∙ ep) (ap (λ y. slot_in y nc) (sym eu) ∙ ec) (ap (λ y. slot_for y nb) (sym er) ∙ eb)
+        (λ n d. slots-held nb table refl np under n d)
+        (parent-none nc sc u eu ec root)
+        (ap (λ (g : Grove X). among nc (ancestors np g.forest)) v ∙ cy)
+        (subst (λ (g : Grove X). MayStand g.forest np nc) (sym v) may))
+
+  -- a node written to its slot, with the number and the label that stood there
+  pub write-done : (n s : ℕ) (t : List (Option ℕ)) → t ≡ table → slot_in t n ≡ Some s → (x y z : Node X) (h : Node X → Node X) → ((q : Node X) → (h q).number ≡ q.number) → ((q : Node X) → (h q).label ≡ q.label) → y ≡ x → z ≡ h y → IfSome (entry_at a s) (λ e. x ≡ e.value) → Keeps (altered (with_value z) a s) table live (with_node n h (shown a table))
+  write-done n s t e i x y z h hn hl yx zh j =
+      write-kept k n s h hn hl z (ap (λ u. slot_in u n) (sym e) ∙ i) (go (entry_at a s) j)
+    where
+      go : (o : Option (Entry (Node X))) → IfSome o (λ e. x ≡ e.value) → IfSome o (λ e. z ≡ h e.value)
+      go None q = tt
+      go (Some d) q = zh ∙ ap h (yx ∙ q)
+
+  pub alter-done : (n s : ℕ) (t : List (Option ℕ)) → t ≡ table → slot_in t n ≡ Some s → (h : Node X → Node X) → ((q : Node X) → (h q).number ≡ q.number) → ((q : Node X) → (h q).label ≡ q.label) → Keeps (altered (λ (e : Entry (Node X)). with_value (h e.value) e) a s) table live (with_node n h (shown a table))
+  alter-done n s t e i h hn hl = alter-kept k n s h hn hl (ap (λ u. slot_in u n) (sym e) ∙ i)
+
+  pub part-read : {B : Type 0} (p : Node X → B) (n s : ℕ) (t : List (Option ℕ)) → t ≡ table → slot_in t n ≡ Some s → (b : B) → IfSome (entry_at a s) (λ e. b ≡ p e.value) → IfSome (entry_in w.forest n) (λ e. b ≡ p e.value)
+  part-read p n s t e i b h =
+      subst (λ (o : Option (Entry (Node X))). IfSome o (λ e. b ≡ p e.value)) (sym (entry-slot k n s (ap (λ u. slot_in u n) (sym e) ∙ i)) ∙ ap (λ (g : Grove X). entry_in g.forest n) v) (go (entry_at a s) h)
+    where
+      go : (o : Option (Entry (Node X))) → IfSome o (λ e. b ≡ p e.value) → IfSome (option_map (renumbered (entry_at a)) o) (λ e. b ≡ p e.value)
+      go None z = tt
+      go (Some e) z = z

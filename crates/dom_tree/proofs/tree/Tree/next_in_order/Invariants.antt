@@ -1,0 +1,11 @@
+-- What follows in tree order is what comes past the tree of where the walk stands.
+use Rattle.std.proofs.Common.{length}
+use Rattle.dom_model.specs.Forest.{HasNode, ancestors}
+use Rattle.dom_tree.proofs.Stepping.{Past}
+use Rattle.dom_tree.proofs.tree.Tree.next_in_order.Given as goal
+
+abbrev pub invariant-loop-next : goal.invariant-loop-next
+invariant-loop-next g l = record { there : HasNode l.self.forest l.here; same : Past l.self.forest l.fn.id l.here }
+
+abbrev pub decreases-loop-next : goal.decreases-loop-next
+decreases-loop-next g l = length (ancestors l.here l.self.forest)

@@ -1,0 +1,29 @@
+//! A part of a list replaced, with one move of what follows it.
+ghost use Rattle.std.specs.Prelude.{◌≡◌, ◌-◌, ◌≤◌, vec_len, length, OnOk, OnErr};
+ghost use Rattle.dom_model.specs.Texts.{spliced};
+
+use std::alloc::AllocError;
+
+// Puts `added` in place of the `count` units from `at` on.
+pub fn splice(
+    units: &mut Vec<u16>,
+    at: usize,
+    count: usize,
+    added: &[u16],
+) -> Result<(), AllocError>
+    requires within { at ≤ vec_len units.old }
+    requires enough { count ≤ vec_len units.old - at }
+    ensures ok { OnOk result (units.new.items ≡ spliced at count added.now units.old.items) }
+    ensures err { OnErr result (units.new.items ≡ units.old.items) }
+{
+    let end = units.len();
+    if count < added.len() {
+        // These only make room: what is moved and what is written stands over them.
+        units.extend_from_slice(&added[count..])?;
+    }
+    let after = at + added.len();
+    units.copy_within(at + count..end, after);
+    units.truncate(after + (end - (at + count)));
+    units.slice_mut(at..after).copy_from_slice(added);
+    Ok(())
+}

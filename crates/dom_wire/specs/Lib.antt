@@ -1,0 +1,4 @@
+pub mod Shapes
+pub mod Rows
+pub mod Reads
+pub mod Prints

@@ -1,0 +1,100 @@
+//! The command line: `domserve [--line BYTES] [--numbers N]`.
+
+ghost use Rattle.std.specs.Prelude.{◌≤◌, IfOk};
+ghost use Rattle.dom_session.specs.Bounding.{bounds_of};
+ghost use Rattle.domserve.specs.Statuses.{IsInRange};
+
+use clap::error::ErrorKind;
+use clap::{Arg, ArgAction, ArgMatches, Command, Error};
+use dom_serve::Limits;
+use std::alloc::{AllocError, Global};
+use std::convert::AsStr;
+
+/// How many bytes a line may have where the words do not say.
+const LINE: u64 = 1048576;
+
+/// How many bytes a line may have at most.
+const LONGEST_LINE: u64 = 1073741824;
+
+/// How many numbers there are of each kind of object, at most, and where the words do not say.
+const NUMBERS: u64 = 4294967295;
+
+/// Why the words give no limits, with clap's text.
+#[derive(Drop)]
+pub enum Refusal {
+    Memory,
+    Help(String),
+    Mistake(String),
+}
+
+fn command<'a>(alloc: Global) -> Result<Command<'a>, AllocError> {
+    let line = Arg::new(alloc, "line")
+        .long("line")
+        .value_name("BYTES")
+        .help("How many bytes a line may have")
+        .action(ArgAction::Set)
+        .value_parser(clap::value_parser!(u64).range(1..=1073741824))
+        .default_value("1048576");
+    let numbers = Arg::new(alloc, "numbers")
+        .long("numbers")
+        .value_name("N")
+        .help("How many numbers there are of each kind of object")
+        .action(ArgAction::Set)
+        .value_parser(clap::value_parser!(u64).range(1..=4294967295))
+        .default_value("4294967295");
+    Command::new(alloc, "domserve").arg(line)?.arg(numbers)
+}
+
+/// The value where it is in the range, which clap has tested, or else the other one.
+fn within(value: Option<u64>, most: u64, otherwise: u64) -> u64
+    requires least { 1 ≤ otherwise }
+    requires most { otherwise ≤ most }
+    ensures least { 1 ≤ result }
+    ensures most { result ≤ most }
+{
+    match value {
+        Some(n) if 1 <= n && n <= most => n,
+        _ => otherwise,
+    }
+}
+
+fn limits_of(matches: &ArgMatches<'_>) -> Limits
+    ensures { IsInRange (bounds_of result) }
+{
+    let line = within(matches.get_one::<u64>("line"), LONGEST_LINE, LINE);
+    let numbers = within(matches.get_one::<u64>("numbers"), NUMBERS, NUMBERS);
+    Limits {
+        numbers,
+        line: line as usize,
+    }
+}
+
+fn refusal_of(alloc: Global, error: &Error) -> Refusal {
+    if let ErrorKind::OutOfMemory = error.kind() {
+        return Refusal::Memory;
+    }
+    match error.to_string(alloc) {
+        Ok(text) => {
+            if error.use_stderr() {
+                Refusal::Mistake(text)
+            } else {
+                Refusal::Help(text)
+            }
+        }
+        Err(_) => Refusal::Memory,
+    }
+}
+
+/// The limits that the words ask for, the program's name first.
+pub fn limits_from<S: AsStr>(alloc: Global, words: &[S]) -> Result<Limits, Refusal>
+    ensures { IfOk result (λ limits. IsInRange (bounds_of limits)) }
+{
+    let command = match command(alloc) {
+        Ok(command) => command,
+        Err(AllocError) => return Err(Refusal::Memory),
+    };
+    match command.try_get_matches_from(words) {
+        Ok(matches) => Ok(limits_of(&matches)),
+        Err(error) => Err(refusal_of(alloc, &error)),
+    }
+}

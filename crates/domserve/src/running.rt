@@ -1,0 +1,121 @@
+//! Serving as the words ask, and the status.
+
+ghost use Rattle.std.specs.Prelude.{◌≡◌, ◌≤◌, ℕ, true, false, ◌⊎◌, IfSome};
+ghost use Rattle.dom_model.specs.Answer.{Bounds};
+ghost use Rattle.dom_session.specs.Bounding.{bounds_of};
+ghost use Rattle.domserve.specs.Statuses.{IsInRange, text_of, status_of, IsServed};
+
+use crate::options::{Refusal, limits_from};
+use dom_serve::{Failed, Fault, Limits, Sink, Source, serve, write_line};
+use std::alloc::Global;
+use std::convert::AsStr;
+use std::io::Write;
+
+/// What is said of a fault on standard error, without its newline.
+pub fn fault_text(fault: &Fault) -> &'static str
+    ensures { result.now ≡ text_of fault.now }
+{
+    match fault {
+        Fault::Read => "domserve: read failed",
+        Fault::Write => "domserve: write failed",
+        Fault::Memory => "domserve: out of memory",
+        Fault::InputTooLong => "domserve: input too long",
+    }
+}
+
+fn fault_status(fault: &Fault) -> u8
+    ensures { result ≡ status_of fault.now }
+{
+    match fault {
+        Fault::Memory => 1,
+        Fault::Read | Fault::Write | Fault::InputTooLong => 3,
+    }
+}
+
+/// Says a text on standard error; that this fails is not told.
+fn say<E: Write>(errors: &mut E, text: &str) {
+    let _ = errors.write_all(text.as_bytes());
+    let _ = errors.flush();
+}
+
+/// Says the fault, and gives its status.
+fn faulted<E: Write>(errors: &mut E, fault: &Fault) -> u8
+    ensures { result ≡ status_of fault.now }
+{
+    say(errors, fault_text(fault));
+    say(errors, "\n");
+    fault_status(fault)
+}
+
+/// Says that memory was wanting, and gives its status.
+pub fn without_memory<E: Write>(errors: &mut E) -> u8
+    ensures { result ≡ 1 }
+{
+    faulted(errors, &Fault::Memory)
+}
+
+fn served<R: Source, W: Sink, E: Write>(
+    alloc: Global,
+    limits: Limits,
+    reader: &mut R,
+    writer: &mut W,
+    errors: &mut E,
+) -> u8
+    requires reads { R.has_failed reader.old ≡ false }
+    requires writes { W.has_failed writer.old ≡ false }
+    requires limits { IsInRange (bounds_of limits) }
+    ensures range { (result ≤ 1) ⊎ (result ≡ 3) }
+    ensures served { result ≡ 0 → IfSome (R.left reader.old) (IsServed (bounds_of limits) (W.taken writer.old) (W.taken writer.new)) }
+    ensures reader { R.has_failed reader.new ≡ true → result ≡ 3 }
+    ensures writer { W.has_failed writer.new ≡ true → result ≡ 3 }
+{
+    match serve(alloc, limits, reader, writer) {
+        Ok(_) => 0,
+        Err(fault) => faulted(errors, &fault),
+    }
+}
+
+fn helped<W: Sink, E: Write>(text: &str, writer: &mut W, errors: &mut E) -> u8
+    requires writes { W.has_failed writer.old ≡ false }
+    ensures range { (result ≡ 0) ⊎ (result ≡ 3) }
+    ensures writer { W.has_failed writer.new ≡ true → result ≡ 3 }
+{
+    match write_line(writer, text.as_bytes()) {
+        Ok(()) => 0,
+        Err(Failed) => faulted(errors, &Fault::Write),
+    }
+}
+
+/// Serves the reader to the writer as the words ask, the program's name first, and gives the program's status: 0 at the end
+/// of the input or after help, 1 for want of memory, 2 where the words are refused, 3 where a read, a write or a flush
+/// failed or the input was too long. What went wrong is said on `errors`.
+pub fn run<S: AsStr, R: Source, W: Sink, E: Write>(
+    alloc: Global,
+    words: &[S],
+    reader: &mut R,
+    writer: &mut W,
+    errors: &mut E,
+) -> u8
+    requires reads { R.has_failed reader.old ≡ false }
+    requires writes { W.has_failed writer.old ≡ false }
+    ensures range { result ≤ 3 }
+
+    // At status 0 help was given, or the output for all bytes of the reader was written.
+    ensures served { result ≡ 0 → (reader.new ≡ reader.old)
+        ⊎ ((b : Bounds) × IsInRange b × IfSome (R.left reader.old) (IsServed b (W.taken writer.old) (W.taken writer.new))) }
+    ensures refused { result ≡ 2 → (reader.new ≡ reader.old) × (writer.new ≡ writer.old) }
+
+    // After a failed read, write or flush the status is 3.
+    ensures reader { R.has_failed reader.new ≡ true → result ≡ 3 }
+    ensures writer { W.has_failed writer.new ≡ true → result ≡ 3 }
+{
+    match limits_from(alloc, words) {
+        Ok(limits) => served(alloc, limits, reader, writer, errors),
+        Err(Refusal::Help(text)) => helped(&text, writer, errors),
+        Err(Refusal::Mistake(text)) => {
+            say(errors, &text);
+            2
+        }
+        Err(Refusal::Memory) => without_memory(errors),
+    }
+}
