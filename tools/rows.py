@@ -23,6 +23,7 @@ use Rattle.dom_model.specs.Line.{json_of, command_of, command_within}
 use Rattle.dom_model.specs.Answer.{Bounds}
 use Rattle.dom_model.specs.Output.{whole_lines, last_piece, due, output_of}
 use Rattle.dom_model.proofs.Agreement.{ends_missed, texts_missed, worlds_missed}
+use Rattle.dom_model.proofs.ContentsBetween.{contents_missed}
 """
 
 UNFOLDING = (
@@ -86,7 +87,7 @@ def theorem(folder, name):
     title = name.replace("_", " ")
     laws = "".join(
         f"\npub {name}-{law} : {law}_missed whole_table bounds given ≡ []\n{UNFOLDING}\n{name}-{law} = refl\n"
-        for law in ("ends", "texts", "worlds")
+        for law in ("ends", "texts", "worlds", "contents")
     )
     body = (
         f"\nabbrev bounds : Bounds\nbounds = record {{ numbers = {bounds['numbers']}; line = {bounds['line']} }}\n"

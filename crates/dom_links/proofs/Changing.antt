@@ -1,19 +1,12 @@
 -- The memory after a change of links or of a value.
-use Rattle.std.proofs.Common.{◌≡◌, ℕ, ◌+◌, ◌-◌, ◌≤◌, ◌<◌, Bool, true, false, cond, eqb, List, [], ◌∷◌, length, Option, Some, None, refl, sym, ap, ◌∙◌, subst, inl, inr, ⊎_elim, ◌⊎◌, arith}
-use Rattle.std.specs.Prelude.{reverse, IsSome, is_some, option_map}
-use Rattle.std.proofs.lemmas.Bool.{cases_Bool, cases_eq, eqb-true, eqb-false, eq-eqb, ne_eqb, false≢true}
-use denote.RawPtr.{Ptr}
-use Rattle.dom_model.specs.Lists.{hits, is_number, head_of, last_of, after, before, entered, left_out}
-use Rattle.dom_model.specs.Arena.{Entry, Arena, names, entry_at, parent_in, children_in, list_under, siblings_in, next_in, previous_in, with_value, with_parent, with_children, altered, linked, unlinked, unlinked_from, IsLinked}
-use Rattle.dom_links.specs.Cells.{same_ptr, look, put}
-use Rattle.dom_links.specs.declared.links.Node.{Node}
-use Rattle.dom_links.specs.Standing.{place_in, link_in, node_in, wired, Stands}
-use Rattle.dom_links.specs.Wiring.{leads_to, link_unless, led_on, led_back, recounted, settled}
+use Rattle.std.proofs.Common.{◌≡◌, ℕ, ◌<◌, Bool, true, false, cond, eqb, List, Option, Some, None, refl, sym, ap, ◌∙◌, subst, ⊎_elim, arith}
+use Rattle.std.specs.Prelude.{IsSome, option_map}
+use Rattle.std.proofs.lemmas.Bool.{cases_eq, eqb-true, eqb-false, eq-eqb, ne_eqb, false≢true}
+use Rattle.dom_model.specs.Lists.{hits, last_of, after, before, entered, left_out}
+use Rattle.dom_model.specs.Arena.{Entry, Arena, names, entry_at, parent_in, children_in, list_under, next_in, previous_in, with_parent, with_children, altered, linked, unlinked, unlinked_from, IsLinked}
 use Rattle.dom_links.proofs.Neighbours.{left_out-none, hits-left_out_same, hits-left_out_other, left_out-entered, hits-entered, after-entered, after-entered_last, before_from-entered, before_from-entered_last, last_of-last_from}
-use Rattle.dom_links.proofs.Cutting.{IsCut, names-same, names-other, nowhere, next_is, previous_is, next-cut, previous-cut, first-cut, last-cut, length-cut, next-join, previous-join, first-join, last-join, length-join}
-use Rattle.dom_links.proofs.Standing.{Known, held-parent, held-child, known_parent, known_next, known_previous, known_last}
-use Rattle.dom_links.proofs.Reading.{Reads}
-use Rattle.dom_links.proofs.Closing.{Closes, closes, entry_at-altered, length-altered, leads_to-link_in, leads_to-link_unless, restands}
+use Rattle.dom_links.proofs.Cutting.{IsCut, names-same, names-other, next_is, previous_is}
+use Rattle.dom_links.proofs.Closing.{entry_at-altered}
 
 module _ {T : Type 0} where
   -- the entries of an arena with a parent and a list of children changed
@@ -40,7 +33,7 @@ module _ {T : Type 0} where
   pub IsLinked-cut : (at1 at0 : ℕ → Option (Entry T)) (c p : ℕ) → IsCut at1 at0 c p → IsLinked at0
   IsLinked-cut at1 at0 c p k n m =
       ap (hits m) (k.children n) ∙ (⊎_elim (λ (e : c ≡ m). subst (λ j. hits j (left_out c (children_in (at1 n))) ≡ names (parent_in (at0 j)) n) e
-          (hits-left_out_same c (children_in (at1 n)) ∙ sym (ap (λ o. names o n) (let g : parent_in (at0 c) ≡ None = k.parents c ∙ rw (eq-eqb c c refl) in g))))
+      (hits-left_out_same c (children_in (at1 n)) ∙ sym (ap (λ o. names o n) (let g : parent_in (at0 c) ≡ None = k.parents c ∙ rw (eq-eqb c c refl) in g))))
       (λ (d : c ≡ m → ⊥). hits-left_out_other m c (children_in (at1 n)) d ∙ (k.linked n m ∙ ap (λ o. names o n) (let g : parent_in (at1 m) ≡ parent_in (at0 m) = sym (k.parents m ∙ rw (ne_eqb c m d)) in g))) (cases_eq c m))
 
   parent_map : (b : Bool) (o : Option ℕ) (f : List ℕ → List ℕ) (x : Bool) (z : Option (Entry T)) → IsSome z → parent_in (option_map (λ (e : Entry T). record { value = e.value; parent = cond b o e.parent; children = cond x (f e.children) e.children }) z) ≡ cond b o (parent_in z)
@@ -77,7 +70,7 @@ module _ {T : Type 0} where
       linked = l;
       under = under;
       parents = λ n. ap parent_in (entries-unlinked n) ∙ parent_none (eqb c n) (left_out c) (eqb p n) (entry_at a n);
-      children = λ n. ap children_in (entries-unlinked n) ∙ children_left (eqb c n) None c (eqb p n) (entry_at a n) (nowhere_else (entry_at a) l c p under n)
+      children = λ n. ap children_in (entries-unlinked n) ∙ children_left (eqb c n) None c (eqb p n) (entry_at a n) (nowhere_else (entry_at a) l c p under n);
     }
 
   entered_children : (b : Option ℕ) (o : Option ℕ) (c : ℕ) (y x : Bool) (z : Option (Entry T)) → (x ≡ true → IsSome z) → children_in (option_map (λ (e : Entry T). record { value = e.value; parent = cond y o e.parent; children = cond x (entered b c e.children) e.children }) z) ≡ cond x (entered b c (children_in z)) (children_in z)
@@ -122,18 +115,18 @@ module _ {T : Type 0} where
         let z = out n in
         let old = l n m in
         rw (kids n, parents m) (⊎_elim (λ (e : p ≡ n). ⊎_elim
-            (λ (f : c ≡ m). rw (eq-eqb p n e, eq-eqb c m f) (let g : hits m xs ≡ 0 = rw (← f) z in let t = hits-entered b m c xs in let u : names (Some c) m ≡ 1 = rw (eq-eqb c m f) in let v : names (Some p) n ≡ 1 = rw (eq-eqb p n e) in omega arith))
-            (λ (f : c ≡ m → ⊥). rw (eq-eqb p n e, ne_eqb c m f) (let t = hits-entered b m c xs in let u : names (Some c) m ≡ 0 = rw (ne_eqb c m f) in omega arith)) (cases_eq c m))
-            (λ (e : p ≡ n → ⊥). ⊎_elim
-            (λ (f : c ≡ m). rw (ne_eqb p n e, eq-eqb c m f) (let g : hits m xs ≡ 0 = rw (← f) z in let v : names (Some p) n ≡ 0 = names-other p n e in omega arith))
-            (λ (f : c ≡ m → ⊥). rw (ne_eqb p n e, ne_eqb c m f) old) (cases_eq c m)) (cases_eq p n))
+        (λ (f : c ≡ m). rw (eq-eqb p n e, eq-eqb c m f) (let g : hits m xs ≡ 0 = rw (← f) z in let t = hits-entered b m c xs in let u : names (Some c) m ≡ 1 = rw (eq-eqb c m f) in let v : names (Some p) n ≡ 1 = rw (eq-eqb p n e) in omega arith))
+        (λ (f : c ≡ m → ⊥). rw (eq-eqb p n e, ne_eqb c m f) (let t = hits-entered b m c xs in let u : names (Some c) m ≡ 0 = rw (ne_eqb c m f) in omega arith)) (cases_eq c m))
+        (λ (e : p ≡ n → ⊥). ⊎_elim
+        (λ (f : c ≡ m). rw (ne_eqb p n e, eq-eqb c m f) (let g : hits m xs ≡ 0 = rw (← f) z in let v : names (Some p) n ≡ 0 = names-other p n e in omega arith))
+        (λ (f : c ≡ m → ⊥). rw (ne_eqb p n e, ne_eqb c m f) old) (cases_eq c m)) (cases_eq p n))
 
     pub cut-linked : IsCut (entry_at (linked a p c b)) (entry_at a) c p
     cut-linked = record {
       linked = IsLinked-linked;
       under = parents c ∙ rw (eq-eqb c c refl);
       parents = λ n. rw (parents n) (⊎_elim (λ (e : c ≡ n). rw (eq-eqb c n e) (rw (← e) root)) (λ (e : c ≡ n → ⊥). rw (ne_eqb c n e)) (cases_eq c n));
-      children = λ n. let xs = children_in (entry_at a n) in rw (kids n) (⊎_elim (λ (e : p ≡ n). rw (eq-eqb p n e) (sym (left_out-entered b c xs (out n)))) (λ (e : p ≡ n → ⊥). rw (ne_eqb p n e) (sym (left_out-none c xs (out n)))) (cases_eq p n))
+      children = λ n. let xs = children_in (entry_at a n) in rw (kids n) (⊎_elim (λ (e : p ≡ n). rw (eq-eqb p n e) (sym (left_out-entered b c xs (out n)))) (λ (e : p ≡ n → ⊥). rw (ne_eqb p n e) (sym (left_out-none c xs (out n)))) (cases_eq p n));
     }
 
     kids_p : children_in (entry_at (linked a p c b) p) ≡ entered b c (children_in (entry_at a p))

@@ -1,14 +1,14 @@
 -- When the memory, changed, stands for the changed arena.
-use Rattle.std.proofs.Common.{◌≡◌, ℕ, ◌+◌, ◌≤◌, ◌<◌, Bool, true, false, cond, eqb, ltb, List, [], ◌∷◌, length, Option, Some, None, refl, sym, ap, ◌∙◌, subst, inl, inr, ⊎_elim, ◌⊎◌, arith}
-use Rattle.std.specs.Prelude.{reverse, IsSome, is_some, option_map, slice_set}
-use Rattle.std.proofs.lemmas.Bool.{cases_Bool, cases_eq, cases_lt, eq-eqb, ne_eqb, le-ltb}
+use Rattle.std.proofs.Common.{◌≡◌, ℕ, ◌≤◌, ◌<◌, false, cond, eqb, List, [], length, Option, Some, None, refl, sym, ap, ◌∙◌, subst, inl, inr, ⊎_elim, ◌⊎◌, arith}
+use Rattle.std.specs.Prelude.{reverse, IsSome, is_some, option_map}
+use Rattle.std.proofs.lemmas.Bool.{cases_eq, cases_lt, eq-eqb, ne_eqb, le-ltb}
 use Rattle.std.proofs.lemmas.List.{get_or-set_same, get_or-set_other, get_or_past, set_past, length-set}
 use denote.RawPtr.{Ptr}
-use Rattle.dom_model.specs.Lists.{hits, is_number}
-use Rattle.dom_model.specs.Arena.{Entry, Arena, held, entry_at, parent_in, children_in, altered, no_slots, IsLinked, IsSound}
+use Rattle.dom_model.specs.Lists.{is_number}
+use Rattle.dom_model.specs.Arena.{Entry, Arena, held, entry_at, altered, no_slots, IsLinked}
 use Rattle.dom_links.specs.Cells.{same_ptr, look}
 use Rattle.dom_links.specs.declared.links.Node.{Node}
-use Rattle.dom_links.specs.Standing.{place_in, link_in, node_behind, node_in, arena_of, wired, Stands}
+use Rattle.dom_links.specs.Standing.{place_in, link_in, node_behind, arena_of, wired, Stands}
 use Rattle.dom_links.specs.Wiring.{leads_to, link_unless}
 use Rattle.dom_links.proofs.Cells.{same_ptr_refl, differs}
 use Rattle.dom_links.proofs.Standing.{Known, arena_read, node_of, place_held, held_entry}
@@ -63,7 +63,7 @@ module _ {T : Type 0} where
         let x = held_entry (entry_at a i) h in
         let y = held_entry (entry_at a j) k in
         let m : ◌≡◌ {A = Option (Node T)} (Some (wired ps (entry_at a) i x.entry)) (Some (wired ps (entry_at a) j y.entry)) =
-            sym (node_of ps cs a s i x.entry x.is) ∙ (ap (node_behind cs) e ∙ (ap (node_behind cs) (sym f) ∙ node_of ps cs a s j y.entry y.is)) in
+        sym (node_of ps cs a s i x.entry x.is) ∙ (ap (node_behind cs) e ∙ (ap (node_behind cs) (sym f) ∙ node_of ps cs a s j y.entry y.is)) in
         let slot : Option (Node T) → ℕ = λ (o : Option (Node T)). elim o as (λ _. ℕ) [ None ↦ 0 | Some n ↦ n.slot ] in
         ap slot m
 
@@ -76,7 +76,7 @@ module _ {T : Type 0} where
         at_place None f held = cc
         at_place (Some p) f held =
             ⊎_elim (λ (same : m ≡ i). let g : ◌≡◌ {A = Option Ptr} (Some p) (Some q) = sym f ∙ (ap (place_in ps) same ∙ e) in
-                let g' : p ≡ q = cc in rw (eq-eqb m i same) (ap (λ r. same_ptr r q) g' ∙ same_ptr_refl q))
+            let g' : p ≡ q = cc in rw (eq-eqb m i same) (ap (λ r. same_ptr r q) g' ∙ same_ptr_refl q))
             (λ (other : m ≡ i → ⊥). rw (ne_eqb m i other) (differs p q (λ g. other (one_slot m i q (f ∙ ap Some g) e (k m refl) h)))) (cases_eq m i)
 
     pub leads_to-link_unless : (o : Option ℕ) (t i : ℕ) (q top : Ptr) → Known (entry_at a) o → IsSome (entry_at a t) → place_in ps t ≡ Some top → IsSome (entry_at a i) → place_in ps i ≡ Some q → leads_to (link_unless (link_in ps o) top) q ≡ is_number (link_unless o t) i
@@ -106,7 +106,7 @@ module _ {T : Type 0} where
         nodes = λ n. renode n (entry_at a n) refl (place_in ps n) refl (s.held n) ∙ ap (option_map (wired ps (entry_at a') n)) (sym (entries n));
         sound = record {
           linked = linked;
-          freed = λ n. let h : held (entry_at a' n) ≡ held (entry_at a n) = ap held (entries n) ∙ held_same (G n) (entry_at a n) in rw (free, h, long) (s.sound.freed n)
+          freed = λ n. let h : held (entry_at a' n) ≡ held (entry_at a n) = ap held (entries n) ∙ held_same (G n) (entry_at a n) in rw (free, h, long) (s.sound.freed n);
         };
-        many = rw many s.many
+        many = rw many s.many;
       }

@@ -1,10 +1,10 @@
 -- The links of an arena and those of the same arena with one child taken out of its parent's children.
-use Rattle.std.proofs.Common.{◌≡◌, ℕ, ◌+◌, ◌-◌, ◌≤◌, ◌<◌, Bool, true, false, cond, eqb, List, [], ◌∷◌, length, Option, Some, None, refl, sym, ap, ◌∙◌, subst, inl, inr, ⊎_elim, ◌⊎◌, arith}
-use Rattle.std.proofs.lemmas.Bool.{cases_Bool, cases_eq, eqb-true, eqb-false, eq-eqb, ne_eqb, true≢false, false≢true}
-use Rattle.dom_model.specs.Lists.{hits, is_number, head_of, last_of, after, before_from, before, left_out}
+use Rattle.std.proofs.Common.{◌≡◌, ℕ, ◌+◌, ◌-◌, ◌≤◌, true, false, cond, eqb, List, [], length, Option, Some, None, refl, sym, ap, ◌∙◌, subst, inl, inr, ⊎_elim, ◌⊎◌, arith}
+use Rattle.std.proofs.lemmas.Bool.{cases_Bool, cases_eq, eq-eqb, ne_eqb}
+use Rattle.dom_model.specs.Lists.{hits, is_number, head_of, last_of, after, before, left_out}
 use Rattle.dom_model.specs.Arena.{Entry, names, parent_in, children_in, list_under, siblings_in, next_in, previous_in, IsLinked}
 use Rattle.dom_links.specs.Wiring.{link_unless}
-use Rattle.dom_links.proofs.Neighbours.{head_of-none, after-none, before_from-none, last_from-none, last_of-last_from, left_out-none, length-left_out, head_of-left_out, after-left_out, before_from-left_out, last_of-left_out, meets, first_of, final_of, is_number-other, turned}
+use Rattle.dom_links.proofs.Neighbours.{head_of-none, after-none, before_from-none, last_from-none, last_of-last_from, left_out-none, length-left_out, head_of-left_out, after-left_out, before_from-left_out, last_of-left_out, meets, first_of, final_of, turned}
 
 pub names-le : (o : Option ℕ) (n : ℕ) → names o n ≤ 1
 names-le None n = omega arith
@@ -64,7 +64,7 @@ module _ {T : Type 0} where
     away i xs out none = record {
       back = before_from-none None c i kids out refl ∙ sym (after-none i c xs none);
       forth = after-none c i kids out ∙ sym (before_from-none None i c xs none refl);
-      either = inr none
+      either = inr none;
     }
 
     around_at : (i : ℕ) (o : Option ℕ) → (c ≡ i → ⊥) → parent_in (at1 i) ≡ o → Around i (list_under at1 o)
@@ -73,7 +73,7 @@ module _ {T : Type 0} where
         ⊎_elim (λ (same : p ≡ q). subst (λ r. Around i (children_in (at1 r))) same (record {
           back = meets None c i kids (λ g. n (sym g)) (hits-le at1 k.linked p c) (hits-le at1 k.linked p i) refl;
           forth = sym (meets None i c kids n (hits-le at1 k.linked p i) (hits-le at1 k.linked p c) refl);
-          either = inl refl
+          either = inl refl;
         }))
         (λ (other : p ≡ q → ⊥). away i (children_in (at1 q)) (k.linked p i ∙ (ap (λ o. names o p) e ∙ names-other q p (λ g. other (sym g)))) (nowhere q other)) (cases_eq p q)
 

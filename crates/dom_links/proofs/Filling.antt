@@ -1,8 +1,8 @@
 -- The memory once a slot is filled, and once it is emptied.
-use Rattle.std.proofs.Common.{◌≡◌, ℕ, ◌+◌, ◌≤◌, ◌<◌, Bool, true, false, cond, eqb, ltb, List, [], ◌∷◌, ◌++◌, length, Option, Some, None, refl, sym, ap, ◌∙◌, subst, zero, suc, inl, inr, ⊎_elim, ◌⊎◌, arith}
+use Rattle.std.proofs.Common.{◌≡◌, ℕ, ◌+◌, ◌≤◌, ◌<◌, true, false, cond, eqb, ltb, List, [], ◌∷◌, ◌++◌, length, Option, Some, None, refl, sym, ap, ◌∙◌, subst, zero, suc, inl, inr, ⊎_elim, arith}
 use Rattle.std.specs.Prelude.{reverse, IsSome, is_some, option_map, slice_index_or, slice_set, count_by}
 use Rattle.std.proofs.lemmas.Bool.{cases_eq, cases_lt, eq-eqb, ne_eqb, lt-ltb, le-ltb, true≢false, false≢true}
-use Rattle.std.proofs.lemmas.List.{get_or-set_same, get_or-set_other, get_or_append_left, get_or_push, get_or_past, length-set, length_push, set_at, length-reverse, reverse-append}
+use Rattle.std.proofs.lemmas.List.{get_or-set_same, get_or-set_other, get_or_past, length-set, length_push, set_at, length-reverse, reverse-append}
 use Rattle.std.proofs.lemmas.List.Sums.{sum_by-set, sum_by_push}
 use denote.RawPtr.{Ptr}
 use Rattle.dom_model.specs.Lists.{hits, head_of, last_of, after, before}
@@ -13,7 +13,7 @@ use Rattle.dom_links.specs.Standing.{place_in, link_in, node_behind, node_in, wi
 use Rattle.dom_links.specs.Wiring.{alone_node, GivesSlot}
 use Rattle.dom_links.proofs.Cells.{same_ptr_symm, differs, look_head, look_tail, look_past_without, without_length}
 use Rattle.dom_links.proofs.Counting.{length-le_from_once}
-use Rattle.dom_links.proofs.Standing.{Known, held_entry, place_held, node_of, known_parent, known_next, known_previous, known_first, known_last}
+use Rattle.dom_links.proofs.Standing.{Known, node_of, known_parent, known_next, known_previous, known_first, known_last}
 use Rattle.dom_links.proofs.Closing.{Closes, closes, one_slot}
 use Rattle.dom_links.proofs.Relinking.{same_node, Lies}
 
@@ -110,7 +110,6 @@ module _ {T : Type 0} where
   not_held None h = refl
   not_held (Some e) h = absurd (omega arith)
 
-
   module _ (ps : List (Option Ptr)) (cs : List (Ptr × Node T)) (a : Arena T) (s : Stands ps cs a) where
     -- the first free slot
     module _ (n : ℕ) (rest : List ℕ) (free_is : a.free ≡ n ∷ rest) where
@@ -157,9 +156,9 @@ module _ {T : Type 0} where
         nodes' : (i : ℕ) → node_in ps' cs' i ≡ option_map (wired ps' (entry_at full) i) (entry_at full i)
         nodes' i =
             ⊎_elim (λ (e : n ≡ i). subst (λ j. node_in ps' cs' j ≡ option_map (wired ps' (entry_at full) j) (entry_at full j)) e
-                (ap (node_behind cs') (let g : place_in ps' n ≡ Some p = places n ∙ rw (eq-eqb n n refl) in g) ∙ (look_head p (alone_node n x) cs ∙ alone_is (entry_at full n) (at_it (entry_at full) (entry_at a) n (alone x) beside))))
+            (ap (node_behind cs') (let g : place_in ps' n ≡ Some p = places n ∙ rw (eq-eqb n n refl) in g) ∙ (look_head p (alone_node n x) cs ∙ alone_is (entry_at full n) (at_it (entry_at full) (entry_at a) n (alone x) beside))))
             (λ (d : n ≡ i → ⊥). ap (node_behind cs') (let g : place_in ps' i ≡ place_in ps i = places i ∙ rw (ne_eqb n i d) in g) ∙ (node_at i d (entry_at a i) refl (place_in ps i) refl (s.held i)
-                ∙ ap (option_map (wired ps' (entry_at full) i)) (sym (at_other (entry_at full) (entry_at a) n (alone x) beside i d)))) (cases_eq n i)
+            ∙ ap (option_map (wired ps' (entry_at full) i)) (sym (at_other (entry_at full) (entry_at a) n (alone x) beside i d)))) (cases_eq n i)
           where
             alone_is : (o : Option (Entry T)) → o ≡ Some (alone x) → Some (alone_node n x) ≡ option_map (wired ps' (entry_at full) n) o
             alone_is o h = rw h (ap Some (same_node refl refl refl
@@ -176,9 +175,9 @@ module _ {T : Type 0} where
             freed = λ i. let len = length-set a.slots n (Some (alone x)) in let old : hits i (n ∷ rest) + held (entry_at a i) ≡ cond (ltb i (length a.slots)) 1 0 = ap (λ fs. hits i fs + held (entry_at a i)) (sym free_is) ∙ s.sound.freed i in
                 rw (len, index-set a.slots n (Some (alone x)) i first_within) (⊎_elim
                 (λ (e : n ≡ i). rw (eq-eqb n i e) (let h : held (entry_at a i) ≡ 0 = rw (← e) (ap held first_free) in let o2 : cond true 1 0 + hits i rest + held (entry_at a i) ≡ cond (ltb i (length a.slots)) 1 0 = rw (eq-eqb n i e) at old in omega arith))
-                (λ (d : n ≡ i → ⊥). rw (ne_eqb n i d) (let o2 : cond false 1 0 + hits i rest + held (entry_at a i) ≡ cond (ltb i (length a.slots)) 1 0 = rw (ne_eqb n i d) at old in omega arith)) (cases_eq n i))
+                (λ (d : n ≡ i → ⊥). rw (ne_eqb n i d) (let o2 : cond false 1 0 + hits i rest + held (entry_at a i) ≡ cond (ltb i (length a.slots)) 1 0 = rw (ne_eqb n i d) at old in omega arith)) (cases_eq n i));
           };
-          many = omega (arith, s.many, filled ps n p (omega (arith, s.long, first_within)) (not_placed (place_in ps n) (s.held n ∙ ap is_some first_free)))
+          many = omega (arith, s.many, filled ps n p (omega (arith, s.long, first_within)) (not_placed (place_in ps n) (s.held n ∙ ap is_some first_free)));
         }
 
     -- a table and an arena in which no slot is free, with a new one that is
@@ -206,8 +205,8 @@ module _ {T : Type 0} where
           let old : hits i [] + held (entry_at a i) ≡ cond (ltb i n) 1 0 = ap (λ fs. hits i fs + held (entry_at a i)) (sym free_is) ∙ s.sound.freed i in
           ⊎_elim (λ (e : n ≡ i). rw (eq-eqb n i e, lt-ltb i (n + 1) (omega arith)) (let o2 : 0 + held (entry_at a i) ≡ cond false 1 0 = rw (le-ltb i n (omega arith)) at old in omega arith))
           (λ (d : n ≡ i → ⊥). rw (ne_eqb n i d) (⊎_elim
-              (λ (lt : i < n). rw (lt-ltb i (n + 1) (omega arith)) (let o2 : 0 + held (entry_at a i) ≡ cond true 1 0 = rw (lt-ltb i n lt) at old in omega arith))
-              (λ (le : n ≤ i). rw (le-ltb i (n + 1) (omega arith)) (let o2 : 0 + held (entry_at a i) ≡ cond false 1 0 = rw (le-ltb i n le) at old in omega arith)) (cases_lt i n))) (cases_eq n i)
+          (λ (lt : i < n). rw (lt-ltb i (n + 1) (omega arith)) (let o2 : 0 + held (entry_at a i) ≡ cond true 1 0 = rw (lt-ltb i n lt) at old in omega arith))
+          (λ (le : n ≤ i). rw (le-ltb i (n + 1) (omega arith)) (let o2 : 0 + held (entry_at a i) ≡ cond false 1 0 = rw (le-ltb i n le) at old in omega arith)) (cases_lt i n))) (cases_eq n i)
 
       pub stands-wide : Stands (ps ++ None ∷ []) cs (record { slots = a.slots ++ None ∷ []; free = length a.slots ∷ [] })
       stands-wide = record {
@@ -216,9 +215,9 @@ module _ {T : Type 0} where
         nodes = λ i. ap (node_behind cs) (index-push ps i) ∙ (s.nodes i ∙ (mapped_push i (entry_at a i) ∙ ap (λ (f : ℕ → Option (Entry T)). option_map (wired (ps ++ None ∷ []) f i) (f i)) (sym at_same)));
         sound = record {
           linked = subst (λ (f : ℕ → Option (Entry T)). IsLinked f) (sym at_same) s.sound.linked;
-          freed = λ i. rw (index-push a.slots i, length_push a.slots None) (freed_wide i)
+          freed = λ i. rw (index-push a.slots i, length_push a.slots None) (freed_wide i);
         };
-        many = omega (arith, s.many, let z : count_by is_some (ps ++ None ∷ []) ≡ count_by is_some ps + 0 = sum_by_push (λ (o : Option Ptr). cond (is_some o) 1 0) ps None in z)
+        many = omega (arith, s.many, let z : count_by is_some (ps ++ None ∷ []) ≡ count_by is_some ps + 0 = sum_by_push (λ (o : Option Ptr). cond (is_some o) 1 0) ps None in z);
       }
 
     -- a slot that is linked to nothing, emptied
@@ -246,7 +245,7 @@ module _ {T : Type 0} where
         with_it = λ i. rw (bare_at i) (⊎_elim (λ (q : k ≡ i). rw (eq-eqb k i q) (rw (← q) is)) (λ (d : k ≡ i → ⊥). rw (ne_eqb k i d)) (cases_eq k i));
         gone = bare_at k ∙ rw (eq-eqb k k refl);
         root = root;
-        leaf = leaf
+        leaf = leaf;
       }
 
       back_places : (i : ℕ) → place_in ps i ≡ cond (eqb k i) (Some ptr) (place_in qs i)
@@ -268,7 +267,7 @@ module _ {T : Type 0} where
       bare_nodes i =
           ⊎_elim (λ (q : k ≡ i). let g : place_in qs i ≡ None = bare_place i ∙ rw (eq-eqb k i q) in let f : bare i ≡ None = bare_at i ∙ rw (eq-eqb k i q) in rw (g, f))
           (λ (d : k ≡ i → ⊥). ap (node_behind (without ptr cs)) (let g : place_in qs i ≡ place_in ps i = bare_place i ∙ rw (ne_eqb k i d) in g)
-              ∙ (bare_node i d (entry_at a i) refl (place_in ps i) refl (s.held i) ∙ ap (option_map (wired qs bare i)) (at_other (entry_at a) bare k e besides i d))) (cases_eq k i)
+          ∙ (bare_node i d (entry_at a i) refl (place_in ps i) refl (s.held i) ∙ ap (option_map (wired qs bare i)) (at_other (entry_at a) bare k e besides i d))) (cases_eq k i)
 
       pub stands-taken : Stands (slice_set ps k None) (without ptr cs) (taken a k)
       stands-taken = record {
@@ -279,9 +278,9 @@ module _ {T : Type 0} where
           linked = bare_linked;
           freed = λ i. let old = s.sound.freed i in rw (length-set a.slots k None, bare_at i) (⊎_elim
               (λ (q : k ≡ i). rw (eq-eqb k i q) (let h : held (entry_at a i) ≡ 1 = rw (← q) held_k in omega arith))
-              (λ (d : k ≡ i → ⊥). rw (ne_eqb k i d) (omega arith)) (cases_eq k i))
+              (λ (d : k ≡ i → ⊥). rw (ne_eqb k i d) (omega arith)) (cases_eq k i));
         };
-        many = omega (arith, s.many, without_length ptr cs (rw found), emptied ps k ptr (omega (arith, s.long, taken_within)) at_k)
+        many = omega (arith, s.many, without_length ptr cs (rw found), emptied ps k ptr (omega (arith, s.long, taken_within)) at_k);
       }
 
       none_k : hits k a.free ≡ 0
@@ -291,7 +290,7 @@ module _ {T : Type 0} where
       pub room_left : 1 + length a.free ≤ length a.slots
       room_left = let few : length (k ∷ a.free) ≤ length a.slots = length-le_from_once (length a.slots) (k ∷ a.free)
           (λ i. ⊎_elim (λ (q : k ≡ i). rw (eq-eqb k i q) (let h : hits i a.free ≡ 0 = rw (← q) none_k in omega arith))
-              (λ (d : k ≡ i → ⊥). rw (ne_eqb k i d) (freed_le i)) (cases_eq k i))
+          (λ (d : k ≡ i → ⊥). rw (ne_eqb k i d) (freed_le i)) (cases_eq k i))
           (λ i h. ⊎_elim (λ (q : k ≡ i). absurd (omega (arith, taken_within))) (λ (d : k ≡ i → ⊥). rw (ne_eqb k i d) (let z : hits i a.free + held (entry_at a i) ≡ cond false 1 0 = s.sound.freed i ∙ rw (le-ltb i (length a.slots) h) in omega arith)) (cases_eq k i)) in omega arith
         where
           freed_le : (i : ℕ) → 0 + hits i a.free ≤ 1
@@ -332,7 +331,7 @@ module _ {T : Type 0} where
       next = sym (ap (λ fs. next_from fs (length v.slots)) free_is);
       none = first_free ps cs v s n (reverse free') free_is;
       fills = λ p x fresh. subst (λ (b : Arena T). Closes (slice_set ps n (Some p)) ((p, alone_node n x) ∷ cs) free' b) (sym (ap (λ fs. added_from fs v.slots x) free_is))
-          (closes free' (stands-full ps cs v s n (reverse free') free_is p x fresh) refl)
+          (closes free' (stands-full ps cs v s n (reverse free') free_is p x fresh) refl);
     }
 
   given_new : (ps : List (Option Ptr)) (cs : List (Ptr × Node T)) (v : Arena T) → Stands ps cs v → v.free ≡ [] → Given ps cs v (ps ++ None ∷ []) [] (length ps)
@@ -340,12 +339,12 @@ module _ {T : Type 0} where
       let wide : Arena T = record { slots = v.slots ++ None ∷ []; free = length v.slots ∷ [] } in
       let g : Given (ps ++ None ∷ []) cs wide (ps ++ None ∷ []) [] (length v.slots) = given_free (ps ++ None ∷ []) cs wide [] (length v.slots) (stands-wide ps cs v s free_is) refl in
       let same : (x : T) → added wide x ≡ added v x = λ (x : T).
-          (λ i. record { slots = set_at v.slots None [] (Some (alone x)) (length v.slots) refl i; free = [] }) ∙ sym (ap (λ fs. added_from fs v.slots x) free_is) in
+      (λ i. record { slots = set_at v.slots None [] (Some (alone x)) (length v.slots) refl i; free = [] }) ∙ sym (ap (λ fs. added_from fs v.slots x) free_is) in
       subst (λ n. Given ps cs v (ps ++ None ∷ []) [] n) s.long (record {
         within = g.within;
         next = sym (ap (λ fs. next_from fs (length v.slots)) free_is);
         none = get_or_past v.slots (length v.slots) None (omega arith);
-        fills = λ p x fresh. subst (λ (b : Arena T). Closes (slice_set (ps ++ None ∷ []) (length v.slots) (Some p)) ((p, alone_node (length v.slots) x) ∷ cs) [] b) (same x) (g.fills p x fresh)
+        fills = λ p x fresh. subst (λ (b : Arena T). Closes (slice_set (ps ++ None ∷ []) (length v.slots) (Some p)) ((p, alone_node (length v.slots) x) ∷ cs) [] b) (same x) (g.fills p x fresh);
       })
 
   pub given_slot : (ps : List (Option Ptr)) (cs : List (Ptr × Node T)) {a v : Arena T} (free : List ℕ) (qs : List (Option Ptr)) (left : List ℕ) (n : ℕ) → Stands ps cs a → a ≡ v → v.free ≡ reverse free → GivesSlot ps free qs left n → Given ps cs v qs left n

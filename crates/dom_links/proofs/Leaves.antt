@@ -1,5 +1,5 @@
 -- Nothing stands under a slot with no child but that slot.
-use Rattle.std.proofs.Common.{◌≡◌, ℕ, ◌+◌, List, [], length, Option, Some, None, refl, sym, ap, ◌∙◌, arith}
+use Rattle.std.proofs.Common.{◌≡◌, ℕ, [], length, Option, Some, refl, ap, ◌∙◌, arith}
 use Rattle.std.proofs.lemmas.List.{nil_from_length}
 use Rattle.dom_model.specs.Lists.{hits}
 use Rattle.dom_model.specs.Arena.{Entry, names, parent_in, children_in, IsLinked, StandsUnder}

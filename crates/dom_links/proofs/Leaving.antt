@@ -1,6 +1,6 @@
 -- The nodes that are left while a store is dropped.
-use Rattle.std.proofs.Common.{◌≡◌, ℕ, ◌+◌, ◌≤◌, ◌<◌, cond, false, List, [], ◌∷◌, ◌++◌, length, Option, Some, None, refl, sym, ap, ◌∙◌, subst, inl, inr, ⊎_elim, ◌⊎◌, arith}
-use Rattle.std.specs.Prelude.{IsSome, is_some, slice_index_or, count_by}
+use Rattle.std.proofs.Common.{◌≡◌, ℕ, ◌+◌, ◌≤◌, ◌<◌, cond, false, List, [], ◌∷◌, ◌++◌, length, Option, Some, None, refl, sym, ap, ◌∙◌, subst, ⊎_elim, arith}
+use Rattle.std.specs.Prelude.{is_some, count_by}
 use Rattle.std.proofs.lemmas.Bool.{cases_lt}
 use Rattle.std.proofs.lemmas.List.{get_or_append_left, get_or_push, get_or_past}
 use Rattle.std.proofs.lemmas.List.Sums.{sum_by_push}
@@ -23,7 +23,7 @@ module _ {T : Type 0} where
       record {
         found = λ n p g. k.found n p (stays qs None n p g);
         apart = λ n m p g f. k.apart n m p (stays qs None n p g) (stays qs None m p f);
-        many = omega (arith, k.many, let z : count_by is_some (qs ++ None ∷ []) ≡ count_by is_some qs + 0 = sum_by_push (λ (o : Option Ptr). cond (is_some o) 1 0) qs None in z)
+        many = omega (arith, k.many, let z : count_by is_some (qs ++ None ∷ []) ≡ count_by is_some qs + 0 = sum_by_push (λ (o : Option Ptr). cond (is_some o) 1 0) qs None in z);
       }
 
   pub left_some : {ps qs : List (Option Ptr)} {cs ds : List (Ptr × Node T)} (p : Ptr) (w : Node T) → Left ps cs → ps ≡ qs ++ Some p ∷ [] → look p cs ≡ Some w → ds ≡ without p cs → Left qs ds
@@ -31,10 +31,10 @@ module _ {T : Type 0} where
       let k : Left (qs ++ Some p ∷ []) cs = subst (λ (rs : List (Option Ptr)). Left rs cs) e h in
       let last : place_in (qs ++ Some p ∷ []) (length qs) ≡ Some p = get_or_push qs (Some p) None (length qs) refl in
       let far : (n : ℕ) (q : Ptr) → place_in qs n ≡ Some q → same_ptr p q ≡ false = λ n q g. differs p q (λ (t : p ≡ q).
-          let same : n ≡ length qs = k.apart n (length qs) p (stays qs (Some p) n p (g ∙ ap Some (sym t))) last in
-          let lt = within qs n q g in absurd (omega arith)) in
+      let same : n ≡ length qs = k.apart n (length qs) p (stays qs (Some p) n p (g ∙ ap Some (sym t))) last in
+      let lt = within qs n q g in absurd (omega arith)) in
       subst (λ (es : List (Ptr × Node T)). Left qs es) (sym cells) (record {
         found = λ n q g. rw (look_past_without p q cs (same_ptr_symm q p ∙ far n q g)) (k.found n q (stays qs (Some p) n q g));
         apart = λ n m q g f. k.apart n m q (stays qs (Some p) n q g) (stays qs (Some p) m q f);
-        many = omega (arith, k.many, without_length p cs (rw found), let z : count_by is_some (qs ++ Some p ∷ []) ≡ count_by is_some qs + 1 = sum_by_push (λ (o : Option Ptr). cond (is_some o) 1 0) qs (Some p) in z)
+        many = omega (arith, k.many, without_length p cs (rw found), let z : count_by is_some (qs ++ Some p ∷ []) ≡ count_by is_some qs + 1 = sum_by_push (λ (o : Option Ptr). cond (is_some o) 1 0) qs (Some p) in z);
       })

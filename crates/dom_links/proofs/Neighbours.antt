@@ -1,6 +1,6 @@
 -- The numbers beside a number of a list, once a number is left out or entered.
-use Rattle.std.proofs.Common.{◌≡◌, ℕ, suc, ◌+◌, ◌-◌, ◌≤◌, ◌<◌, Bool, true, false, cond, eqb, List, [], ◌∷◌, length, Option, Some, None, refl, sym, ap, ◌∙◌, ⊎_elim, arith}
-use Rattle.std.proofs.lemmas.Bool.{cases_Bool, eqb-true, eqb-false, eq-eqb, ne_eqb, true≢false, false≢true}
+use Rattle.std.proofs.Common.{◌≡◌, ℕ, ◌+◌, ◌≤◌, ◌<◌, true, false, cond, eqb, List, [], ◌∷◌, length, Option, Some, None, refl, sym, ap, ◌∙◌, ⊎_elim, arith}
+use Rattle.std.proofs.lemmas.Bool.{cases_Bool, eqb-true, eqb-false, eq-eqb, ne_eqb, false≢true}
 use Rattle.dom_model.specs.Lists.{hits, is_number, head_of, last_of, after, before_from, before, entered, left_out}
 use Rattle.dom_links.specs.Wiring.{link_unless}
 
@@ -93,23 +93,23 @@ pub after-left_out : (i c : ℕ) (xs : List ℕ) → (i ≡ c → ⊥) → hits 
 after-left_out i c [] n h = refl
 after-left_out i c (x ∷ xs) n h =
     ⊎_elim (λ (e : eqb x c ≡ true).
-        let out = hits_first c x xs e h in
-        let f : eqb x i ≡ false = ne_eqb x i (λ g. n (sym g ∙ eqb-true x c e)) in
-        rw (e, f, after-none i c xs out) (ap (after i) (left_out-none c xs out)))
+    let out = hits_first c x xs e h in
+    let f : eqb x i ≡ false = ne_eqb x i (λ g. n (sym g ∙ eqb-true x c e)) in
+    rw (e, f, after-none i c xs out) (ap (after i) (left_out-none c xs out)))
     (λ (e : eqb x c ≡ false).
-        ⊎_elim (λ (f : eqb x i ≡ true). rw (e, f) (head_of-left_out c xs (hits_rest c x xs h)))
-        (λ (f : eqb x i ≡ false). rw (e, f) (after-left_out i c xs n (hits_rest c x xs h))) (cases_Bool (eqb x i))) (cases_Bool (eqb x c))
+    ⊎_elim (λ (f : eqb x i ≡ true). rw (e, f) (head_of-left_out c xs (hits_rest c x xs h)))
+    (λ (f : eqb x i ≡ false). rw (e, f) (after-left_out i c xs n (hits_rest c x xs h))) (cases_Bool (eqb x i))) (cases_Bool (eqb x c))
 
 pub before_from-left_out : (o : Option ℕ) (i c : ℕ) (xs : List ℕ) → (i ≡ c → ⊥) → hits c xs ≤ 1 → is_number o c ≡ false → before_from o i (left_out c xs) ≡ cond (is_number (before_from o i xs) c) (before_from o c xs) (before_from o i xs)
 before_from-left_out o i c [] n h t = refl
 before_from-left_out o i c (x ∷ xs) n h t =
     ⊎_elim (λ (e : eqb x c ≡ true).
-        let out = hits_first c x xs e h in
-        let f : eqb x i ≡ false = ne_eqb x i (λ g. n (sym g ∙ eqb-true x c e)) in
-        rw (e, f) (ap (before_from o i) (left_out-none c xs out) ∙ past o x xs out e t))
+    let out = hits_first c x xs e h in
+    let f : eqb x i ≡ false = ne_eqb x i (λ g. n (sym g ∙ eqb-true x c e)) in
+    rw (e, f) (ap (before_from o i) (left_out-none c xs out) ∙ past o x xs out e t))
     (λ (e : eqb x c ≡ false).
-        ⊎_elim (λ (f : eqb x i ≡ true). rw (e, f, t))
-        (λ (f : eqb x i ≡ false). rw (e, f) (before_from-left_out (Some x) i c xs n (hits_rest c x xs h) e)) (cases_Bool (eqb x i))) (cases_Bool (eqb x c))
+    ⊎_elim (λ (f : eqb x i ≡ true). rw (e, f, t))
+    (λ (f : eqb x i ≡ false). rw (e, f) (before_from-left_out (Some x) i c xs n (hits_rest c x xs h) e)) (cases_Bool (eqb x i))) (cases_Bool (eqb x c))
   where
     past : (o : Option ℕ) (x : ℕ) (xs : List ℕ) → hits c xs ≡ 0 → eqb x c ≡ true → is_number o c ≡ false → before_from o i xs ≡ cond (is_number (before_from (Some x) i xs) c) o (before_from (Some x) i xs)
     past o x [] out e t = refl
@@ -135,11 +135,11 @@ pub meets : (o : Option ℕ) (c i : ℕ) (xs : List ℕ) → (i ≡ c → ⊥) �
 meets o c i [] n h k t = refl
 meets o c i (x ∷ xs) n h k t =
     ⊎_elim (λ (e : eqb x c ≡ true).
-        let f : eqb x i ≡ false = ne_eqb x i (λ g. n (sym g ∙ eqb-true x c e)) in
-        rw (e, f, t, after-none i c xs (hits_first c x xs e h)))
+    let f : eqb x i ≡ false = ne_eqb x i (λ g. n (sym g ∙ eqb-true x c e)) in
+    rw (e, f, t, after-none i c xs (hits_first c x xs e h)))
     (λ (e : eqb x c ≡ false).
-        ⊎_elim (λ (f : eqb x i ≡ true). rw (e, f) (next_to x xs f (hits_first i x xs f k)))
-        (λ (f : eqb x i ≡ false). rw (e, f) (meets (Some x) c i xs n (hits_rest c x xs h) (hits_rest i x xs k) f)) (cases_Bool (eqb x i))) (cases_Bool (eqb x c))
+    ⊎_elim (λ (f : eqb x i ≡ true). rw (e, f) (next_to x xs f (hits_first i x xs f k)))
+    (λ (f : eqb x i ≡ false). rw (e, f) (meets (Some x) c i xs n (hits_rest c x xs h) (hits_rest i x xs k) f)) (cases_Bool (eqb x i))) (cases_Bool (eqb x c))
   where
     next_to : (x : ℕ) (xs : List ℕ) → eqb x i ≡ true → hits i xs ≡ 0 → is_number (before_from (Some x) c xs) i ≡ is_number (head_of xs) c
     next_to x [] f out = refl
@@ -164,8 +164,8 @@ final_of c p (x ∷ []) h =
     ⊎_elim (λ (e : eqb x c ≡ true). rw (e, eq-eqb p p refl)) (λ (e : eqb x c ≡ false). let k : cond false 1 0 + 0 ≡ 1 = rw e at h in absurd (omega arith)) (cases_Bool (eqb x c))
 final_of c p (x ∷ y ∷ ys) h =
     ⊎_elim (λ (e : eqb x c ≡ true).
-        let k : cond true 1 0 + hits c (y ∷ ys) ≡ 1 = rw e at h in
-        rw e (sym (ap (λ o. is_number o c) (last_of-last_from (y ∷ ys)) ∙ last_from-none None c (y ∷ ys) (omega arith) refl)))
+    let k : cond true 1 0 + hits c (y ∷ ys) ≡ 1 = rw e at h in
+    rw e (sym (ap (λ o. is_number o c) (last_of-last_from (y ∷ ys)) ∙ last_from-none None c (y ∷ ys) (omega arith) refl)))
     (λ (e : eqb x c ≡ false). let k : cond false 1 0 + hits c (y ∷ ys) ≡ 1 = rw e at h in rw e (final_of c p (y ∷ ys) (omega arith))) (cases_Bool (eqb x c))
 
 -- what a list is with c entered
@@ -197,8 +197,8 @@ after-entered b c (x ∷ xs) h t =
     let k = hits_out c x xs h in
     ⊎_elim (λ (e : eqb b x ≡ true). rw (e, eq-eqb c c refl) (ap Some (sym (eqb-true b x e))))
     (λ (e : eqb b x ≡ false).
-        let f : eqb x b ≡ false = ne_eqb x b (λ g. eqb-false b x e (sym g)) in
-        rw (e, k.0) (after-entered b c xs k.1 (omega (arith, hits_later b x xs f)))) (cases_Bool (eqb b x))
+    let f : eqb x b ≡ false = ne_eqb x b (λ g. eqb-false b x e (sym g)) in
+    rw (e, k.0) (after-entered b c xs k.1 (omega (arith, hits_later b x xs f)))) (cases_Bool (eqb b x))
 
 pub before_from-entered_last : (o : Option ℕ) (c : ℕ) (xs : List ℕ) → hits c xs ≡ 0 → before_from o c (entered None c xs) ≡ last_from o xs
 before_from-entered_last o c [] h = rw (eq-eqb c c refl)
@@ -210,8 +210,8 @@ before_from-entered o b c (x ∷ xs) h t =
     let k = hits_out c x xs h in
     ⊎_elim (λ (e : eqb b x ≡ true). let f : eqb x b ≡ true = eq-eqb x b (sym (eqb-true b x e)) in rw (e, eq-eqb c c refl, f))
     (λ (e : eqb b x ≡ false).
-        let f : eqb x b ≡ false = ne_eqb x b (λ g. eqb-false b x e (sym g)) in
-        rw (e, k.0, f) (before_from-entered (Some x) b c xs k.1 (omega (arith, hits_later b x xs f)))) (cases_Bool (eqb b x))
+    let f : eqb x b ≡ false = ne_eqb x b (λ g. eqb-false b x e (sym g)) in
+    rw (e, k.0, f) (before_from-entered (Some x) b c xs k.1 (omega (arith, hits_later b x xs f)))) (cases_Bool (eqb b x))
 
 -- an equation of numbers beside, turned round
 pub turned : (c : ℕ) (o o' m : Option ℕ) → o' ≡ cond (is_number o c) m o → o ≡ cond (is_number o c) (Some c) o'

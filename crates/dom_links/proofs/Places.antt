@@ -1,5 +1,5 @@
 -- A step over the nodes of a pool, seen at each place.
-use Rattle.std.proofs.Common.{◌≡◌, List, Option, Some, None, cond, refl, sym, ap, ◌∙◌, subst, inl, inr, ⊎_elim, ◌⊎◌, false, true}
+use Rattle.std.proofs.Common.{◌≡◌, List, Option, Some, None, refl, sym, ap, ◌∙◌, inl, inr, ⊎_elim, ◌⊎◌, false, true}
 use Rattle.std.specs.Prelude.{option_map}
 use Rattle.std.proofs.lemmas.Bool.{cases_Bool}
 use denote.RawPtr.{Ptr}
@@ -14,9 +14,9 @@ module _ {N : Type 0} where
   pub look-step : (f : Ptr → N → N) (p : Ptr) (n w : N) (cs : List (Ptr × N)) → look p cs ≡ Some n → w ≡ f p n → ((q : Ptr) (m : N) → same_ptr p q ≡ false → f q m ≡ m) → (q : Ptr) → look q (put p w cs) ≡ option_map (f q) (look q cs)
   look-step f p n w cs found same rest q =
       ⊎_elim (λ (e : p ≡ q). let a : look q (put p w cs) ≡ Some w = rw (← e) (look_put p w cs (rw found)) in
-          let b : look q cs ≡ Some n = rw (← e) found in
-          let c : w ≡ f q n = rw (← e) same in
-          rw (a, b) (ap Some c))
+      let b : look q cs ≡ Some n = rw (← e) found in
+      let c : w ≡ f q n = rw (← e) same in
+      rw (a, b) (ap Some c))
       (λ (e : same_ptr p q ≡ false). look_past_put p q w cs (same_ptr_symm q p ∙ e) ∙ kept (look q cs) (λ m. rest q m e)) (cases_ptr p q)
     where
       kept : (o : Option N) → ((m : N) → f q m ≡ m) → o ≡ option_map (f q) o

@@ -1,13 +1,13 @@
 -- What the node of a held slot tells, and where its links lead.
-use Rattle.std.proofs.Common.{◌≡◌, ℕ, List, length, Option, Some, None, refl, sym, ap, ◌∙◌, subst}
-use Rattle.std.specs.Prelude.{IsSome, is_some, IfSome, option_map}
+use Rattle.std.proofs.Common.{◌≡◌, ℕ, List, length, Option, Some, sym, ap, ◌∙◌, subst}
+use Rattle.std.specs.Prelude.{IsSome, IfSome}
 use denote.RawPtr.{Ptr}
 use Rattle.dom_model.specs.Lists.{head_of, last_of}
 use Rattle.dom_model.specs.Arena.{Entry, Arena, entry_at, parent_in, children_in, next_in, previous_in}
 use Rattle.dom_links.specs.Cells.{look}
 use Rattle.dom_links.specs.declared.links.Node.{Node}
 use Rattle.dom_links.specs.Standing.{node_in, slot_behind, link_in, wired, Stands}
-use Rattle.dom_links.proofs.Standing.{held_entry, slot_read, found_in, node_of, node_held, known_parent, known_first, known_last, known_next, known_previous}
+use Rattle.dom_links.proofs.Standing.{held_entry, slot_read, found_in, node_of, known_parent, known_first, known_last, known_next, known_previous}
 
 module _ {T : Type 0} where
   -- n is the node of the slot k, in memory that stands for a

@@ -1,21 +1,21 @@
 -- The memory after `link`, `unlink` and a value written.
-use Rattle.std.proofs.Common.{◌≡◌, ℕ, ◌+◌, ◌-◌, ◌≤◌, ◌<◌, Bool, true, false, cond, eqb, List, [], ◌∷◌, length, Option, Some, None, refl, sym, ap, ◌∙◌, subst, ⊎_elim, arith}
-use Rattle.std.specs.Prelude.{reverse, IsSome, is_some, IfSome, option_map}
+use Rattle.std.proofs.Common.{◌≡◌, ℕ, ◌+◌, ◌-◌, ◌≤◌, Bool, true, false, cond, eqb, List, [], ◌∷◌, length, Option, Some, None, refl, sym, ap, ◌∙◌, subst, ⊎_elim, arith}
+use Rattle.std.specs.Prelude.{reverse, IsSome, IfSome, option_map}
 use Rattle.std.proofs.lemmas.Bool.{cases_Bool, cases_eq, false≢true}
 use Rattle.std.proofs.lemmas.List.{get_or_past}
 use Rattle.dom_links.proofs.Counting.{length-le_from_once}
 use denote.RawPtr.{Ptr}
-use Rattle.dom_model.specs.Lists.{hits, is_number, head_of, last_of, after, before, entered, left_out}
+use Rattle.dom_model.specs.Lists.{hits, is_number, head_of, last_of, entered, left_out}
 use Rattle.dom_model.specs.Arena.{Entry, Arena, entry_at, parent_in, children_in, next_in, previous_in, with_parent, with_children, altered, linked, unlinked, unlinked_from, IsLinked}
 use Rattle.dom_links.specs.Cells.{same_ptr, look}
 use Rattle.dom_links.specs.declared.links.Node.{Node}
-use Rattle.dom_links.specs.Standing.{place_in, link_in, node_behind, node_in, arena_of, wired, Stands}
+use Rattle.dom_links.specs.Standing.{place_in, link_in, node_behind, node_in, wired, Stands}
 use Rattle.dom_links.specs.Wiring.{link_or, leads_to, link_unless, before_from, led_on, led_back, recounted, settled}
-use Rattle.dom_links.proofs.Cutting.{IsCut, hits-le, next-cut, previous-cut, first-cut, last-cut, length-cut, once, next-join, previous-join, first-join, last-join, length-join}
-use Rattle.dom_links.proofs.Standing.{Known, known_child, held-parent, known_parent, known_next, known_previous, known_last, found_in, held_entry, node_of, node_held, place_held}
-use Rattle.dom_links.proofs.Reading.{Reads, reads, count_read, parent_link, previous_link, next_link, last_link, previous_found, next_found}
+use Rattle.dom_links.proofs.Cutting.{hits-le, next-cut, previous-cut, first-cut, last-cut, length-cut, once, next-join, previous-join, first-join, last-join, length-join}
+use Rattle.dom_links.proofs.Standing.{Known, known_child, held-parent, known_parent, known_next, known_previous, known_last, found_in, held_entry, node_of, place_held}
+use Rattle.dom_links.proofs.Reading.{Reads, reads, count_read, parent_link, previous_link, next_link, last_link}
 use Rattle.dom_links.proofs.Changing.{rewired, IsLinked-cut, entries-unlinked, cut-unlinked, unlinked_is, IsLinked-linked, entries-linked, cut-linked, next-linked, previous-linked, new_previous}
-use Rattle.dom_links.proofs.Closing.{Closes, closes, free_read, length-altered, leads_to-link_in, leads_to-link_unless, restands}
+use Rattle.dom_links.proofs.Closing.{Closes, closes, length-altered, leads_to-link_in, leads_to-link_unless, restands}
 
 link_in-cond : (ps : List (Option Ptr)) (b : Bool) (x y : Option ℕ) → link_in ps (cond b x y) ≡ cond b (link_in ps x) (link_in ps y)
 link_in-cond ps true x y = refl
@@ -51,7 +51,7 @@ module _ {T : Type 0} where
     next = next i;
     first = first i;
     last = last i;
-    value = value i
+    value = value i;
   }
 
   pub mapped : (f g : Node T → Node T) (x y z : Option (Node T)) → y ≡ option_map f x → z ≡ option_map g y → z ≡ option_map (λ (m : Node T). g (f m)) x
@@ -88,7 +88,7 @@ module _ {T : Type 0} where
       before = ap (λ l. leads_to l q) prev_is ∙ leads_to-link_in ps cs cs a s P i q known_P h e;
       after = ap (λ l. leads_to l q) next_is ∙ leads_to-link_in ps cs cs a s N i q known_N h e;
       first = ap (λ l. leads_to (link_unless l top) q) prev_is ∙ leads_to-link_unless ps cs cs a s P p i q top known_P held_p at_p h e;
-      last = ap (λ l. leads_to (link_unless l top) q) next_is ∙ leads_to-link_unless ps cs cs a s N p i q top known_N held_p at_p h e
+      last = ap (λ l. leads_to (link_unless l top) q) next_is ∙ leads_to-link_unless ps cs cs a s N p i q top known_N held_p at_p h e;
     }
 
     -- the links that a change is to give, at the node of each slot
@@ -107,13 +107,13 @@ module _ {T : Type 0} where
           let kids' : children_in (at' i) ≡ e'.children = ap children_in (entries i ∙ ap (option_map (rewired f new_parent c p i)) h) in
           let kids : children_in (entry_at a i) ≡ e.children = ap children_in h in
           same_node refl
-              (ap (λ b. cond b count (length e.children)) t.parent ∙ (ap (λ xs. cond (eqb p i) count (length xs)) (sym kids) ∙ (sym (counts i) ∙ ap length kids')))
-              (ap (λ b. cond b (link_in ps new_parent) (link_in ps e.parent)) t.child ∙ sym (link_in-cond ps (eqb c i) new_parent e.parent))
-              (rw (t.child, t.after) (sym (ap (link_in ps) (previouses i) ∙ link_in-cond2 ps (eqb c i) (is_number N i) new_prev new_before (previous_in (entry_at a) i))))
-              (rw (t.child, t.before) (sym (ap (link_in ps) (nexts i) ∙ link_in-cond2 ps (eqb c i) (is_number P i) new_next new_after (next_in (entry_at a) i))))
-              (rw t.first (sym (ap (λ xs. link_in ps (head_of xs)) (sym kids') ∙ (ap (link_in ps) (firsts i ∙ ap (λ xs. cond (is_number (link_unless P p) i) new_after (head_of xs)) kids) ∙ link_in-cond ps (is_number (link_unless P p) i) new_after (head_of e.children)))))
-              (rw t.last (sym (ap (λ xs. link_in ps (last_of xs)) (sym kids') ∙ (ap (link_in ps) (lasts i ∙ ap (λ xs. cond (is_number (link_unless N p) i) new_before (last_of xs)) kids) ∙ link_in-cond ps (is_number (link_unless N p) i) new_before (last_of e.children)))))
-              refl
+          (ap (λ b. cond b count (length e.children)) t.parent ∙ (ap (λ xs. cond (eqb p i) count (length xs)) (sym kids) ∙ (sym (counts i) ∙ ap length kids')))
+          (ap (λ b. cond b (link_in ps new_parent) (link_in ps e.parent)) t.child ∙ sym (link_in-cond ps (eqb c i) new_parent e.parent))
+          (rw (t.child, t.after) (sym (ap (link_in ps) (previouses i) ∙ link_in-cond2 ps (eqb c i) (is_number N i) new_prev new_before (previous_in (entry_at a) i))))
+          (rw (t.child, t.before) (sym (ap (link_in ps) (nexts i) ∙ link_in-cond2 ps (eqb c i) (is_number P i) new_next new_after (next_in (entry_at a) i))))
+          (rw t.first (sym (ap (λ xs. link_in ps (head_of xs)) (sym kids') ∙ (ap (link_in ps) (firsts i ∙ ap (λ xs. cond (is_number (link_unless P p) i) new_after (head_of xs)) kids) ∙ link_in-cond ps (is_number (link_unless P p) i) new_after (head_of e.children)))))
+          (rw t.last (sym (ap (λ xs. link_in ps (last_of xs)) (sym kids') ∙ (ap (link_in ps) (lasts i ∙ ap (λ xs. cond (is_number (link_unless N p) i) new_before (last_of xs)) kids) ∙ link_in-cond ps (is_number (link_unless N p) i) new_before (last_of e.children)))))
+          refl
 
   -- what a step changes, seen at each place
   pub record Writes (F : Ptr → Node T → Node T) (cs cs' : List (Ptr × Node T)) : Type 0 where
@@ -183,11 +183,16 @@ module _ {T : Type 0} where
         let s = lies.reads.stands in
         let l = s.sound.linked in
         let xs = children_in (entry_at v p) in
-        omega (arith, count_read lies.reads, s.long, length-le_from_once (length v.slots) xs (hits-le (entry_at v) l p) (λ i h.
-            ⊎_elim (λ (z : hits i xs ≡ 0). z) (λ (d : hits i xs ≡ 0 → ⊥).
-                let k : IsSome (entry_at v i) = known_child (entry_at v) l p i (omega arith) in
-                let past : entry_at v i ≡ None = get_or_past v.slots i None h in
-                let j : IsSome {T = Entry T} None = rw past at k in absurd (false≢true j)) (cases_eq (hits i xs) 0)))
+        omega (
+          arith,
+          count_read lies.reads,
+          s.long,
+          length-le_from_once (length v.slots) xs (hits-le (entry_at v) l p) (λ i h.
+              ⊎_elim (λ (z : hits i xs ≡ 0). z) (λ (d : hits i xs ≡ 0 → ⊥).
+              let k : IsSome (entry_at v i) = known_child (entry_at v) l p i (omega arith) in
+              let past : entry_at v i ≡ None = get_or_past v.slots i None h in
+              let j : IsSome {T = Entry T} None = rw past at k in absurd (false≢true j)) (cases_eq (hits i xs) 0)),
+        )
 
     pub known_new : (p : ℕ) (b : Option ℕ) → IsLinked (entry_at v) → Known (entry_at v) (new_previous (entry_at v) p b)
     known_new p None l = known_last (entry_at v) l p
@@ -221,7 +226,7 @@ module _ {T : Type 0} where
       composed F1 F2 F3 F4 w1 w2 w3 w4 = record {
         looks = λ q. mapped (λ m. F3 q (F2 q (F1 q m))) (F4 q) (look q cs) (look q cs3) (look q cs4)
             (mapped (λ m. F2 q (F1 q m)) (F3 q) (look q cs) (look q cs2) (look q cs3) (mapped (F1 q) (F2 q) (look q cs) (look q cs1) (look q cs2) (w1.looks q) (w2.looks q)) (w3.looks q)) (w4.looks q);
-        many = w4.many ∙ (w3.many ∙ (w2.many ∙ w1.many))
+        many = w4.many ∙ (w3.many ∙ (w2.many ∙ w1.many));
       }
 
       pub unlink_closes : (c : ℕ) (ptr top : Ptr) (n t : Node T) (count : ℕ) → IsChild c ptr n → n.parent ≡ Some top → look top cs ≡ Some t → count ≡ t.count - 1
@@ -239,15 +244,14 @@ module _ {T : Type 0} where
           let count_is : count ≡ length (children_in (at p)) - 1 = less ∙ ap (λ m. m - 1) (parent_count c ptr top n t k up found) in
           let w = composed (led_on top n.prev n.next) (led_back top n.next n.prev) (recounted top count) (settled ptr None None None) w1 w2 w3 w4 in
           let same = rewritten ps cs v s c p ptr top k.child.held top_lies.held k.child.at top_lies.at (previous_in at c) (next_in at c) (known_previous at l c) (known_next at l c) n.prev n.next prev_is next_is
-              (entry_at a') None None None (next_in at c) (previous_in at c) count (left_out c) (entries-unlinked v c p l k.under)
-              (next-cut at (entry_at a') c p cut) (previous-cut at (entry_at a') c p cut) (first-cut at (entry_at a') c p cut) (last-cut at (entry_at a') c p cut)
-              (λ i. length-cut at (entry_at a') c p cut i ∙ ap (λ m. cond (eqb p i) m (length (children_in (at i)))) (sym count_is)) in
+          (entry_at a') None None None (next_in at c) (previous_in at c) count (left_out c) (entries-unlinked v c p l k.under)
+          (next-cut at (entry_at a') c p cut) (previous-cut at (entry_at a') c p cut) (first-cut at (entry_at a') c p cut) (last-cut at (entry_at a') c p cut)
+          (λ i. length-cut at (entry_at a') c p cut i ∙ ap (λ m. cond (eqb p i) m (length (children_in (at i)))) (sym count_is)) in
           let stands : Stands ps cs4 a' = restands ps cs cs4 v s (rewrite_node ptr top count n.prev n.next n.next n.prev None None None) w.looks a' (rewired (left_out c) None c p) (entries-unlinked v c p l k.under)
-              (λ i q e g h. ap (λ (o : Option Ptr). rewrite_node ptr top count n.prev n.next o n.prev None None None q (wired ps at i e)) next_is
-              ∙ (ap (λ (o : Option Ptr). rewrite_node ptr top count n.prev n.next (link_in ps (next_in at c)) o None None None q (wired ps at i e)) prev_is ∙ same i q e g h)) w.many refl
-              (length-altered (λ (e : Entry T). with_children (left_out c e.children) e) (altered (with_parent None) v c) p ∙ length-altered (with_parent None) v c) (IsLinked-cut at (entry_at a') c p cut) in
+          (λ i q e g h. ap (λ (o : Option Ptr). rewrite_node ptr top count n.prev n.next o n.prev None None None q (wired ps at i e)) next_is
+          ∙ (ap (λ (o : Option Ptr). rewrite_node ptr top count n.prev n.next (link_in ps (next_in at c)) o None None None q (wired ps at i e)) prev_is ∙ same i q e g h)) w.many refl
+          (length-altered (λ (e : Entry T). with_children (left_out c e.children) e) (altered (with_parent None) v c) p ∙ length-altered (with_parent None) v c) (IsLinked-cut at (entry_at a') c p cut) in
           subst (λ (b : Arena T). Closes ps cs4 free b) (sym (unlinked_is v c p l k.under)) (closes free stands free_is)
-
 
       pub link_closes : (p c : ℕ) (b : Option ℕ) (top ptr : Ptr) (t : Node T) (prev next : Option Ptr) (count : ℕ) → Lies p top t → IsSome (entry_at v c) → place_in ps c ≡ Some ptr → parent_in (entry_at v c) ≡ None
           → ((m : ℕ) → b ≡ Some m → parent_in (entry_at v m) ≡ Some p) → prev ≡ link_in ps (new_previous (entry_at v) p b) → next ≡ link_in ps b → count ≡ t.count + 1
@@ -267,16 +271,16 @@ module _ {T : Type 0} where
           let entries = entries-linked v p c b l root held_c lies.held under in
           let w = composed (led_on top prev (Some ptr)) (led_back top next (Some ptr)) (recounted top count) (settled ptr (Some top) prev next) w1 w2 w3 w4 in
           let same = rewritten ps cs v s c p ptr top held_c lies.held at_c lies.at P b (known_new p b l) known_b prev next prev_is next_is
-              at' (Some p) P b (Some c) (Some c) count (entered b c) entries
-              (λ i. next-join at' at c p cut i ∙ (ap (λ o. cond (eqb c i) o (cond (is_number (previous_in at' c) i) (Some c) (next_in at i))) next' ∙ ap (λ o. cond (eqb c i) b (cond (is_number o i) (Some c) (next_in at i))) prev'))
-              (λ i. previous-join at' at c p cut i ∙ (ap (λ o. cond (eqb c i) o (cond (is_number (next_in at' c) i) (Some c) (previous_in at i))) prev' ∙ ap (λ o. cond (eqb c i) P (cond (is_number o i) (Some c) (previous_in at i))) next'))
-              (λ i. first-join at' at c p cut i ∙ ap (λ o. cond (is_number (link_unless o p) i) (Some c) (head_of (children_in (at i)))) prev')
-              (λ i. last-join at' at c p cut i ∙ ap (λ o. cond (is_number (link_unless o p) i) (Some c) (last_of (children_in (at i)))) next')
-              (λ i. length-join at' at c p cut i ∙ ap (λ m. cond (eqb p i) m (length (children_in (at i)))) count_is) in
+          at' (Some p) P b (Some c) (Some c) count (entered b c) entries
+          (λ i. next-join at' at c p cut i ∙ (ap (λ o. cond (eqb c i) o (cond (is_number (previous_in at' c) i) (Some c) (next_in at i))) next' ∙ ap (λ o. cond (eqb c i) b (cond (is_number o i) (Some c) (next_in at i))) prev'))
+          (λ i. previous-join at' at c p cut i ∙ (ap (λ o. cond (eqb c i) o (cond (is_number (next_in at' c) i) (Some c) (previous_in at i))) prev' ∙ ap (λ o. cond (eqb c i) P (cond (is_number o i) (Some c) (previous_in at i))) next'))
+          (λ i. first-join at' at c p cut i ∙ ap (λ o. cond (is_number (link_unless o p) i) (Some c) (head_of (children_in (at i)))) prev')
+          (λ i. last-join at' at c p cut i ∙ ap (λ o. cond (is_number (link_unless o p) i) (Some c) (last_of (children_in (at i)))) next')
+          (λ i. length-join at' at c p cut i ∙ ap (λ m. cond (eqb p i) m (length (children_in (at i)))) count_is) in
           closes free (restands ps cs cs4 v s (rewrite_node ptr top count prev next (Some ptr) (Some ptr) (Some top) prev next) w.looks a' (rewired (entered b c) (Some p) c p) entries
-              (λ i q e g h. ap (λ (o : Option Ptr). rewrite_node ptr top count prev next o o (Some top) prev next q (wired ps at i e)) (sym at_c)
-              ∙ (ap (λ (o : Option Ptr). rewrite_node ptr top count prev next (place_in ps c) (place_in ps c) o prev next q (wired ps at i e)) (sym lies.at)
-              ∙ (ap (λ (o : Option Ptr). rewrite_node ptr top count prev next (place_in ps c) (place_in ps c) (place_in ps p) o next q (wired ps at i e)) prev_is
-              ∙ (ap (λ (o : Option Ptr). rewrite_node ptr top count prev next (place_in ps c) (place_in ps c) (place_in ps p) (link_in ps P) o q (wired ps at i e)) next_is ∙ same i q e g h)))) w.many refl
-              (length-altered (λ (e : Entry T). with_children (entered b c e.children) e) (altered (with_parent (Some p)) v c) p ∙ length-altered (with_parent (Some p)) v c)
-              (IsLinked-linked v p c b l root held_c lies.held under)) free_is
+          (λ i q e g h. ap (λ (o : Option Ptr). rewrite_node ptr top count prev next o o (Some top) prev next q (wired ps at i e)) (sym at_c)
+          ∙ (ap (λ (o : Option Ptr). rewrite_node ptr top count prev next (place_in ps c) (place_in ps c) o prev next q (wired ps at i e)) (sym lies.at)
+          ∙ (ap (λ (o : Option Ptr). rewrite_node ptr top count prev next (place_in ps c) (place_in ps c) (place_in ps p) o next q (wired ps at i e)) prev_is
+          ∙ (ap (λ (o : Option Ptr). rewrite_node ptr top count prev next (place_in ps c) (place_in ps c) (place_in ps p) (link_in ps P) o q (wired ps at i e)) next_is ∙ same i q e g h)))) w.many refl
+          (length-altered (λ (e : Entry T). with_children (entered b c e.children) e) (altered (with_parent (Some p)) v c) p ∙ length-altered (with_parent (Some p)) v c)
+          (IsLinked-linked v p c b l root held_c lies.held under)) free_is

@@ -1,12 +1,12 @@
 -- The memory once a value is written.
-use Rattle.std.proofs.Common.{◌≡◌, ℕ, Bool, true, false, cond, eqb, List, length, Option, Some, None, refl, sym, ap, ◌∙◌, subst}
-use Rattle.std.specs.Prelude.{reverse, IsSome, option_map}
+use Rattle.std.proofs.Common.{◌≡◌, ℕ, Bool, true, false, cond, eqb, List, length, Option, Some, None, refl, sym, ap, ◌∙◌}
+use Rattle.std.specs.Prelude.{reverse, option_map}
 use denote.RawPtr.{Ptr}
 use Rattle.dom_model.specs.Lists.{hits, head_of, last_of, after, before}
-use Rattle.dom_model.specs.Arena.{Entry, Arena, names, entry_at, parent_in, children_in, list_under, siblings_in, next_in, previous_in, with_value, altered, IsLinked}
-use Rattle.dom_links.specs.Cells.{same_ptr, look, put}
+use Rattle.dom_model.specs.Arena.{Entry, Arena, names, entry_at, parent_in, children_in, list_under, siblings_in, with_value, altered, IsLinked}
+use Rattle.dom_links.specs.Cells.{same_ptr, put}
 use Rattle.dom_links.specs.declared.links.Node.{Node}
-use Rattle.dom_links.specs.Standing.{place_in, link_in, wired, Stands}
+use Rattle.dom_links.specs.Standing.{place_in, link_in, wired}
 use Rattle.dom_links.specs.Wiring.{leads_to}
 use Rattle.dom_links.proofs.Cells.{same_ptr_refl, put_length}
 use Rattle.dom_links.proofs.Places.{look-step}
@@ -70,5 +70,5 @@ module _ {T : Type 0} where
     revalue_closes ps cs free ptr n lies free_is =
         let F : Ptr → Node T → Node T = λ (q : Ptr) (m : Node T). record m { value = cond (same_ptr ptr q) w m.value } in
         closes free (restands ps cs (put ptr (record n { value = w }) cs) v lies.reads.stands F
-            (look-step F ptr n (record n { value = w }) cs lies.found (rw (same_ptr_refl ptr)) (λ q m e. rw e))
-            (altered (with_value w) v k) (revalued w k) entries (same ps cs ptr n lies) (put_length ptr (record n { value = w }) cs) refl (length-altered (with_value w) v k) (linked_still lies.reads.stands.sound.linked)) free_is
+        (look-step F ptr n (record n { value = w }) cs lies.found (rw (same_ptr_refl ptr)) (λ q m e. rw e))
+        (altered (with_value w) v k) (revalued w k) entries (same ps cs ptr n lies) (put_length ptr (record n { value = w }) cs) refl (length-altered (with_value w) v k) (linked_still lies.reads.stands.sound.linked)) free_is

@@ -1,11 +1,10 @@
 -- What stands in memory for an arena reads back as that arena.
-use Rattle.std.proofs.Common.{◌≡◌, ℕ, suc, zero, ◌+◌, ◌≤◌, ◌<◌, Bool, true, false, cond, eqb, List, [], ◌∷◌, ◌++◌, length, get_or, map, Option, Some, None, refl, sym, ap, ◌∙◌, subst, inl, inr, ⊎_elim, ◌⊎◌, arith, append_assoc}
-use Rattle.std.specs.Prelude.{reverse, IsSome, is_some, option_map}
-use Rattle.std.specs.Option.{ForSome}
-use Rattle.std.proofs.lemmas.Bool.{cases_Bool, cases_eq, cases_lt, eqb-true, eq-eqb, ne_eqb, true≢false, false≢true}
-use Rattle.std.proofs.lemmas.List.{ext_get_or, length-map, get_or-map, get_or_past}
+use Rattle.std.proofs.Common.{◌≡◌, ℕ, ◌+◌, ◌<◌, true, false, cond, eqb, List, [], ◌∷◌, ◌++◌, length, map, Option, Some, None, refl, sym, ap, ◌∙◌, subst, ⊎_elim, arith, append_assoc}
+use Rattle.std.specs.Prelude.{reverse, IsSome, option_map}
+use Rattle.std.proofs.lemmas.Bool.{cases_Bool, cases_eq, eq-eqb, true≢false}
+use Rattle.std.proofs.lemmas.List.{ext_get_or, length-map, get_or-map}
 use denote.RawPtr.{Ptr}
-use Rattle.dom_model.specs.Lists.{hits, is_number, head_of, last_of, after, before_from, before}
+use Rattle.dom_model.specs.Lists.{hits, is_number, head_of, last_of, after, before}
 use Rattle.dom_model.specs.Arena.{Entry, Arena, names, entry_at, parent_in, children_in, list_under, siblings_in, next_in, previous_in, IsLinked}
 use Rattle.dom_links.specs.Cells.{look}
 use Rattle.dom_links.specs.declared.links.Node.{Node}
@@ -141,5 +140,5 @@ module _ {T : Type 0} where
     arena_read free h =
         let f : Option Ptr → Option (Entry T) = λ (p : Option Ptr). option_map (entry_from cs) (node_behind cs p) in
         let same : map f ps ≡ a.slots = ext_get_or None (map f ps) a.slots (length-map ps f ∙ sym s.long) (λ i lt.
-            get_or-map f ps i None None (rw (length-map ps f) at lt) ∙ (ap (option_map (entry_from cs)) (s.nodes i) ∙ read_at i (entry_at a i) refl)) in
+        get_or-map f ps i None None (rw (length-map ps f) at lt) ∙ (ap (option_map (entry_from cs)) (s.nodes i) ∙ read_at i (entry_at a i) refl)) in
         λ i. record { slots = same i; free = sym h i }

@@ -55,7 +55,7 @@ module _ {T : Type 0} where
     next = link_in ps (next_in at n);
     first = link_in ps (head_of e.children);
     last = link_in ps (last_of e.children);
-    value = e.value
+    value = e.value;
   }
 
   -- the memory stands for the arena

@@ -47,5 +47,5 @@ module _ {T : Type 0} where
   settled p parent prev next q n = record n {
     parent = if same_ptr p q then parent else n.parent;
     prev = if same_ptr p q then prev else n.prev;
-    next = if same_ptr p q then next else n.next
+    next = if same_ptr p q then next else n.next;
   }

@@ -275,4 +275,3 @@ impl<T: Drop> Drop for Links<T> {
         pool.close();
     }
 }
-

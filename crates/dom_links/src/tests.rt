@@ -33,13 +33,7 @@ fn taken<T>(rt: &impl Abort, links: &mut Links<T>, slot: Slot) -> T {
 }
 
 /// Links a child that has no children of its own.
-fn put(
-    rt: &impl Abort,
-    links: &mut Links<u32>,
-    parent: Slot,
-    child: Slot,
-    before: Option<Slot>,
-) {
+fn put(rt: &impl Abort, links: &mut Links<u32>, parent: Slot, child: Slot, before: Option<Slot>) {
     assert!(rt; parent != child);
     assert!(rt; links.holds(parent));
     assert!(rt; links.holds(child));
@@ -165,9 +159,21 @@ fn a_thousand_children(rt: HostRuntime) -> Result<(), Fail> {
 fn each_value_is_dropped_once(rt: HostRuntime) -> Result<(), Fail> {
     let drops = Rc::new(rt.alloc(), Cell::new(0u32))?;
     let mut links = Links::new(rt.alloc());
-    let first = added(&rt, &mut links, Counted { drops: drops.clone()? });
+    let first = added(
+        &rt,
+        &mut links,
+        Counted {
+            drops: drops.clone()?,
+        },
+    );
     for _ in 0..4 {
-        let _slot = added(&rt, &mut links, Counted { drops: drops.clone()? });
+        let _slot = added(
+            &rt,
+            &mut links,
+            Counted {
+                drops: drops.clone()?,
+            },
+        );
     }
     let value = taken(&rt, &mut links, first);
     assert_eq!(rt; drops.get(), 0);

@@ -50,7 +50,7 @@ texts_agree b w texts (c ∷ cs) =
     let s = answer b w c in
     let edited = all_on_texts (unless_refused s.reply (command_edits c w)) texts in
     (same_texts (map (λ n. unmarked (tokens_among n edited)) (tops s.world.forest)) (map unmarked (texts_of s.world))
-        && (length edited == length (tops s.world.forest)))
+    && (length edited == length (tops s.world.forest)))
     ∷ texts_agree b s.world edited cs
 
 -- whether the world that the edits leave is the command's, as its texts show it

@@ -10,6 +10,7 @@ use Rattle.dom_model.specs.Line.{json_of, command_of, command_within}
 use Rattle.dom_model.specs.Answer.{Bounds}
 use Rattle.dom_model.specs.Output.{whole_lines, last_piece, due, output_of}
 use Rattle.dom_model.proofs.Agreement.{ends_missed, texts_missed, worlds_missed}
+use Rattle.dom_model.proofs.ContentsBetween.{contents_missed}
 
 abbrev bounds : Bounds
 bounds = record { numbers = 4294967295; line = 1048576 }
@@ -34,3 +35,7 @@ blank_line-texts = refl
 pub blank_line-worlds : worlds_missed whole_table bounds given ≡ []
 unfolding serde_json_on_literals is_utf8 chars digits utf16_chars encode whole_table json_of command_of command_within whole_lines last_piece due
 blank_line-worlds = refl
+
+pub blank_line-contents : contents_missed whole_table bounds given ≡ []
+unfolding serde_json_on_literals is_utf8 chars digits utf16_chars encode whole_table json_of command_of command_within whole_lines last_piece due
+blank_line-contents = refl

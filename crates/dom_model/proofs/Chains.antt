@@ -14,19 +14,19 @@ pub place-apart : (m n : ℕ) (ns : List ℕ) → 0 < hits m ns → place_in m n
 place-apart m n [] h e = absurd (omega arith)
 place-apart m n (x ∷ xs) h e =
     elim (same_or x m) [
-      same d t ↦
-        elim (same_or x n) [
-          same d2 v ↦ sym d ∙ d2
-        | apart ne v ↦ absurd (let k = rw (t, v) at e in omega arith)
-        ]
-    | apart ne t ↦
-        elim (same_or x n) [
-          same d2 v ↦ absurd (let k = rw (t, v) at e in omega arith)
-        | apart ne2 v ↦
-            let k = rw (t, v) at e in
-            let j = rw t at h in
-            place-apart m n xs (omega arith) (omega arith)
-        ]
+      | same d t ↦
+          elim (same_or x n) [
+            | same d2 v ↦ sym d ∙ d2
+            | apart ne v ↦ absurd (let k = rw (t, v) at e in omega arith)
+          ]
+      | apart ne t ↦
+          elim (same_or x n) [
+            | same d2 v ↦ absurd (let k = rw (t, v) at e in omega arith)
+            | apart ne2 v ↦
+                let k = rw (t, v) at e in
+                let j = rw t at h in
+                place-apart m n xs (omega arith) (omega arith)
+          ]
     ]
 
 module _ {X : Type 0} where
@@ -51,21 +51,21 @@ module _ {X : Type 0} where
       go zero m l hm = absurd (let i = ancestors-there m f hm in let j = rw i.1 at l in omega arith)
       go (suc k) m l hm =
           elim (seen (parent_of f m)) [
-            nothing e ↦
-              let a = root-path f o m hm e in
-              (m, ap last_of a, subst (λ ns. IsWay f m (drop 1 (reverse ns)) m) (sym a) refl)
-          | just q e ↦
-              let i = parent-path f o m q hm e in
-              let j = ancestors-there q f i.0 in
-              let s = rw i.1 at l in
-              let r = go k q (omega arith) i.0 in
-              let a : way_to f m ≡ way_to f q ++ m ∷ [] =
-                  ap (λ ns. drop 1 (reverse ns)) i.1
-                  ∙ ap (drop 1) (reverse-append (m ∷ []) (ancestors q f))
-                  ∙ drop-append-le 1 (reverse (ancestors q f)) (m ∷ []) (rw (length-reverse (ancestors q f), j.1) (omega arith)) in
-              let b : root_of f m ≡ root_of f q =
-                  ap last_of i.1 ∙ ap (λ ns. last_of (m ∷ ns)) j.1 ∙ sym (ap last_of j.1) in
-              (r.0, b ∙ r.1, subst (λ ns. IsWay f r.0 ns m) (sym a) (way-last f r.0 (way_to f q) q m r.2 hm e))
+            | nothing e ↦
+                let a = root-path f o m hm e in
+                (m, ap last_of a, subst (λ ns. IsWay f m (drop 1 (reverse ns)) m) (sym a) refl)
+            | just q e ↦
+                let i = parent-path f o m q hm e in
+                let j = ancestors-there q f i.0 in
+                let s = rw i.1 at l in
+                let r = go k q (omega arith) i.0 in
+                let a : way_to f m ≡ way_to f q ++ m ∷ [] =
+                ap (λ ns. drop 1 (reverse ns)) i.1
+                ∙ ap (drop 1) (reverse-append (m ∷ []) (ancestors q f))
+                ∙ drop-append-le 1 (reverse (ancestors q f)) (m ∷ []) (rw (length-reverse (ancestors q f), j.1) (omega arith)) in
+                let b : root_of f m ≡ root_of f q =
+                ap last_of i.1 ∙ ap (λ ns. last_of (m ∷ ns)) j.1 ∙ sym (ap last_of j.1) in
+                (r.0, b ∙ r.1, subst (λ ns. IsWay f r.0 ns m) (sym a) (way-last f r.0 (way_to f q) q m r.2 hm e))
           ]
 
   -- children of one parent with one index are one

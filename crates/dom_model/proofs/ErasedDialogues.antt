@@ -324,14 +324,14 @@ node_before_itself_without_0 : IsLeft
     (printed (replies_to bounds first_world (without_observers (λ o. o == 0) node_before_itself_commands)))
     (printed (replies_without_observers (λ o. o == 0) node_before_itself_commands (replies_to bounds first_world node_before_itself_commands)))
     (codes "{\"ok\":1}\n"
-        ++ codes "{\"ok\":2}\n"
-        ++ codes "{\"ok\":3}\n"
-        ++ codes "{\"ok\":2}\n"
-        ++ codes "{\"ok\":3}\n"
-        ++ codes "{\"ok\":0}\n"
-        ++ codes "{\"ok\":2}\n"
-        ++ codes "{\"ok\":[2,3]}\n"
-        ++ codes "{\"ok\":3}\n")
+    ++ codes "{\"ok\":2}\n"
+    ++ codes "{\"ok\":3}\n"
+    ++ codes "{\"ok\":2}\n"
+    ++ codes "{\"ok\":3}\n"
+    ++ codes "{\"ok\":0}\n"
+    ++ codes "{\"ok\":2}\n"
+    ++ codes "{\"ok\":[2,3]}\n"
+    ++ codes "{\"ok\":3}\n")
 unfolding serde_json_on_literals digits utf16_chars encode
 node_before_itself_without_0 = (refl, refl)
 
@@ -339,17 +339,17 @@ node_before_itself_without_2 : IsLeft
     (printed (replies_to bounds first_world (without_observers (λ o. o == 2) node_before_itself_commands)))
     (printed (replies_without_observers (λ o. o == 2) node_before_itself_commands (replies_to bounds first_world node_before_itself_commands)))
     (codes "{\"ok\":1}\n"
-        ++ codes "{\"ok\":2}\n"
-        ++ codes "{\"ok\":3}\n"
-        ++ codes "{\"ok\":2}\n"
-        ++ codes "{\"ok\":3}\n"
-        ++ codes "{\"ok\":0}\n"
-        ++ codes "{\"ok\":null}\n"
-        ++ codes "{\"ok\":2}\n"
-        ++ codes "{\"ok\":[2,3]}\n"
-        ++ codes "{\"ok\":[[\"childList\",1,[],[2],null,3,null,null],[\"childList\",1,[2],[],null,3,null,null]]}\n"
-        ++ codes "{\"ok\":3}\n"
-        ++ codes "{\"ok\":[[\"childList\",1,[],[3],2,null,null,null],[\"childList\",1,[3],[],2,null,null,null]]}\n")
+    ++ codes "{\"ok\":2}\n"
+    ++ codes "{\"ok\":3}\n"
+    ++ codes "{\"ok\":2}\n"
+    ++ codes "{\"ok\":3}\n"
+    ++ codes "{\"ok\":0}\n"
+    ++ codes "{\"ok\":null}\n"
+    ++ codes "{\"ok\":2}\n"
+    ++ codes "{\"ok\":[2,3]}\n"
+    ++ codes "{\"ok\":[[\"childList\",1,[],[2],null,3,null,null],[\"childList\",1,[2],[],null,3,null,null]]}\n"
+    ++ codes "{\"ok\":3}\n"
+    ++ codes "{\"ok\":[[\"childList\",1,[],[3],2,null,null,null],[\"childList\",1,[3],[],2,null,null,null]]}\n")
 unfolding serde_json_on_literals digits utf16_chars encode
 node_before_itself_without_2 = (refl, refl)
 
@@ -357,29 +357,29 @@ normalize_observed_without_0 : IsLeft
     (printed (replies_to bounds first_world (without_observers (λ o. o == 0) normalize_observed_commands)))
     (printed (replies_without_observers (λ o. o == 0) normalize_observed_commands (replies_to bounds first_world normalize_observed_commands)))
     (codes "{\"ok\":1}\n"
-        ++ codes "{\"ok\":2}\n"
-        ++ codes "{\"ok\":3}\n"
-        ++ codes "{\"ok\":4}\n"
-        ++ codes "{\"ok\":5}\n"
-        ++ codes "{\"ok\":6}\n"
-        ++ codes "{\"ok\":7}\n"
-        ++ codes "{\"ok\":2}\n"
-        ++ codes "{\"ok\":3}\n"
-        ++ codes "{\"ok\":4}\n"
-        ++ codes "{\"ok\":5}\n"
-        ++ codes "{\"ok\":6}\n"
-        ++ codes "{\"ok\":7}\n"
-        ++ codes "{\"ok\":0}\n"
-        ++ codes "{\"ok\":0}\n"
-        ++ codes "{\"ok\":1}\n"
-        ++ codes "{\"ok\":null}\n"
-        ++ codes "{\"ok\":null}\n"
-        ++ codes "{\"ok\":null}\n"
-        ++ codes "{\"ok\":null}\n"
-        ++ codes "{\"ok\":null}\n"
-        ++ codes "{\"ok\":[3,1,3,1]}\n"
-        ++ codes "{\"ok\":[3,2,1,2]}\n"
-        ++ codes "{\"ok\":[3,6,7]}\n")
+    ++ codes "{\"ok\":2}\n"
+    ++ codes "{\"ok\":3}\n"
+    ++ codes "{\"ok\":4}\n"
+    ++ codes "{\"ok\":5}\n"
+    ++ codes "{\"ok\":6}\n"
+    ++ codes "{\"ok\":7}\n"
+    ++ codes "{\"ok\":2}\n"
+    ++ codes "{\"ok\":3}\n"
+    ++ codes "{\"ok\":4}\n"
+    ++ codes "{\"ok\":5}\n"
+    ++ codes "{\"ok\":6}\n"
+    ++ codes "{\"ok\":7}\n"
+    ++ codes "{\"ok\":0}\n"
+    ++ codes "{\"ok\":0}\n"
+    ++ codes "{\"ok\":1}\n"
+    ++ codes "{\"ok\":null}\n"
+    ++ codes "{\"ok\":null}\n"
+    ++ codes "{\"ok\":null}\n"
+    ++ codes "{\"ok\":null}\n"
+    ++ codes "{\"ok\":null}\n"
+    ++ codes "{\"ok\":[3,1,3,1]}\n"
+    ++ codes "{\"ok\":[3,2,1,2]}\n"
+    ++ codes "{\"ok\":[3,6,7]}\n")
 unfolding serde_json_on_literals digits utf16_chars encode
 normalize_observed_without_0 = (refl, refl)
 
@@ -387,20 +387,20 @@ transient_registrations_without_0 : IsLeft
     (printed (replies_to bounds first_world (without_observers (λ o. o == 0) transient_registrations_commands)))
     (printed (replies_without_observers (λ o. o == 0) transient_registrations_commands (replies_to bounds first_world transient_registrations_commands)))
     (codes "{\"ok\":1}\n"
-        ++ codes "{\"ok\":2}\n"
-        ++ codes "{\"ok\":2}\n"
-        ++ codes "{\"ok\":0}\n"
-        ++ codes "{\"ok\":null}\n"
-        ++ codes "{\"ok\":null}\n"
-        ++ codes "{\"ok\":[]}\n"
-        ++ codes "{\"ok\":null}\n"
-        ++ codes "{\"ok\":[]}\n"
-        ++ codes "{\"ok\":2}\n"
-        ++ codes "{\"ok\":null}\n"
-        ++ codes "{\"ok\":null}\n"
-        ++ codes "{\"ok\":[]}\n"
-        ++ codes "{\"ok\":[]}\n"
-        ++ codes "{\"ok\":null}\n")
+    ++ codes "{\"ok\":2}\n"
+    ++ codes "{\"ok\":2}\n"
+    ++ codes "{\"ok\":0}\n"
+    ++ codes "{\"ok\":null}\n"
+    ++ codes "{\"ok\":null}\n"
+    ++ codes "{\"ok\":[]}\n"
+    ++ codes "{\"ok\":null}\n"
+    ++ codes "{\"ok\":[]}\n"
+    ++ codes "{\"ok\":2}\n"
+    ++ codes "{\"ok\":null}\n"
+    ++ codes "{\"ok\":null}\n"
+    ++ codes "{\"ok\":[]}\n"
+    ++ codes "{\"ok\":[]}\n"
+    ++ codes "{\"ok\":null}\n")
 unfolding serde_json_on_literals digits utf16_chars encode
 transient_registrations_without_0 = (refl, refl)
 
@@ -408,16 +408,16 @@ one_record_each_without_0 : IsLeft
     (printed (replies_to bounds first_world (without_observers (λ o. o == 0) one_record_each_commands)))
     (printed (replies_without_observers (λ o. o == 0) one_record_each_commands (replies_to bounds first_world one_record_each_commands)))
     (codes "{\"ok\":1}\n"
-        ++ codes "{\"ok\":2}\n"
-        ++ codes "{\"ok\":2}\n"
-        ++ codes "{\"ok\":0}\n"
-        ++ codes "{\"ok\":1}\n"
-        ++ codes "{\"ok\":null}\n"
-        ++ codes "{\"ok\":null}\n"
-        ++ codes "{\"ok\":null}\n"
-        ++ codes "{\"ok\":null}\n"
-        ++ codes "{\"ok\":[[\"attributes\",2,[],[],null,null,\"x\",null],[\"attributes\",2,[],[],null,null,\"x\",null]]}\n"
-        ++ codes "{\"error\":\"TypeError\"}\n")
+    ++ codes "{\"ok\":2}\n"
+    ++ codes "{\"ok\":2}\n"
+    ++ codes "{\"ok\":0}\n"
+    ++ codes "{\"ok\":1}\n"
+    ++ codes "{\"ok\":null}\n"
+    ++ codes "{\"ok\":null}\n"
+    ++ codes "{\"ok\":null}\n"
+    ++ codes "{\"ok\":null}\n"
+    ++ codes "{\"ok\":[[\"attributes\",2,[],[],null,null,\"x\",null],[\"attributes\",2,[],[],null,null,\"x\",null]]}\n"
+    ++ codes "{\"error\":\"TypeError\"}\n")
 unfolding serde_json_on_literals digits utf16_chars encode
 one_record_each_without_0 = (refl, refl)
 
@@ -425,16 +425,16 @@ one_record_each_without_1 : IsLeft
     (printed (replies_to bounds first_world (without_observers (λ o. o == 1) one_record_each_commands)))
     (printed (replies_without_observers (λ o. o == 1) one_record_each_commands (replies_to bounds first_world one_record_each_commands)))
     (codes "{\"ok\":1}\n"
-        ++ codes "{\"ok\":2}\n"
-        ++ codes "{\"ok\":2}\n"
-        ++ codes "{\"ok\":0}\n"
-        ++ codes "{\"ok\":1}\n"
-        ++ codes "{\"ok\":null}\n"
-        ++ codes "{\"ok\":null}\n"
-        ++ codes "{\"ok\":null}\n"
-        ++ codes "{\"ok\":null}\n"
-        ++ codes "{\"ok\":null}\n"
-        ++ codes "{\"ok\":[[\"attributes\",2,[],[],null,null,\"x\",null],[\"attributes\",2,[],[],null,null,\"x\",\"1\"],[\"attributes\",2,[],[],null,null,\"y\",null]]}\n")
+    ++ codes "{\"ok\":2}\n"
+    ++ codes "{\"ok\":2}\n"
+    ++ codes "{\"ok\":0}\n"
+    ++ codes "{\"ok\":1}\n"
+    ++ codes "{\"ok\":null}\n"
+    ++ codes "{\"ok\":null}\n"
+    ++ codes "{\"ok\":null}\n"
+    ++ codes "{\"ok\":null}\n"
+    ++ codes "{\"ok\":null}\n"
+    ++ codes "{\"ok\":[[\"attributes\",2,[],[],null,null,\"x\",null],[\"attributes\",2,[],[],null,null,\"x\",\"1\"],[\"attributes\",2,[],[],null,null,\"y\",null]]}\n")
 unfolding serde_json_on_literals digits utf16_chars encode
 one_record_each_without_1 = (refl, refl)
 
@@ -442,18 +442,18 @@ fragment_observed_without_0 : IsLeft
     (printed (replies_to bounds first_world (without_observers (λ o. o == 0) fragment_observed_commands)))
     (printed (replies_without_observers (λ o. o == 0) fragment_observed_commands (replies_to bounds first_world fragment_observed_commands)))
     (codes "{\"ok\":1}\n"
-        ++ codes "{\"ok\":2}\n"
-        ++ codes "{\"ok\":3}\n"
-        ++ codes "{\"ok\":3}\n"
-        ++ codes "{\"ok\":0}\n"
-        ++ codes "{\"ok\":1}\n"
-        ++ codes "{\"ok\":2}\n"
-        ++ codes "{\"ok\":4}\n"
-        ++ codes "{\"ok\":null}\n"
-        ++ codes "{\"ok\":null}\n"
-        ++ codes "{\"ok\":null}\n"
-        ++ codes "{\"ok\":null}\n"
-        ++ codes "{\"ok\":[[\"attributes\",4,[],[],null,null,\"k\",null]]}\n")
+    ++ codes "{\"ok\":2}\n"
+    ++ codes "{\"ok\":3}\n"
+    ++ codes "{\"ok\":3}\n"
+    ++ codes "{\"ok\":0}\n"
+    ++ codes "{\"ok\":1}\n"
+    ++ codes "{\"ok\":2}\n"
+    ++ codes "{\"ok\":4}\n"
+    ++ codes "{\"ok\":null}\n"
+    ++ codes "{\"ok\":null}\n"
+    ++ codes "{\"ok\":null}\n"
+    ++ codes "{\"ok\":null}\n"
+    ++ codes "{\"ok\":[[\"attributes\",4,[],[],null,null,\"k\",null]]}\n")
 unfolding serde_json_on_literals digits utf16_chars encode
 fragment_observed_without_0 = (refl, refl)
 
@@ -461,18 +461,18 @@ fragment_observed_without_1 : IsLeft
     (printed (replies_to bounds first_world (without_observers (λ o. o == 1) fragment_observed_commands)))
     (printed (replies_without_observers (λ o. o == 1) fragment_observed_commands (replies_to bounds first_world fragment_observed_commands)))
     (codes "{\"ok\":1}\n"
-        ++ codes "{\"ok\":2}\n"
-        ++ codes "{\"ok\":3}\n"
-        ++ codes "{\"ok\":3}\n"
-        ++ codes "{\"ok\":0}\n"
-        ++ codes "{\"ok\":1}\n"
-        ++ codes "{\"ok\":null}\n"
-        ++ codes "{\"ok\":2}\n"
-        ++ codes "{\"ok\":[[\"childList\",2,[],[3],null,null,null,null]]}\n"
-        ++ codes "{\"ok\":4}\n"
-        ++ codes "{\"ok\":null}\n"
-        ++ codes "{\"ok\":null}\n"
-        ++ codes "{\"ok\":null}\n")
+    ++ codes "{\"ok\":2}\n"
+    ++ codes "{\"ok\":3}\n"
+    ++ codes "{\"ok\":3}\n"
+    ++ codes "{\"ok\":0}\n"
+    ++ codes "{\"ok\":1}\n"
+    ++ codes "{\"ok\":null}\n"
+    ++ codes "{\"ok\":2}\n"
+    ++ codes "{\"ok\":[[\"childList\",2,[],[3],null,null,null,null]]}\n"
+    ++ codes "{\"ok\":4}\n"
+    ++ codes "{\"ok\":null}\n"
+    ++ codes "{\"ok\":null}\n"
+    ++ codes "{\"ok\":null}\n")
 unfolding serde_json_on_literals digits utf16_chars encode
 fragment_observed_without_1 = (refl, refl)
 
@@ -480,25 +480,25 @@ two_told_without_0 : IsLeft
     (printed (replies_to bounds first_world (without_observers (λ o. o == 0) two_told_commands)))
     (printed (replies_without_observers (λ o. o == 0) two_told_commands (replies_to bounds first_world two_told_commands)))
     (codes "{\"ok\":1}\n"
-        ++ codes "{\"ok\":2}\n"
-        ++ codes "{\"ok\":2}\n"
-        ++ codes "{\"ok\":0}\n"
-        ++ codes "{\"ok\":1}\n"
-        ++ codes "{\"ok\":2}\n"
-        ++ codes "{\"ok\":null}\n"
-        ++ codes "{\"ok\":null}\n"
-        ++ codes "{\"ok\":null}\n"
-        ++ codes "{\"ok\":null}\n"
-        ++ codes "{\"ok\":[1,2]}\n"
-        ++ codes "{\"ok\":[[\"attributes\",2,[],[],null,null,\"x\",null]]}\n"
-        ++ codes "{\"ok\":null}\n"
-        ++ codes "{\"ok\":[[\"attributes\",2,[],[],null,null,\"y\",null]]}\n"
-        ++ codes "{\"ok\":[1,2]}\n"
-        ++ codes "{\"ok\":[[1,[[\"childList\",1,[],[2],null,null,null,null]]]]}\n"
-        ++ codes "{\"ok\":[]}\n"
-        ++ codes "{\"ok\":null}\n"
-        ++ codes "{\"ok\":2}\n"
-        ++ codes "{\"ok\":[[2,[[\"attributes\",2,[],[],null,null,\"z\",null]]],[1,[[\"childList\",1,[2],[],null,null,null,null]]]]}\n")
+    ++ codes "{\"ok\":2}\n"
+    ++ codes "{\"ok\":2}\n"
+    ++ codes "{\"ok\":0}\n"
+    ++ codes "{\"ok\":1}\n"
+    ++ codes "{\"ok\":2}\n"
+    ++ codes "{\"ok\":null}\n"
+    ++ codes "{\"ok\":null}\n"
+    ++ codes "{\"ok\":null}\n"
+    ++ codes "{\"ok\":null}\n"
+    ++ codes "{\"ok\":[1,2]}\n"
+    ++ codes "{\"ok\":[[\"attributes\",2,[],[],null,null,\"x\",null]]}\n"
+    ++ codes "{\"ok\":null}\n"
+    ++ codes "{\"ok\":[[\"attributes\",2,[],[],null,null,\"y\",null]]}\n"
+    ++ codes "{\"ok\":[1,2]}\n"
+    ++ codes "{\"ok\":[[1,[[\"childList\",1,[],[2],null,null,null,null]]]]}\n"
+    ++ codes "{\"ok\":[]}\n"
+    ++ codes "{\"ok\":null}\n"
+    ++ codes "{\"ok\":2}\n"
+    ++ codes "{\"ok\":[[2,[[\"attributes\",2,[],[],null,null,\"z\",null]]],[1,[[\"childList\",1,[2],[],null,null,null,null]]]]}\n")
 unfolding serde_json_on_literals digits utf16_chars encode
 two_told_without_0 = (refl, refl)
 
@@ -506,25 +506,25 @@ two_told_without_1 : IsLeft
     (printed (replies_to bounds first_world (without_observers (λ o. o == 1) two_told_commands)))
     (printed (replies_without_observers (λ o. o == 1) two_told_commands (replies_to bounds first_world two_told_commands)))
     (codes "{\"ok\":1}\n"
-        ++ codes "{\"ok\":2}\n"
-        ++ codes "{\"ok\":2}\n"
-        ++ codes "{\"ok\":0}\n"
-        ++ codes "{\"ok\":1}\n"
-        ++ codes "{\"ok\":2}\n"
-        ++ codes "{\"ok\":null}\n"
-        ++ codes "{\"ok\":null}\n"
-        ++ codes "{\"ok\":null}\n"
-        ++ codes "{\"ok\":null}\n"
-        ++ codes "{\"ok\":[2,0]}\n"
-        ++ codes "{\"ok\":[[\"attributes\",2,[],[],null,null,\"x\",null]]}\n"
-        ++ codes "{\"ok\":null}\n"
-        ++ codes "{\"ok\":[[\"attributes\",2,[],[],null,null,\"y\",null]]}\n"
-        ++ codes "{\"ok\":[2,0]}\n"
-        ++ codes "{\"ok\":[[0,[[\"attributes\",2,[],[],null,null,\"x\",null],[\"attributes\",2,[],[],null,null,\"y\",null]]]]}\n"
-        ++ codes "{\"ok\":[]}\n"
-        ++ codes "{\"ok\":null}\n"
-        ++ codes "{\"ok\":2}\n"
-        ++ codes "{\"ok\":[[2,[[\"attributes\",2,[],[],null,null,\"z\",null]]]]}\n")
+    ++ codes "{\"ok\":2}\n"
+    ++ codes "{\"ok\":2}\n"
+    ++ codes "{\"ok\":0}\n"
+    ++ codes "{\"ok\":1}\n"
+    ++ codes "{\"ok\":2}\n"
+    ++ codes "{\"ok\":null}\n"
+    ++ codes "{\"ok\":null}\n"
+    ++ codes "{\"ok\":null}\n"
+    ++ codes "{\"ok\":null}\n"
+    ++ codes "{\"ok\":[2,0]}\n"
+    ++ codes "{\"ok\":[[\"attributes\",2,[],[],null,null,\"x\",null]]}\n"
+    ++ codes "{\"ok\":null}\n"
+    ++ codes "{\"ok\":[[\"attributes\",2,[],[],null,null,\"y\",null]]}\n"
+    ++ codes "{\"ok\":[2,0]}\n"
+    ++ codes "{\"ok\":[[0,[[\"attributes\",2,[],[],null,null,\"x\",null],[\"attributes\",2,[],[],null,null,\"y\",null]]]]}\n"
+    ++ codes "{\"ok\":[]}\n"
+    ++ codes "{\"ok\":null}\n"
+    ++ codes "{\"ok\":2}\n"
+    ++ codes "{\"ok\":[[2,[[\"attributes\",2,[],[],null,null,\"z\",null]]]]}\n")
 unfolding serde_json_on_literals digits utf16_chars encode
 two_told_without_1 = (refl, refl)
 
@@ -532,23 +532,23 @@ two_told_without_2 : IsLeft
     (printed (replies_to bounds first_world (without_observers (λ o. o == 2) two_told_commands)))
     (printed (replies_without_observers (λ o. o == 2) two_told_commands (replies_to bounds first_world two_told_commands)))
     (codes "{\"ok\":1}\n"
-        ++ codes "{\"ok\":2}\n"
-        ++ codes "{\"ok\":2}\n"
-        ++ codes "{\"ok\":0}\n"
-        ++ codes "{\"ok\":1}\n"
-        ++ codes "{\"ok\":2}\n"
-        ++ codes "{\"ok\":null}\n"
-        ++ codes "{\"ok\":null}\n"
-        ++ codes "{\"ok\":null}\n"
-        ++ codes "{\"ok\":null}\n"
-        ++ codes "{\"ok\":[1,0]}\n"
-        ++ codes "{\"ok\":null}\n"
-        ++ codes "{\"ok\":[1,0]}\n"
-        ++ codes "{\"ok\":[[1,[[\"childList\",1,[],[2],null,null,null,null]]],[0,[[\"attributes\",2,[],[],null,null,\"x\",null],[\"attributes\",2,[],[],null,null,\"y\",null]]]]}\n"
-        ++ codes "{\"ok\":[]}\n"
-        ++ codes "{\"ok\":null}\n"
-        ++ codes "{\"ok\":2}\n"
-        ++ codes "{\"ok\":[[1,[[\"childList\",1,[2],[],null,null,null,null]]]]}\n")
+    ++ codes "{\"ok\":2}\n"
+    ++ codes "{\"ok\":2}\n"
+    ++ codes "{\"ok\":0}\n"
+    ++ codes "{\"ok\":1}\n"
+    ++ codes "{\"ok\":2}\n"
+    ++ codes "{\"ok\":null}\n"
+    ++ codes "{\"ok\":null}\n"
+    ++ codes "{\"ok\":null}\n"
+    ++ codes "{\"ok\":null}\n"
+    ++ codes "{\"ok\":[1,0]}\n"
+    ++ codes "{\"ok\":null}\n"
+    ++ codes "{\"ok\":[1,0]}\n"
+    ++ codes "{\"ok\":[[1,[[\"childList\",1,[],[2],null,null,null,null]]],[0,[[\"attributes\",2,[],[],null,null,\"x\",null],[\"attributes\",2,[],[],null,null,\"y\",null]]]]}\n"
+    ++ codes "{\"ok\":[]}\n"
+    ++ codes "{\"ok\":null}\n"
+    ++ codes "{\"ok\":2}\n"
+    ++ codes "{\"ok\":[[1,[[\"childList\",1,[2],[],null,null,null,null]]]]}\n")
 unfolding serde_json_on_literals digits utf16_chars encode
 two_told_without_2 = (refl, refl)
 
@@ -556,34 +556,34 @@ transients_of_transients_without_0 : IsLeft
     (printed (replies_to bounds first_world (without_observers (λ o. o == 0) transients_of_transients_commands)))
     (printed (replies_without_observers (λ o. o == 0) transients_of_transients_commands (replies_to bounds first_world transients_of_transients_commands)))
     (codes "{\"ok\":1}\n"
-        ++ codes "{\"ok\":2}\n"
-        ++ codes "{\"ok\":3}\n"
-        ++ codes "{\"ok\":4}\n"
-        ++ codes "{\"ok\":2}\n"
-        ++ codes "{\"ok\":3}\n"
-        ++ codes "{\"ok\":0}\n"
-        ++ codes "{\"ok\":1}\n"
-        ++ codes "{\"ok\":null}\n"
-        ++ codes "{\"ok\":null}\n"
-        ++ codes "{\"ok\":null}\n"
-        ++ codes "{\"ok\":[]}\n"
-        ++ codes "{\"ok\":4}\n"
-        ++ codes "{\"ok\":null}\n"
-        ++ codes "{\"ok\":null}\n"
-        ++ codes "{\"ok\":null}\n"
-        ++ codes "{\"ok\":null}\n"
-        ++ codes "{\"ok\":null}\n"
-        ++ codes "{\"ok\":4}\n"
-        ++ codes "{\"ok\":null}\n"
-        ++ codes "{\"ok\":null}\n"
-        ++ codes "{\"ok\":null}\n"
-        ++ codes "{\"ok\":null}\n"
-        ++ codes "{\"ok\":[]}\n"
-        ++ codes "{\"ok\":null}\n"
-        ++ codes "{\"ok\":[]}\n"
-        ++ codes "{\"ok\":[1]}\n"
-        ++ codes "{\"ok\":[]}\n"
-        ++ codes "{\"ok\":[]}\n")
+    ++ codes "{\"ok\":2}\n"
+    ++ codes "{\"ok\":3}\n"
+    ++ codes "{\"ok\":4}\n"
+    ++ codes "{\"ok\":2}\n"
+    ++ codes "{\"ok\":3}\n"
+    ++ codes "{\"ok\":0}\n"
+    ++ codes "{\"ok\":1}\n"
+    ++ codes "{\"ok\":null}\n"
+    ++ codes "{\"ok\":null}\n"
+    ++ codes "{\"ok\":null}\n"
+    ++ codes "{\"ok\":[]}\n"
+    ++ codes "{\"ok\":4}\n"
+    ++ codes "{\"ok\":null}\n"
+    ++ codes "{\"ok\":null}\n"
+    ++ codes "{\"ok\":null}\n"
+    ++ codes "{\"ok\":null}\n"
+    ++ codes "{\"ok\":null}\n"
+    ++ codes "{\"ok\":4}\n"
+    ++ codes "{\"ok\":null}\n"
+    ++ codes "{\"ok\":null}\n"
+    ++ codes "{\"ok\":null}\n"
+    ++ codes "{\"ok\":null}\n"
+    ++ codes "{\"ok\":[]}\n"
+    ++ codes "{\"ok\":null}\n"
+    ++ codes "{\"ok\":[]}\n"
+    ++ codes "{\"ok\":[1]}\n"
+    ++ codes "{\"ok\":[]}\n"
+    ++ codes "{\"ok\":[]}\n")
 unfolding serde_json_on_literals digits utf16_chars encode
 transients_of_transients_without_0 = (refl, refl)
 
@@ -591,36 +591,36 @@ transients_of_transients_without_1 : IsLeft
     (printed (replies_to bounds first_world (without_observers (λ o. o == 1) transients_of_transients_commands)))
     (printed (replies_without_observers (λ o. o == 1) transients_of_transients_commands (replies_to bounds first_world transients_of_transients_commands)))
     (codes "{\"ok\":1}\n"
-        ++ codes "{\"ok\":2}\n"
-        ++ codes "{\"ok\":3}\n"
-        ++ codes "{\"ok\":4}\n"
-        ++ codes "{\"ok\":2}\n"
-        ++ codes "{\"ok\":3}\n"
-        ++ codes "{\"ok\":0}\n"
-        ++ codes "{\"ok\":1}\n"
-        ++ codes "{\"ok\":null}\n"
-        ++ codes "{\"ok\":null}\n"
-        ++ codes "{\"ok\":null}\n"
-        ++ codes "{\"ok\":[[\"attributes\",3,[],[],null,null,\"x\",null]]}\n"
-        ++ codes "{\"ok\":4}\n"
-        ++ codes "{\"ok\":null}\n"
-        ++ codes "{\"ok\":null}\n"
-        ++ codes "{\"ok\":[[\"attributes\",4,[],[],null,null,\"x\",null]]}\n"
-        ++ codes "{\"ok\":null}\n"
-        ++ codes "{\"ok\":null}\n"
-        ++ codes "{\"ok\":[[\"attributes\",3,[],[],null,null,\"x\",null]]}\n"
-        ++ codes "{\"ok\":null}\n"
-        ++ codes "{\"ok\":null}\n"
-        ++ codes "{\"ok\":null}\n"
-        ++ codes "{\"ok\":[]}\n"
-        ++ codes "{\"ok\":4}\n"
-        ++ codes "{\"ok\":[[\"childList\",3,[4],[],null,null,null,null]]}\n"
-        ++ codes "{\"ok\":null}\n"
-        ++ codes "{\"ok\":null}\n"
-        ++ codes "{\"ok\":null}\n"
-        ++ codes "{\"ok\":[0]}\n"
-        ++ codes "{\"ok\":[[0,[[\"childList\",1,[],[2],null,null,null,null]]]]}\n"
-        ++ codes "{\"ok\":[]}\n")
+    ++ codes "{\"ok\":2}\n"
+    ++ codes "{\"ok\":3}\n"
+    ++ codes "{\"ok\":4}\n"
+    ++ codes "{\"ok\":2}\n"
+    ++ codes "{\"ok\":3}\n"
+    ++ codes "{\"ok\":0}\n"
+    ++ codes "{\"ok\":1}\n"
+    ++ codes "{\"ok\":null}\n"
+    ++ codes "{\"ok\":null}\n"
+    ++ codes "{\"ok\":null}\n"
+    ++ codes "{\"ok\":[[\"attributes\",3,[],[],null,null,\"x\",null]]}\n"
+    ++ codes "{\"ok\":4}\n"
+    ++ codes "{\"ok\":null}\n"
+    ++ codes "{\"ok\":null}\n"
+    ++ codes "{\"ok\":[[\"attributes\",4,[],[],null,null,\"x\",null]]}\n"
+    ++ codes "{\"ok\":null}\n"
+    ++ codes "{\"ok\":null}\n"
+    ++ codes "{\"ok\":[[\"attributes\",3,[],[],null,null,\"x\",null]]}\n"
+    ++ codes "{\"ok\":null}\n"
+    ++ codes "{\"ok\":null}\n"
+    ++ codes "{\"ok\":null}\n"
+    ++ codes "{\"ok\":[]}\n"
+    ++ codes "{\"ok\":4}\n"
+    ++ codes "{\"ok\":[[\"childList\",3,[4],[],null,null,null,null]]}\n"
+    ++ codes "{\"ok\":null}\n"
+    ++ codes "{\"ok\":null}\n"
+    ++ codes "{\"ok\":null}\n"
+    ++ codes "{\"ok\":[0]}\n"
+    ++ codes "{\"ok\":[[0,[[\"childList\",1,[],[2],null,null,null,null]]]]}\n"
+    ++ codes "{\"ok\":[]}\n")
 unfolding serde_json_on_literals digits utf16_chars encode
 transients_of_transients_without_1 = (refl, refl)
 
@@ -628,25 +628,25 @@ observers_apart_without_0 : IsLeft
     (printed (replies_to bounds first_world (without_observers (λ o. o == 0) observers_apart_commands)))
     (printed (replies_without_observers (λ o. o == 0) observers_apart_commands (replies_to bounds first_world observers_apart_commands)))
     (codes "{\"ok\":1}\n"
-        ++ codes "{\"ok\":2}\n"
-        ++ codes "{\"ok\":2}\n"
-        ++ codes "{\"ok\":0}\n"
-        ++ codes "{\"ok\":1}\n"
-        ++ codes "{\"ok\":null}\n"
-        ++ codes "{\"ok\":null}\n"
-        ++ codes "{\"ok\":null}\n"
-        ++ codes "{\"ok\":[1]}\n"
-        ++ codes "{\"ok\":[[\"attributes\",1,[],[],null,null,\"x\",null],[\"attributes\",1,[],[],null,null,\"x\",\"1\"]]}\n"
-        ++ codes "{\"ok\":null}\n"
-        ++ codes "{\"ok\":null}\n"
-        ++ codes "{\"ok\":null}\n"
-        ++ codes "{\"ok\":[]}\n"
-        ++ codes "{\"ok\":null}\n"
-        ++ codes "{\"ok\":null}\n"
-        ++ codes "{\"ok\":null}\n"
-        ++ codes "{\"ok\":null}\n"
-        ++ codes "{\"ok\":[1]}\n"
-        ++ codes "{\"ok\":[[1,[[\"attributes\",1,[],[],null,null,\"y\",null]]]]}\n")
+    ++ codes "{\"ok\":2}\n"
+    ++ codes "{\"ok\":2}\n"
+    ++ codes "{\"ok\":0}\n"
+    ++ codes "{\"ok\":1}\n"
+    ++ codes "{\"ok\":null}\n"
+    ++ codes "{\"ok\":null}\n"
+    ++ codes "{\"ok\":null}\n"
+    ++ codes "{\"ok\":[1]}\n"
+    ++ codes "{\"ok\":[[\"attributes\",1,[],[],null,null,\"x\",null],[\"attributes\",1,[],[],null,null,\"x\",\"1\"]]}\n"
+    ++ codes "{\"ok\":null}\n"
+    ++ codes "{\"ok\":null}\n"
+    ++ codes "{\"ok\":null}\n"
+    ++ codes "{\"ok\":[]}\n"
+    ++ codes "{\"ok\":null}\n"
+    ++ codes "{\"ok\":null}\n"
+    ++ codes "{\"ok\":null}\n"
+    ++ codes "{\"ok\":null}\n"
+    ++ codes "{\"ok\":[1]}\n"
+    ++ codes "{\"ok\":[[1,[[\"attributes\",1,[],[],null,null,\"y\",null]]]]}\n")
 unfolding serde_json_on_literals digits utf16_chars encode
 observers_apart_without_0 = (refl, refl)
 
@@ -654,22 +654,22 @@ observers_apart_without_1 : IsLeft
     (printed (replies_to bounds first_world (without_observers (λ o. o == 1) observers_apart_commands)))
     (printed (replies_without_observers (λ o. o == 1) observers_apart_commands (replies_to bounds first_world observers_apart_commands)))
     (codes "{\"ok\":1}\n"
-        ++ codes "{\"ok\":2}\n"
-        ++ codes "{\"ok\":2}\n"
-        ++ codes "{\"ok\":0}\n"
-        ++ codes "{\"ok\":1}\n"
-        ++ codes "{\"ok\":null}\n"
-        ++ codes "{\"ok\":null}\n"
-        ++ codes "{\"ok\":null}\n"
-        ++ codes "{\"ok\":null}\n"
-        ++ codes "{\"ok\":[0]}\n"
-        ++ codes "{\"ok\":null}\n"
-        ++ codes "{\"ok\":null}\n"
-        ++ codes "{\"ok\":[[0,[[\"attributes\",1,[],[],null,null,\"x\",null],[\"attributes\",1,[],[],null,null,\"x\",null],[\"childList\",1,[],[2],null,null,null,null],[\"attributes\",1,[],[],null,null,\"x\",null]]]]}\n"
-        ++ codes "{\"ok\":null}\n"
-        ++ codes "{\"ok\":null}\n"
-        ++ codes "{\"ok\":[0]}\n"
-        ++ codes "{\"ok\":[[0,[[\"attributes\",1,[],[],null,null,\"y\",null],[\"attributes\",1,[],[],null,null,\"x\",null]]]]}\n")
+    ++ codes "{\"ok\":2}\n"
+    ++ codes "{\"ok\":2}\n"
+    ++ codes "{\"ok\":0}\n"
+    ++ codes "{\"ok\":1}\n"
+    ++ codes "{\"ok\":null}\n"
+    ++ codes "{\"ok\":null}\n"
+    ++ codes "{\"ok\":null}\n"
+    ++ codes "{\"ok\":null}\n"
+    ++ codes "{\"ok\":[0]}\n"
+    ++ codes "{\"ok\":null}\n"
+    ++ codes "{\"ok\":null}\n"
+    ++ codes "{\"ok\":[[0,[[\"attributes\",1,[],[],null,null,\"x\",null],[\"attributes\",1,[],[],null,null,\"x\",null],[\"childList\",1,[],[2],null,null,null,null],[\"attributes\",1,[],[],null,null,\"x\",null]]]]}\n"
+    ++ codes "{\"ok\":null}\n"
+    ++ codes "{\"ok\":null}\n"
+    ++ codes "{\"ok\":[0]}\n"
+    ++ codes "{\"ok\":[[0,[[\"attributes\",1,[],[],null,null,\"y\",null],[\"attributes\",1,[],[],null,null,\"x\",null]]]]}\n")
 unfolding serde_json_on_literals digits utf16_chars encode
 observers_apart_without_1 = (refl, refl)
 
@@ -677,23 +677,23 @@ normalize_observed_unwatched : IsLeft
     (printed (replies_to bounds first_world (without_watchers normalize_observed_commands)))
     (printed (replies_without_watchers normalize_observed_commands (replies_to bounds first_world normalize_observed_commands)))
     (codes "{\"ok\":1}\n"
-        ++ codes "{\"ok\":2}\n"
-        ++ codes "{\"ok\":3}\n"
-        ++ codes "{\"ok\":4}\n"
-        ++ codes "{\"ok\":5}\n"
-        ++ codes "{\"ok\":6}\n"
-        ++ codes "{\"ok\":7}\n"
-        ++ codes "{\"ok\":2}\n"
-        ++ codes "{\"ok\":3}\n"
-        ++ codes "{\"ok\":4}\n"
-        ++ codes "{\"ok\":5}\n"
-        ++ codes "{\"ok\":6}\n"
-        ++ codes "{\"ok\":7}\n"
-        ++ codes "{\"ok\":0}\n"
-        ++ codes "{\"ok\":null}\n"
-        ++ codes "{\"ok\":null}\n"
-        ++ codes "{\"ok\":[3,6,7]}\n"
-        ++ codes "{\"ok\":[[\"childList\",1,[],[2],null,3,null,null],[\"characterData\",3,[],[],null,null,null,\"a\"],[\"childList\",1,[],[4],3,5,null,null],[\"childList\",1,[],[5],3,6,null,null],[\"characterData\",7,[],[],null,null,null,\"c\"]]}\n")
+    ++ codes "{\"ok\":2}\n"
+    ++ codes "{\"ok\":3}\n"
+    ++ codes "{\"ok\":4}\n"
+    ++ codes "{\"ok\":5}\n"
+    ++ codes "{\"ok\":6}\n"
+    ++ codes "{\"ok\":7}\n"
+    ++ codes "{\"ok\":2}\n"
+    ++ codes "{\"ok\":3}\n"
+    ++ codes "{\"ok\":4}\n"
+    ++ codes "{\"ok\":5}\n"
+    ++ codes "{\"ok\":6}\n"
+    ++ codes "{\"ok\":7}\n"
+    ++ codes "{\"ok\":0}\n"
+    ++ codes "{\"ok\":null}\n"
+    ++ codes "{\"ok\":null}\n"
+    ++ codes "{\"ok\":[3,6,7]}\n"
+    ++ codes "{\"ok\":[[\"childList\",1,[],[2],null,3,null,null],[\"characterData\",3,[],[],null,null,null,\"a\"],[\"childList\",1,[],[4],3,5,null,null],[\"childList\",1,[],[5],3,6,null,null],[\"characterData\",7,[],[],null,null,null,\"c\"]]}\n")
 unfolding serde_json_on_literals digits utf16_chars encode
 normalize_observed_unwatched = (refl, refl)
 
@@ -701,19 +701,19 @@ iterator_gives_way_unwatched : IsLeft
     (printed (replies_to bounds first_world (without_watchers iterator_gives_way_commands)))
     (printed (replies_without_watchers iterator_gives_way_commands (replies_to bounds first_world iterator_gives_way_commands)))
     (codes "{\"ok\":1}\n"
-        ++ codes "{\"ok\":2}\n"
-        ++ codes "{\"ok\":3}\n"
-        ++ codes "{\"ok\":4}\n"
-        ++ codes "{\"ok\":2}\n"
-        ++ codes "{\"ok\":3}\n"
-        ++ codes "{\"ok\":4}\n"
-        ++ codes "{\"ok\":null}\n"
-        ++ codes "{\"ok\":null}\n"
-        ++ codes "{\"ok\":5}\n"
-        ++ codes "{\"ok\":6}\n"
-        ++ codes "{\"ok\":1}\n"
-        ++ codes "{\"ok\":5}\n"
-        ++ codes "{\"ok\":null}\n")
+    ++ codes "{\"ok\":2}\n"
+    ++ codes "{\"ok\":3}\n"
+    ++ codes "{\"ok\":4}\n"
+    ++ codes "{\"ok\":2}\n"
+    ++ codes "{\"ok\":3}\n"
+    ++ codes "{\"ok\":4}\n"
+    ++ codes "{\"ok\":null}\n"
+    ++ codes "{\"ok\":null}\n"
+    ++ codes "{\"ok\":5}\n"
+    ++ codes "{\"ok\":6}\n"
+    ++ codes "{\"ok\":1}\n"
+    ++ codes "{\"ok\":5}\n"
+    ++ codes "{\"ok\":null}\n")
 unfolding serde_json_on_literals digits utf16_chars encode
 iterator_gives_way_unwatched = (refl, refl)
 
@@ -721,20 +721,20 @@ iterator_falls_back_unwatched : IsLeft
     (printed (replies_to bounds first_world (without_watchers iterator_falls_back_commands)))
     (printed (replies_without_watchers iterator_falls_back_commands (replies_to bounds first_world iterator_falls_back_commands)))
     (codes "{\"ok\":1}\n"
-        ++ codes "{\"ok\":2}\n"
-        ++ codes "{\"ok\":3}\n"
-        ++ codes "{\"ok\":4}\n"
-        ++ codes "{\"ok\":2}\n"
-        ++ codes "{\"ok\":3}\n"
-        ++ codes "{\"ok\":4}\n"
-        ++ codes "{\"ok\":null}\n"
-        ++ codes "{\"ok\":4}\n"
-        ++ codes "{\"ok\":null}\n"
-        ++ codes "{\"ok\":null}\n"
-        ++ codes "{\"ok\":null}\n"
-        ++ codes "{\"ok\":4}\n"
-        ++ codes "{\"ok\":1}\n"
-        ++ codes "{\"ok\":null}\n")
+    ++ codes "{\"ok\":2}\n"
+    ++ codes "{\"ok\":3}\n"
+    ++ codes "{\"ok\":4}\n"
+    ++ codes "{\"ok\":2}\n"
+    ++ codes "{\"ok\":3}\n"
+    ++ codes "{\"ok\":4}\n"
+    ++ codes "{\"ok\":null}\n"
+    ++ codes "{\"ok\":4}\n"
+    ++ codes "{\"ok\":null}\n"
+    ++ codes "{\"ok\":null}\n"
+    ++ codes "{\"ok\":null}\n"
+    ++ codes "{\"ok\":4}\n"
+    ++ codes "{\"ok\":1}\n"
+    ++ codes "{\"ok\":null}\n")
 unfolding serde_json_on_literals digits utf16_chars encode
 iterator_falls_back_unwatched = (refl, refl)
 
@@ -742,11 +742,11 @@ ends_after_split_unwatched : IsLeft
     (printed (replies_to bounds first_world (without_watchers ends_after_split_commands)))
     (printed (replies_without_watchers ends_after_split_commands (replies_to bounds first_world ends_after_split_commands)))
     (codes "{\"ok\":1}\n"
-        ++ codes "{\"ok\":2}\n"
-        ++ codes "{\"ok\":3}\n"
-        ++ codes "{\"ok\":2}\n"
-        ++ codes "{\"ok\":3}\n"
-        ++ codes "{\"ok\":4}\n")
+    ++ codes "{\"ok\":2}\n"
+    ++ codes "{\"ok\":3}\n"
+    ++ codes "{\"ok\":2}\n"
+    ++ codes "{\"ok\":3}\n"
+    ++ codes "{\"ok\":4}\n")
 unfolding serde_json_on_literals digits utf16_chars encode
 ends_after_split_unwatched = (refl, refl)
 
@@ -754,9 +754,9 @@ ends_after_replaced_data_unwatched : IsLeft
     (printed (replies_to bounds first_world (without_watchers ends_after_replaced_data_commands)))
     (printed (replies_without_watchers ends_after_replaced_data_commands (replies_to bounds first_world ends_after_replaced_data_commands)))
     (codes "{\"ok\":1}\n"
-        ++ codes "{\"ok\":null}\n"
-        ++ codes "{\"ok\":\"abXYfg\"}\n"
-        ++ codes "{\"ok\":null}\n"
-        ++ codes "{\"error\":\"IndexSizeError\"}\n")
+    ++ codes "{\"ok\":null}\n"
+    ++ codes "{\"ok\":\"abXYfg\"}\n"
+    ++ codes "{\"ok\":null}\n"
+    ++ codes "{\"error\":\"IndexSizeError\"}\n")
 unfolding serde_json_on_literals digits utf16_chars encode
 ends_after_replaced_data_unwatched = (refl, refl)

@@ -40,7 +40,7 @@ module _ {X : Type 0} where
         ahead = x.number ∷ i.ahead;
         behind = i.behind ++ numbers rest;
         holds = ap (λ ns. x.number ∷ ns) (rw (i.holds, e) (append_assoc i.ahead (piece ++ i.behind) (numbers rest) ∙ ap (λ ns. i.ahead ++ ns) (append_assoc piece i.behind (numbers rest))));
-        leaves = ap (λ ns. x.number ∷ ns) (rw i.leaves (append_assoc i.ahead i.behind (numbers rest)))
+        leaves = ap (λ ns. x.number ∷ ns) (rw i.leaves (append_assoc i.ahead i.behind (numbers rest)));
       }
 
   in_rest : (x : Node X) (kids' kids rest' rest : Forest X) (piece : List ℕ) → numbers kids' ≡ numbers kids → Piece (numbers rest') piece (numbers rest) → Piece (numbers (node x kids' rest')) piece (numbers (node x kids rest))
@@ -49,7 +49,7 @@ module _ {X : Type 0} where
         ahead = x.number ∷ (numbers kids ++ i.ahead);
         behind = i.behind;
         holds = ap (λ ns. x.number ∷ ns) (rw (i.holds, e) (sym (append_assoc (numbers kids) i.ahead (piece ++ i.behind))));
-        leaves = ap (λ ns. x.number ∷ ns) (rw i.leaves (sym (append_assoc (numbers kids) i.ahead i.behind)))
+        leaves = ap (λ ns. x.number ∷ ns) (rw i.leaves (sym (append_assoc (numbers kids) i.ahead i.behind)));
       }
 
   -- the flattening without a number is the flattening without its tree's
@@ -57,28 +57,28 @@ module _ {X : Type 0} where
   numbers-without c empty h = absurd (omega arith)
   numbers-without c (node x kids rest) h =
       elim (same_or x.number c) [
-        same e t ↦
-          let k = rw t at h in
-          let zr : occurs c rest ≡ 0 = omega arith in
-          rw (t, tree_at-absent c rest zr, without-absent c rest zr) (record {
-            ahead = [];
-            behind = numbers rest;
-            holds = ap (λ ns. x.number ∷ ns) (ap (λ ns. ns ++ numbers rest) (sym (append-nil (numbers kids))));
-            leaves = refl
-          })
-      | apart ne t ↦
-          let k = rw t at h in
-          rw t (⊎_elim
+        | same e t ↦
+            let k = rw t at h in
+            let zr : occurs c rest ≡ 0 = omega arith in
+            rw (t, tree_at-absent c rest zr, without-absent c rest zr) (record {
+              ahead = [];
+              behind = numbers rest;
+              holds = ap (λ ns. x.number ∷ ns) (ap (λ ns. ns ++ numbers rest) (sym (append-nil (numbers kids))));
+              leaves = refl;
+            })
+        | apart ne t ↦
+            let k = rw t at h in
+            rw t (⊎_elim
             (λ (lt : 0 < occurs c kids).
-              let zr : occurs c rest ≡ 0 = omega arith in
-              let ok : occurs c kids ≡ 1 = omega arith in
-              rw (tree_at-absent c rest zr, without-absent c rest zr, beside-empty (tree_at c kids))
-                (in_kids x kids (without c kids) rest rest (numbers (tree_at c kids)) (numbers-without c kids ok) refl))
+            let zr : occurs c rest ≡ 0 = omega arith in
+            let ok : occurs c kids ≡ 1 = omega arith in
+            rw (tree_at-absent c rest zr, without-absent c rest zr, beside-empty (tree_at c kids))
+            (in_kids x kids (without c kids) rest rest (numbers (tree_at c kids)) (numbers-without c kids ok) refl))
             (λ (le : occurs c kids ≤ 0).
-              let zk : occurs c kids ≡ 0 = omega arith in
-              let or : occurs c rest ≡ 1 = omega arith in
-              rw (tree_at-absent c kids zk, without-absent c kids zk)
-                (in_rest x kids kids rest (without c rest) (numbers (tree_at c rest)) refl (numbers-without c rest or)))
+            let zk : occurs c kids ≡ 0 = omega arith in
+            let or : occurs c rest ≡ 1 = omega arith in
+            rw (tree_at-absent c kids zk, without-absent c kids zk)
+            (in_rest x kids kids rest (without c rest) (numbers (tree_at c rest)) refl (numbers-without c rest or)))
             (cases_lt 0 (occurs c kids)))
       ]
 
@@ -86,33 +86,33 @@ module _ {X : Type 0} where
   numbers-placed_before b t empty = record { ahead = []; behind = []; holds = sym (append-nil (numbers t)); leaves = refl }
   numbers-placed_before b t (node x kids rest) =
       elim (is_number b x.number) as (λ v. Piece (numbers (if v then beside t (node x kids rest) else node x kids (placed_before b t rest))) (numbers t) (numbers (node x kids rest))) [
-        true ↦ record { ahead = []; behind = numbers (node x kids rest); holds = numbers-beside t (node x kids rest); leaves = refl }
-      | false ↦ in_rest x kids kids (placed_before b t rest) rest (numbers t) refl (numbers-placed_before b t rest)
+        | true ↦ record { ahead = []; behind = numbers (node x kids rest); holds = numbers-beside t (node x kids rest); leaves = refl }
+        | false ↦ in_rest x kids kids (placed_before b t rest) rest (numbers t) refl (numbers-placed_before b t rest)
       ]
 
   pub numbers-placed_under : (p : ℕ) (b : Option ℕ) (t f : Forest X) → occurs p f ≡ 1 → Piece (numbers (placed_under p b t f)) (numbers t) (numbers f)
   numbers-placed_under p b t empty h = absurd (omega arith)
   numbers-placed_under p b t (node x kids rest) h =
       elim (same_or x.number p) [
-        same e v ↦
-          let k = rw v at h in
-          let pk : occurs p kids ≡ 0 = omega arith in
-          let pr : occurs p rest ≡ 0 = omega arith in
-          rw (v, placed_under-absent p b t kids pk, placed_under-absent p b t rest pr)
+        | same e v ↦
+            let k = rw v at h in
+            let pk : occurs p kids ≡ 0 = omega arith in
+            let pr : occurs p rest ≡ 0 = omega arith in
+            rw (v, placed_under-absent p b t kids pk, placed_under-absent p b t rest pr)
             (in_kids x (placed_before b t kids) kids rest rest (numbers t) (numbers-placed_before b t kids) refl)
-      | apart ne v ↦
-          let k = rw v at h in
-          rw v (⊎_elim
+        | apart ne v ↦
+            let k = rw v at h in
+            rw v (⊎_elim
             (λ (lt : 0 < occurs p kids).
-              let pr : occurs p rest ≡ 0 = omega arith in
-              let pk : occurs p kids ≡ 1 = omega arith in
-              rw (placed_under-absent p b t rest pr)
-                (in_kids x (placed_under p b t kids) kids rest rest (numbers t) (numbers-placed_under p b t kids pk) refl))
+            let pr : occurs p rest ≡ 0 = omega arith in
+            let pk : occurs p kids ≡ 1 = omega arith in
+            rw (placed_under-absent p b t rest pr)
+            (in_kids x (placed_under p b t kids) kids rest rest (numbers t) (numbers-placed_under p b t kids pk) refl))
             (λ (le : occurs p kids ≤ 0).
-              let pk : occurs p kids ≡ 0 = omega arith in
-              let pr : occurs p rest ≡ 1 = omega arith in
-              rw (placed_under-absent p b t kids pk)
-                (in_rest x kids kids (placed_under p b t rest) rest (numbers t) refl (numbers-placed_under p b t rest pr)))
+            let pk : occurs p kids ≡ 0 = omega arith in
+            let pr : occurs p rest ≡ 1 = omega arith in
+            rw (placed_under-absent p b t kids pk)
+            (in_rest x kids kids (placed_under p b t rest) rest (numbers t) refl (numbers-placed_under p b t rest pr)))
             (cases_lt 0 (occurs p kids)))
       ]
 

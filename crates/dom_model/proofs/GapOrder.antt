@@ -83,8 +83,8 @@ module _ {X : Type 0} (f : Forest X) (o : (m : ℕ) → occurs m f ≤ 1) (p c :
       ∙ ap (λ ns. slice_cmp nat_cmp (place_by (index_of (put p c b f)) ns (opened n a)) (place_of (put p c b f) (record { node = m; offset = opened m d }))) (outside-way n hn zn)
       ∙ ap (λ ns. slice_cmp nat_cmp (place_by (index_of (put p c b f)) (way_to f n) (opened n a)) (place_by (index_of (put p c b f)) ns (opened m d))) (outside-way m hm zm)
       ∙ ways-kept f o (index_of (put p c b f)) opened
-          (λ u x y h. offsets-kept (u == p) (place_before b (children_of f p)) x y h)
-          (λ u x y hx ex hy ey h. less-kept (u == p) (place_before b (children_of f p)) (index_of f x) (index_of f y) (index_of (put p c b f) x) (index_of (put p c b f) y) (moves x u hx ex) (moves y u hy ey) h)
-          (λ u x y hx ex h. between-kept (u == p) (place_before b (children_of f p)) y (index_of f x) (index_of (put p c b f) x) (moves x u hx ex) h)
-          (λ u x y hx ex h. beyond-kept (u == p) (place_before b (children_of f p)) y (index_of f x) (index_of (put p c b f) x) (moves x u hx ex) h)
-          v.0 (way_to f n) (way_to f m) n m a d v.2 (subst (λ x. IsWay f x (way_to f m) m) (sym same) w.2)
+      (λ u x y h. offsets-kept (u == p) (place_before b (children_of f p)) x y h)
+      (λ u x y hx ex hy ey h. less-kept (u == p) (place_before b (children_of f p)) (index_of f x) (index_of f y) (index_of (put p c b f) x) (index_of (put p c b f) y) (moves x u hx ex) (moves y u hy ey) h)
+      (λ u x y hx ex h. between-kept (u == p) (place_before b (children_of f p)) y (index_of f x) (index_of (put p c b f) x) (moves x u hx ex) h)
+      (λ u x y hx ex h. beyond-kept (u == p) (place_before b (children_of f p)) y (index_of f x) (index_of (put p c b f) x) (moves x u hx ex) h)
+      v.0 (way_to f n) (way_to f m) n m a d v.2 (subst (λ x. IsWay f x (way_to f m) m) (sym same) w.2)

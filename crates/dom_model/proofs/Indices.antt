@@ -19,12 +19,12 @@ module _ {X : Type 0} where
   listed at above n q empty l h e = absurd (omega arith)
   listed at above n q (node x kids rest) l h e =
       elim (same_or x.number n) [
-        same d t ↦
-          let s : parent_in (at n) ≡ above = ap (λ m. parent_in (at m)) (sym d) ∙ ap parent_in l.0 in
-          inl (sym s ∙ e, rw t (omega arith))
-      | apart ne t ↦
-          let k = rw t at h in
-          ⊎_elim
+        | same d t ↦
+            let s : parent_in (at n) ≡ above = ap (λ m. parent_in (at m)) (sym d) ∙ ap parent_in l.0 in
+            inl (sym s ∙ e, rw t (omega arith))
+        | apart ne t ↦
+            let k = rw t at h in
+            ⊎_elim
             (λ (lt : 0 < occurs n kids). from_kids (listed at (Some x.number) n q kids l.1 lt e))
             (λ (le : occurs n kids ≤ 0). from_rest t (listed at above n q rest l.2 (omega arith) e))
             (cases_lt 0 (occurs n kids))
@@ -36,6 +36,7 @@ module _ {X : Type 0} where
           let s : children_in (at q) ≡ tops kids = ap (λ m. children_in (at m)) (sym d) ∙ ap children_in l.0 in
           inr (rw s i.1)
       from_kids (inr i) = inr i
+
       from_rest : (x.number == n) ≡ false → ((above ≡ Some q) × (0 < hits n (tops rest))) ⊎ (0 < hits n (children_in (at q))) → ((above ≡ Some q) × (0 < hits n (tops (node x kids rest)))) ⊎ (0 < hits n (children_in (at q)))
       from_rest t (inl i) = let k = i.1 in inl (i.0, rw t (omega arith))
       from_rest t (inr i) = inr i
@@ -52,9 +53,9 @@ module _ {X : Type 0} where
   pub child-once : (f : Forest X) → ((m : ℕ) → occurs m f ≤ 1) → (n q : ℕ) → hits n (children_of f q) ≤ 1
   child-once f o n q =
       ⊎_elim
-        (λ (lt : 0 < occurs q f). let i = child-inside (entry_in f) None q n f (Lies-entry_in f o) lt in let k = o n in omega arith)
-        (λ (le : occurs q f ≤ 0). let z : entry_in f q ≡ None = entry_under-absent None q f (omega arith) in rw z (omega arith))
-        (cases_lt 0 (occurs q f))
+      (λ (lt : 0 < occurs q f). let i = child-inside (entry_in f) None q n f (Lies-entry_in f o) lt in let k = o n in omega arith)
+      (λ (le : occurs q f ≤ 0). let z : entry_in f q ≡ None = entry_under-absent None q f (omega arith) in rw z (omega arith))
+      (cases_lt 0 (occurs q f))
 
   -- the index of a child is its place among its parent's children
   pub index-child : (f : Forest X) (n q : ℕ) → parent_of f n ≡ Some q → index_of f n ≡ place_in n (children_of f q)
@@ -74,14 +75,19 @@ module _ {X : Type 0} where
     where
       far : (n == c) ≡ false
       far = elim (same_or n c) [ same d t ↦ absurd (let w : Some q ≡ None = sym e ∙ ap (parent_of f) d ∙ r in cc w) | apart ne t ↦ t ]
+
       far' : (c == n) ≡ false
       far' = elim (same_or c n) [ same d t ↦ absurd (let w : Some q ≡ None = sym e ∙ ap (parent_of f) (sym d) ∙ r in cc w) | apart ne t ↦ t ]
+
       pn : parent_of (put p c b f) n ≡ Some q
       pn = parent-put f o p c b hp hc r z n hn ∙ (rw (far, e) refl)
+
       kids : children_of (put p c b f) q ≡ (if q == p then entered b c (children_of f q) else children_of f q)
       kids = children-put f o p c b hp hc r z q hq
+
       at_p : (q == p) ≡ true → q ≡ p
       at_p t = elim (same_or q p) [ same d u ↦ d | apart ne u ↦ absurd (false≢true (sym u ∙ t)) ]
+
       go : (v : Bool) → (q == p) ≡ v → index_of (put p c b f) n ≡ index_of f n + (if q == p then (if nat_le (place_before b (children_of f p)) (index_of f n) then 1 else 0) else 0)
       go false t =
           let k : children_of (put p c b f) q ≡ children_of f q = kids ∙ (rw t refl) in
@@ -104,7 +110,7 @@ module _ {X : Type 0} where
       let i = parent-path f o n q h e in
       let j = ancestors-there q f i.0 in
       let a : drop 1 (reverse (n ∷ ancestors q f)) ≡ drop 1 (reverse (ancestors q f)) ++ n ∷ [] =
-          ap (drop 1) (reverse-append (n ∷ []) (ancestors q f)) ∙ drop-append-le 1 (reverse (ancestors q f)) (n ∷ []) (rw (length-reverse (ancestors q f), j.1) (omega arith)) in
+      ap (drop 1) (reverse-append (n ∷ []) (ancestors q f)) ∙ drop-append-le 1 (reverse (ancestors q f)) (n ∷ []) (rw (length-reverse (ancestors q f), j.1) (omega arith)) in
       ap (λ ns. map (λ m. 2 * index_of f m + 1) (drop 1 (reverse ns))) i.1
       ∙ ap (map (λ m. 2 * index_of f m + 1)) a
       ∙ map-append (λ m. 2 * index_of f m + 1) (drop 1 (reverse (ancestors q f))) (n ∷ [])

@@ -1,4 +1,5 @@
 pub mod Agreement
+pub mod Apart
 pub mod AttributesInOrder
 pub mod BlankLine
 pub mod Chains
@@ -6,6 +7,7 @@ pub mod Changes
 pub mod ChildrenOfADocument
 pub mod Climbing
 pub mod CommentsAreNoText
+pub mod ContentsBetween
 pub mod ContentsClonedAndExtracted
 pub mod ContentsOfARange
 pub mod CopiesAndPositions
@@ -33,6 +35,7 @@ pub mod HostileLines
 pub mod Indices
 pub mod IteratorFallsBack
 pub mod IteratorGivesWay
+pub mod IteratorsStay
 pub mod Lies
 pub mod LinesLimited
 pub mod Lying
@@ -59,6 +62,8 @@ pub mod RemovalOrder
 pub mod ReplyLines
 pub mod Rising
 pub mod RoomAfterDiscarding
+pub mod RootsKept
+pub mod SpliceOrder
 pub mod SplitPastTheEnd
 pub mod StaticRangesStay
 pub mod SurroundAllOrNothing

@@ -48,6 +48,7 @@ registered-there o n (r ∷ rs) = go (r.node == n) refl (registered-there o n rs
     at_node : (v w : Bool) → (w && (false && v)) ≡ false
     at_node v true = refl
     at_node v false = refl
+
     go : (v : Bool) → (r.node == n) ≡ v → list_any (is_registered o n) (registered_on n rs) ≡ list_any (is_registered o n) rs → list_any (is_registered o n) (cond v (r ∷ registered_on n rs) (registered_on n rs)) ≡ (is_registered o n r || list_any (is_registered o n) rs)
     go true e i = ap (λ b. is_registered o n r || b) i
     go false e i = rw (e, at_node (is_none r.source) (r.observer == o)) i
@@ -59,7 +60,7 @@ registrations-observed o n m options rs h = rw h (registered_on-append m rs (new
 pub registrations-observed_again : (o n m : ℕ) (options : Options) (rs : List Registration) → list_any (is_registered o n) rs ≡ true → registered_on m (registered o n options rs) ≡ map (with_options o n options) (filter (λ (r : Registration). not (is_transient_from o n r)) (registered_on m rs))
 registrations-observed_again o n m options rs h =
     rw h (filter-map_kept (λ (r : Registration). r.node == m) (with_options o n options) (node-with_options o n m options) (filter (λ (r : Registration). not (is_transient_from o n r)) rs)
-      ∙ ap (map (with_options o n options)) (registered_on-filter m (λ (r : Registration). not (is_transient_from o n r)) rs))
+    ∙ ap (map (with_options o n options)) (registered_on-filter m (λ (r : Registration). not (is_transient_from o n r)) rs))
 
 -- a node gets the transient registrations that are made for it, last and in order, and no other node does
 pub registrations-transients : (n m : ℕ) (rs ss : List Registration) → registered_on m (rs ++ map (transient_of n) ss) ≡ registered_on m rs ++ (if n == m then map (transient_of n) ss else [])

@@ -33,38 +33,40 @@ module _ {X : Type 0} where
     where
       o' : (m : ℕ) → occurs m (cut c f) ≤ 1
       o' m = let k = o m in rw (total-cut (one_at m) c f) k
+
       there : (m : ℕ) → 0 < occurs m f → 0 < occurs m (cut c f)
       there m k = rw (total-cut (one_at m) c f) k
+
       go : (k m : ℕ) → length (ancestors m f) ≤ k → 0 < occurs m f → ancestors m (cut c f) ≡ up_with c (ancestors m f)
       go zero m l hm = absurd (let i = path-long f m hm in omega arith)
       go (suc k) m l hm =
           elim (seen (parent_of f m)) [
-            nothing e ↦
-              let a = root-path f o m hm e in
-              elim (same_or m c) [
-                same d t ↦
-                  let p : parent_of (cut c f) m ≡ None = parent-cut f o c m ∙ (rw t refl) in
-                  let b = root-path (cut c f) o' m (there m hm) p in
-                  rw (a, t) b
-              | apart ne t ↦
-                  let p : parent_of (cut c f) m ≡ None = parent-cut f o c m ∙ (rw (t, e) refl) in
-                  let b = root-path (cut c f) o' m (there m hm) p in
-                  rw (a, t) b
-              ]
-          | just q e ↦
-              let i = parent-path f o m q hm e in
-              elim (same_or m c) [
-                same d t ↦
-                  let p : parent_of (cut c f) m ≡ None = parent-cut f o c m ∙ (rw t refl) in
-                  let b = root-path (cut c f) o' m (there m hm) p in
-                  rw (i.1, t) b
-              | apart ne t ↦
-                  let p : parent_of (cut c f) m ≡ Some q = parent-cut f o c m ∙ (rw (t, e) refl) in
-                  let b = parent-path (cut c f) o' m q (there m hm) p in
-                  let s = rw i.1 at l in
-                  let r = go k q (omega arith) i.0 in
-                  rw (i.1, t) (b.1 ∙ ap (λ ms. m ∷ ms) r)
-              ]
+            | nothing e ↦
+                let a = root-path f o m hm e in
+                elim (same_or m c) [
+                  | same d t ↦
+                      let p : parent_of (cut c f) m ≡ None = parent-cut f o c m ∙ (rw t refl) in
+                      let b = root-path (cut c f) o' m (there m hm) p in
+                      rw (a, t) b
+                  | apart ne t ↦
+                      let p : parent_of (cut c f) m ≡ None = parent-cut f o c m ∙ (rw (t, e) refl) in
+                      let b = root-path (cut c f) o' m (there m hm) p in
+                      rw (a, t) b
+                ]
+            | just q e ↦
+                let i = parent-path f o m q hm e in
+                elim (same_or m c) [
+                  | same d t ↦
+                      let p : parent_of (cut c f) m ≡ None = parent-cut f o c m ∙ (rw t refl) in
+                      let b = root-path (cut c f) o' m (there m hm) p in
+                      rw (i.1, t) b
+                  | apart ne t ↦
+                      let p : parent_of (cut c f) m ≡ Some q = parent-cut f o c m ∙ (rw (t, e) refl) in
+                      let b = parent-path (cut c f) o' m q (there m hm) p in
+                      let s = rw i.1 at l in
+                      let r = go k q (omega arith) i.0 in
+                      rw (i.1, t) (b.1 ∙ ap (λ ms. m ∷ ms) r)
+                ]
           ]
 
   module _ (f : Forest X) (o : (m : ℕ) → occurs m f ≤ 1) (p c : ℕ) (b : Option ℕ) (hp : 0 < occurs p f) (hc : 0 < occurs c f) (r : parent_of f c ≡ None) (z : occurs p (tree_at c f) ≡ 0) where
@@ -81,25 +83,25 @@ module _ {X : Type 0} where
     outside-path zero m l hm out = absurd (let i = path-long f m hm in omega arith)
     outside-path (suc k) m l hm out =
         elim (seen (parent_of f m)) [
-          nothing e ↦
-            let a = root-path f o m hm e in
-            elim (same_or m c) [
-              same d t ↦ absurd (let w = rw (a, t) at out in false≢true (sym w))
-            | apart ne t ↦
-                let q : parent_of (put p c b f) m ≡ None = parent-put f o p c b hp hc r z m hm ∙ (rw (t, e) refl) in
-                root-path (put p c b f) put-once m (put-there m hm) q ∙ sym a
-            ]
-        | just q e ↦
-            let i = parent-path f o m q hm e in
-            elim (same_or m c) [
-              same d t ↦ absurd (let w = rw (i.1, t) at out in false≢true (sym w))
-            | apart ne t ↦
-                let w = rw (i.1, t) at out in
-                let s = rw i.1 at l in
-                let u : parent_of (put p c b f) m ≡ Some q = parent-put f o p c b hp hc r z m hm ∙ (rw (t, e) refl) in
-                let v = parent-path (put p c b f) put-once m q (put-there m hm) u in
-                v.1 ∙ ap (λ ms. m ∷ ms) (outside-path k q (omega arith) i.0 w) ∙ sym i.1
-            ]
+          | nothing e ↦
+              let a = root-path f o m hm e in
+              elim (same_or m c) [
+                | same d t ↦ absurd (let w = rw (a, t) at out in false≢true (sym w))
+                | apart ne t ↦
+                    let q : parent_of (put p c b f) m ≡ None = parent-put f o p c b hp hc r z m hm ∙ (rw (t, e) refl) in
+                    root-path (put p c b f) put-once m (put-there m hm) q ∙ sym a
+              ]
+          | just q e ↦
+              let i = parent-path f o m q hm e in
+              elim (same_or m c) [
+                | same d t ↦ absurd (let w = rw (i.1, t) at out in false≢true (sym w))
+                | apart ne t ↦
+                    let w = rw (i.1, t) at out in
+                    let s = rw i.1 at l in
+                    let u : parent_of (put p c b f) m ≡ Some q = parent-put f o p c b hp hc r z m hm ∙ (rw (t, e) refl) in
+                    let v = parent-path (put p c b f) put-once m q (put-there m hm) u in
+                    v.1 ∙ ap (λ ms. m ∷ ms) (outside-path k q (omega arith) i.0 w) ∙ sym i.1
+              ]
         ]
 
     not_inside : among c (ancestors p f) ≡ false
@@ -113,27 +115,27 @@ module _ {X : Type 0} where
     put-path zero m l hm = absurd (let i = path-long f m hm in omega arith)
     put-path (suc k) m l hm =
         elim (seen (parent_of f m)) [
-          nothing e ↦
-            let a = root-path f o m hm e in
-            elim (same_or m c) [
-              same d t ↦
-                let q : parent_of (put p c b f) m ≡ Some p = parent-put f o p c b hp hc r z m hm ∙ (rw t refl) in
-                let v = parent-path (put p c b f) put-once m p (put-there m hm) q in
-                rw (a, t) (v.1 ∙ ap (λ ms. m ∷ ms) (outside-path (length (ancestors p f)) p (omega arith) hp not_inside))
-            | apart ne t ↦
-                let q : parent_of (put p c b f) m ≡ None = parent-put f o p c b hp hc r z m hm ∙ (rw (t, e) refl) in
-                rw (a, t) (root-path (put p c b f) put-once m (put-there m hm) q)
-            ]
-        | just q e ↦
-            let i = parent-path f o m q hm e in
-            elim (same_or m c) [
-              same d t ↦ absurd (let w : Some q ≡ None = sym e ∙ ap (parent_of f) d ∙ r in cc w)
-            | apart ne t ↦
-                let s = rw i.1 at l in
-                let u : parent_of (put p c b f) m ≡ Some q = parent-put f o p c b hp hc r z m hm ∙ (rw (t, e) refl) in
-                let v = parent-path (put p c b f) put-once m q (put-there m hm) u in
-                rw (i.1, t) (v.1 ∙ ap (λ ms. m ∷ ms) (put-path k q (omega arith) i.0))
-            ]
+          | nothing e ↦
+              let a = root-path f o m hm e in
+              elim (same_or m c) [
+                | same d t ↦
+                    let q : parent_of (put p c b f) m ≡ Some p = parent-put f o p c b hp hc r z m hm ∙ (rw t refl) in
+                    let v = parent-path (put p c b f) put-once m p (put-there m hm) q in
+                    rw (a, t) (v.1 ∙ ap (λ ms. m ∷ ms) (outside-path (length (ancestors p f)) p (omega arith) hp not_inside))
+                | apart ne t ↦
+                    let q : parent_of (put p c b f) m ≡ None = parent-put f o p c b hp hc r z m hm ∙ (rw (t, e) refl) in
+                    rw (a, t) (root-path (put p c b f) put-once m (put-there m hm) q)
+              ]
+          | just q e ↦
+              let i = parent-path f o m q hm e in
+              elim (same_or m c) [
+                | same d t ↦ absurd (let w : Some q ≡ None = sym e ∙ ap (parent_of f) d ∙ r in cc w)
+                | apart ne t ↦
+                    let s = rw i.1 at l in
+                    let u : parent_of (put p c b f) m ≡ Some q = parent-put f o p c b hp hc r z m hm ∙ (rw (t, e) refl) in
+                    let v = parent-path (put p c b f) put-once m q (put-there m hm) u in
+                    rw (i.1, t) (v.1 ∙ ap (λ ms. m ∷ ms) (put-path k q (omega arith) i.0))
+              ]
         ]
 
     pub ancestors-put : (m : ℕ) → 0 < occurs m f → ancestors m (put p c b f) ≡ then_above c (ancestors m f) (ancestors p f)

@@ -20,21 +20,21 @@ nat_cmp-less m n h = rw (lt-ltb m n h) refl
 pub nat_cmp-greater : (m n : ℕ) → n < m → nat_cmp m n ≡ Greater
 nat_cmp-greater m n h =
     elim (same_or m n) [
-      same e t ↦ absurd (omega arith)
-    | apart ne t ↦ rw (le-ltb m n (omega arith), t) refl
+      | same e t ↦ absurd (omega arith)
+      | apart ne t ↦ rw (le-ltb m n (omega arith), t) refl
     ]
 
 -- a change of numbers that keeps which is less keeps the order
 pub nat_cmp-kept : (m n m' n' : ℕ) → (m < n → m' < n') → (n < m → n' < m') → (m ≡ n → m' ≡ n') → nat_cmp m' n' ≡ nat_cmp m n
 nat_cmp-kept m n m' n' less greater equal =
     ⊎_elim
-      (λ (lt : m < n). nat_cmp-less m' n' (less lt) ∙ sym (nat_cmp-less m n lt))
-      (λ (le : n ≤ m).
-        ⊎_elim
-          (λ (gt : n < m). nat_cmp-greater m' n' (greater gt) ∙ sym (nat_cmp-greater m n gt))
-          (λ (ge : m ≤ n). let e : m ≡ n = omega arith in rw (equal e, e) (nat_cmp-same n' ∙ sym (nat_cmp-same n)))
-          (cases_lt n m))
-      (cases_lt m n)
+    (λ (lt : m < n). nat_cmp-less m' n' (less lt) ∙ sym (nat_cmp-less m n lt))
+    (λ (le : n ≤ m).
+    ⊎_elim
+    (λ (gt : n < m). nat_cmp-greater m' n' (greater gt) ∙ sym (nat_cmp-greater m n gt))
+    (λ (ge : m ≤ n). let e : m ≡ n = omega arith in rw (equal e, e) (nat_cmp-same n' ∙ sym (nat_cmp-same n)))
+    (cases_lt n m))
+    (cases_lt m n)
 
 pub slice_cmp-ahead : (zs xs ys : List ℕ) → slice_cmp nat_cmp (zs ++ xs) (zs ++ ys) ≡ slice_cmp nat_cmp xs ys
 slice_cmp-ahead [] xs ys = refl
@@ -63,9 +63,9 @@ module _ {X : Type 0} where
       ap (slice_cmp nat_cmp (path_places f n ++ (2 * a) ∷ [])) s
       ∙ slice_cmp-ahead (path_places f n) (2 * a ∷ []) ((2 * i + 1) ∷ (below ++ (2 * b) ∷ []))
       ∙ ⊎_elim
-        (λ (lt : i < a). rw (nat_cmp-greater (2 * a) (2 * i + 1) (omega arith), lt-ltb i a lt) refl)
-        (λ (le : a ≤ i). rw (nat_cmp-less (2 * a) (2 * i + 1) (omega arith), le-ltb i a le) refl)
-        (cases_lt i a)
+      (λ (lt : i < a). rw (nat_cmp-greater (2 * a) (2 * i + 1) (omega arith), lt-ltb i a lt) refl)
+      (λ (le : a ≤ i). rw (nat_cmp-less (2 * a) (2 * i + 1) (omega arith), le-ltb i a le) refl)
+      (cases_lt i a)
 
 -- The maps on points: which node they leave a point in, and that they keep the order of the offsets of one node.
 
@@ -82,12 +82,12 @@ gap-elsewhere parent index count p h = rw h refl
 pub gap-there : (index count n a : ℕ) → after_gap n index count (record { node = n; offset = a }) ≡ record { node = n; offset = a + (if nat_lt index a then count else 0) }
 gap-there index count n a =
     elim (same_or n n) [
-      same e t ↦
-        ⊎_elim
+      | same e t ↦
+          ⊎_elim
           (λ (lt : index < a). rw (t, lt-ltb index a lt) refl)
           (λ (le : a ≤ index). let z : a + 0 ≡ a = omega arith in rw (t, le-ltb index a le, z) refl)
           (cases_lt index a)
-    | apart ne t ↦ absurd (ne refl)
+      | apart ne t ↦ absurd (ne refl)
     ]
 
 pub gap-order : (index count n a b : ℕ) → a ≤ b → a + (if nat_lt index a then count else 0) ≤ b + (if nat_lt index b then count else 0)

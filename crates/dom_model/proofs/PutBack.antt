@@ -20,8 +20,8 @@ hits-after : (c : ℕ) (ns : List ℕ) (b : ℕ) → after c ns ≡ Some b → 0
 hits-after c [] b e = absurd (cc e)
 hits-after c (n ∷ ns) b e =
     elim (same_or n c) [
-      same d t ↦ (let k = rw t at e in omega (arith, hits-head ns b k))
-    | apart ne t ↦ (let k = rw t at e in omega (arith, hits-after c ns b k))
+      | same d t ↦ (let k = rw t at e in omega (arith, hits-head ns b k))
+      | apart ne t ↦ (let k = rw t at e in omega (arith, hits-after c ns b k))
     ]
 
 module _ {X : Type 0} where
@@ -54,42 +54,43 @@ module _ {X : Type 0} where
   placed_again c empty o h = absurd (omega arith)
   placed_again c (node x kids rest) o h =
       elim (same_or x.number c) [
-        same e t ↦
-          let k = let i = o c in rw t at i in
-          let zr : occurs c rest ≡ 0 = omega arith in
-          let a : after c (tops (node x kids rest)) ≡ head_of (tops rest) = rw t refl in
-          three a (tree-top c x kids rest t zr) (left-top c x kids rest t zr) (placed_first x kids rest)
-      | apart ne t ↦
-          let hr = rw t at h in
-          let or : 0 < hits c (tops rest) = omega arith in
-          let i = let j = o c in rw t at j in
-          let zk : occurs c kids ≡ 0 = omega (arith, hits-tops c rest) in
-          let again = placed_again c rest (λ m. let j = o m in omega arith) or in
-          let a : after c (tops (node x kids rest)) ≡ after c (tops rest) = rw t refl in
-          three a (tree-rest c x kids rest t zk) (left-rest c x kids rest t zk) (passes (after c (tops rest)) (hits-after c (tops rest)) again)
+        | same e t ↦
+            let k = let i = o c in rw t at i in
+            let zr : occurs c rest ≡ 0 = omega arith in
+            let a : after c (tops (node x kids rest)) ≡ head_of (tops rest) = rw t refl in
+            three a (tree-top c x kids rest t zr) (left-top c x kids rest t zr) (placed_first x kids rest)
+        | apart ne t ↦
+            let hr = rw t at h in
+            let or : 0 < hits c (tops rest) = omega arith in
+            let i = let j = o c in rw t at j in
+            let zk : occurs c kids ≡ 0 = omega (arith, hits-tops c rest) in
+            let again = placed_again c rest (λ m. let j = o m in omega arith) or in
+            let a : after c (tops (node x kids rest)) ≡ after c (tops rest) = rw t refl in
+            three a (tree-rest c x kids rest t zk) (left-rest c x kids rest t zk) (passes (after c (tops rest)) (hits-after c (tops rest)) again)
       ]
     where
       three : {b b' : Option ℕ} {t t' g g' : Forest X} → b ≡ b' → t ≡ t' → g ≡ g' → placed_before b' t' g' ≡ node x kids rest → placed_before b t g ≡ node x kids rest
       three {b} {b'} {t} {t'} {g} {g'} a d e h = ap (λ y. placed_before y t g) a ∙ ap (λ y. placed_before b' y g) d ∙ ap (placed_before b' t') e ∙ h
+
       passes : (b : Option ℕ) → ((k : ℕ) → b ≡ Some k → 0 < hits k (tops rest)) → placed_before b (tree_at c rest) (without c rest) ≡ rest → placed_before b (tree_at c rest) (node x kids (without c rest)) ≡ node x kids rest
       passes None there again = ap (node x kids) again
       passes (Some b) there again =
           let h = there b refl in
           elim (same_or b x.number) [
-            same d v ↦ absurd (let j = o b in let w : (x.number == b) ≡ true = elim (same_or x.number b) [ same d2 u ↦ u | apart ne u ↦ absurd (ne (sym d)) ] in let j2 = rw w at j in omega (arith, hits-tops b rest))
-          | apart ne v ↦ rw v (ap (node x kids) again)
+            | same d v ↦ absurd (let j = o b in let w : (x.number == b) ≡ true = elim (same_or x.number b) [ same d2 u ↦ u | apart ne u ↦ absurd (ne (sym d)) ] in let j2 = rw w at j in omega (arith, hits-tops b rest))
+            | apart ne v ↦ rw v (ap (node x kids) again)
           ]
 
   pub child-inside : (at : (ℕ → Option (Entry (Node X)))) (q : Option ℕ) (p c : ℕ) (f : Forest X) → Lies at q f → 0 < occurs p f → hits c (children_in (at p)) ≤ occurs c f
   child-inside at q p c empty l h = absurd (omega arith)
   child-inside at q p c (node x kids rest) l h =
       elim (same_or x.number p) [
-        same e t ↦
-          let s : children_in (at p) ≡ tops kids = ap (λ m. children_in (at m)) (sym e) ∙ ap children_in l.0 in
-          rw s (omega (arith, hits-tops c kids))
-      | apart ne t ↦
-          let k = rw t at h in
-          ⊎_elim
+        | same e t ↦
+            let s : children_in (at p) ≡ tops kids = ap (λ m. children_in (at m)) (sym e) ∙ ap children_in l.0 in
+            rw s (omega (arith, hits-tops c kids))
+        | apart ne t ↦
+            let k = rw t at h in
+            ⊎_elim
             (λ (lt : 0 < occurs p kids). omega (arith, child-inside at (Some x.number) p c kids l.1 lt))
             (λ (le : occurs p kids ≤ 0). omega (arith, child-inside at q p c rest l.2 (omega arith)))
             (cases_lt 0 (occurs p kids))
@@ -99,68 +100,72 @@ module _ {X : Type 0} where
   placed_back at q p c empty o l h i = absurd (omega arith)
   placed_back at q p c (node x kids rest) o l h i =
       elim (same_or x.number p) [
-        same e t ↦
-          let s : children_in (at p) ≡ tops kids = ap (λ m. children_in (at m)) (sym e) ∙ ap children_in l.0 in
-          let j = rw s at i in
-          let op = let k = o p in rw t at k in
-          let oc = o c in
-          let inside : 0 < occurs c kids = omega (arith, hits-tops c kids) in
-          elim (same_or x.number c) [
-            same e2 v ↦ absurd (let w = rw v at oc in omega arith)
-          | apart ne2 v ↦
-              let w = rw v at oc in
-              let zr : occurs c rest ≡ 0 = omega arith in
-              let pk : occurs p kids ≡ 0 = omega arith in
-              let pr : occurs p rest ≡ 0 = omega arith in
-              let pw : occurs p (without c kids) ≡ 0 = omega (arith, total-tree_at (one_at p) c kids) in
-              two (after c (children_in (at p))) (tree-kids c x kids rest v zr) (left-kids c x kids rest v zr)
-                (subst (λ (ns : List ℕ). placed_under p (after c ns) (tree_at c kids) (node x (without c kids) rest) ≡ node x kids rest) (sym s)
+        | same e t ↦
+            let s : children_in (at p) ≡ tops kids = ap (λ m. children_in (at m)) (sym e) ∙ ap children_in l.0 in
+            let j = rw s at i in
+            let op = let k = o p in rw t at k in
+            let oc = o c in
+            let inside : 0 < occurs c kids = omega (arith, hits-tops c kids) in
+            elim (same_or x.number c) [
+              | same e2 v ↦ absurd (let w = rw v at oc in omega arith)
+              | apart ne2 v ↦
+                  let w = rw v at oc in
+                  let zr : occurs c rest ≡ 0 = omega arith in
+                  let pk : occurs p kids ≡ 0 = omega arith in
+                  let pr : occurs p rest ≡ 0 = omega arith in
+                  let pw : occurs p (without c kids) ≡ 0 = omega (arith, total-tree_at (one_at p) c kids) in
+                  two (after c (children_in (at p))) (tree-kids c x kids rest v zr) (left-kids c x kids rest v zr)
+                  (subst (λ (ns : List ℕ). placed_under p (after c ns) (tree_at c kids) (node x (without c kids) rest) ≡ node x kids rest) (sym s)
                   (on_top t pw pr (placed_again c kids (λ m. let k = o m in omega arith) j)))
-          ]
-      | apart ne t ↦
-          let k = rw t at h in
-          let op = let u = o p in rw t at u in
-          let oc = o c in
-          ⊎_elim
+            ]
+        | apart ne t ↦
+            let k = rw t at h in
+            let op = let u = o p in rw t at u in
+            let oc = o c in
+            ⊎_elim
             (λ (lt : 0 < occurs p kids).
-              let inside : 0 < occurs c kids = omega (arith, child-inside at (Some x.number) p c kids l.1 lt) in
-              in_kids t lt inside (placed_back at (Some x.number) p c kids (λ m. let u = o m in omega arith) l.1 lt i))
+            let inside : 0 < occurs c kids = omega (arith, child-inside at (Some x.number) p c kids l.1 lt) in
+            in_kids t lt inside (placed_back at (Some x.number) p c kids (λ m. let u = o m in omega arith) l.1 lt i))
             (λ (le : occurs p kids ≤ 0).
-              let lr : 0 < occurs p rest = omega arith in
-              let inside : 0 < occurs c rest = omega (arith, child-inside at q p c rest l.2 lr) in
-              in_rest t lr inside (placed_back at q p c rest (λ m. let u = o m in omega arith) l.2 lr i))
+            let lr : 0 < occurs p rest = omega arith in
+            let inside : 0 < occurs c rest = omega (arith, child-inside at q p c rest l.2 lr) in
+            in_rest t lr inside (placed_back at q p c rest (λ m. let u = o m in omega arith) l.2 lr i))
             (cases_lt 0 (occurs p kids))
       ]
     where
       two : (b : Option ℕ) {t t' g g' : Forest X} → t ≡ t' → g ≡ g' → placed_under p b t' g' ≡ node x kids rest → placed_under p b t g ≡ node x kids rest
       two b {t} {t'} {g} {g'} d e h = ap (λ y. placed_under p b y g) d ∙ ap (placed_under p b t') e ∙ h
+
       on_top : (x.number == p) ≡ true → occurs p (without c kids) ≡ 0 → occurs p rest ≡ 0 → placed_before (after c (tops kids)) (tree_at c kids) (without c kids) ≡ kids → placed_under p (after c (tops kids)) (tree_at c kids) (node x (without c kids) rest) ≡ node x kids rest
       on_top t pw pr again =
           rw (t, placed_under-absent p (after c (tops kids)) (tree_at c kids) (without c kids) pw, placed_under-absent p (after c (tops kids)) (tree_at c kids) rest pr) (ap (λ g. node x g rest) again)
+
       b : Option ℕ
       b = after c (children_in (at p))
+
       in_kids : (x.number == p) ≡ false → 0 < occurs p kids → 0 < occurs c kids → placed_under p b (tree_at c kids) (without c kids) ≡ kids → placed_under p b (tree_at c (node x kids rest)) (without c (node x kids rest)) ≡ node x kids rest
       in_kids t lt inside again =
           let op = o p in
           let oc = o c in
           elim (same_or x.number c) [
-            same e2 v ↦ absurd (let w = rw v at oc in omega arith)
-          | apart ne2 v ↦
-              let zr : occurs c rest ≡ 0 = omega arith in
-              let pr : occurs p rest ≡ 0 = omega arith in
-              two b (tree-kids c x kids rest v zr) (left-kids c x kids rest v zr)
+            | same e2 v ↦ absurd (let w = rw v at oc in omega arith)
+            | apart ne2 v ↦
+                let zr : occurs c rest ≡ 0 = omega arith in
+                let pr : occurs p rest ≡ 0 = omega arith in
+                two b (tree-kids c x kids rest v zr) (left-kids c x kids rest v zr)
                 (rw (t, placed_under-absent p b (tree_at c kids) rest pr) (ap (λ g. node x g rest) again))
           ]
+
       in_rest : (x.number == p) ≡ false → 0 < occurs p rest → 0 < occurs c rest → placed_under p b (tree_at c rest) (without c rest) ≡ rest → placed_under p b (tree_at c (node x kids rest)) (without c (node x kids rest)) ≡ node x kids rest
       in_rest t lt inside again =
           let op = o p in
           let oc = o c in
           elim (same_or x.number c) [
-            same e2 v ↦ absurd (let w = rw v at oc in omega arith)
-          | apart ne2 v ↦
-              let zk : occurs c kids ≡ 0 = omega arith in
-              let pk : occurs p kids ≡ 0 = omega arith in
-              two b (tree-rest c x kids rest v zk) (left-rest c x kids rest v zk)
+            | same e2 v ↦ absurd (let w = rw v at oc in omega arith)
+            | apart ne2 v ↦
+                let zk : occurs c kids ≡ 0 = omega arith in
+                let pk : occurs p kids ≡ 0 = omega arith in
+                two b (tree-rest c x kids rest v zk) (left-rest c x kids rest v zk)
                 (rw (t, placed_under-absent p b (tree_at c rest) kids pk) (ap (node x kids) again))
           ]
 
@@ -177,23 +182,24 @@ module _ {X : Type 0} where
   root_again low c empty o r h = absurd (omega arith)
   root_again low c (node x kids rest) o r h =
       elim (same_or x.number c) [
-        same e t ↦
-          let k = let i = o c in rw t at i in
-          let zr : occurs c rest ≡ 0 = omega arith in
-          two (tree-top c x kids rest t zr) (left-top c x kids rest t zr) (lowest rest (subst (λ m. IsRising (suc m) (tops rest)) e r.1))
-      | apart ne t ↦
-          let hr = rw t at h in
-          let or : 0 < hits c (tops rest) = omega arith in
-          let i = let j = o c in rw t at j in
-          let zk : occurs c kids ≡ 0 = omega (arith, hits-tops c rest) in
-          let again = root_again (suc x.number) c rest (λ m. let j = o m in omega arith) r.1 or in
-          let above : x.number < c = ⊎_elim (λ (lt : c < suc x.number). absurd (let z = hits-low (suc x.number) c (tops rest) r.1 lt in omega arith)) (λ (le : suc x.number ≤ c). le) (cases_lt c (suc x.number)) in
-          let v : nat_lt c x.number ≡ false = le-ltb c x.number (omega arith) in
-          two (tree-rest c x kids rest t zk) (left-rest c x kids rest t zk) (rw v (ap (node x kids) again))
+        | same e t ↦
+            let k = let i = o c in rw t at i in
+            let zr : occurs c rest ≡ 0 = omega arith in
+            two (tree-top c x kids rest t zr) (left-top c x kids rest t zr) (lowest rest (subst (λ m. IsRising (suc m) (tops rest)) e r.1))
+        | apart ne t ↦
+            let hr = rw t at h in
+            let or : 0 < hits c (tops rest) = omega arith in
+            let i = let j = o c in rw t at j in
+            let zk : occurs c kids ≡ 0 = omega (arith, hits-tops c rest) in
+            let again = root_again (suc x.number) c rest (λ m. let j = o m in omega arith) r.1 or in
+            let above : x.number < c = ⊎_elim (λ (lt : c < suc x.number). absurd (let z = hits-low (suc x.number) c (tops rest) r.1 lt in omega arith)) (λ (le : suc x.number ≤ c). le) (cases_lt c (suc x.number)) in
+            let v : nat_lt c x.number ≡ false = le-ltb c x.number (omega arith) in
+            two (tree-rest c x kids rest t zk) (left-rest c x kids rest t zk) (rw v (ap (node x kids) again))
       ]
     where
       two : {t t' g g' : Forest X} → t ≡ t' → g ≡ g' → placed_root c t' g' ≡ node x kids rest → placed_root c t g ≡ node x kids rest
       two {t} {t'} {g} {g'} d e h = ap (λ y. placed_root c y g) d ∙ ap (placed_root c t') e ∙ h
+
       lowest : (g : Forest X) → IsRising (suc c) (tops g) → placed_root c (node x kids empty) g ≡ node x kids g
       lowest empty s = refl
       lowest (node y k g) s =

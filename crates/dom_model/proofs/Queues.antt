@@ -34,34 +34,34 @@ left_out-append : (n : ℕ) (xs ys : List ℕ) → left_out n (xs ++ ys) ≡ lef
 left_out-append n [] ys = refl
 left_out-append n (x ∷ xs) ys =
     elim (same_or x n) [
-      same e t ↦ rw (t, left_out-append n xs ys) refl
-    | apart ne t ↦ rw (t, left_out-append n xs ys) refl
+      | same e t ↦ rw (t, left_out-append n xs ys) refl
+      | apart ne t ↦ rw (t, left_out-append n xs ys) refl
     ]
 
 among-left_out : (n m : ℕ) (xs : List ℕ) → (m == n) ≡ false → among m (left_out n xs) ≡ among m xs
 among-left_out n m [] d = refl
 among-left_out n m (x ∷ xs) d =
     elim (same_or x n) [
-      same e t ↦
-        elim (same_or x m) [
-          same e2 v ↦ absurd (let w : (m == n) ≡ true = subst (λ k. (k == n) ≡ true) e2 t in let u : true ≡ false = sym w ∙ d in cc u)
-        | apart ne2 v ↦ rw (t, v) (among-left_out n m xs d)
-        ]
-    | apart ne t ↦
-        elim (same_or x m) [
-          same e2 v ↦ rw t (rw v refl)
-        | apart ne2 v ↦ rw t (rw v (among-left_out n m xs d))
-        ]
+      | same e t ↦
+          elim (same_or x m) [
+            | same e2 v ↦ absurd (let w : (m == n) ≡ true = subst (λ k. (k == n) ≡ true) e2 t in let u : true ≡ false = sym w ∙ d in cc u)
+            | apart ne2 v ↦ rw (t, v) (among-left_out n m xs d)
+          ]
+      | apart ne t ↦
+          elim (same_or x m) [
+            | same e2 v ↦ rw t (rw v refl)
+            | apart ne2 v ↦ rw t (rw v (among-left_out n m xs d))
+          ]
     ]
 
 pub among-each_once : (n : ℕ) (xs : List ℕ) → among n (each_once xs) ≡ among n xs
 among-each_once n [] = refl
 among-each_once n (x ∷ xs) =
     elim (same_or x n) [
-      same e t ↦ rw t refl
-    | apart ne t ↦
-        let d : (n == x) ≡ false = elim (same_or n x) [ same e2 v ↦ absurd (ne (sym e2)) | apart ne2 v ↦ v ] in
-        rw t (among-left_out x n (each_once xs) d ∙ among-each_once n xs)
+      | same e t ↦ rw t refl
+      | apart ne t ↦
+          let d : (n == x) ≡ false = elim (same_or n x) [ same e2 v ↦ absurd (ne (sym e2)) | apart ne2 v ↦ v ] in
+          rw t (among-left_out x n (each_once xs) d ∙ among-each_once n xs)
     ]
 
 each_once-last : (xs : List ℕ) (n : ℕ) → each_once (xs ++ n ∷ []) ≡ with_last (each_once xs) n
@@ -71,17 +71,18 @@ each_once-last (x ∷ xs) n = start (each_once-last xs n)
     start : each_once (xs ++ n ∷ []) ≡ with_last (each_once xs) n → x ∷ left_out x (each_once (xs ++ n ∷ [])) ≡ with_last (x ∷ left_out x (each_once xs)) n
     start i =
         elim (same_or x n) [
-          same e t ↦
-            let t2 : (n == x) ≡ true = elim (same_or n x) [ same e2 v ↦ v | apart ne v ↦ absurd (ne (sym e)) ] in
-            rw (t, i) (ap (λ ns. x ∷ ns) (gone t2 (among n (each_once xs))))
-        | apart ne t ↦
-            let d : (n == x) ≡ false = elim (same_or n x) [ same e2 v ↦ absurd (ne (sym e2)) | apart ne2 v ↦ v ] in
-            rw (t, i, among-left_out x n (each_once xs) d) (stays d (among n (each_once xs)))
+          | same e t ↦
+              let t2 : (n == x) ≡ true = elim (same_or n x) [ same e2 v ↦ v | apart ne v ↦ absurd (ne (sym e)) ] in
+              rw (t, i) (ap (λ ns. x ∷ ns) (gone t2 (among n (each_once xs))))
+          | apart ne t ↦
+              let d : (n == x) ≡ false = elim (same_or n x) [ same e2 v ↦ absurd (ne (sym e2)) | apart ne2 v ↦ v ] in
+              rw (t, i, among-left_out x n (each_once xs) d) (stays d (among n (each_once xs)))
         ]
       where
         gone : (n == x) ≡ true → (v : Bool) → left_out x (if v then each_once xs else each_once xs ++ n ∷ []) ≡ left_out x (each_once xs)
         gone t2 true = refl
         gone t2 false = left_out-append x (each_once xs) (n ∷ []) ∙ (rw t2 (append-nil (left_out x (each_once xs))))
+
         stays : (n == x) ≡ false → (v : Bool) → x ∷ left_out x (if v then each_once xs else each_once xs ++ n ∷ []) ≡ (if v then x ∷ left_out x (each_once xs) else x ∷ (left_out x (each_once xs) ++ n ∷ []))
         stays d true = refl
         stays d false = ap (λ ns. x ∷ ns) (left_out-append x (each_once xs) (n ∷ []) ∙ (rw d refl))
@@ -163,7 +164,7 @@ pending-observed o n options x = refl
 pub timely-noted : (m : Mutation) (x : Observing) → IsTimely x → IsTimely (noted m x)
 timely-noted m x t = record {
   places = λ o. let k = t.places o in omega (arith, longer);
-  last = let k = t.last in omega (arith, longer)
+  last = let k = t.last in omega (arith, longer);
 }
   where
     longer : length (x.mutations ++ m ∷ []) ≡ length x.mutations + 1

@@ -24,21 +24,21 @@ use Rattle.dom_model.proofs.PointOrder.{nat_cmp-same, nat_cmp-less, nat_cmp-grea
 use Rattle.dom_model.proofs.Chains.{way_to, IsWay, way, index-apart}
 use Rattle.dom_model.proofs.WaysKept.{place_by}
 
-not_greater : (x y : ℕ) (xs ys : List ℕ) → x < y → slice_cmp nat_cmp (x ∷ xs) (y ∷ ys) ≡ Greater → ⊥
+pub not_greater : (x y : ℕ) (xs ys : List ℕ) → x < y → slice_cmp nat_cmp (x ∷ xs) (y ∷ ys) ≡ Greater → ⊥
 not_greater x y xs ys h e = let k = rw (nat_cmp-less x y h) at e in cc k
 
-greater : (x y : ℕ) (xs ys : List ℕ) → y < x → slice_cmp nat_cmp (x ∷ xs) (y ∷ ys) ≡ Greater
+pub greater : (x y : ℕ) (xs ys : List ℕ) → y < x → slice_cmp nat_cmp (x ∷ xs) (y ∷ ys) ≡ Greater
 greater x y xs ys h = rw (nat_cmp-greater x y h) refl
 
 not_greater_same : (x : ℕ) → slice_cmp nat_cmp (x ∷ []) (x ∷ []) ≡ Greater → ⊥
 not_greater_same x e = let k = rw (nat_cmp-same x) at e in cc k
 
-not_more : (x y : ℕ) → x ≤ y → slice_cmp nat_cmp (x ∷ []) (y ∷ []) ≡ Greater → ⊥
+pub not_more : (x y : ℕ) → x ≤ y → slice_cmp nat_cmp (x ∷ []) (y ∷ []) ≡ Greater → ⊥
 not_more x y h e =
     ⊎_elim
-      (λ (lt : x < y). not_greater x y [] [] lt e)
-      (λ (le : y ≤ x). let d : x ≡ y = omega arith in not_greater_same y (subst (λ k. slice_cmp nat_cmp (k ∷ []) (y ∷ []) ≡ Greater) d e))
-      (cases_lt x y)
+    (λ (lt : x < y). not_greater x y [] [] lt e)
+    (λ (le : y ≤ x). let d : x ≡ y = omega arith in not_greater_same y (subst (λ k. slice_cmp nat_cmp (k ∷ []) (y ∷ []) ≡ Greater) d e))
+    (cases_lt x y)
 
 before-kept : (v : Bool) (i a x x' : ℕ) → x' + (if v then (if nat_lt i x then 1 else 0) else 0) ≡ x → (v ≡ true → x ≡ i → ⊥) → a ≤ x → (if v && nat_lt i a then a - 1 else a) ≤ x'
 before-kept true i a x x' e ne h = let far = ne refl in grind (arith, nat_tests)
@@ -70,21 +70,21 @@ module _ {X : Type 0} where
   tops-parent at above n empty l h = absurd (omega arith)
   tops-parent at above n (node x kids rest) l h =
       elim (same_or x.number n) [
-        same e t ↦ ap (λ m. parent_in (at m)) (sym e) ∙ ap parent_in l.0
-      | apart ne t ↦ (let k = rw t at h in tops-parent at above n rest l.2 (omega arith))
+        | same e t ↦ ap (λ m. parent_in (at m)) (sym e) ∙ ap parent_in l.0
+        | apart ne t ↦ (let k = rw t at h in tops-parent at above n rest l.2 (omega arith))
       ]
 
   listed-back : (at : (ℕ → Option (Entry (Node X)))) (above : Option ℕ) (n q : ℕ) (f : Forest X) → Lies at above f → 0 < occurs q f → 0 < hits n (children_in (at q)) → parent_in (at n) ≡ Some q
   listed-back at above n q empty l h i = absurd (omega arith)
   listed-back at above n q (node x kids rest) l h i =
       elim (same_or x.number q) [
-        same e t ↦
-          let s : children_in (at q) ≡ tops kids = ap (λ m. children_in (at m)) (sym e) ∙ ap children_in l.0 in
-          let j = rw s at i in
-          tops-parent at (Some x.number) n kids l.1 j ∙ ap (λ m. Some m) e
-      | apart ne t ↦
-          let k = rw t at h in
-          ⊎_elim
+        | same e t ↦
+            let s : children_in (at q) ≡ tops kids = ap (λ m. children_in (at m)) (sym e) ∙ ap children_in l.0 in
+            let j = rw s at i in
+            tops-parent at (Some x.number) n kids l.1 j ∙ ap (λ m. Some m) e
+        | apart ne t ↦
+            let k = rw t at h in
+            ⊎_elim
             (λ (lt : 0 < occurs q kids). listed-back at (Some x.number) n q kids l.1 lt i)
             (λ (le : occurs q kids ≤ 0). listed-back at above n q rest l.2 (omega arith) i)
             (cases_lt 0 (occurs q kids))
@@ -102,26 +102,26 @@ module _ {X : Type 0} where
       go zero m l hm hc = absurd (let i = ancestors-there m f hm in let j = rw i.1 at l in omega arith)
       go (suc k) m l hm hc =
           elim (same_or m c) [
-            same e t ↦ ([], ap (λ x. ancestors x f) e)
-          | apart ne t ↦
-              elim (seen (parent_of f m)) [
-                nothing e ↦
-                  let a = root-path f o m hm e in
-                  absurd (let j = rw (a, t) at hc in omega arith)
-              | just q e ↦
-                  let i = parent-path f o m q hm e in
-                  let s = rw i.1 at l in
-                  let j = rw (i.1, t) at hc in
-                  let r = go k q (omega arith) i.0 (omega arith) in
-                  (m ∷ r.0, i.1 ∙ ap (λ ms. m ∷ ms) r.1)
-              ]
+            | same e t ↦ ([], ap (λ x. ancestors x f) e)
+            | apart ne t ↦
+                elim (seen (parent_of f m)) [
+                  | nothing e ↦
+                      let a = root-path f o m hm e in
+                      absurd (let j = rw (a, t) at hc in omega arith)
+                  | just q e ↦
+                      let i = parent-path f o m q hm e in
+                      let s = rw i.1 at l in
+                      let j = rw (i.1, t) at hc in
+                      let r = go k q (omega arith) i.0 (omega arith) in
+                      (m ∷ r.0, i.1 ∙ ap (λ ms. m ∷ ms) r.1)
+                ]
           ]
 
   module _ (f : Forest X) (o : (m : ℕ) → occurs m f ≤ 1) (p c : ℕ) (hc : 0 < occurs c f) (par : parent_of f c ≡ Some p) where
     abbrev closed : ℕ → ℕ → ℕ
     closed u a = if (u == p) && nat_lt (index_of f c) a then a - 1 else a
 
-    no_cycle : hits c (ancestors p f) ≡ 0
+    pub no_cycle : hits c (ancestors p f) ≡ 0
     no_cycle =
         let i = parent-path f o c p hc par in
         let j = hits-ancestors c c f o in
@@ -129,26 +129,26 @@ module _ {X : Type 0} where
         let u = o c in
         let v : hits c (c ∷ ancestors p f) ≡ occurs c (tree_at c f) = ap (hits c) (sym i.1) ∙ j in
         elim (same_or c c) [
-          same e w ↦ (let x = rw w at v in omega arith)
-        | apart ne w ↦ absurd (ne refl)
+          | same e w ↦ (let x = rw w at v in omega arith)
+          | apart ne w ↦ absurd (ne refl)
         ]
 
     -- what is left of an index, with what it lost
     moved : (m u : ℕ) → (m == c) ≡ false → 0 < occurs m f → parent_of f m ≡ Some u → index_of (cut c f) m + (if u == p then (if nat_lt (index_of f c) (index_of f m) then 1 else 0) else 0) ≡ index_of f m
     moved m u far h e =
         elim (same_or u p) [
-          same d t ↦
-            let s : place_in c (children_of f u) ≡ index_of f c = ap (λ x. place_in c (children_of f x)) d ∙ sym (index-child f c p par) in
-            rw t (subst (λ x. index_of (cut c f) m + (if nat_lt x (index_of f m) then 1 else 0) ≡ index_of f m) s i)
-        | apart ne t ↦
-            let none : hits c (children_of f u) ≡ 0 =
-                ⊎_elim
-                  (λ (lt : 0 < hits c (children_of f u)). absurd (ne (let w : Some u ≡ Some p = sym (child-parent f o c u (parent-path f o m u h e).0 lt) ∙ par in cc w)))
-                  (λ (le : hits c (children_of f u) ≤ 0). omega arith)
-                  (cases_lt 0 (hits c (children_of f u))) in
-            let far_on : index_of f m < place_in c (children_of f u) = rw (place-absent c (children_of f u) none, index-child f m u e) (place-there m (children_of f u) (child-listed f o m u h e)) in
-            let v : nat_lt (place_in c (children_of f u)) (index_of f m) ≡ false = le-ltb (place_in c (children_of f u)) (index_of f m) (omega arith) in
-            rw t (subst (λ (x : Bool). index_of (cut c f) m + (if x then 1 else 0) ≡ index_of f m) v i)
+          | same d t ↦
+              let s : place_in c (children_of f u) ≡ index_of f c = ap (λ x. place_in c (children_of f x)) d ∙ sym (index-child f c p par) in
+              rw t (subst (λ x. index_of (cut c f) m + (if nat_lt x (index_of f m) then 1 else 0) ≡ index_of f m) s i)
+          | apart ne t ↦
+              let none : hits c (children_of f u) ≡ 0 =
+              ⊎_elim
+              (λ (lt : 0 < hits c (children_of f u)). absurd (ne (let w : Some u ≡ Some p = sym (child-parent f o c u (parent-path f o m u h e).0 lt) ∙ par in cc w)))
+              (λ (le : hits c (children_of f u) ≤ 0). omega arith)
+              (cases_lt 0 (hits c (children_of f u))) in
+              let far_on : index_of f m < place_in c (children_of f u) = rw (place-absent c (children_of f u) none, index-child f m u e) (place-there m (children_of f u) (child-listed f o m u h e)) in
+              let v : nat_lt (place_in c (children_of f u)) (index_of f m) ≡ false = le-ltb (place_in c (children_of f u)) (index_of f m) (omega arith) in
+              rw t (subst (λ (x : Bool). index_of (cut c f) m + (if x then 1 else 0) ≡ index_of f m) v i)
         ]
       where
         i : index_of (cut c f) m + (if nat_lt (place_in c (children_of f u)) (index_of f m) then 1 else 0) ≡ index_of f m
@@ -174,116 +174,117 @@ module _ {X : Type 0} where
     pub ways-after : (u : ℕ) (ms ns : List ℕ) (n k a d : ℕ) → IsWay f u ms n → IsWay f u ns k → slice_cmp nat_cmp (place_then u ms n a) (place_then u ns k d) ≡ Greater → slice_cmp nat_cmp (place_by (index_of f) ms a) (place_by (index_of f) ns d) ≡ Greater
     ways-after u [] [] n k a d v w g =
         ⊎_elim
-          (λ (lt : d < a). greater (2 * a) (2 * d) [] [] (omega arith))
-          (λ (le : a ≤ d).
-            let s : n ≡ k = sym v ∙ w in
-            let i : closed n a ≤ closed k d = subst (λ x. closed n a ≤ closed x d) s (offset-order (n == p) (index_of f c) a d le) in
-            absurd (not_more (2 * closed n a) (2 * closed k d) (omega arith) g))
-          (cases_lt d a)
+        (λ (lt : d < a). greater (2 * a) (2 * d) [] [] (omega arith))
+        (λ (le : a ≤ d).
+        let s : n ≡ k = sym v ∙ w in
+        let i : closed n a ≤ closed k d = subst (λ x. closed n a ≤ closed x d) s (offset-order (n == p) (index_of f c) a d le) in
+        absurd (not_more (2 * closed n a) (2 * closed k d) (omega arith) g))
+        (cases_lt d a)
     ways-after u [] (m ∷ ns) n k a d v w g =
         ⊎_elim
-          (λ (lt : index_of f m < a). greater (2 * a) (2 * index_of f m + 1) [] (place_by (index_of f) ns d) (omega arith))
-          (λ (le : a ≤ index_of f m).
-            elim (same_or m c) [
-              same e t ↦
-                let g2 = rw t at g in
-                let q : (n == p) ≡ true = subst (λ x. (x == p) ≡ true) v (at_parent m u e w.1) in
-                let i : closed n a ≤ index_of f c = rw q (offset-before (index_of f c) a (subst (λ x. a ≤ index_of f x) e le)) in
-                absurd (not_more (2 * closed n a) (2 * index_of f c) (omega arith) g2)
-            | apart ne t ↦
-                let g2 = rw t at g in
-                let i : closed u a ≤ index_of (cut c f) m = before-kept (u == p) (index_of f c) a (index_of f m) (index_of (cut c f) m) (moved m u t w.0 w.1) (apart-index m u ne w.0 w.1) le in
-                let j = subst (λ x. closed x a ≤ index_of (cut c f) m) v i in
-                absurd (not_greater (2 * closed n a) (2 * index_of (cut c f) m + 1) [] (place_then m ns k d) (omega arith) g2)
-            ])
-          (cases_lt (index_of f m) a)
+        (λ (lt : index_of f m < a). greater (2 * a) (2 * index_of f m + 1) [] (place_by (index_of f) ns d) (omega arith))
+        (λ (le : a ≤ index_of f m).
+        elim (same_or m c) [
+          | same e t ↦
+              let g2 = rw t at g in
+              let q : (n == p) ≡ true = subst (λ x. (x == p) ≡ true) v (at_parent m u e w.1) in
+              let i : closed n a ≤ index_of f c = rw q (offset-before (index_of f c) a (subst (λ x. a ≤ index_of f x) e le)) in
+              absurd (not_more (2 * closed n a) (2 * index_of f c) (omega arith) g2)
+          | apart ne t ↦
+              let g2 = rw t at g in
+              let i : closed u a ≤ index_of (cut c f) m = before-kept (u == p) (index_of f c) a (index_of f m) (index_of (cut c f) m) (moved m u t w.0 w.1) (apart-index m u ne w.0 w.1) le in
+              let j = subst (λ x. closed x a ≤ index_of (cut c f) m) v i in
+              absurd (not_greater (2 * closed n a) (2 * index_of (cut c f) m + 1) [] (place_then m ns k d) (omega arith) g2)
+        ])
+        (cases_lt (index_of f m) a)
     ways-after u (m ∷ ms) [] n k a d v w g =
         ⊎_elim
-          (λ (lt : index_of f m < d).
-            elim (same_or m c) [
-              same e t ↦
-                let g2 = rw t at g in
-                let q : (k == p) ≡ true = subst (λ x. (x == p) ≡ true) w (at_parent m u e v.1) in
-                let i : index_of f c ≤ closed k d = rw q (offset-after (index_of f c) d (subst (λ x. index_of f x < d) e lt)) in
-                absurd (not_more (2 * index_of f c) (2 * closed k d) (omega arith) g2)
-            | apart ne t ↦
-                let g2 = rw t at g in
-                let i : index_of (cut c f) m < closed u d = after-kept (u == p) (index_of f c) d (index_of f m) (index_of (cut c f) m) (moved m u t v.0 v.1) (apart-index m u ne v.0 v.1) lt in
-                let j = subst (λ x. index_of (cut c f) m < closed x d) w i in
-                absurd (not_greater (2 * index_of (cut c f) m + 1) (2 * closed k d) (place_then m ms n a) [] (omega arith) g2)
-            ])
-          (λ (le : d ≤ index_of f m). greater (2 * index_of f m + 1) (2 * d) (place_by (index_of f) ms a) [] (omega arith))
-          (cases_lt (index_of f m) d)
+        (λ (lt : index_of f m < d).
+        elim (same_or m c) [
+          | same e t ↦
+              let g2 = rw t at g in
+              let q : (k == p) ≡ true = subst (λ x. (x == p) ≡ true) w (at_parent m u e v.1) in
+              let i : index_of f c ≤ closed k d = rw q (offset-after (index_of f c) d (subst (λ x. index_of f x < d) e lt)) in
+              absurd (not_more (2 * index_of f c) (2 * closed k d) (omega arith) g2)
+          | apart ne t ↦
+              let g2 = rw t at g in
+              let i : index_of (cut c f) m < closed u d = after-kept (u == p) (index_of f c) d (index_of f m) (index_of (cut c f) m) (moved m u t v.0 v.1) (apart-index m u ne v.0 v.1) lt in
+              let j = subst (λ x. index_of (cut c f) m < closed x d) w i in
+              absurd (not_greater (2 * index_of (cut c f) m + 1) (2 * closed k d) (place_then m ms n a) [] (omega arith) g2)
+        ])
+        (λ (le : d ≤ index_of f m). greater (2 * index_of f m + 1) (2 * d) (place_by (index_of f) ms a) [] (omega arith))
+        (cases_lt (index_of f m) d)
     ways-after u (m ∷ ms) (l ∷ ns) n k a d v w g =
         ⊎_elim
-          (λ (lt : index_of f m < index_of f l). absurd (less lt))
-          (λ (le : index_of f l ≤ index_of f m).
-            ⊎_elim
-              (λ (gt : index_of f l < index_of f m). greater (2 * index_of f m + 1) (2 * index_of f l + 1) (place_by (index_of f) ms a) (place_by (index_of f) ns d) (omega arith))
-              (λ (ge : index_of f m ≤ index_of f l).
-                let e : m ≡ l = index-apart f o m l u v.0 v.1 w.1 (omega arith) in
-                one e (λ h. ways-after m ms ns n k a d v.2 (subst (λ x. IsWay f x ns k) (sym e) w.2) h))
-              (cases_lt (index_of f l) (index_of f m)))
-          (cases_lt (index_of f m) (index_of f l))
+        (λ (lt : index_of f m < index_of f l). absurd (less lt))
+        (λ (le : index_of f l ≤ index_of f m).
+        ⊎_elim
+        (λ (gt : index_of f l < index_of f m). greater (2 * index_of f m + 1) (2 * index_of f l + 1) (place_by (index_of f) ms a) (place_by (index_of f) ns d) (omega arith))
+        (λ (ge : index_of f m ≤ index_of f l).
+        let e : m ≡ l = index-apart f o m l u v.0 v.1 w.1 (omega arith) in
+        one e (λ h. ways-after m ms ns n k a d v.2 (subst (λ x. IsWay f x ns k) (sym e) w.2) h))
+        (cases_lt (index_of f l) (index_of f m)))
+        (cases_lt (index_of f m) (index_of f l))
       where
         less : index_of f m < index_of f l → ⊥
         less lt =
             elim (same_or m c) [
-              same e t ↦
-                elim (same_or l c) [
-                  same e2 t2 ↦ (let s : index_of f m ≡ index_of f l = ap (index_of f) (e ∙ sym e2) in omega arith)
-                | apart ne2 t2 ↦
-                    let g2 = rw (t, t2) at g in
-                    let q = at_parent m u e v.1 in
-                    let i = moved l u t2 w.0 w.1 in
-                    let i2 = subst (λ x. index_of (cut c f) l + (if x then (if nat_lt (index_of f c) (index_of f l) then 1 else 0) else 0) ≡ index_of f l) q i in
-                    let j = index-after (index_of f c) (index_of f l) (index_of (cut c f) l) i2 (subst (λ x. index_of f x < index_of f l) e lt) in
-                    not_greater (2 * index_of f c) (2 * index_of (cut c f) l + 1) [] (place_then l ns k d) (omega arith) g2
-                ]
-            | apart ne t ↦
-                elim (same_or l c) [
-                  same e2 t2 ↦
-                    let g2 = rw (t, t2) at g in
-                    let i = moved m u t v.0 v.1 in
-                    let j : index_of f m < index_of f c = subst (λ x. index_of f m < index_of f x) e2 lt in
-                    not_greater (2 * index_of (cut c f) m + 1) (2 * index_of f c) (place_then m ms n a) [] (omega arith) g2
-                | apart ne2 t2 ↦
-                    let g2 = rw (t, t2) at g in
-                    let j = less-kept (u == p) (index_of f c) (index_of f m) (index_of f l) (index_of (cut c f) m) (index_of (cut c f) l) (moved m u t v.0 v.1) (moved l u t2 w.0 w.1) (apart-index m u ne v.0 v.1) (apart-index l u ne2 w.0 w.1) lt in
-                    not_greater (2 * index_of (cut c f) m + 1) (2 * index_of (cut c f) l + 1) (place_then m ms n a) (place_then l ns k d) (omega arith) g2
-                ]
+              | same e t ↦
+                  elim (same_or l c) [
+                    | same e2 t2 ↦ (let s : index_of f m ≡ index_of f l = ap (index_of f) (e ∙ sym e2) in omega arith)
+                    | apart ne2 t2 ↦
+                        let g2 = rw (t, t2) at g in
+                        let q = at_parent m u e v.1 in
+                        let i = moved l u t2 w.0 w.1 in
+                        let i2 = subst (λ x. index_of (cut c f) l + (if x then (if nat_lt (index_of f c) (index_of f l) then 1 else 0) else 0) ≡ index_of f l) q i in
+                        let j = index-after (index_of f c) (index_of f l) (index_of (cut c f) l) i2 (subst (λ x. index_of f x < index_of f l) e lt) in
+                        not_greater (2 * index_of f c) (2 * index_of (cut c f) l + 1) [] (place_then l ns k d) (omega arith) g2
+                  ]
+              | apart ne t ↦
+                  elim (same_or l c) [
+                    | same e2 t2 ↦
+                        let g2 = rw (t, t2) at g in
+                        let i = moved m u t v.0 v.1 in
+                        let j : index_of f m < index_of f c = subst (λ x. index_of f m < index_of f x) e2 lt in
+                        not_greater (2 * index_of (cut c f) m + 1) (2 * index_of f c) (place_then m ms n a) [] (omega arith) g2
+                    | apart ne2 t2 ↦
+                        let g2 = rw (t, t2) at g in
+                        let j = less-kept (u == p) (index_of f c) (index_of f m) (index_of f l) (index_of (cut c f) m) (index_of (cut c f) l) (moved m u t v.0 v.1) (moved l u t2 w.0 w.1) (apart-index m u ne v.0 v.1) (apart-index l u ne2 w.0 w.1) lt in
+                        not_greater (2 * index_of (cut c f) m + 1) (2 * index_of (cut c f) l + 1) (place_then m ms n a) (place_then l ns k d) (omega arith) g2
+                  ]
             ]
+
         one : m ≡ l → (slice_cmp nat_cmp (place_then m ms n a) (place_then m ns k d) ≡ Greater → slice_cmp nat_cmp (place_by (index_of f) ms a) (place_by (index_of f) ns d) ≡ Greater) → slice_cmp nat_cmp (place_by (index_of f) (m ∷ ms) a) (place_by (index_of f) (l ∷ ns) d) ≡ Greater
         one e below =
             let same_g : slice_cmp nat_cmp (place_then u (m ∷ ms) n a) (place_then u (m ∷ ns) k d) ≡ Greater =
-                subst (λ x. slice_cmp nat_cmp (place_then u (m ∷ ms) n a) (if x == c then (2 * index_of f c) ∷ [] else (2 * index_of (cut c f) x + 1) ∷ place_then x ns k d) ≡ Greater) (sym e) g in
+            subst (λ x. slice_cmp nat_cmp (place_then u (m ∷ ms) n a) (if x == c then (2 * index_of f c) ∷ [] else (2 * index_of (cut c f) x + 1) ∷ place_then x ns k d) ≡ Greater) (sym e) g in
             subst (λ x. slice_cmp nat_cmp (place_by (index_of f) (m ∷ ms) a) (place_by (index_of f) (x ∷ ns) d) ≡ Greater) e
-              (elim (same_or m c) [
-                same e2 t ↦ absurd (let g2 = rw t at same_g in not_greater_same (2 * index_of f c) g2)
+            (elim (same_or m c) [
+              | same e2 t ↦ absurd (let g2 = rw t at same_g in not_greater_same (2 * index_of f c) g2)
               | apart ne t ↦
                   let g2 = rw t at same_g in
                   let g3 = rw (nat_cmp-same (2 * index_of (cut c f) m + 1)) at g2 in
                   rw (nat_cmp-same (2 * index_of f m + 1)) (below g3)
-              ])
+            ])
 
     then-clear : (u : ℕ) (ms : List ℕ) (n a : ℕ) → hits c ms ≡ 0 → place_then u ms n a ≡ place_by (index_of (cut c f)) ms (closed n a)
     then-clear u [] n a h = refl
     then-clear u (m ∷ ms) n a h =
         elim (same_or m c) [
-          same e t ↦ absurd (let k = rw t at h in omega arith)
-        | apart ne t ↦
-            let k = rw t at h in
-            rw t (ap (λ ns. (2 * index_of (cut c f) m + 1) ∷ ns) (then-clear m ms n a (omega arith)))
+          | same e t ↦ absurd (let k = rw t at h in omega arith)
+          | apart ne t ↦
+              let k = rw t at h in
+              rw t (ap (λ ns. (2 * index_of (cut c f) m + 1) ∷ ns) (then-clear m ms n a (omega arith)))
         ]
 
     then-through : (u : ℕ) (ps more : List ℕ) (n a : ℕ) → hits c ps ≡ 0 → place_then u (ps ++ c ∷ more) n a ≡ place_by (index_of (cut c f)) ps (index_of f c)
     then-through u [] more n a h = elim (same_or c c) [ same e t ↦ rw t refl | apart ne t ↦ absurd (ne refl) ]
     then-through u (m ∷ ps) more n a h =
         elim (same_or m c) [
-          same e t ↦ absurd (let k = rw t at h in omega arith)
-        | apart ne t ↦
-            let k = rw t at h in
-            rw t (ap (λ ns. (2 * index_of (cut c f) m + 1) ∷ ns) (then-through m ps more n a (omega arith)))
+          | same e t ↦ absurd (let k = rw t at h in omega arith)
+          | apart ne t ↦
+              let k = rw t at h in
+              rw t (ap (λ ns. (2 * index_of (cut c f) m + 1) ∷ ns) (then-through m ps more n a (omega arith)))
         ]
 
     hits-way : (n : ℕ) → hits c (way_to f n) ≤ hits c (ancestors n f)
@@ -292,17 +293,18 @@ module _ {X : Type 0} where
         hits-dropped : (xs : List ℕ) → hits c (drop 1 xs) ≤ hits c xs
         hits-dropped [] = omega arith
         hits-dropped (x ∷ xs) = omega arith
+
         hits-turned : (xs : List ℕ) → hits c (reverse xs) ≡ hits c xs
         hits-turned [] = refl
         hits-turned (x ∷ xs) =
             ap (hits c) (reverse-append (x ∷ []) xs) ∙ hits-append c (reverse xs) (x ∷ []) ∙ (let i = hits-turned xs in omega arith)
 
-    up_with-clear : (xs : List ℕ) → hits c xs ≡ 0 → up_with c xs ≡ xs
+    pub up_with-clear : (xs : List ℕ) → hits c xs ≡ 0 → up_with c xs ≡ xs
     up_with-clear [] h = refl
     up_with-clear (x ∷ xs) h =
         elim (same_or x c) [
-          same e t ↦ absurd (let k = rw t at h in omega arith)
-        | apart ne t ↦ (let k = rw t at h in rw t (ap (λ ns. x ∷ ns) (up_with-clear xs (omega arith))))
+          | same e t ↦ absurd (let k = rw t at h in omega arith)
+          | apart ne t ↦ (let k = rw t at h in rw t (ap (λ ns. x ∷ ns) (up_with-clear xs (omega arith))))
         ]
 
     clear-way : (n : ℕ) → 0 < occurs n f → hits c (ancestors n f) ≡ 0 → way_to (cut c f) n ≡ way_to f n
@@ -313,35 +315,37 @@ module _ {X : Type 0} where
         let s = ancestors-split f o c n h i in
         let t = parent-path f o c p hc par in
         let j = ancestors-there p f t.0 in
-        let long : 1 ≤ length (reverse (ancestors p f)) = rw (length-reverse (ancestors p f), j.1) (omega arith) in
-        (reverse s.0,
+        let long : 1 ≤ length (reverse (ancestors p f)) = rw (length-reverse (ancestors p f), j.1) (omega arith) in (
+          reverse s.0,
           ap (λ ns. drop 1 (reverse ns)) (s.1 ∙ ap (λ ns. s.0 ++ ns) t.1)
-          ∙ ap (drop 1) (reverse-append s.0 (c ∷ ancestors p f) ∙ ap (λ ns. ns ++ reverse s.0) (reverse-append (c ∷ []) (ancestors p f)) ∙ append_assoc (reverse (ancestors p f)) (c ∷ []) (reverse s.0))
-          ∙ drop-append-le 1 (reverse (ancestors p f)) (c ∷ reverse s.0) long)
+              ∙ ap (drop 1) (reverse-append s.0 (c ∷ ancestors p f) ∙ ap (λ ns. ns ++ reverse s.0) (reverse-append (c ∷ []) (ancestors p f)) ∙ append_assoc (reverse (ancestors p f)) (c ∷ []) (reverse s.0))
+              ∙ drop-append-le 1 (reverse (ancestors p f)) (c ∷ reverse s.0) long,
+        )
 
     -- the place of a point after the removal
     place-removed : (u n a : ℕ) → 0 < occurs n f → place_of (cut c f) (after_removal (inclusive_descendants f c) p (index_of f c) (record { node = n; offset = a })) ≡ place_then u (way_to f n) n a
     place-removed u n a h =
         ⊎_elim
-          (λ (lt : 0 < occurs n (tree_at c f)).
-            let t : among n (inclusive_descendants f c) ≡ true = hits-among n (inclusive_descendants f c) (let i = hits-numbers n (tree_at c f) in omega arith) in
-            let i : 0 < hits c (ancestors n f) = (let j = hits-ancestors c n f o in omega arith) in
-            let w = through-way n h i in
-            let z : hits c (way_to f p) ≡ 0 = (let j = hits-way p in let k = no_cycle in omega arith) in
-            let k = parent-path f o c p hc par in
-            inside t
-            ∙ ap (λ ns. place_by (index_of (cut c f)) ns (index_of f c)) (clear-way p k.0 no_cycle)
-            ∙ sym (ap (λ ns. place_then u ns n a) w.1 ∙ then-through u (way_to f p) w.0 n a z))
-          (λ (le : occurs n (tree_at c f) ≤ 0).
-            let i : hits c (ancestors n f) ≡ 0 = (let j = hits-ancestors c n f o in omega arith) in
-            let z : hits c (way_to f n) ≡ 0 = (let j = hits-way n in omega arith) in
-            outside le
-            ∙ ap (λ ns. place_by (index_of (cut c f)) ns (closed n a)) (clear-way n h i)
-            ∙ sym (then-clear u (way_to f n) n a z))
-          (cases_lt 0 (occurs n (tree_at c f)))
+        (λ (lt : 0 < occurs n (tree_at c f)).
+        let t : among n (inclusive_descendants f c) ≡ true = hits-among n (inclusive_descendants f c) (let i = hits-numbers n (tree_at c f) in omega arith) in
+        let i : 0 < hits c (ancestors n f) = (let j = hits-ancestors c n f o in omega arith) in
+        let w = through-way n h i in
+        let z : hits c (way_to f p) ≡ 0 = (let j = hits-way p in let k = no_cycle in omega arith) in
+        let k = parent-path f o c p hc par in
+        inside t
+        ∙ ap (λ ns. place_by (index_of (cut c f)) ns (index_of f c)) (clear-way p k.0 no_cycle)
+        ∙ sym (ap (λ ns. place_then u ns n a) w.1 ∙ then-through u (way_to f p) w.0 n a z))
+        (λ (le : occurs n (tree_at c f) ≤ 0).
+        let i : hits c (ancestors n f) ≡ 0 = (let j = hits-ancestors c n f o in omega arith) in
+        let z : hits c (way_to f n) ≡ 0 = (let j = hits-way n in omega arith) in
+        outside le
+        ∙ ap (λ ns. place_by (index_of (cut c f)) ns (closed n a)) (clear-way n h i)
+        ∙ sym (then-clear u (way_to f n) n a z))
+        (cases_lt 0 (occurs n (tree_at c f)))
       where
         inside : among n (inclusive_descendants f c) ≡ true → place_of (cut c f) (after_removal (inclusive_descendants f c) p (index_of f c) (record { node = n; offset = a })) ≡ place_by (index_of (cut c f)) (way_to (cut c f) p) (index_of f c)
         inside t = rw t refl
+
         outside : occurs n (tree_at c f) ≤ 0 → place_of (cut c f) (after_removal (inclusive_descendants f c) p (index_of f c) (record { node = n; offset = a })) ≡ place_by (index_of (cut c f)) (way_to (cut c f) n) (closed n a)
         outside le = go (among n (inclusive_descendants f c)) refl ((n == p) && nat_lt (index_of f c) a) refl
           where
@@ -359,5 +363,5 @@ module _ {X : Type 0} where
         let w = way f o m hm in
         let s : v.0 ≡ w.0 = (let e : Some v.0 ≡ Some w.0 = sym v.1 ∙ root ∙ w.1 in cc e) in
         ways-after v.0 (way_to f n) (way_to f m) n m a d v.2 (subst (λ x. IsWay f x (way_to f m) m) (sym s) w.2)
-          (sym (ap (λ xs. slice_cmp nat_cmp xs (place_of (cut c f) (after_removal (inclusive_descendants f c) p (index_of f c) (record { node = m; offset = d })))) (place-removed v.0 n a hn)
-            ∙ ap (slice_cmp nat_cmp (place_then v.0 (way_to f n) n a)) (place-removed v.0 m d hm)) ∙ g)
+        (sym (ap (λ xs. slice_cmp nat_cmp xs (place_of (cut c f) (after_removal (inclusive_descendants f c) p (index_of f c) (record { node = m; offset = d })))) (place-removed v.0 n a hn)
+        ∙ ap (slice_cmp nat_cmp (place_then v.0 (way_to f n) n a)) (place-removed v.0 m d hm)) ∙ g)

@@ -9,9 +9,8 @@ hits-low low n [] r h = refl
 hits-low low n (m ∷ ms) r h =
     let k : low ≤ m = r.0 in
     elim (same_or m n) [
-      same e t ↦ absurd (omega arith)
-    | apart ne t ↦
-        let z : hits n ms ≡ 0 = hits-low (suc m) n ms r.1 (omega arith) in
-        rw t (omega arith)
+      | same e t ↦ absurd (omega arith)
+      | apart ne t ↦
+          let z : hits n ms ≡ 0 = hits-low (suc m) n ms r.1 (omega arith) in
+          rw t (omega arith)
     ]
-

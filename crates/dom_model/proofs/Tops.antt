@@ -14,8 +14,8 @@ pub IsRising-left_out : (low c : ℕ) (ns : List ℕ) → IsRising low ns → Is
 IsRising-left_out low c [] r = tt
 IsRising-left_out low c (n ∷ ns) r =
     elim (same_or n c) [
-      same e t ↦ rw t (IsRising-from (suc n) low (left_out c ns) (let k : low ≤ n = r.0 in omega arith) (IsRising-left_out (suc n) c ns r.1))
-    | apart ne t ↦ rw t (r.0, IsRising-left_out (suc n) c ns r.1)
+      | same e t ↦ rw t (IsRising-from (suc n) low (left_out c ns) (let k : low ≤ n = r.0 in omega arith) (IsRising-left_out (suc n) c ns r.1))
+      | apart ne t ↦ rw t (r.0, IsRising-left_out (suc n) c ns r.1)
     ]
 
 module _ {X : Type 0} where
@@ -27,8 +27,8 @@ module _ {X : Type 0} where
   tops-without c empty = refl
   tops-without c (node x kids rest) =
       elim (same_or x.number c) [
-        same e t ↦ rw t (tops-without c rest)
-      | apart ne t ↦ rw t (rw (tops-without c rest) refl)
+        | same e t ↦ rw t (tops-without c rest)
+        | apart ne t ↦ rw t (rw (tops-without c rest) refl)
       ]
 
   pub tops-placed_under : (p : ℕ) (b : Option ℕ) (t f : Forest X) → tops (placed_under p b t f) ≡ tops f
@@ -39,29 +39,29 @@ module _ {X : Type 0} where
   tops-placed_before b c t empty h = h
   tops-placed_before b c t (node x kids rest) h =
       elim (is_number b x.number) as (λ v. tops (if v then beside t (node x kids rest) else node x kids (placed_before b t rest)) ≡ (if v then c ∷ x.number ∷ tops rest else x.number ∷ entered b c (tops rest))) [
-        true ↦ rw (tops-beside t (node x kids rest), h) refl
-      | false ↦ rw (tops-placed_before b c t rest h) refl
+        | true ↦ rw (tops-beside t (node x kids rest), h) refl
+        | false ↦ rw (tops-placed_before b c t rest h) refl
       ]
 
   pub tops-tree_at : (c : ℕ) (f : Forest X) → occurs c f ≡ 1 → tops (tree_at c f) ≡ c ∷ []
   tops-tree_at c empty h = absurd (omega arith)
   tops-tree_at c (node x kids rest) h =
       elim (same_or x.number c) [
-        same e t ↦
-          let k = rw t at h in
-          let z : occurs c rest ≡ 0 = omega arith in
-          rw (t, tree_at-absent c rest z, e) refl
-      | apart ne t ↦
-          let k = rw t at h in
-          rw t (⊎_elim
+        | same e t ↦
+            let k = rw t at h in
+            let z : occurs c rest ≡ 0 = omega arith in
+            rw (t, tree_at-absent c rest z, e) refl
+        | apart ne t ↦
+            let k = rw t at h in
+            rw t (⊎_elim
             (λ (lt : 0 < occurs c kids).
-              let z : occurs c rest ≡ 0 = omega arith in
-              let o : occurs c kids ≡ 1 = omega arith in
-              rw (tree_at-absent c rest z, beside-empty (tree_at c kids)) (tops-tree_at c kids o))
+            let z : occurs c rest ≡ 0 = omega arith in
+            let o : occurs c kids ≡ 1 = omega arith in
+            rw (tree_at-absent c rest z, beside-empty (tree_at c kids)) (tops-tree_at c kids o))
             (λ (le : occurs c kids ≤ 0).
-              let z : occurs c kids ≡ 0 = omega arith in
-              let o : occurs c rest ≡ 1 = omega arith in
-              rw (tree_at-absent c kids z) (tops-tree_at c rest o))
+            let z : occurs c kids ≡ 0 = omega arith in
+            let o : occurs c rest ≡ 1 = omega arith in
+            rw (tree_at-absent c kids z) (tops-tree_at c rest o))
             (cases_lt 0 (occurs c kids)))
       ]
 
@@ -73,16 +73,16 @@ module _ {X : Type 0} where
   IsRising-placed_root low c t empty e h z r = rw e (h, tt)
   IsRising-placed_root low c t (node x kids rest) e h z r =
       ⊎_elim
-        (λ (lt : c < x.number).
-          let s : nat_lt c x.number ≡ true = lt-ltb c x.number lt in
-          rw (s, tops-beside t (node x kids rest), e) (h, (let k : suc c ≤ x.number = lt in k, r.1)))
-        (λ (le : x.number ≤ c).
-          let s : nat_lt c x.number ≡ false = le-ltb c x.number le in
-          rw s (elim (same_or x.number c) [
-            same e2 v ↦ absurd (let k = rw v at z in omega arith)
-          | apart ne v ↦
-              let k = rw v at z in
-              let k0 : hits c (tops rest) ≡ 0 = omega arith in
-              (r.0, IsRising-placed_root (suc x.number) c t rest e (omega arith) k0 r.1)
-          ]))
-        (cases_lt c x.number)
+      (λ (lt : c < x.number).
+      let s : nat_lt c x.number ≡ true = lt-ltb c x.number lt in
+      rw (s, tops-beside t (node x kids rest), e) (h, (let k : suc c ≤ x.number = lt in k, r.1)))
+      (λ (le : x.number ≤ c).
+      let s : nat_lt c x.number ≡ false = le-ltb c x.number le in
+      rw s (elim (same_or x.number c) [
+        | same e2 v ↦ absurd (let k = rw v at z in omega arith)
+        | apart ne v ↦
+            let k = rw v at z in
+            let k0 : hits c (tops rest) ≡ 0 = omega arith in
+            (r.0, IsRising-placed_root (suc x.number) c t rest e (omega arith) k0 r.1)
+      ]))
+      (cases_lt c x.number)

@@ -1,5 +1,5 @@
 -- A dialogue, from bytes to bytes: walker past its root. Of each command: the ends stand in their markers' gaps, and the edits leave its texts and world.
-use Rattle.std.specs.Prelude.{◌≡◌, refl, ℕ, codes, List, [], ◌++◌}
+use Rattle.std.specs.Prelude.{◌≡◌, refl, ℕ, List, codes, [], ◌++◌}
 use Rattle.serde_json.proofs.OnLiterals.{serde_json_on_literals}
 use Rattle.std.specs.Str.{is_utf8, chars}
 use Rattle.std.specs.Char.Utf16.{utf16_chars}
@@ -10,6 +10,7 @@ use Rattle.dom_model.specs.Line.{json_of, command_of, command_within}
 use Rattle.dom_model.specs.Answer.{Bounds}
 use Rattle.dom_model.specs.Output.{whole_lines, last_piece, due, output_of}
 use Rattle.dom_model.proofs.Agreement.{ends_missed, texts_missed, worlds_missed}
+use Rattle.dom_model.proofs.ContentsBetween.{contents_missed}
 
 abbrev bounds : Bounds
 bounds = record { numbers = 4294967295; line = 1048576 }
@@ -54,3 +55,7 @@ walker_past_its_root-texts = refl
 pub walker_past_its_root-worlds : worlds_missed whole_table bounds given ≡ []
 unfolding serde_json_on_literals is_utf8 chars digits utf16_chars encode whole_table json_of command_of command_within whole_lines last_piece due
 walker_past_its_root-worlds = refl
+
+pub walker_past_its_root-contents : contents_missed whole_table bounds given ≡ []
+unfolding serde_json_on_literals is_utf8 chars digits utf16_chars encode whole_table json_of command_of command_within whole_lines last_piece due
+walker_past_its_root-contents = refl

@@ -62,4 +62,4 @@ abbrev pub answer_walk : Bounds → ℕ → Move → World → Step
 answer_walk b k move w =
     with_object (walker_at k w) w
     (λ (walker : Walker). answers (MaybeNumber (walk_found move w.forest walker))
-        (with_walker k (walker_moved (walk_found move w.forest walker) walker) w))
+    (with_walker k (walker_moved (walk_found move w.forest walker) walker) w))

@@ -128,10 +128,10 @@ module _ {X : Type 0} where
   abbrev pub check_insert : Forest X → ℕ → ℕ → Option ℕ → Option DomError
   check_insert f parent n child =
       first_refusal (common_conditions f parent n child
-          ++ (kind_refuses (λ k. document_refuses k f parent n child) f parent n, HierarchyRequestError) ∷ [])
+      ++ (kind_refuses (λ k. document_refuses k f parent n child) f parent n, HierarchyRequestError) ∷ [])
 
   -- node in the place of the parent's child
   abbrev pub check_replace : Forest X → ℕ → ℕ → ℕ → Option DomError
   check_replace f parent n child =
       first_refusal (common_conditions f parent n (Some child)
-          ++ (kind_refuses (λ k. document_refuses_instead k f parent n child) f parent n, HierarchyRequestError) ∷ [])
+      ++ (kind_refuses (λ k. document_refuses_instead k f parent n child) f parent n, HierarchyRequestError) ∷ [])

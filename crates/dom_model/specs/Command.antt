@@ -15,8 +15,13 @@ pub record GivenOptions : Type 0 where
 
 abbrev pub no_options : GivenOptions
 no_options = record {
-  child_list = None; attributes = None; character_data = None; subtree = None;
-  attribute_old_value = None; character_data_old_value = None; attribute_filter = None;
+  child_list = None;
+  attributes = None;
+  character_data = None;
+  subtree = None;
+  attribute_old_value = None;
+  character_data_old_value = None;
+  attribute_filter = None;
 }
 
 -- numbers are those of nodes, ranges, iterators, walkers, observers and static ranges; names are UTF-8, texts UTF-16 units

@@ -21,8 +21,15 @@ queued m w = record w {
 -- queue a tree record
 abbrev pub tree_record : ℕ → List ℕ → List ℕ → Option ℕ → Option ℕ → World → World
 tree_record target added removed previous next w = queued (record {
-  type = ChildList; target = target; name = None; old_value = None;
-  added = added; removed = removed; previous = previous; next = next; standing = [];
+  type = ChildList;
+  target = target;
+  name = None;
+  old_value = None;
+  added = added;
+  removed = removed;
+  previous = previous;
+  next = next;
+  standing = [];
 }) w
 
 abbrev pub tree_record_unless : Bool → ℕ → List ℕ → List ℕ → Option ℕ → Option ℕ → World → World

@@ -46,3 +46,4 @@ pub mod WalkSteps
 pub mod Walks
 pub mod World
 pub mod Wrapping
+pub mod Between

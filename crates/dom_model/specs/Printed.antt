@@ -83,11 +83,11 @@ ids_members DocumentFragment label = type_member label
 abbrev pub description_json : Description → Data
 description_json d =
     object (member (codes "document") (number_json d.document)
-        (member (codes "name") (string (node_name d.label))
-        (member (codes "next") (or_null number_json d.next)
-        (member (codes "parent") (or_null number_json d.parent)
-        (member (codes "previous") (or_null number_json d.previous)
-        (ids_members d.label.kind d.label))))))
+    (member (codes "name") (string (node_name d.label))
+    (member (codes "next") (or_null number_json d.next)
+    (member (codes "parent") (or_null number_json d.parent)
+    (member (codes "previous") (or_null number_json d.previous)
+    (ids_members d.label.kind d.label))))))
 
 abbrev pub type_json : RecordType → Data
 type_json ChildList = string (codes "childList")
@@ -97,7 +97,7 @@ type_json CharacterData = string (codes "characterData")
 abbrev pub record_json : Record → Data
 record_json r =
     list_json (type_json r.type ∷ number_json r.target ∷ numbers_json r.added ∷ numbers_json r.removed
-        ∷ or_null number_json r.previous ∷ or_null number_json r.next ∷ or_null string r.name ∷ or_null units_json r.old_value ∷ [])
+    ∷ or_null number_json r.previous ∷ or_null number_json r.next ∷ or_null string r.name ∷ or_null units_json r.old_value ∷ [])
 
 abbrev pub records_json : List Record → Data
 records_json rs = list_json (map record_json rs)

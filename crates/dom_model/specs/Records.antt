@@ -109,8 +109,14 @@ interested m = filter (interests m) m.standing
 
 abbrev pub record_with : Mutation → Option (List ℕ) → Record
 record_with m old_value = record {
-  type = m.type; target = m.target; added = m.added; removed = m.removed;
-  previous = m.previous; next = m.next; name = m.name; old_value = old_value;
+  type = m.type;
+  target = m.target;
+  added = m.added;
+  removed = m.removed;
+  previous = m.previous;
+  next = m.next;
+  name = m.name;
+  old_value = old_value;
 }
 
 -- one record, however many registrations; with the old value where one of them asks for it

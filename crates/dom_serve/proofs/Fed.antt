@@ -4,23 +4,21 @@ use Rattle.std.specs.Prelude.{◌==◌, nat_le, if◌then◌else◌}
 use Rattle.std.proofs.lemmas.Bool.{le-leb, lt-leb, ne_eqb, eqb-false}
 use Rattle.std.proofs.lemmas.List.{take_more}
 use Rattle.std.specs.Io.KnownBytes.{Appends}
-use Rattle.dom_model.specs.declared.OwnError.{OwnError}
 use Rattle.dom_model.specs.declared.OwnError.TheVariants.{LineTooLong}
-use Rattle.dom_model.specs.Command.{Command}
 use Rattle.dom_model.specs.Table.{served_table}
 use Rattle.dom_model.specs.Line.{command_of, command_within}
 use Rattle.dom_model.specs.Answer.{Bounds, Step}
 use Rattle.dom_model.specs.World.{World, first_world}
 use Rattle.dom_model.specs.Printed.{reply_line}
 use Rattle.dom_model.specs.Output.{whole_lines, last_piece, lines_of, line_if_any, step_of, line_step, world_after, replies_from, due}
-use Rattle.dom_session.specs.Stands.{Held, StandsFor}
+use Rattle.dom_session.specs.Stands.{StandsFor}
 use Rattle.dom_serve.specs.declared.fault.Fault.{Fault}
 use Rattle.dom_serve.specs.declared.fault.Fault.TheVariants.{Read, Write, Memory, InputTooLong}
 use Rattle.dom_serve.specs.declared.server.Server.{Server}
-use Rattle.dom_serve.specs.Writes.{IsPrefix, AppendsFront}
+use Rattle.dom_serve.specs.Writes.{IsPrefix}
 use Rattle.dom_serve.specs.Server.{held_command, held_step, Fails, HoldsPiece, Stands, Grows, Breaks, Fed, Finishes, SaysWant}
-use Rattle.dom_serve.proofs.Lines.{IsPrefix-refl, whole_lines-append_newline, last_piece-append_newline, whole_lines-append_other, last_piece-append_other, due-append, due-other, due-newline, world-newline}
-use Rattle.dom_serve.proofs.Growth.{Grows-same, Grows-one, Grows-trans, Breaks-more, Breaks-after, Breaks-want, Breaks-front}
+use Rattle.dom_serve.proofs.Lines.{whole_lines-append_newline, last_piece-append_newline, whole_lines-append_other, last_piece-append_other, due-append, due-other, due-newline, world-newline}
+use Rattle.dom_serve.proofs.Growth.{Grows-same, Grows-one, Breaks-more, Breaks-after, Breaks-want, Breaks-front}
 
 -- ---- the line that is held
 
@@ -121,9 +119,10 @@ pub Stands-byte : (b : Bounds) (bytes : List ℕ) (byte : ℕ) (s s' : Server) (
     → s'.line ≡ s.line → s'.lines ≡ s.lines → HoldsPiece b.line s'.kept.items s'.too_long (last_piece bytes ++ byte ∷ [])
     → Stands b (bytes ++ byte ∷ []) s' × Grows (due served_table b bytes false) (due served_table b (bytes ++ byte ∷ []) false) taken taken
 Stands-byte b bytes byte s s' taken differs h session line lines piece =
-    let other : (byte == 10) ≡ false = ne_eqb byte 10 differs in
-    (Stands-other b bytes byte s s' other h session line lines piece,
-     Grows-same (due served_table b bytes false) (due served_table b (bytes ++ byte ∷ []) false) taken (due-other b bytes byte other))
+    let other : (byte == 10) ≡ false = ne_eqb byte 10 differs in (
+      Stands-other b bytes byte s s' other h session line lines piece,
+      Grows-same (due served_table b bytes false) (due served_table b (bytes ++ byte ∷ []) false) taken (due-other b bytes byte other),
+    )
 
 -- the line stays too long
 pub holds-longer : (limit : ℕ) (kept : List ℕ) (too_long : Bool) (piece : List ℕ) (byte : ℕ) → too_long ≡ true → HoldsPiece limit kept too_long piece
@@ -216,9 +215,10 @@ due-none b bytes e = ap (replies_from served_table b first_world) (ap (λ l. who
 pub Finishes-none : (b : Bounds) (bytes : List ℕ) (s : Server) (taken : Option (List ℕ)) → Stands b bytes s → s.too_long ≡ false → s.kept.items ≡ []
     → (s.lines ≡ length (lines_of bytes)) × Grows (due served_table b bytes false) (due served_table b bytes true) taken taken
 Finishes-none b bytes s taken h short none =
-    let last : last_piece bytes ≡ [] = piece-none b.line s.kept.items s.too_long (last_piece bytes) short none h.piece in
-    (h.lines ∙ ap length (sym (ap (λ l. whole_lines bytes ++ line_if_any l) last ∙ append-nil (whole_lines bytes))),
-     Grows-same (due served_table b bytes false) (due served_table b bytes true) taken (due-none b bytes last))
+    let last : last_piece bytes ≡ [] = piece-none b.line s.kept.items s.too_long (last_piece bytes) short none h.piece in (
+      h.lines ∙ ap length (sym (ap (λ l. whole_lines bytes ++ line_if_any l) last ∙ append-nil (whole_lines bytes))),
+      Grows-same (due served_table b bytes false) (due served_table b bytes true) taken (due-none b bytes last),
+    )
 
 -- ---- the start
 

@@ -9,7 +9,7 @@ use Rattle.dom_serve.specs.declared.fault.Fault.TheVariants.{Read, Write, Memory
 use Rattle.dom_serve.specs.Writes.{IsPrefix, AppendsFront}
 use Rattle.dom_serve.specs.Tells.{SaysOutOfMemory, IsCutShort}
 use Rattle.dom_serve.specs.Server.{Grows, IsBroken, Breaks, SaysWant}
-use Rattle.dom_serve.proofs.Lines.{joined-append, joined-single, IsPrefix-refl, IsPrefix-trans, IsPrefix-joined, IsPrefix-after}
+use Rattle.dom_serve.proofs.Lines.{joined-append, joined-single, IsPrefix-trans, IsPrefix-joined, IsPrefix-after}
 
 -- nothing became due
 pub Grows-same : (before after : List (List ℕ)) (taken : Option (List ℕ)) → after ≡ before → Grows before after taken taken

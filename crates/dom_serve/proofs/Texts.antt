@@ -1,10 +1,10 @@
 -- A text that is written by several writes.
-use Rattle.std.proofs.Common.{◌≡◌, ℕ, ◌+◌, ◌-◌, ◌≤◌, List, [], ◌++◌, length, take, drop, Option, refl, sym, ap, ◌∙◌, subst, arith, take-append-drop, append-nil, length-drop, length-take}
+use Rattle.std.proofs.Common.{◌≡◌, ℕ, ◌+◌, ◌-◌, ◌≤◌, List, length, take, drop, Option, sym, subst, arith, take-append-drop, length-drop, length-take}
 use Rattle.std.proofs.lemmas.List.{take_all}
 use Rattle.std.proofs.Math.Seq.{take-add}
 use Rattle.std.specs.Io.KnownBytes.{Appends, Keeps}
 use Rattle.std.proofs.KnownBytes.{Appends-trans, Appends-kept}
-use Rattle.dom_serve.specs.Writes.{IsPrefix, AppendsFront}
+use Rattle.dom_serve.specs.Writes.{AppendsFront}
 
 pub within : (s : List ℕ) (at n : ℕ) → at ≤ length s → n ≤ length (take (length s - at) (drop at s)) → at + n ≤ length s
 within s at n p q = omega (arith, length-take (length s - at) (drop at s), length-drop at s)

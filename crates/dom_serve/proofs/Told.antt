@@ -1,5 +1,5 @@
 -- What reads gave and what was written for them, one more read at a time.
-use Rattle.std.proofs.Common.{◌≡◌, ℕ, ◌+◌, ◌*◌, ◌<◌, Bool, true, false, List, [], ◌∷◌, ◌++◌, length, Option, Result, Ok, Err, IfOk, refl, sym, ap, ◌∙◌, subst, arith, take, ◌≤◌, append-nil, length-append, length-take, inr}
+use Rattle.std.proofs.Common.{◌≡◌, ℕ, ◌+◌, ◌*◌, ◌<◌, true, false, List, [], ◌∷◌, ◌++◌, length, Option, Result, Ok, Err, IfOk, refl, sym, ap, ◌∙◌, subst, arith, take, ◌≤◌, append-nil, length-append, length-take, inr}
 use Rattle.std.specs.List.{All}
 use Rattle.std.proofs.lemmas.List.Elements.{All-push}
 use Rattle.std.specs.Io.KnownBytes.{Appends, Consumes, Keeps}
@@ -130,15 +130,17 @@ Tells-broken : (b : Bounds) (turns : ℕ) (pieces : List (List ℕ)) (piece text
     → Tells b turns (pieces ++ piece ∷ []) (joined (due served_table b (joined pieces) false) ++ text) (Err fault)
 Tells-broken b turns pieces piece text Read h = absurd h
 Tells-broken b turns pieces piece text Write h =
-    let whole = joined (due served_table b (joined pieces) false) ++ text in
-    (subst (λ l. IsCutShort (due served_table b l (has_end (pieces ++ piece ∷ []))) whole) (sym (joined-single pieces piece))
-        (subst (λ t. IsCutShort (due served_table b (joined pieces ++ piece) t) whole) (sym (has_end-last pieces piece)) h),
-     subst (λ ls. IsPrefix (joined (due served_table b (joined ls) false)) whole) (sym (before_last-last pieces piece)) (text, refl))
+    let whole = joined (due served_table b (joined pieces) false) ++ text in (
+      subst (λ l. IsCutShort (due served_table b l (has_end (pieces ++ piece ∷ []))) whole) (sym (joined-single pieces piece))
+          (subst (λ t. IsCutShort (due served_table b (joined pieces ++ piece) t) whole) (sym (has_end-last pieces piece)) h),
+      subst (λ ls. IsPrefix (joined (due served_table b (joined ls) false)) whole) (sym (before_last-last pieces piece)) (text, refl),
+    )
 Tells-broken b turns pieces piece text Memory h =
-    let whole = joined (due served_table b (joined pieces) false) ++ text in
-    (subst (λ l. SaysOutOfMemory (due served_table b l (has_end (pieces ++ piece ∷ []))) whole) (sym (joined-single pieces piece))
-        (subst (λ t. SaysOutOfMemory (due served_table b (joined pieces ++ piece) t) whole) (sym (has_end-last pieces piece)) h),
-     subst (λ ls. IsPrefix (joined (due served_table b (joined ls) false)) whole) (sym (before_last-last pieces piece)) (text, refl))
+    let whole = joined (due served_table b (joined pieces) false) ++ text in (
+      subst (λ l. SaysOutOfMemory (due served_table b l (has_end (pieces ++ piece ∷ []))) whole) (sym (joined-single pieces piece))
+          (subst (λ t. SaysOutOfMemory (due served_table b (joined pieces ++ piece) t) whole) (sym (has_end-last pieces piece)) h),
+      subst (λ ls. IsPrefix (joined (due served_table b (joined ls) false)) whole) (sym (before_last-last pieces piece)) (text, refl),
+    )
 Tells-broken b turns pieces piece text InputTooLong h = absurd h
 
 -- something failed after a read

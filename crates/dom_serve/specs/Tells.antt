@@ -1,6 +1,6 @@
 -- What was written, for each way in which serving ends. Due are the replies to the lines whose newline was read and, once the
 -- input has ended, to a last piece that is not empty.
-use Rattle.std.specs.Prelude.{◌≡◌, ℕ, Bool, true, false, List, [], ◌∷◌, ◌++◌, length, Option, Result, Ok, Err, ◌⊎◌}
+use Rattle.std.specs.Prelude.{◌≡◌, ℕ, Bool, true, false, List, ◌++◌, length, Result, Ok, Err, ◌⊎◌}
 use Rattle.dom_model.specs.Answer.{Bounds}
 use Rattle.dom_model.specs.Table.{served_table}
 use Rattle.dom_model.specs.Printed.{out_of_memory_line}

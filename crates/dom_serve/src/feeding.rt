@@ -43,7 +43,13 @@ impl Server {
         ensures lines { self.new.lines ≤ self.old.lines + 1 }
         ensures failed { W.has_failed writer.new ≡ is_write_fault result }
     {
-        if let Err(fault) = answer(self.alloc, &mut self.session, &self.kept, self.too_long, writer) {
+        if let Err(fault) = answer(
+            self.alloc,
+            &mut self.session,
+            &self.kept,
+            self.too_long,
+            writer,
+        ) {
             return Err(fault);
         }
         self.kept.clear();

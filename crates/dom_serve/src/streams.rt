@@ -13,6 +13,7 @@ pub trait Source {
     ghost left: { Self → Option (List ℕ) };
     // A read that does not fail may give these bytes and leave the reader so; at the end it gives none.
     ghost gives: { Self → List ℕ → Self → Type 0 };
+
     ghost has_failed: { Self → Bool };
 
     /// Reads some bytes into the front of the slice, and says how many: none into a slice that has room only at the end.
@@ -32,6 +33,7 @@ pub trait Source {
 pub trait Sink {
     // The bytes that it took so far, where they are known.
     ghost taken: { Self → Option (List ℕ) };
+
     ghost has_failed: { Self → Bool };
 
     /// Takes bytes from the front of the slice, and says how many: none of an empty slice alone.

@@ -46,7 +46,7 @@ fn out_of_memory_text() -> &'static [u8]
     OUT_OF_MEMORY
 }
 
-/// Says that memory was wanting.
+/// Says that memory was wanting, and gives the fault.
 pub fn write_out_of_memory<W: Sink>(writer: &mut W) -> Fault
     requires works { W.has_failed writer.old ≡ false }
     ensures written { SaysWant (W.taken writer.old) (W.taken writer.new) result }

@@ -22,7 +22,11 @@ same_bounds b w (Tree top) = refl
 -- the world of a tree in which nobody watches
 plain_world : Grove Content → World
 plain_world g = record {
-  forest = g.forest; made = g.made; ranges = []; iterators = []; walkers = [];
+  forest = g.forest;
+  made = g.made;
+  ranges = [];
+  iterators = [];
+  walkers = [];
   observing = record { registrations = []; mutations = []; places = []; notified = 0 };
   static_ranges = [];
 }
@@ -30,7 +34,13 @@ plain_world g = record {
 shows_plain : (g : Grove Content) → IsForest g → HasNoFragment g.forest → Shows g (plain_world g)
 unfolding plain_world
 shows_plain g sound whole = record {
-  forest = refl; made = refl; ranges = refl; iterators = refl; registrations = refl; sound = sound; fragments = whole;
+  forest = refl;
+  made = refl;
+  ranges = refl;
+  iterators = refl;
+  registrations = refl;
+  sound = sound;
+  fragments = whole;
 }
 
 -- a step leaves no fragment

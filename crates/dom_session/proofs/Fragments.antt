@@ -49,8 +49,8 @@ in_adopted : (n d : ℕ) (f : Forest Content) → HasNoFragment f → HasNoFragm
 in_adopted n d empty h = tt
 in_adopted n d (node x kids rest) h =
     either (x.number == n) (beside (map_nodes (in_document d) (node x kids empty)) (adopted n d rest)) (node x (adopted n d kids) (adopted n d rest))
-      (joined (map_nodes (in_document d) (node x kids empty)) (adopted n d rest) (h.0, in_map d kids h.1, tt) (in_adopted n d rest h.2))
-      (h.0, in_adopted n d kids h.1, in_adopted n d rest h.2)
+    (joined (map_nodes (in_document d) (node x kids empty)) (adopted n d rest) (h.0, in_map d kids h.1, tt) (in_adopted n d rest h.2))
+    (h.0, in_adopted n d kids h.1, in_adopted n d rest h.2)
 
 in_cut_where : (q : Option ℕ) (n : ℕ) (f : Forest Content) → HasNoFragment f → HasNoFragment (cut_where q n f)
 in_cut_where None n f h = h

@@ -32,6 +32,6 @@ among-leaf g sound n p held h =
     let e = hits-ancestors n p f sound.once in
     let leaf = occurs-leaf f sound.once n p held h in
     elim (same_or n p) [
-      same d t ↦ let k = rw t at leaf in rw t (hits-among n (ancestors p f) (omega arith))
-    | apart ne t ↦ let k = rw t at leaf in rw t (among-none n (ancestors p f) (omega arith))
+      | same d t ↦ let k = rw t at leaf in rw t (hits-among n (ancestors p f) (omega arith))
+      | apart ne t ↦ let k = rw t at leaf in rw t (among-none n (ancestors p f) (omega arith))
     ]

@@ -62,8 +62,8 @@ pub IsAmong-after : (n : ℕ) (xs : List ℕ) → IsOnce xs → IsAmong (after n
 IsAmong-after n [] once = tt
 IsAmong-after n (x ∷ xs) once =
     elim (x == n) as (λ t. IsAmong (if t then head_of xs else after n xs) (x ∷ xs)) [
-      true ↦ IsAmong-further x xs (head_of xs) once (IsAmong-head xs (IsOnce-tail x xs once))
-    | false ↦ IsAmong-further x xs (after n xs) once (IsAmong-after n xs (IsOnce-tail x xs once))
+      | true ↦ IsAmong-further x xs (head_of xs) once (IsAmong-head xs (IsOnce-tail x xs once))
+      | false ↦ IsAmong-further x xs (after n xs) once (IsAmong-after n xs (IsOnce-tail x xs once))
     ]
 
 further_on : (x n : ℕ) (xs : List ℕ) (t : Bool) → IsOnce (x ∷ xs) → hits n (x ∷ xs) ≡ 1 → (x == n) ≡ t → (hits n xs ≡ 1 → from_number n xs ≡ n ∷ from_optional (after n xs) xs) → (if t then x ∷ xs else from_number n xs) ≡ n ∷ from_optional (if t then head_of xs else after n xs) (x ∷ xs)

@@ -78,8 +78,8 @@ pub no_fragment : (q : Option ℕ) (n : ℕ) (f : Forest Content) → HasNoFragm
 no_fragment q n empty h = refl
 no_fragment q n (node x kids rest) h =
     elim (x.number == n) as (λ t. entry_has (is_kind DocumentFragment) (if t then Some (record { value = x; parent = q; children = tops kids }) else or_else (entry_under (Some x.number) n kids) (entry_under q n rest)) ≡ false) [
-      true ↦ h.0
-    | false ↦ either_not (entry_under (Some x.number) n kids) (entry_under q n rest) (no_fragment (Some x.number) n kids h.1) (no_fragment q n rest h.2)
+      | true ↦ h.0
+      | false ↦ either_not (entry_under (Some x.number) n kids) (entry_under q n rest) (no_fragment (Some x.number) n kids h.1) (no_fragment q n rest h.2)
     ]
 
 -- what a passed check says

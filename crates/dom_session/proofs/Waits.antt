@@ -55,7 +55,13 @@ pub record IsPrinting (f : Forest Content) (all : List TreeRow) (done : List Tre
 
 IsPart-more : (f : Forest Content) (low high : ℕ) (w : Waiting) (t : Part) → low ≤ high → IsPart f low w t → IsPart f high w t
 IsPart-more f low high w t h p = record {
-  above = p.above; passed = p.passed; shallow = omega (arith, p.shallow); level = p.level; first = p.first; lies = p.lies; within = p.within;
+  above = p.above;
+  passed = p.passed;
+  shallow = omega (arith, p.shallow);
+  level = p.level;
+  first = p.first;
+  lies = p.lies;
+  within = p.within;
 }
 
 Match-more : (f : Forest Content) (low high : ℕ) (ws : List Waiting) (ts : List Part) → low ≤ high → Match f low ws ts → Match f high ws ts
@@ -100,7 +106,7 @@ Match-wait : (f : Forest Content) (limit : ℕ) (ws : List Waiting) (ts : List P
 Match-wait f limit ws ts d above passed empty m h l e = rw (append-nil ws, append-nil ts) m
 Match-wait f limit ws ts d above passed (node x kids rest) m h l e =
     Match-push f limit ws ts (record { first = x.number; depth = d }) (record { depth = d; trees = node x kids rest }) m
-      (record { above = above; passed = passed; shallow = h; level = refl; first = refl; lies = l; within = e })
+    (record { above = above; passed = passed; shallow = h; level = refl; first = refl; lies = l; within = e })
 
 to_come-wait : (ts : List Part) (d : ℕ) (k : Forest Content) → to_come (ts ++ part_if d k) ≡ printed d k ++ to_come ts
 to_come-wait ts d empty = rw (append-nil ts) refl
@@ -115,8 +121,8 @@ after-passed : (x : ℕ) (passed ys : List ℕ) → ((m : ℕ) → hits m (passe
 after-passed x [] ys once = elim (same_or x x) [ same e t ↦ rw t refl | apart ne t ↦ absurd (ne refl) ]
 after-passed x (p ∷ ps) ys once =
     elim (same_or p x) [
-      same e t ↦ absurd (let h = once x in let k = rw t at h in let g = hits-passed x ps ys in omega arith)
-    | apart ne t ↦ rw t (after-passed x ps ys (λ m. let h = once m in omega arith))
+      | same e t ↦ absurd (let h = once x in let k = rw t at h in let g = hits-passed x ps ys in omega arith)
+      | apart ne t ↦ rw t (after-passed x ps ys (λ m. let h = once m in omega arith))
     ]
 
 -- the trees of a part: its first node, that one's children, and the trees after it
@@ -141,8 +147,17 @@ opened_from f limit w t p (node x kids rest) e h l c =
     let Q : ℕ → Type 0 = λ m. Lies (entry_in f) (Some m) kids in
     let R : ℕ → Type 0 = λ m. children_of f p.above ≡ p.passed ++ m ∷ tops rest in
     record {
-      x = x; kids = kids; rest = rest; are = e; number = n; above = p.above; passed = p.passed;
-      entry = subst P n l.0; lies_kids = subst Q n l.1; lies_rest = l.2; within = subst R n c;
+      x = x;
+      kids = kids;
+      rest = rest;
+      are = e;
+      number = n;
+      above = p.above;
+      passed = p.passed;
+      entry = subst P n l.0;
+      lies_kids = subst Q n l.1;
+      lies_rest = l.2;
+      within = subst R n c;
     }
 
 opened : (f : Forest Content) (limit : ℕ) (w : Waiting) (t : Part) → IsPart f limit w t → Opened f limit w t
@@ -164,7 +179,7 @@ IsPrinting-step g sound all done ws w r i row =
     let beside_it = Match-wait f (length (done ++ r ∷ [])) ws p.others w.depth o.above (o.passed ++ w.first ∷ []) o.rest matched (omega arith) o.lies_rest (rw append_assoc o.within) in
     let below_it = Match-wait f (length (done ++ r ∷ [])) (ws ++ waiting_for (head_of (tops o.rest)) w.depth) (p.others ++ part_if w.depth o.rest) (w.depth + 1) w.first [] o.kids beside_it (omega arith) o.lies_kids (rw o.entry refl) in
     let printed_now : printed p.part.depth p.part.trees ≡ r ∷ (printed (w.depth + 1) o.kids ++ printed w.depth o.rest) =
-        rw (o.are, p.last.level, is, add-one w.depth, map-append tree_row (rows (suc w.depth) o.kids) (rows w.depth o.rest), o.number) refl in
+    rw (o.are, p.last.level, is, add-one w.depth, map-append tree_row (rows (suc w.depth) o.kids) (rows w.depth o.rest), o.number) refl in
     record {
       parts = (p.others ++ part_if w.depth o.rest) ++ part_if (w.depth + 1) o.kids;
       matched = rw (next, down) below_it;
@@ -194,23 +209,23 @@ pub top_tree : (at : ℕ → Option (Entry (Node Content))) (q : Option ℕ) (f 
 top_tree at q empty top o l h = absurd (omega arith)
 top_tree at q (node x kids rest) top o l h =
     elim (same_or x.number top) [
-      same e t ↦
-        let z : occurs top rest ≡ 0 = let w = o top in let k = rw t at w in omega arith in
-        let P : ℕ → Type 0 = λ m. at m ≡ Some (record { value = x; parent = q; children = tops kids }) in
-        let Q : ℕ → Type 0 = λ m. Lies at (Some m) kids in
-        record { x = x; kids = kids; parent = q; are = rw (t, tree_at-absent top rest z) refl; number = e; entry = subst P e l.0; lies = subst Q e l.1 }
-    | apart ne t ↦
-        let w = o top in
-        let k = rw t at h in
-        ⊎_elim
+      | same e t ↦
+          let z : occurs top rest ≡ 0 = let w = o top in let k = rw t at w in omega arith in
+          let P : ℕ → Type 0 = λ m. at m ≡ Some (record { value = x; parent = q; children = tops kids }) in
+          let Q : ℕ → Type 0 = λ m. Lies at (Some m) kids in
+          record { x = x; kids = kids; parent = q; are = rw (t, tree_at-absent top rest z) refl; number = e; entry = subst P e l.0; lies = subst Q e l.1 }
+      | apart ne t ↦
+          let w = o top in
+          let k = rw t at h in
+          ⊎_elim
           (λ (lt : 0 < occurs top kids).
-            let i = top_tree at (Some x.number) kids top (λ m. let v = o m in omega arith) l.1 lt in
-            let z : occurs top rest ≡ 0 = omega arith in
-            record { x = i.x; kids = i.kids; parent = i.parent; are = tree_in_kids top x kids rest t z ∙ i.are; number = i.number; entry = i.entry; lies = i.lies })
+          let i = top_tree at (Some x.number) kids top (λ m. let v = o m in omega arith) l.1 lt in
+          let z : occurs top rest ≡ 0 = omega arith in
+          record { x = i.x; kids = i.kids; parent = i.parent; are = tree_in_kids top x kids rest t z ∙ i.are; number = i.number; entry = i.entry; lies = i.lies })
           (λ (le : occurs top kids ≤ 0).
-            let i = top_tree at q rest top (λ m. let v = o m in omega arith) l.2 (omega arith) in
-            let z : occurs top kids ≡ 0 = omega arith in
-            record { x = i.x; kids = i.kids; parent = i.parent; are = tree_in_rest top x kids rest t z ∙ i.are; number = i.number; entry = i.entry; lies = i.lies })
+          let i = top_tree at q rest top (λ m. let v = o m in omega arith) l.2 (omega arith) in
+          let z : occurs top kids ≡ 0 = omega arith in
+          record { x = i.x; kids = i.kids; parent = i.parent; are = tree_in_rest top x kids rest t z ∙ i.are; number = i.number; entry = i.entry; lies = i.lies })
           (cases_lt 0 (occurs top kids))
     ]
 

@@ -67,6 +67,6 @@ is_refusal (model.Own e) = true
 abbrev pub making_refusal : Grove Content → ℕ → ℕ → Option model.Reply
 making_refusal g numbers document =
     first_refusal ((is_none (entry_in g.forest document), model.Own NoSuchObject)
-        ∷ (not (kind_passes (is_kind Document) g.forest document), model.Dom TypeError)
-        ∷ (nat_lt numbers (g.made + 1), model.Own Limit)
-        ∷ [])
+    ∷ (not (kind_passes (is_kind Document) g.forest document), model.Dom TypeError)
+    ∷ (nat_lt numbers (g.made + 1), model.Own Limit)
+    ∷ [])

@@ -15,7 +15,12 @@ use dom_tree::Tree;
 use std::alloc::{AllocError, Global};
 
 /// Answers a command, where memory is there.
-pub fn answered(tree: &mut Tree<Content>, numbers: u64, alloc: Global, command: Command) -> Result<Reply, AllocError>
+pub fn answered(
+    tree: &mut Tree<Content>,
+    numbers: u64,
+    alloc: Global,
+    command: Command,
+) -> Result<Reply, AllocError>
     requires numbers { numbers ≤ 4294967295 }
     requires single { HasNoFragment tree.old.forest }
     ensures step { IfOk result (IsStep tree.old tree.new (numbered numbers) (command_view command)) }
@@ -24,7 +29,9 @@ pub fn answered(tree: &mut Tree<Content>, numbers: u64, alloc: Global, command: 
 {
     match command {
         Command::NewDocument => new_document(tree, numbers, alloc),
-        Command::CreateElement(document, name) => create_element(tree, numbers, alloc, document, name),
+        Command::CreateElement(document, name) => create_element(
+            tree, numbers, alloc, document, name,
+        ),
         Command::CreateText(document, text) => create_text(tree, numbers, alloc, document, text),
         Command::AppendChild(parent, node) => Ok(append_child(tree, numbers, parent, node)),
         Command::Tree(top) => print_tree(tree, numbers, alloc, top),

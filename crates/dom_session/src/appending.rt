@@ -56,7 +56,10 @@ fn has_child(tree: &Tree<Content>, parent: NodeId, kind: Kind) -> bool
 fn may_be_parent(kind: Kind) -> bool
     ensures { result ≡ may_be_parent kind }
 {
-    matches!(kind, Kind::Document | Kind::DocumentFragment | Kind::Element)
+    matches!(
+        kind,
+        Kind::Document | Kind::DocumentFragment | Kind::Element
+    )
 }
 
 // Whether a fragment brings more than one element, or a Text.
@@ -88,10 +91,12 @@ fn is_refused_by_document(tree: &Tree<Content>, document: NodeId, node: NodeId, 
 {
     match kind {
         Kind::Element => has_child(tree, document, Kind::Element),
-        Kind::DocumentType => has_child(tree, document, Kind::DocumentType) || has_child(tree, document, Kind::Element),
+        Kind::DocumentType => has_child(tree, document, Kind::DocumentType)
+            || has_child(tree, document, Kind::Element),
         Kind::DocumentFragment => {
             holds_too_much(tree, node)
-                || (count_children(tree, node, Kind::Element) == 1 && has_child(tree, document, Kind::Element))
+                || (count_children(tree, node, Kind::Element) == 1
+                    && has_child(tree, document, Kind::Element))
         }
         Kind::Text | Kind::ProcessingInstruction | Kind::Comment | Kind::Document => false,
     }

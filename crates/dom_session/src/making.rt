@@ -52,7 +52,11 @@ fn refusal(tree: &Tree<Content>, numbers: u64, document: NodeId) -> Option<Reply
 }
 
 /// Makes a Document.
-pub fn new_document(tree: &mut Tree<Content>, numbers: u64, alloc: Global) -> Result<Reply, AllocError>
+pub fn new_document(
+    tree: &mut Tree<Content>,
+    numbers: u64,
+    alloc: Global,
+) -> Result<Reply, AllocError>
     requires { numbers ≤ 4294967295 }
     ensures step { IfOk result (IsStep tree.old tree.new (numbered numbers) NewDocument) }
     ensures refused { IfOk result (λ reply. is_refusal (reply_view reply) ≡ true → tree.new ≡ tree.old) }
@@ -70,7 +74,13 @@ pub fn new_document(tree: &mut Tree<Content>, numbers: u64, alloc: Global) -> Re
 }
 
 /// Makes an Element.
-pub fn create_element(tree: &mut Tree<Content>, numbers: u64, alloc: Global, document: NodeId, name: String) -> Result<Reply, AllocError>
+pub fn create_element(
+    tree: &mut Tree<Content>,
+    numbers: u64,
+    alloc: Global,
+    document: NodeId,
+    name: String,
+) -> Result<Reply, AllocError>
     requires { numbers ≤ 4294967295 }
     ensures step { IfOk result (IsStep tree.old tree.new (numbered numbers) (CreateElement document (string_bytes name))) }
     ensures refused { IfOk result (λ reply. is_refusal (reply_view reply) ≡ true → tree.new ≡ tree.old) }
@@ -91,7 +101,13 @@ pub fn create_element(tree: &mut Tree<Content>, numbers: u64, alloc: Global, doc
 }
 
 /// Makes a Text.
-pub fn create_text(tree: &mut Tree<Content>, numbers: u64, alloc: Global, document: NodeId, text: Units) -> Result<Reply, AllocError>
+pub fn create_text(
+    tree: &mut Tree<Content>,
+    numbers: u64,
+    alloc: Global,
+    document: NodeId,
+    text: Units,
+) -> Result<Reply, AllocError>
     requires { numbers ≤ 4294967295 }
     ensures step { IfOk result (IsStep tree.old tree.new (numbered numbers) (CreateText document text)) }
     ensures refused { IfOk result (λ reply. is_refusal (reply_view reply) ≡ true → tree.new ≡ tree.old) }

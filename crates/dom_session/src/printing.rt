@@ -23,7 +23,12 @@ struct Waiting {
 }
 
 // The row of one node.
-fn row_of(tree: &Tree<Content>, alloc: Global, id: NodeId, depth: usize) -> Result<TreeRow, AllocError>
+fn row_of(
+    tree: &Tree<Content>,
+    alloc: Global,
+    id: NodeId,
+    depth: usize,
+) -> Result<TreeRow, AllocError>
     requires { HasNode tree.now.forest id }
     ensures { IfOk result (λ row. IfSome (entry_in tree.now.forest id) (λ e. row ≡ row_at id depth e.value)) }
 {
@@ -38,7 +43,11 @@ fn row_of(tree: &Tree<Content>, alloc: Global, id: NodeId, depth: usize) -> Resu
 }
 
 // Lets a node wait, where there is one.
-fn wait_for(waiting: &mut Vec<Waiting>, first: Option<NodeId>, depth: usize) -> Result<(), AllocError>
+fn wait_for(
+    waiting: &mut Vec<Waiting>,
+    first: Option<NodeId>,
+    depth: usize,
+) -> Result<(), AllocError>
     ensures { OnOk result (waiting.new.items ≡ waiting.old.items ++ waiting_for first depth) }
 {
     if let Some(first) = first {
@@ -66,7 +75,12 @@ fn rows_of(tree: &Tree<Content>, alloc: Global, top: NodeId) -> Result<Vec<TreeR
 }
 
 /// Prints a node and all that stands below it.
-pub fn print_tree(tree: &Tree<Content>, numbers: u64, alloc: Global, top: NodeId) -> Result<Reply, AllocError>
+pub fn print_tree(
+    tree: &Tree<Content>,
+    numbers: u64,
+    alloc: Global,
+    top: NodeId,
+) -> Result<Reply, AllocError>
     ensures { IfOk result (IsStep tree.now tree.now (numbered numbers) (TreeCommand top)) }
 {
     if !tree.holds(top) {

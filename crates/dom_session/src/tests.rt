@@ -36,14 +36,22 @@ fn nodes_are_made_and_printed(rt: HostRuntime) -> Result<(), Fail> {
     let mut session = Session::new(alloc, LIMITS)?;
     let document = NodeId::new(0);
     let name = String::from_str(alloc, "p")?;
-    let made = session.apply(Command::CreateElement(document, name)).map_err(|_| AllocError)?;
+    let made = session
+        .apply(Command::CreateElement(document, name))
+        .map_err(|_| AllocError)?;
     assert!(rt; is_number(&made, 1));
     let text = Units::from_str(alloc, "hi")?;
-    let made = session.apply(Command::CreateText(document, text)).map_err(|_| AllocError)?;
+    let made = session
+        .apply(Command::CreateText(document, text))
+        .map_err(|_| AllocError)?;
     assert!(rt; is_number(&made, 2));
-    let moved = session.apply(Command::AppendChild(NodeId::new(1), NodeId::new(2))).map_err(|_| AllocError)?;
+    let moved = session
+        .apply(Command::AppendChild(NodeId::new(1), NodeId::new(2)))
+        .map_err(|_| AllocError)?;
     assert!(rt; is_number(&moved, 2));
-    let printed = session.apply(Command::Tree(NodeId::new(1))).map_err(|_| AllocError)?;
+    let printed = session
+        .apply(Command::Tree(NodeId::new(1)))
+        .map_err(|_| AllocError)?;
     let Reply::Done(Answer::Rows(rows)) = printed else {
         assert!(rt; false, "no rows");
         return Ok(());
@@ -60,9 +68,13 @@ fn refusals_spend_no_number(rt: HostRuntime) -> Result<(), Fail> {
     let mut session = Session::new(alloc, LIMITS)?;
     let document = NodeId::new(0);
     let bad = String::from_str(alloc, "1a")?;
-    let refused = session.apply(Command::CreateElement(document, bad)).map_err(|_| AllocError)?;
+    let refused = session
+        .apply(Command::CreateElement(document, bad))
+        .map_err(|_| AllocError)?;
     assert!(rt; is_dom(&refused, DomError::InvalidCharacterError));
-    let refused = session.apply(Command::Tree(NodeId::new(1))).map_err(|_| AllocError)?;
+    let refused = session
+        .apply(Command::Tree(NodeId::new(1)))
+        .map_err(|_| AllocError)?;
     assert!(rt; is_own(&refused, OwnError::NoSuchObject));
     for number in 1..4u32 {
         let made = session.apply(Command::NewDocument).map_err(|_| AllocError)?;

@@ -23,20 +23,20 @@ pub from-after : (n m : ℕ) (l : List ℕ) → hits m l ≤ 1 → after n l ≡
 from-after n m [] o e = absurd (cc e)
 from-after n m (x ∷ xs) o e =
     elim (same_or x n) [
-      same d t ↦
-        let k = rw t at e in
-        let there = hits-head_of xs m k in
-        elim (same_or x m) [
-          same d2 v ↦ absurd (let w = rw v at o in omega arith)
-        | apart ne v ↦ rw (t, v) (λ i. d i ∷ first xs m k i)
-        ]
-    | apart ne t ↦
-        let k = rw t at e in
-        let there = hits-after n xs m k in
-        elim (same_or x m) [
-          same d2 v ↦ absurd (let w = rw v at o in omega arith)
-        | apart ne2 v ↦ rw (t, v) (from-after n m xs (let w = rw v at o in omega arith) k)
-        ]
+      | same d t ↦
+          let k = rw t at e in
+          let there = hits-head_of xs m k in
+          elim (same_or x m) [
+            | same d2 v ↦ absurd (let w = rw v at o in omega arith)
+            | apart ne v ↦ rw (t, v) (λ i. d i ∷ first xs m k i)
+          ]
+      | apart ne t ↦
+          let k = rw t at e in
+          let there = hits-after n xs m k in
+          elim (same_or x m) [
+            | same d2 v ↦ absurd (let w = rw v at o in omega arith)
+            | apart ne2 v ↦ rw (t, v) (from-after n m xs (let w = rw v at o in omega arith) k)
+          ]
     ]
   where
     first : (ys : List ℕ) (y : ℕ) → head_of ys ≡ Some y → ys ≡ from_first y ys
@@ -48,11 +48,11 @@ pub from-last : (n : ℕ) (l : List ℕ) → 0 < hits n l → after n l ≡ None
 from-last n [] h e = absurd (omega arith)
 from-last n (x ∷ xs) h e =
     elim (same_or x n) [
-      same d t ↦ (let k = rw t at e in rw t (λ i. d i ∷ empty_list xs k i))
-    | apart ne t ↦
-        let k = rw t at e in
-        let w = rw t at h in
-        rw t (from-last n xs (omega arith) k)
+      | same d t ↦ (let k = rw t at e in rw t (λ i. d i ∷ empty_list xs k i))
+      | apart ne t ↦
+          let k = rw t at e in
+          let w = rw t at h in
+          rw t (from-last n xs (omega arith) k)
     ]
   where
     empty_list : (ys : List ℕ) → head_of ys ≡ None → ys ≡ []
@@ -75,16 +75,16 @@ module _ {X : Type 0} where
   paint-more : (d n : ℕ) (ns : List ℕ) (x : Node X) → paint d (λ m. among m ns) (if x.number == n then in_document d x else x) ≡ paint d (λ m. among m (n ∷ ns)) x
   paint-more d n ns x =
       elim (same_or x.number n) [
-        same e t ↦
-          elim (same_or n x.number) [
-            same _ v ↦ rw (t, v) (elim (among x.number ns) as (λ b. (if b then in_document d (in_document d x) else in_document d x) ≡ in_document d x) [ true ↦ refl | false ↦ refl ])
-          | apart ne v ↦ absurd (ne (sym e))
-          ]
-      | apart ne t ↦
-          elim (same_or n x.number) [
-            same e v ↦ absurd (ne (sym e))
-          | apart _ v ↦ rw (t, v) refl
-          ]
+        | same e t ↦
+            elim (same_or n x.number) [
+              | same _ v ↦ rw (t, v) (elim (among x.number ns) as (λ b. (if b then in_document d (in_document d x) else in_document d x) ≡ in_document d x) [ true ↦ refl | false ↦ refl ])
+              | apart ne v ↦ absurd (ne (sym e))
+            ]
+        | apart ne t ↦
+            elim (same_or n x.number) [
+              | same e v ↦ absurd (ne (sym e))
+              | apart _ v ↦ rw (t, v) refl
+            ]
       ]
 
   map_nodes-more : (d n : ℕ) (ns : List ℕ) (f : Forest X) → map_nodes (paint d (λ m. among m ns)) (with_node n (in_document d) f) ≡ map_nodes (paint d (λ m. among m (n ∷ ns))) f
@@ -108,28 +108,28 @@ module _ {X : Type 0} where
   paint-tree d top chosen empty h k = refl
   paint-tree d top chosen (node x kids rest) h k =
       elim (same_or x.number top) [
-        same e t ↦
-          let h2 : (m : ℕ) → 0 < occurs m (node x kids (tree_at top rest)) → chosen m ≡ true = rw t at h in
-          let k2 : (m : ℕ) → 0 < occurs m (without top rest) → chosen m ≡ false = rw t at k in
-          let c : chosen x.number ≡ true = h2 x.number (grind (arith, nat_tests)) in
-          let a = map_nodes-chosen d chosen kids (λ m i. h2 m (omega (arith, i))) in
-          let b = paint-tree d top chosen rest (λ m i. h2 m (omega (arith, i))) k2 in
-          rw (t, c, a, b) refl
-      | apart ne t ↦
-          let h2 : (m : ℕ) → 0 < occurs m (beside (tree_at top kids) (tree_at top rest)) → chosen m ≡ true = rw t at h in
-          let k2 : (m : ℕ) → 0 < occurs m (node x (without top kids) (without top rest)) → chosen m ≡ false = rw t at k in
-          let c : chosen x.number ≡ false = k2 x.number (grind (arith, nat_tests)) in
-          let a = paint-tree d top chosen kids (λ m i. h2 m (omega (arith, i, total-beside (one_at m) (tree_at top kids) (tree_at top rest)))) (λ m i. k2 m (omega (arith, i))) in
-          let b = paint-tree d top chosen rest (λ m i. h2 m (omega (arith, i, total-beside (one_at m) (tree_at top kids) (tree_at top rest)))) (λ m i. k2 m (omega (arith, i))) in
-          rw (t, c, a, b) refl
+        | same e t ↦
+            let h2 : (m : ℕ) → 0 < occurs m (node x kids (tree_at top rest)) → chosen m ≡ true = rw t at h in
+            let k2 : (m : ℕ) → 0 < occurs m (without top rest) → chosen m ≡ false = rw t at k in
+            let c : chosen x.number ≡ true = h2 x.number (grind (arith, nat_tests)) in
+            let a = map_nodes-chosen d chosen kids (λ m i. h2 m (omega (arith, i))) in
+            let b = paint-tree d top chosen rest (λ m i. h2 m (omega (arith, i))) k2 in
+            rw (t, c, a, b) refl
+        | apart ne t ↦
+            let h2 : (m : ℕ) → 0 < occurs m (beside (tree_at top kids) (tree_at top rest)) → chosen m ≡ true = rw t at h in
+            let k2 : (m : ℕ) → 0 < occurs m (node x (without top kids) (without top rest)) → chosen m ≡ false = rw t at k in
+            let c : chosen x.number ≡ false = k2 x.number (grind (arith, nat_tests)) in
+            let a = paint-tree d top chosen kids (λ m i. h2 m (omega (arith, i, total-beside (one_at m) (tree_at top kids) (tree_at top rest)))) (λ m i. k2 m (omega (arith, i))) in
+            let b = paint-tree d top chosen rest (λ m i. h2 m (omega (arith, i, total-beside (one_at m) (tree_at top kids) (tree_at top rest)))) (λ m i. k2 m (omega (arith, i))) in
+            rw (t, c, a, b) refl
       ]
 
   pub painted-adopted : (d top : ℕ) (f : Forest X) → ((m : ℕ) → occurs m f ≤ 1) → painted d (inclusive_descendants f top) f ≡ adopted top d f
   painted-adopted d top f o =
       painted-paint d (numbers (tree_at top f)) f
-        ∙ paint-tree d top (λ m. among m (numbers (tree_at top f))) f
-          (λ m h. hits-among m (numbers (tree_at top f)) (omega (arith, hits-numbers m (tree_at top f))))
-          (λ m h. false_from_ne_true (among m (numbers (tree_at top f))) (λ e. let k = among-hits m (numbers (tree_at top f)) e in let a = hits-numbers m (tree_at top f) in let b = total-tree_at (one_at m) top f in let c = o m in omega arith))
+      ∙ paint-tree d top (λ m. among m (numbers (tree_at top f))) f
+      (λ m h. hits-among m (numbers (tree_at top f)) (omega (arith, hits-numbers m (tree_at top f))))
+      (λ m h. false_from_ne_true (among m (numbers (tree_at top f))) (λ e. let k = among-hits m (numbers (tree_at top f)) e in let a = hits-numbers m (tree_at top f) in let b = total-tree_at (one_at m) top f in let c = o m in omega arith))
 
   tree_at-beside : (n : ℕ) (h : Node X → Node X) (f g : Forest X) → with_node n h (beside f g) ≡ beside (with_node n h f) (with_node n h g)
   tree_at-beside n h empty g = refl
@@ -139,8 +139,8 @@ module _ {X : Type 0} where
   tree_at-with_node top n d empty = refl
   tree_at-with_node top n d (node x kids rest) =
       rw (number_is d n x) (elim (same_or x.number top) [
-        same e t ↦ rw (t, tree_at-with_node top n d rest) refl
-      | apart ne t ↦ rw (t, tree_at-with_node top n d kids, tree_at-with_node top n d rest) (sym (tree_at-beside n (in_document d) (tree_at top kids) (tree_at top rest)))
+        | same e t ↦ rw (t, tree_at-with_node top n d rest) refl
+        | apart ne t ↦ rw (t, tree_at-with_node top n d kids, tree_at-with_node top n d rest) (sym (tree_at-beside n (in_document d) (tree_at top kids) (tree_at top rest)))
       ])
     where
       number_is : (d n : ℕ) (x : Node X) → (if x.number == n then in_document d x else x).number ≡ x.number
@@ -171,17 +171,21 @@ module _ {X : Type 0} where
         there = h;
         within = inside_top;
         ahead = ap (λ l. painted d l g.forest) whole ∙ painted-adopted d top g.forest s.once;
-        made = refl
+        made = refl;
       }
     where
       there : occurs top g.forest ≡ 1
       there = omega (arith, occurs-HasNode g.forest top h, s.once top)
+
       starts : Single top (tree_at top g.forest) → from_first top (inclusive_descendants g.forest top) ≡ inclusive_descendants g.forest top
       starts (single x kids e t) = rw t (elim (same_or x.number top) [ same _ v ↦ rw v refl | apart ne v ↦ absurd (ne e) ])
+
       whole : from_first top (inclusive_descendants g.forest top) ≡ inclusive_descendants g.forest top
       whole = starts (tree_at-single top g.forest there)
+
       found : Single top (tree_at top g.forest) → 0 < occurs top (tree_at top g.forest)
       found (single x kids e t) = rw t (elim (same_or x.number top) [ same _ v ↦ rw v (omega arith) | apart ne v ↦ absurd (ne e) ])
+
       inside_top : 0 < occurs top (tree_at top g.forest)
       inside_top = found (tree_at-single top g.forest there)
 
@@ -214,9 +218,9 @@ module _ {X : Type 0} {start g h : Grove X} {top d here : ℕ} (a : Adopts start
         there = HasNode-occurs h.forest m (let w = after-inside s top here m k in omega (arith, total-tree_at (one_at m) top h.forest));
         within = after-inside s top here m k;
         ahead =
-          ap (λ (f : Forest X). painted d (from_first m (inclusive_descendants h.forest top)) f) (ap (λ (q : Grove X). q.forest) e)
+            ap (λ (f : Forest X). painted d (from_first m (inclusive_descendants h.forest top)) f) (ap (λ (q : Grove X). q.forest) e)
             ∙ ap (λ l. painted d l g.forest) (sym (step m k)) ∙ a.ahead;
-        made = ap (λ (q : Grove X). q.made) e ∙ a.made
+        made = ap (λ (q : Grove X). q.made) e ∙ a.made;
       }
 
   pub Adopts-end : after here (inclusive_descendants h.forest top) ≡ None → ◌≡◌ {A = Grove X} h (record { forest = adopted top d start.forest; made = start.made })
@@ -226,5 +230,6 @@ module _ {X : Type 0} {start g h : Grove X} {top d here : ℕ} (a : Adopts start
       rest : from_first here (inclusive_descendants g.forest top) ≡ here ∷ []
       rest =
           ap (from_first here) (sym same_order) ∙ from-last here (inclusive_descendants h.forest top) (let w = Adopts-within in omega (arith, hits-numbers here (tree_at top h.forest))) k
+
       forest : with_node here (in_document d) g.forest ≡ adopted top d start.forest
       forest = ap (λ l. painted d l g.forest) (sym rest) ∙ a.ahead

@@ -31,45 +31,45 @@ module _ {X : Type 0} where
       let om = o m in
       let on = o n in
       elim (same_or x.number n) [
-        same e t ↦
-          let k = rw t at on in
-          let nr : occurs n rest ≡ 0 = omega arith in
-          let tr = tree_at-absent n rest nr in
-          let h2 = rw (t, tr) at h in
-          let mr : occurs m rest ≡ 0 = omega arith in
-          let zr = tree_at-absent m rest mr in
-          rw (t, tr) (elim (same_or x.number m) [
-            same _ v ↦ rw (v, zr) refl
-          | apart _ v ↦ rw (v, zr) refl
-          ])
-      | apart ne t ↦
-          let k = rw t at on in
-          let h2 = rw t at h in
-          ⊎_elim
+        | same e t ↦
+            let k = rw t at on in
+            let nr : occurs n rest ≡ 0 = omega arith in
+            let tr = tree_at-absent n rest nr in
+            let h2 = rw (t, tr) at h in
+            let mr : occurs m rest ≡ 0 = omega arith in
+            let zr = tree_at-absent m rest mr in
+            rw (t, tr) (elim (same_or x.number m) [
+              | same _ v ↦ rw (v, zr) refl
+              | apart _ v ↦ rw (v, zr) refl
+            ])
+        | apart ne t ↦
+            let k = rw t at on in
+            let h2 = rw t at h in
+            ⊎_elim
             (λ (lt : 0 < occurs n kids).
-              let nr : occurs n rest ≡ 0 = omega arith in
-              let tr = tree_at-absent n rest nr in
-              let h3 : 0 < occurs m (tree_at n kids) = rw (tr, beside-empty (tree_at n kids)) at h2 in
-              let mk : 0 < occurs m kids = omega (arith, total-tree_at (one_at m) n kids) in
-              let mr : occurs m rest ≡ 0 = omega arith in
-              let zr = tree_at-absent m rest mr in
-              let ih = tree_at-inside m n kids (λ j. let w = o j in omega arith) h3 in
-              rw (t, tr, beside-empty (tree_at n kids), ih) (elim (same_or x.number m) [
-                same d v ↦ absurd (let w = rw v at om in omega arith)
+            let nr : occurs n rest ≡ 0 = omega arith in
+            let tr = tree_at-absent n rest nr in
+            let h3 : 0 < occurs m (tree_at n kids) = rw (tr, beside-empty (tree_at n kids)) at h2 in
+            let mk : 0 < occurs m kids = omega (arith, total-tree_at (one_at m) n kids) in
+            let mr : occurs m rest ≡ 0 = omega arith in
+            let zr = tree_at-absent m rest mr in
+            let ih = tree_at-inside m n kids (λ j. let w = o j in omega arith) h3 in
+            rw (t, tr, beside-empty (tree_at n kids), ih) (elim (same_or x.number m) [
+              | same d v ↦ absurd (let w = rw v at om in omega arith)
               | apart _ v ↦ rw (v, zr, beside-empty (tree_at m kids)) refl
-              ]))
+            ]))
             (λ (le : occurs n kids ≤ 0).
-              let nk : occurs n kids ≡ 0 = omega arith in
-              let tk = tree_at-absent n kids nk in
-              let h3 : 0 < occurs m (tree_at n rest) = rw tk at h2 in
-              let mr : 0 < occurs m rest = omega (arith, total-tree_at (one_at m) n rest) in
-              let mk : occurs m kids ≡ 0 = omega arith in
-              let zk = tree_at-absent m kids mk in
-              let ih = tree_at-inside m n rest (λ j. let w = o j in omega arith) h3 in
-              rw (t, tk, ih) (elim (same_or x.number m) [
-                same d v ↦ absurd (let w = rw v at om in omega arith)
+            let nk : occurs n kids ≡ 0 = omega arith in
+            let tk = tree_at-absent n kids nk in
+            let h3 : 0 < occurs m (tree_at n rest) = rw tk at h2 in
+            let mr : 0 < occurs m rest = omega (arith, total-tree_at (one_at m) n rest) in
+            let mk : occurs m kids ≡ 0 = omega arith in
+            let zk = tree_at-absent m kids mk in
+            let ih = tree_at-inside m n rest (λ j. let w = o j in omega arith) h3 in
+            rw (t, tk, ih) (elim (same_or x.number m) [
+              | same d v ↦ absurd (let w = rw v at om in omega arith)
               | apart _ v ↦ rw (v, zk) refl
-              ]))
+            ]))
             (cases_lt 0 (occurs n kids))
       ]
 
@@ -85,10 +85,10 @@ module _ {X : Type 0} where
       let om = o m in
       let ih = last-tree m (node y ks r) (λ j. let w = o j in omega arith) e in
       elim (same_or x.number m) [
-        same d t ↦ absurd (let w = rw t at om in omega arith)
-      | apart ne t ↦
-          let zk : occurs m kids ≡ 0 = omega arith in
-          rw (t, tree_at-absent m kids zk) (last_of-behind (x.number ∷ numbers kids) y.number (numbers ks ++ numbers r) ∙ ih)
+        | same d t ↦ absurd (let w = rw t at om in omega arith)
+        | apart ne t ↦
+            let zk : occurs m kids ≡ 0 = omega arith in
+            rw (t, tree_at-absent m kids zk) (last_of-behind (x.number ∷ numbers kids) y.number (numbers ks ++ numbers r) ∙ ih)
       ]
 
   tops-none : (f : Forest X) → last_of (tops f) ≡ None → f ≡ empty
@@ -126,16 +126,19 @@ module _ {X : Type 0} {g : Grove X} (s : IsForest g) where
           let inner : 0 < occurs m (tree_at n g.forest) = rw t (omega arith) in
           let same_tree = sym (tree_at-inside m n g.forest s.once inner) in
           let shape : tree_at m (node x kids empty) ≡ tree_at m kids =
-              elim (same_or x.number m) [
-                same i v ↦ absurd (let w = rw v at om in omega arith)
-              | apart _ v ↦ rw v (beside-empty (tree_at m kids))
-              ] in
+          elim (same_or x.number m) [
+            | same i v ↦ absurd (let w = rw v at om in omega arith)
+            | apart _ v ↦ rw v (beside-empty (tree_at m kids))
+          ] in
           let whole : tree_at m g.forest ≡ tree_at m kids = same_tree ∙ ap (tree_at m) t ∙ shape in
           let lt = last-tree m kids (λ k. let w = ot k in omega arith) e2 in
-          let all : last_of (numbers (node x kids empty)) ≡ last_of (numbers kids) = last_nodes x kids e2 in
-          (ap (λ (u : Forest X). last_of (numbers u)) whole ∙ sym lt ∙ sym all ∙ ap (λ (u : Forest X). last_of (numbers u)) (sym t),
-            (rw (whole, t) (omega (arith, total-tree_at (λ _. 1) m kids)),
-              HasNode-occurs g.forest m (omega (arith, total-tree_at (one_at m) n g.forest))))
+          let all : last_of (numbers (node x kids empty)) ≡ last_of (numbers kids) = last_nodes x kids e2 in (
+            ap (λ (u : Forest X). last_of (numbers u)) whole ∙ sym lt ∙ sym all ∙ ap (λ (u : Forest X). last_of (numbers u)) (sym t),
+            (
+              rw (whole, t) (omega (arith, total-tree_at (λ _. 1) m kids)),
+              HasNode-occurs g.forest m (omega (arith, total-tree_at (one_at m) n g.forest)),
+            ),
+          )
         where
           last_nodes : (x : Node X) (kids : Forest X) → last_of (tops kids) ≡ Some m → last_of (numbers (node x kids empty)) ≡ last_of (numbers kids)
           last_nodes x empty z = absurd (cc z)

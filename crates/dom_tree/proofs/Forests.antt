@@ -15,14 +15,14 @@ module _ {X : Type 0} where
   entry_under-there q n empty h = absurd (omega arith)
   entry_under-there q n (node x kids rest) h =
       elim (same_or x.number n) [
-        same e t ↦ rw t refl
-      | apart ne t ↦
-          let k = rw t at h in
-          rw t (⊎_elim
+        | same e t ↦ rw t refl
+        | apart ne t ↦
+            let k = rw t at h in
+            rw t (⊎_elim
             (λ (lt : 0 < occurs n kids). or_first (entry_under (Some x.number) n kids) (entry_under q n rest) (entry_under-there (Some x.number) n kids lt))
             (λ (le : occurs n kids ≤ 0).
-              let z : occurs n kids ≡ 0 = omega arith in
-              rw (entry_under-absent (Some x.number) n kids z) (entry_under-there q n rest (omega arith)))
+            let z : occurs n kids ≡ 0 = omega arith in
+            rw (entry_under-absent (Some x.number) n kids z) (entry_under-there q n rest (omega arith)))
             (cases_lt 0 (occurs n kids)))
       ]
     where
@@ -36,9 +36,9 @@ module _ {X : Type 0} where
   pub occurs-HasNode : (f : Forest X) (n : ℕ) → HasNode f n → 0 < occurs n f
   occurs-HasNode f n h =
       ⊎_elim
-        (λ (lt : 0 < occurs n f). lt)
-        (λ (le : occurs n f ≤ 0). absurd (let z : entry_in f n ≡ None = entry_under-absent None n f (omega arith) in let k = rw z at h in false≢true k))
-        (cases_lt 0 (occurs n f))
+      (λ (lt : 0 < occurs n f). lt)
+      (λ (le : occurs n f ≤ 0). absurd (let z : entry_in f n ≡ None = entry_under-absent None n f (omega arith) in let k = rw z at h in false≢true k))
+      (cases_lt 0 (occurs n f))
 
   Lies-agree : (at : (ℕ → Option (Entry (Node X)))) (q : Option ℕ) (f : Forest X) → ((m : ℕ) → occurs m f ≤ 1) → ((n : ℕ) → 0 < occurs n f → at n ≡ entry_under q n f) → Lies at q f
   Lies-agree at q empty o h = tt
@@ -48,31 +48,34 @@ module _ {X : Type 0} where
       top : at x.number ≡ Some (record { value = x; parent = q; children = tops kids })
       top =
           elim (same_or x.number x.number) [
-            same e t ↦ (let k = h x.number (grind (arith, nat_tests)) in let k2 = rw t at k in k2)
-          | apart ne t ↦ absurd (ne refl)
+            | same e t ↦ (let k = h x.number (grind (arith, nat_tests)) in let k2 = rw t at k in k2)
+            | apart ne t ↦ absurd (ne refl)
           ]
+
       or_first : (o p : Option (Entry (Node X))) → IsSome o → or_else o p ≡ o
       or_first None p i = absurd (false≢true i)
       or_first (Some e) p i = refl
+
       below_kids : (n : ℕ) → 0 < occurs n kids → at n ≡ entry_under (Some x.number) n kids
       below_kids n k =
           elim (same_or x.number n) [
-            same e t ↦ absurd (let i = o n in let i2 = rw t at i in omega arith)
-          | apart ne t ↦
-              let j = h n (omega arith) in
-              let j2 = rw t at j in
-              j2 ∙ or_first (entry_under (Some x.number) n kids) (entry_under q n rest) (entry_under-there (Some x.number) n kids k)
+            | same e t ↦ absurd (let i = o n in let i2 = rw t at i in omega arith)
+            | apart ne t ↦
+                let j = h n (omega arith) in
+                let j2 = rw t at j in
+                j2 ∙ or_first (entry_under (Some x.number) n kids) (entry_under q n rest) (entry_under-there (Some x.number) n kids k)
           ]
+
       below_rest : (n : ℕ) → 0 < occurs n rest → at n ≡ entry_under q n rest
       below_rest n k =
           elim (same_or x.number n) [
-            same e t ↦ absurd (let i = o n in let i2 = rw t at i in omega arith)
-          | apart ne t ↦
-              let i = o n in
-              let z : occurs n kids ≡ 0 = omega arith in
-              let j = h n (omega arith) in
-              let j2 = rw (t, entry_under-absent (Some x.number) n kids z) at j in
-              j2
+            | same e t ↦ absurd (let i = o n in let i2 = rw t at i in omega arith)
+            | apart ne t ↦
+                let i = o n in
+                let z : occurs n kids ≡ 0 = omega arith in
+                let j = h n (omega arith) in
+                let j2 = rw (t, entry_under-absent (Some x.number) n kids z) at j in
+                j2
           ]
 
   -- the entries of a forest spell it

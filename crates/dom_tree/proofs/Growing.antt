@@ -16,10 +16,10 @@ hits-low low n [] r h = refl
 hits-low low n (m ∷ ms) r h =
     let k : low ≤ m = r.0 in
     elim (same_or m n) [
-      same e t ↦ absurd (omega arith)
-    | apart ne t ↦
-        let z : hits n ms ≡ 0 = hits-low (suc m) n ms r.1 (omega arith) in
-        rw t (omega arith)
+      | same e t ↦ absurd (omega arith)
+      | apart ne t ↦
+          let z : hits n ms ≡ 0 = hits-low (suc m) n ms r.1 (omega arith) in
+          rw t (omega arith)
     ]
 
 pub rising_same : (low : ℕ) (xs ys : List ℕ) → IsRising low xs → IsRising low ys → ((n : ℕ) → hits n xs ≡ hits n ys) → xs ≡ ys
@@ -28,23 +28,23 @@ rising_same low [] (y ∷ ys) r s h = absurd (let k = h y in grind (arith, nat_t
 rising_same low (x ∷ xs) [] r s h = absurd (let k = h x in grind (arith, nat_tests))
 rising_same low (x ∷ xs) (y ∷ ys) r s h =
     ⊎_elim
-      (λ (lt : x < y).
-        let k = h x in
-        let z = hits-low (suc y) x ys s.1 (omega arith) in
-        absurd (grind (arith, nat_tests)))
-      (λ (le : y ≤ x).
-        ⊎_elim
-          (λ (lt : y < x).
-            let k = h y in
-            let z = hits-low (suc x) y xs r.1 (omega arith) in
-            absurd (grind (arith, nat_tests)))
-          (λ (ge : x ≤ y).
-            let e : x ≡ y = omega arith in
-            let r1 = rw e at r.1 in
-            let tail : xs ≡ ys = rising_same (suc y) xs ys r1 s.1 (λ n. let k = h n in let k2 = rw e at k in omega (arith, k2)) in
-            rw (e, tail) refl)
-          (cases_lt y x))
-      (cases_lt x y)
+    (λ (lt : x < y).
+    let k = h x in
+    let z = hits-low (suc y) x ys s.1 (omega arith) in
+    absurd (grind (arith, nat_tests)))
+    (λ (le : y ≤ x).
+    ⊎_elim
+    (λ (lt : y < x).
+    let k = h y in
+    let z = hits-low (suc x) y xs r.1 (omega arith) in
+    absurd (grind (arith, nat_tests)))
+    (λ (ge : x ≤ y).
+    let e : x ≡ y = omega arith in
+    let r1 = rw e at r.1 in
+    let tail : xs ≡ ys = rising_same (suc y) xs ys r1 s.1 (λ n. let k = h n in let k2 = rw e at k in omega (arith, k2)) in
+    rw (e, tail) refl)
+    (cases_lt y x))
+    (cases_lt x y)
 
 abbrev pub rootless : Option ℕ → ℕ
 rootless None = 1
@@ -67,6 +67,7 @@ module _ {X : Type 0} where
       under : (p : Option ℕ) → IsRising (suc low) (roots_from (suc low) count at) → IsRising low (root_under p low (roots_from (suc low) count at))
       under None r = (omega arith, r)
       under (Some p) r = IsRising-from (suc low) low _ (omega arith) r
+
       first : (o : Option (Entry (Node X))) → IsRising (suc low) (roots_from (suc low) count at) → IsRising low (root_first o low (roots_from (suc low) count at))
       first None r = IsRising-from (suc low) low _ (omega arith) r
       first (Some e) r = under e.parent r
@@ -80,14 +81,14 @@ module _ {X : Type 0} where
   hits-roots_from at n low (suc count) h k =
       let s = hits-root_first n low (at low) (roots_from (suc low) count at) in
       elim (same_or low n) [
-        same e t ↦
-          let z = hits-low (suc low) n (roots_from (suc low) count at) (roots_from-rising at (suc low) count) (omega arith) in
-          let s2 = rw t at s in
-          let s3 : hits n (root_first (at low) low (roots_from (suc low) count at)) ≡ rooted (at low) = omega (arith, s2, z) in
-          s3 ∙ ap (λ m. rooted (at m)) e
-      | apart ne t ↦
-          let s2 = rw t at s in
-          omega (arith, s2, hits-roots_from at n (suc low) count (omega arith) (omega arith))
+        | same e t ↦
+            let z = hits-low (suc low) n (roots_from (suc low) count at) (roots_from-rising at (suc low) count) (omega arith) in
+            let s2 = rw t at s in
+            let s3 : hits n (root_first (at low) low (roots_from (suc low) count at)) ≡ rooted (at low) = omega (arith, s2, z) in
+            s3 ∙ ap (λ m. rooted (at m)) e
+        | apart ne t ↦
+            let s2 = rw t at s in
+            omega (arith, s2, hits-roots_from at n (suc low) count (omega arith) (omega arith))
       ]
 
   pub hits-roots_past : (at : (ℕ → Option (Entry (Node X)))) (n low count : ℕ) → low + count ≤ n → hits n (roots_from low count at) ≡ 0
@@ -95,10 +96,10 @@ module _ {X : Type 0} where
   hits-roots_past at n low (suc count) h =
       let s = hits-root_first n low (at low) (roots_from (suc low) count at) in
       elim (same_or low n) [
-        same e t ↦ absurd (omega arith)
-      | apart ne t ↦
-          let s2 = rw t at s in
-          omega (arith, s2, hits-roots_past at n (suc low) count (omega arith))
+        | same e t ↦ absurd (omega arith)
+        | apart ne t ↦
+            let s2 = rw t at s in
+            omega (arith, s2, hits-roots_past at n (suc low) count (omega arith))
       ]
 
   -- what stands under a parent is no root
@@ -106,10 +107,10 @@ module _ {X : Type 0} where
   rooted-under at q empty n l h = absurd (omega arith)
   rooted-under at q (node x kids rest) n l h =
       elim (same_or x.number n) [
-        same e t ↦ subst (λ m. rooted (at m) ≡ 0) e (rw l.0 refl)
-      | apart ne t ↦
-          let k = rw t at h in
-          ⊎_elim
+        | same e t ↦ subst (λ m. rooted (at m) ≡ 0) e (rw l.0 refl)
+        | apart ne t ↦
+            let k = rw t at h in
+            ⊎_elim
             (λ (lt : 0 < occurs n kids). rooted-under at x.number kids n l.1 lt)
             (λ (le : occurs n kids ≤ 0). rooted-under at q rest n l.2 (omega arith))
             (cases_lt 0 (occurs n kids))
@@ -119,14 +120,14 @@ module _ {X : Type 0} where
   rooted-tops at empty n l o h = absurd (omega arith)
   rooted-tops at (node x kids rest) n l o h =
       elim (same_or x.number n) [
-        same e t ↦
-          let k = rw t at o in
-          let r : rooted (at n) ≡ 1 = subst (λ m. rooted (at m) ≡ 1) e (rw l.0 refl) in
-          rw t (omega (arith, r, hits-tops n rest))
-      | apart ne t ↦
-          let k = rw t at h in
-          let ko = rw t at o in
-          rw t (⊎_elim
+        | same e t ↦
+            let k = rw t at o in
+            let r : rooted (at n) ≡ 1 = subst (λ m. rooted (at m) ≡ 1) e (rw l.0 refl) in
+            rw t (omega (arith, r, hits-tops n rest))
+        | apart ne t ↦
+            let k = rw t at h in
+            let ko = rw t at o in
+            rw t (⊎_elim
             (λ (lt : 0 < occurs n kids). omega (arith, rooted-under at x.number kids n l.1 lt, hits-tops n rest))
             (λ (le : occurs n kids ≤ 0). omega (arith, rooted-tops at rest n l.2 (omega arith) (omega arith)))
             (cases_lt 0 (occurs n kids)))
@@ -143,20 +144,22 @@ module _ {X : Type 0} where
       held_at_most : (o : Option (Entry (Node X))) → held o ≤ 1
       held_at_most None = omega arith
       held_at_most (Some e) = omega arith
+
       counted : (n : ℕ) → hits n (tops f) ≡ rooted (at n)
       counted n =
           ⊎_elim
-            (λ (lt : 0 < occurs n f). rooted-tops at f n s.placed (omega (arith, s.counted n, held_at_most (at n))) lt)
-            (λ (le : occurs n f ≤ 0).
-              let z : at n ≡ None = held-none (at n) (omega (arith, s.counted n)) in
-              rw z (omega (arith, hits-tops n f)))
-            (cases_lt 0 (occurs n f))
+          (λ (lt : 0 < occurs n f). rooted-tops at f n s.placed (omega (arith, s.counted n, held_at_most (at n))) lt)
+          (λ (le : occurs n f ≤ 0).
+          let z : at n ≡ None = held-none (at n) (omega (arith, s.counted n)) in
+          rw z (omega (arith, hits-tops n f)))
+          (cases_lt 0 (occurs n f))
+
       alike : (n : ℕ) → hits n (roots_from 0 made at) ≡ hits n (tops f)
       alike n =
           ⊎_elim
-            (λ (lt : n < made). hits-roots_from at n 0 made (omega arith) (omega arith) ∙ sym (counted n))
-            (λ (le : made ≤ n). hits-roots_past at n 0 made (omega arith) ∙ sym (counted n ∙ ap rooted (held-none (at n) (s.below n le))))
-            (cases_lt n made)
+          (λ (lt : n < made). hits-roots_from at n 0 made (omega arith) (omega arith) ∙ sym (counted n))
+          (λ (le : made ≤ n). hits-roots_past at n 0 made (omega arith) ∙ sym (counted n ∙ ap rooted (held-none (at n) (s.below n le))))
+          (cases_lt n made)
 
   pub grown-Lies : (fuel : ℕ) (at : (ℕ → Option (Entry (Node X)))) (q : Option ℕ) (f : Forest X) → size f < fuel → Lies at q f → grown fuel at (tops f) ≡ f
   grown-Lies zero at q f h l = absurd (omega arith)
@@ -174,36 +177,36 @@ module _ {X : Type 0} where
   entry_under-absent q n empty h = refl
   entry_under-absent q n (node x kids rest) h =
       elim (same_or x.number n) [
-        same e t ↦ absurd (let k = rw t at h in omega arith)
-      | apart ne t ↦
-          let k = rw t at h in
-          let a : occurs n kids ≡ 0 = omega arith in
-          let b : occurs n rest ≡ 0 = omega arith in
-          rw (t, entry_under-absent (Some x.number) n kids a) (entry_under-absent q n rest b)
+        | same e t ↦ absurd (let k = rw t at h in omega arith)
+        | apart ne t ↦
+            let k = rw t at h in
+            let a : occurs n kids ≡ 0 = omega arith in
+            let b : occurs n rest ≡ 0 = omega arith in
+            rw (t, entry_under-absent (Some x.number) n kids a) (entry_under-absent q n rest b)
       ]
 
   pub entry_under-Lies : (at : (ℕ → Option (Entry (Node X)))) (q : Option ℕ) (n : ℕ) (f : Forest X) (e : Entry (Node X)) → Lies at q f → 0 < occurs n f → at n ≡ Some e → entry_under q n f ≡ Some e
   entry_under-Lies at q n empty e l h s = absurd (omega arith)
   entry_under-Lies at q n (node x kids rest) e l h s =
       elim (same_or x.number n) [
-        same d t ↦ rw t (sym l.0 ∙ ap at d ∙ s)
-      | apart ne t ↦
-          let k = rw t at h in
-          rw t (⊎_elim
+        | same d t ↦ rw t (sym l.0 ∙ ap at d ∙ s)
+        | apart ne t ↦
+            let k = rw t at h in
+            rw t (⊎_elim
             (λ (lt : 0 < occurs n kids). rw (entry_under-Lies at (Some x.number) n kids e l.1 lt s) refl)
             (λ (le : occurs n kids ≤ 0).
-              let z : occurs n kids ≡ 0 = omega arith in
-              rw (entry_under-absent (Some x.number) n kids z) (entry_under-Lies at q n rest e l.2 (omega arith) s))
+            let z : occurs n kids ≡ 0 = omega arith in
+            rw (entry_under-absent (Some x.number) n kids z) (entry_under-Lies at q n rest e l.2 (omega arith) s))
             (cases_lt 0 (occurs n kids)))
       ]
 
   pub entry_in-Spells : (made : ℕ) (at : (ℕ → Option (Entry (Node X)))) (f : Forest X) → Spells made at f → (n : ℕ) → entry_in f n ≡ at n
   entry_in-Spells made at f s n =
       elim (seen (at n)) [
-        nothing e ↦
-          let z : occurs n f ≡ 0 = s.counted n ∙ ap held e in
-          rw e (entry_under-absent None n f z)
-      | just a e ↦
-          let o : occurs n f ≡ 1 = s.counted n ∙ ap held e in
-          entry_under-Lies at None n f a s.placed (omega arith) e ∙ sym e
+        | nothing e ↦
+            let z : occurs n f ≡ 0 = s.counted n ∙ ap held e in
+            rw e (entry_under-absent None n f z)
+        | just a e ↦
+            let o : occurs n f ≡ 1 = s.counted n ∙ ap held e in
+            entry_under-Lies at None n f a s.placed (omega arith) e ∙ sym e
       ]

@@ -29,14 +29,14 @@ pub keeps : {X : Type 0} (a : Arena (Node X)) (table : List (Option ℕ)) (live 
 keeps {X} a table live f s t l k m =
     record {
       kept =
-        record {
-          spelled = subst (λ (g : Forest X). Spells (length table) (numbered a table) g) (sym e) s;
-          tabled = t;
-          alive = l ∙ ap size (sym e);
-          kinds = subst (λ (g : Forest X). KindsFit None g) (sym e) k;
-          small = m
-        };
-      same = e
+          record {
+            spelled = subst (λ (g : Forest X). Spells (length table) (numbered a table) g) (sym e) s;
+            tabled = t;
+            alive = l ∙ ap size (sym e);
+            kinds = subst (λ (g : Forest X). KindsFit None g) (sym e) k;
+            small = m;
+          };
+      same = e;
     }
   where
     e : shown a table ≡ f
@@ -102,11 +102,11 @@ module _ {X : Type 0} {a : Arena (Node X)} {table : List (Option ℕ)} {live : �
   pub cut-kept : IsSound a → (n s : ℕ) → slot_in table n ≡ Some s → IsSome (parent_in (entry_at a s)) → Keeps (unlinked a s) table live (cut n (shown a table))
   cut-kept l n s e p =
       keeps (unlinked a s) table live (cut n (shown a table))
-        (Spells-cut (length table) (numbered a table) (numbered (unlinked a s) table) (shown a table) n k.spelled (counted n s e) (λ m. moved m))
-        (IsTabled-unlinked (entry_at a) (entry_at (unlinked a s)) (slot_in table) s (unlinked-at a s l.linked p) k.tabled)
-        (k.alive ∙ sym (total-cut (λ _. 1) n (shown a table)))
-        (KindsFit-cut n (shown a table) k.kinds)
-        k.small
+      (Spells-cut (length table) (numbered a table) (numbered (unlinked a s) table) (shown a table) n k.spelled (counted n s e) (λ m. moved m))
+      (IsTabled-unlinked (entry_at a) (entry_at (unlinked a s)) (slot_in table) s (unlinked-at a s l.linked p) k.tabled)
+      (k.alive ∙ sym (total-cut (λ _. 1) n (shown a table)))
+      (KindsFit-cut n (shown a table) k.kinds)
+      k.small
     where
       moved : (m : ℕ) → numbered (unlinked a s) table m ≡ cut_at n m (numbered a table m)
       moved m =
@@ -133,8 +133,8 @@ module _ {X : Type 0} {a : Arena (Node X)} {table : List (Option ℕ)} {live : �
   slot_for-numbers None sb e h = rw (← e) refl
   slot_for-numbers (Some n) sb e h =
       elim (seen sb) [
-        nothing d ↦ absurd (let i = h n refl in let j = rw (e, d) at i in false≢true j)
-      | just s d ↦ rw d (ap Some (k.tabled.named n s (e ∙ d)).1)
+        | nothing d ↦ absurd (let i = h n refl in let j = rw (e, d) at i in false≢true j)
+        | just s d ↦ rw d (ap Some (k.tabled.named n s (e ∙ d)).1)
       ]
 
   pub slot_for-held : (nb sb : Option ℕ) → slot_for table nb ≡ sb → (q : ℕ) → sb ≡ Some q → IsSome (entry_at a q)
@@ -145,31 +145,34 @@ module _ {X : Type 0} {a : Arena (Node X)} {table : List (Option ℕ)} {live : �
   pub put-kept : IsSound a → (np sp nc sc : ℕ) (nb sb : Option ℕ) → slot_in table np ≡ Some sp → slot_in table nc ≡ Some sc → slot_for table nb ≡ sb → ForSome nb (λ n. IsSome (slot_in table n)) → parent_in (entry_at a sc) ≡ None → among nc (ancestors np (shown a table)) ≡ false → MayStand (shown a table) np nc → Keeps (linked a sp sc sb) table live (put np nc nb (shown a table))
   put-kept l np sp nc sc nb sb ep ec eb hb r cy may =
       keeps (linked a sp sc sb) table live (put np nc nb (shown a table))
-        (Spells-put (length table) (numbered a table) (numbered (linked a sp sc sb) table) (shown a table) np nc nb k.spelled (counted nc sc ec) (counted np sp ep) root apart_from (λ m. moved m))
-        (IsTabled-linked (entry_at a) (entry_at (linked a sp sc sb)) (slot_in table) sp sc sb (linked-at a sp sc sb) k.tabled)
-        (k.alive ∙ sym (total-put (λ _. 1) np nc nb (shown a table) (omega (arith, total-tree_at (one_at np) nc (shown a table), apart_from, occurs-slot np sp ep))))
-        fits
-        k.small
+      (Spells-put (length table) (numbered a table) (numbered (linked a sp sc sb) table) (shown a table) np nc nb k.spelled (counted nc sc ec) (counted np sp ep) root apart_from (λ m. moved m))
+      (IsTabled-linked (entry_at a) (entry_at (linked a sp sc sb)) (slot_in table) sp sc sb (linked-at a sp sc sb) k.tabled)
+      (k.alive ∙ sym (total-put (λ _. 1) np nc nb (shown a table) (omega (arith, total-tree_at (one_at np) nc (shown a table), apart_from, occurs-slot np sp ep))))
+      fits
+      k.small
     where
       root : parent_in (numbered a table nc) ≡ None
       root = ap parent_in (sym (entry-numbered nc)) ∙ parent-slot nc sc ec ∙ ap (option_map (number_at (entry_at a))) r
+
       apart_from : occurs np (tree_at nc (shown a table)) ≡ 0
       apart_from = sym (hits-ancestors nc np (shown a table) once) ∙ not_among-hits nc (ancestors np (shown a table)) cy
+
       moved : (m : ℕ) → numbered (linked a sp sc sb) table m ≡ link_at np nb nc m (numbered a table m)
       moved m =
           by_number-linked (entry_at a) (entry_at (linked a sp sc sb)) (slot_in table) sp sc sb k.tabled l.linked (k.tabled.named np sp ep).0 (k.tabled.named nc sc ec).0 (slot_for-held nb sb eb) (linked-at a sp sc sb) m
-            ∙ (λ i. link_at ((k.tabled.named np sp ep).1 i) (slot_for-numbers nb sb eb hb i) ((k.tabled.named nc sc ec).1 i) m (numbered a table m))
+          ∙ (λ i. link_at ((k.tabled.named np sp ep).1 i) (slot_for-numbers nb sb eb hb i) ((k.tabled.named nc sc ec).1 i) m (numbered a table m))
+
       fits : KindsFit None (put np nc nb (shown a table))
       fits =
           elim (seen (numbered a table np)) [
-            nothing d ↦ absurd (let i = counted np sp ep in let j = rw d at i in omega arith)
-          | just p d ↦
-              elim (seen (numbered a table nc)) [
-                nothing e ↦ absurd (let i = counted nc sc ec in let j = rw e at i in omega arith)
-              | just c e ↦
-                  let m = rw (entry-numbered np, entry-numbered nc, d, e) at may in
-                  KindsFit-placed_under (numbered a table) np p nb (tree_at nc (shown a table)) d
-                    (KindsFit-under (numbered a table) nc c p.value.label.kind e m None None (shown a table) k.spelled.placed k.kinds)
-                    None None (without nc (shown a table)) (Lies-without_root (numbered a table) nc root (shown a table) k.spelled.placed) (KindsFit-without None nc (shown a table) k.kinds)
-              ]
+            | nothing d ↦ absurd (let i = counted np sp ep in let j = rw d at i in omega arith)
+            | just p d ↦
+                elim (seen (numbered a table nc)) [
+                  | nothing e ↦ absurd (let i = counted nc sc ec in let j = rw e at i in omega arith)
+                  | just c e ↦
+                      let m = rw (entry-numbered np, entry-numbered nc, d, e) at may in
+                      KindsFit-placed_under (numbered a table) np p nb (tree_at nc (shown a table)) d
+                      (KindsFit-under (numbered a table) nc c p.value.label.kind e m None None (shown a table) k.spelled.placed k.kinds)
+                      None None (without nc (shown a table)) (Lies-without_root (numbered a table) nc root (shown a table) k.spelled.placed) (KindsFit-without None nc (shown a table) k.kinds)
+                ]
           ]

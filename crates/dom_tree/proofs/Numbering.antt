@@ -27,32 +27,32 @@ pub after-map : (f : ℕ → ℕ) (s : ℕ) (l : List ℕ) → ((x : ℕ) → 0 
 after-map f s [] h = refl
 after-map f s (x ∷ xs) h =
     rw (h x (hits-first x xs)) (elim (x == s) as (λ v. (if v then head_of (map f xs) else after (f s) (map f xs)) ≡ option_map f (if v then head_of xs else after s xs)) [
-      true ↦ head_of-map f xs
-    | false ↦ after-map f s xs (λ y k. h y (omega arith))
+      | true ↦ head_of-map f xs
+      | false ↦ after-map f s xs (λ y k. h y (omega arith))
     ])
 
 pub before_from-map : (f : ℕ → ℕ) (s : ℕ) (passed : Option ℕ) (l : List ℕ) → ((x : ℕ) → 0 < hits x l → (f x == f s) ≡ (x == s)) → before_from (option_map f passed) (f s) (map f l) ≡ option_map f (before_from passed s l)
 before_from-map f s passed [] h = refl
 before_from-map f s passed (x ∷ xs) h =
     rw (h x (hits-first x xs)) (elim (x == s) as (λ v. (if v then option_map f passed else before_from (Some (f x)) (f s) (map f xs)) ≡ option_map f (if v then passed else before_from (Some x) s xs)) [
-      true ↦ refl
-    | false ↦ before_from-map f s (Some x) xs (λ y k. h y (omega arith))
+      | true ↦ refl
+      | false ↦ before_from-map f s (Some x) xs (λ y k. h y (omega arith))
     ])
 
 pub left_out-map : (f : ℕ → ℕ) (s : ℕ) (l : List ℕ) → ((x : ℕ) → 0 < hits x l → (f x == f s) ≡ (x == s)) → left_out (f s) (map f l) ≡ map f (left_out s l)
 left_out-map f s [] h = refl
 left_out-map f s (x ∷ xs) h =
     rw (h x (hits-first x xs)) (elim (x == s) as (λ v. (if v then left_out (f s) (map f xs) else f x ∷ left_out (f s) (map f xs)) ≡ map f (if v then left_out s xs else x ∷ left_out s xs)) [
-      true ↦ left_out-map f s xs (λ y k. h y (omega arith))
-    | false ↦ ap (λ l. f x ∷ l) (left_out-map f s xs (λ y k. h y (omega arith)))
+      | true ↦ left_out-map f s xs (λ y k. h y (omega arith))
+      | false ↦ ap (λ l. f x ∷ l) (left_out-map f s xs (λ y k. h y (omega arith)))
     ])
 
 pub entered-map : (f : ℕ → ℕ) (b : Option ℕ) (s : ℕ) (l : List ℕ) → ((x : ℕ) → 0 < hits x l → is_number (option_map f b) (f x) ≡ is_number b x) → entered (option_map f b) (f s) (map f l) ≡ map f (entered b s l)
 entered-map f b s [] h = refl
 entered-map f b s (x ∷ xs) h =
     rw (h x (hits-first x xs)) (elim (is_number b x) as (λ v. (if v then f s ∷ f x ∷ map f xs else f x ∷ entered (option_map f b) (f s) (map f xs)) ≡ map f (if v then s ∷ x ∷ xs else x ∷ entered b s xs)) [
-      true ↦ refl
-    | false ↦ ap (λ l. f x ∷ l) (entered-map f b s xs (λ y k. h y (omega arith)))
+      | true ↦ refl
+      | false ↦ ap (λ l. f x ∷ l) (entered-map f b s xs (λ y k. h y (omega arith)))
     ])
 
 pub map-same : (f g : ℕ → ℕ) (l : List ℕ) → ((x : ℕ) → 0 < hits x l → f x ≡ g x) → map f l ≡ map g l
@@ -72,18 +72,18 @@ pub hits-after : (s : ℕ) (l : List ℕ) (x : ℕ) → after s l ≡ Some x →
 hits-after s [] x e = absurd (cc e)
 hits-after s (y ∷ ys) x e =
     elim (same_or y s) [
-      same d t ↦ (let k = rw t at e in omega (arith, hits-head_of ys x k))
-    | apart ne t ↦ (let k = rw t at e in omega (arith, hits-after s ys x k))
+      | same d t ↦ (let k = rw t at e in omega (arith, hits-head_of ys x k))
+      | apart ne t ↦ (let k = rw t at e in omega (arith, hits-after s ys x k))
     ]
 
 pub hits-before : (passed : Option ℕ) (s : ℕ) (l : List ℕ) (x : ℕ) → before_from passed s l ≡ Some x → (passed ≡ Some x) ⊎ (0 < hits x l)
 hits-before passed s [] x e = absurd (cc e)
 hits-before passed s (y ∷ ys) x e =
     elim (same_or y s) [
-      same d t ↦ (let k = rw t at e in inl k)
-    | apart ne t ↦
-        let k = rw t at e in
-        ⊎_elim
+      | same d t ↦ (let k = rw t at e in inl k)
+      | apart ne t ↦
+          let k = rw t at e in
+          ⊎_elim
           (λ (p : Some y ≡ Some x). inr (let d : y ≡ x = cc p in subst (λ m. 0 < hits m (y ∷ ys)) d (hits-first y ys)))
           (λ (lt : 0 < hits x ys). inr (omega arith))
           (hits-before (Some y) s ys x k)
@@ -98,20 +98,20 @@ module _ {X : Type 0} where
   pub child-held : (at : (ℕ → Option (Entry (Node X)))) → IsLinked at → (s c : ℕ) → 0 < hits c (children_in (at s)) → IsSome (at c)
   child-held at l s c h =
       elim (seen (at c)) [
-        nothing e ↦
-          let k : hits c (children_in (at s)) ≡ names (parent_in (at c)) s = l s c in
-          absurd (let k2 = rw e at k in omega arith)
-      | just a e ↦ rw e refl
+        | nothing e ↦
+            let k : hits c (children_in (at s)) ≡ names (parent_in (at c)) s = l s c in
+            absurd (let k2 = rw e at k in omega arith)
+        | just a e ↦ rw e refl
       ]
 
   pub parent-held : (at : (ℕ → Option (Entry (Node X)))) → IsLinked at → (s p : ℕ) → parent_in (at s) ≡ Some p → IsSome (at p)
   parent-held at l s p h =
       elim (seen (at p)) [
-        nothing e ↦
-          let k : hits s (children_in (at p)) ≡ names (parent_in (at s)) p = l p s in
-          let k2 = rw (e, h) at k in
-          absurd (elim (same_or p p) [ same d t ↦ (let k3 = rw t at k2 in omega arith) | apart ne t ↦ ne refl ])
-      | just a e ↦ rw e refl
+        | nothing e ↦
+            let k : hits s (children_in (at p)) ≡ names (parent_in (at s)) p = l p s in
+            let k2 = rw (e, h) at k in
+            absurd (elim (same_or p p) [ same d t ↦ (let k3 = rw t at k2 in omega arith) | apart ne t ↦ ne refl ])
+        | just a e ↦ rw e refl
       ]
 
   pub sibling-held : (at : (ℕ → Option (Entry (Node X)))) → IsLinked at → (s c : ℕ) → 0 < hits c (siblings_in at s) → IsSome (at c)
@@ -132,8 +132,8 @@ module _ {X : Type 0} where
   pub same_test : (at : (ℕ → Option (Entry (Node X)))) (sl : ℕ → Option ℕ) → IsTabled at sl → (x y : ℕ) → IsSome (at x) → IsSome (at y) → (number_at at x == number_at at y) ≡ (x == y)
   same_test at sl t x y hx hy =
       elim (same_or x y) [
-        same e v ↦ eq-eqb (number_at at x) (number_at at y) (ap (number_at at) e) ∙ sym v
-      | apart ne v ↦ ne_eqb (number_at at x) (number_at at y) (λ d. ne (one_slot at sl t x y hx hy d)) ∙ sym v
+        | same e v ↦ eq-eqb (number_at at x) (number_at at y) (ap (number_at at) e) ∙ sym v
+        | apart ne v ↦ ne_eqb (number_at at x) (number_at at y) (λ d. ne (one_slot at sl t x y hx hy d)) ∙ sym v
       ]
 
   pub slot-there : (at : (ℕ → Option (Entry (Node X)))) (sl : ℕ → Option ℕ) (n : ℕ) → IsSome (by_number at sl n) → IsSome (sl n)

@@ -21,8 +21,8 @@ after-front : (n : ℕ) (xs ys : List ℕ) → hits n xs ≡ 0 → after n (xs +
 after-front n [] ys h = refl
 after-front n (x ∷ xs) ys h =
     elim (same_or x n) [
-      same e t ↦ absurd (let k = rw t at h in omega arith)
-    | apart ne t ↦ (let k = rw t at h in rw t (after-front n xs ys (omega arith)))
+      | same e t ↦ absurd (let k = rw t at h in omega arith)
+      | apart ne t ↦ (let k = rw t at h in rw t (after-front n xs ys (omega arith)))
     ]
 
 or_else-twice : (o p q : Option ℕ) → or_else o (or_else p q) ≡ or_else (or_else o p) q
@@ -44,15 +44,15 @@ module _ {X : Type 0} where
   past-kids : (follow : Option ℕ) (n : ℕ) (x : Node X) (kids rest : Forest X) → (x.number ≡ n → ⊥) → 0 < occurs n kids → past follow n (node x kids rest) ≡ past (or_else (head_of (tops rest)) follow) n kids
   past-kids follow n x kids rest ne h =
       elim (same_or x.number n) [
-        same e t ↦ absurd (ne e)
-      | apart _ t ↦ (let k : nat_lt 0 (occurs n kids) ≡ true = lt-ltb 0 (occurs n kids) h in rw (t, k) refl)
+        | same e t ↦ absurd (ne e)
+        | apart _ t ↦ (let k : nat_lt 0 (occurs n kids) ≡ true = lt-ltb 0 (occurs n kids) h in rw (t, k) refl)
       ]
 
   past-rest : (follow : Option ℕ) (n : ℕ) (x : Node X) (kids rest : Forest X) → (x.number ≡ n → ⊥) → occurs n kids ≡ 0 → past follow n (node x kids rest) ≡ past follow n rest
   past-rest follow n x kids rest ne h =
       elim (same_or x.number n) [
-        same e t ↦ absurd (ne e)
-      | apart _ t ↦ (let k : nat_lt 0 (occurs n kids) ≡ false = le-ltb 0 (occurs n kids) (omega arith) in rw (t, k) refl)
+        | same e t ↦ absurd (ne e)
+        | apart _ t ↦ (let k : nat_lt 0 (occurs n kids) ≡ false = le-ltb 0 (occurs n kids) (omega arith) in rw (t, k) refl)
       ]
 
   head_of-numbers : (f : Forest X) → head_of (numbers f) ≡ head_of (tops f)
@@ -68,32 +68,32 @@ module _ {X : Type 0} where
   after-numbers at q n empty tail o l h = absurd (omega arith)
   after-numbers at q n (node x kids rest) tail o l h =
       elim (same_or x.number n) [
-        same e t ↦
-          let c : head_of (children_in (at n)) ≡ head_of (tops kids) = subst (λ m. head_of (children_in (at m)) ≡ head_of (tops kids)) e (rw l.0 refl) in
-          let d : head_of ((numbers kids ++ numbers rest) ++ tail) ≡ or_else (head_of (tops kids)) (or_else (head_of (tops rest)) (head_of tail)) =
-              head_of-append (numbers kids ++ numbers rest) tail
-                ∙ ap (λ p. or_else p (head_of tail)) (head_of-append (numbers kids) (numbers rest) ∙ (λ i. or_else (head_of-numbers kids i) (head_of-numbers rest i)))
-                ∙ sym (or_else-twice (head_of (tops kids)) (head_of (tops rest)) (head_of tail)) in
-          rw (past-top (head_of tail) n x kids rest e, c) (rw t d)
-      | apart ne t ↦
-          let k = rw t at h in
-          ⊎_elim
+        | same e t ↦
+            let c : head_of (children_in (at n)) ≡ head_of (tops kids) = subst (λ m. head_of (children_in (at m)) ≡ head_of (tops kids)) e (rw l.0 refl) in
+            let d : head_of ((numbers kids ++ numbers rest) ++ tail) ≡ or_else (head_of (tops kids)) (or_else (head_of (tops rest)) (head_of tail)) =
+            head_of-append (numbers kids ++ numbers rest) tail
+            ∙ ap (λ p. or_else p (head_of tail)) (head_of-append (numbers kids) (numbers rest) ∙ (λ i. or_else (head_of-numbers kids i) (head_of-numbers rest i)))
+            ∙ sym (or_else-twice (head_of (tops kids)) (head_of (tops rest)) (head_of tail)) in
+            rw (past-top (head_of tail) n x kids rest e, c) (rw t d)
+        | apart ne t ↦
+            let k = rw t at h in
+            ⊎_elim
             (λ (lt : 0 < occurs n kids).
-              let i = after-numbers at (Some x.number) n kids (numbers rest ++ tail) (λ m. let w = o m in omega arith) l.1 lt in
-              let j : head_of (numbers rest ++ tail) ≡ or_else (head_of (tops rest)) (head_of tail) = head_of-append (numbers rest) tail ∙ ap (λ p. or_else p (head_of tail)) (head_of-numbers rest) in
-              rw (past-kids (head_of tail) n x kids rest ne lt) (rw (t, append_assoc (numbers kids) (numbers rest) tail) (i ∙ ap (λ p. or_else (head_of (children_in (at n))) (past p n kids)) j)))
+            let i = after-numbers at (Some x.number) n kids (numbers rest ++ tail) (λ m. let w = o m in omega arith) l.1 lt in
+            let j : head_of (numbers rest ++ tail) ≡ or_else (head_of (tops rest)) (head_of tail) = head_of-append (numbers rest) tail ∙ ap (λ p. or_else p (head_of tail)) (head_of-numbers rest) in
+            rw (past-kids (head_of tail) n x kids rest ne lt) (rw (t, append_assoc (numbers kids) (numbers rest) tail) (i ∙ ap (λ p. or_else (head_of (children_in (at n))) (past p n kids)) j)))
             (λ (le : occurs n kids ≤ 0).
-              let z : occurs n kids ≡ 0 = omega arith in
-              let i = after-numbers at q n rest tail (λ m. let w = o m in omega arith) l.2 (omega arith) in
-              rw (past-rest (head_of tail) n x kids rest ne z) (rw (t, append_assoc (numbers kids) (numbers rest) tail, after-front n (numbers kids) (numbers rest ++ tail) (hits-numbers n kids ∙ z)) i))
+            let z : occurs n kids ≡ 0 = omega arith in
+            let i = after-numbers at q n rest tail (λ m. let w = o m in omega arith) l.2 (omega arith) in
+            rw (past-rest (head_of tail) n x kids rest ne z) (rw (t, append_assoc (numbers kids) (numbers rest) tail, after-front n (numbers kids) (numbers rest ++ tail) (hits-numbers n kids ∙ z)) i))
             (cases_lt 0 (occurs n kids))
       ]
 
   sib_rest : (at : (ℕ → Option (Entry (Node X)))) (p : Option ℕ) (x : Node X) (kids rest : Forest X) → ((k : ℕ) → occurs k (node x kids rest) ≤ 1) → ((k : ℕ) → 0 < hits k (x.number ∷ tops rest) → after k (list_under at p) ≡ after k (x.number ∷ tops rest)) → (k : ℕ) → 0 < hits k (tops rest) → after k (list_under at p) ≡ after k (tops rest)
   sib_rest at p x kids rest o sib k h =
       elim (same_or x.number k) [
-        same d t ↦ absurd (let w = o k in let v = rw t at w in let u = hits-tops k rest in omega arith)
-      | apart ne t ↦ (let w = sib k (omega arith) in let w2 = rw t at w in w2)
+        | same d t ↦ absurd (let w = o k in let v = rw t at w in let u = hits-tops k rest in omega arith)
+        | apart ne t ↦ (let w = sib k (omega arith) in let w2 = rw t at w in w2)
       ]
 
   -- a next sibling comes right past the tree
@@ -101,20 +101,20 @@ module _ {X : Type 0} where
   past-next at p follow n m empty o l sib h e = absurd (omega arith)
   past-next at p follow n m (node x kids rest) o l sib h e =
       elim (same_or x.number n) [
-        same d t ↦
-          let a : parent_in (at n) ≡ p = subst (λ k. parent_in (at k) ≡ p) d (rw l.0 refl) in
-          let b : after n (list_under at p) ≡ Some m = sym (ap (λ q. after n (list_under at q)) a) ∙ e in
-          let c : after n (list_under at p) ≡ after n (x.number ∷ tops rest) = sib n (rw t (omega arith)) in
-          let c2 = rw t at c in
-          let i : head_of (tops rest) ≡ Some m = sym c2 ∙ b in
-          past-top follow n x kids rest d ∙ ap (λ q. or_else q follow) i
-      | apart ne t ↦
-          let k = rw t at h in
-          ⊎_elim
+        | same d t ↦
+            let a : parent_in (at n) ≡ p = subst (λ k. parent_in (at k) ≡ p) d (rw l.0 refl) in
+            let b : after n (list_under at p) ≡ Some m = sym (ap (λ q. after n (list_under at q)) a) ∙ e in
+            let c : after n (list_under at p) ≡ after n (x.number ∷ tops rest) = sib n (rw t (omega arith)) in
+            let c2 = rw t at c in
+            let i : head_of (tops rest) ≡ Some m = sym c2 ∙ b in
+            past-top follow n x kids rest d ∙ ap (λ q. or_else q follow) i
+        | apart ne t ↦
+            let k = rw t at h in
+            ⊎_elim
             (λ (lt : 0 < occurs n kids).
-              past-kids follow n x kids rest ne lt ∙ past-next at (Some x.number) (or_else (head_of (tops rest)) follow) n m kids (λ j. let w = o j in omega arith) l.1 (λ j _. ap (after j) (rw l.0 refl)) lt e)
+            past-kids follow n x kids rest ne lt ∙ past-next at (Some x.number) (or_else (head_of (tops rest)) follow) n m kids (λ j. let w = o j in omega arith) l.1 (λ j _. ap (after j) (rw l.0 refl)) lt e)
             (λ (le : occurs n kids ≤ 0).
-              past-rest follow n x kids rest ne (omega arith) ∙ past-next at p follow n m rest (λ j. let w = o j in omega arith) l.2 (sib_rest at p x kids rest o sib) (omega arith) e)
+            past-rest follow n x kids rest ne (omega arith) ∙ past-next at p follow n m rest (λ j. let w = o j in omega arith) l.2 (sib_rest at p x kids rest o sib) (omega arith) e)
             (cases_lt 0 (occurs n kids))
       ]
 
@@ -128,20 +128,20 @@ module _ {X : Type 0} where
   past-up at p follow n empty o l sib h e = absurd (omega arith)
   past-up at p follow n (node x kids rest) o l sib h e =
       elim (same_or x.number n) [
-        same d t ↦
-          let a : parent_in (at n) ≡ p = subst (λ k. parent_in (at k) ≡ p) d (rw l.0 refl) in
-          let b : after n (list_under at p) ≡ None = sym (ap (λ q. after n (list_under at q)) a) ∙ e in
-          let c : after n (list_under at p) ≡ after n (x.number ∷ tops rest) = sib n (rw t (omega arith)) in
-          let c2 = rw t at c in
-          let i : head_of (tops rest) ≡ None = sym c2 ∙ b in
-          over a (past-top follow n x kids rest d ∙ ap (λ q. or_else q follow) i)
-      | apart ne t ↦
-          let k = rw t at h in
-          ⊎_elim
+        | same d t ↦
+            let a : parent_in (at n) ≡ p = subst (λ k. parent_in (at k) ≡ p) d (rw l.0 refl) in
+            let b : after n (list_under at p) ≡ None = sym (ap (λ q. after n (list_under at q)) a) ∙ e in
+            let c : after n (list_under at p) ≡ after n (x.number ∷ tops rest) = sib n (rw t (omega arith)) in
+            let c2 = rw t at c in
+            let i : head_of (tops rest) ≡ None = sym c2 ∙ b in
+            over a (past-top follow n x kids rest d ∙ ap (λ q. or_else q follow) i)
+        | apart ne t ↦
+            let k = rw t at h in
+            ⊎_elim
             (λ (lt : 0 < occurs n kids).
-              from_kids ne lt (past-up at (Some x.number) (or_else (head_of (tops rest)) follow) n kids (λ j. let w = o j in omega arith) l.1 (λ j _. ap (after j) (rw l.0 refl)) lt e))
+            from_kids ne lt (past-up at (Some x.number) (or_else (head_of (tops rest)) follow) n kids (λ j. let w = o j in omega arith) l.1 (λ j _. ap (after j) (rw l.0 refl)) lt e))
             (λ (le : occurs n kids ≤ 0).
-              from_rest ne (omega arith) (past-up at p follow n rest (λ j. let w = o j in omega arith) l.2 (sib_rest at p x kids rest o sib) (omega arith) e))
+            from_rest ne (omega arith) (past-up at p follow n rest (λ j. let w = o j in omega arith) l.2 (sib_rest at p x kids rest o sib) (omega arith) e))
             (cases_lt 0 (occurs n kids))
       ]
     where
@@ -151,6 +151,7 @@ module _ {X : Type 0} where
       from_kids ne lt (up q a oq b) =
           let far : x.number ≡ q → ⊥ = λ d. let w = o q in grind (arith, nat_tests) in
           up q a (omega arith) (past-kids follow n x kids rest ne lt ∙ b ∙ sym (past-kids follow q x kids rest far oq))
+
       from_rest : (x.number ≡ n → ⊥) → occurs n kids ≡ 0 → Up p follow n (parent_in (at n)) rest → Up p follow n (parent_in (at n)) (node x kids rest)
       from_rest ne z (over a b) = over a (past-rest follow n x kids rest ne z ∙ b)
       from_rest ne z (up q a oq b) =
@@ -167,19 +168,19 @@ module _ {X : Type 0} where
   tree_at-single r empty h = absurd (omega arith)
   tree_at-single r (node x kids rest) h =
       elim (same_or x.number r) [
-        same e t ↦
-          let k = rw t at h in
-          let z : occurs r rest ≡ 0 = omega arith in
-          rw t (single x kids e (rw (tree_at-absent r rest z) refl))
-      | apart ne t ↦
-          let k = rw t at h in
-          rw t (⊎_elim
+        | same e t ↦
+            let k = rw t at h in
+            let z : occurs r rest ≡ 0 = omega arith in
+            rw t (single x kids e (rw (tree_at-absent r rest z) refl))
+        | apart ne t ↦
+            let k = rw t at h in
+            rw t (⊎_elim
             (λ (lt : 0 < occurs r kids).
-              let z : occurs r rest ≡ 0 = omega arith in
-              rw (tree_at-absent r rest z, beside-empty (tree_at r kids)) (tree_at-single r kids (omega arith)))
+            let z : occurs r rest ≡ 0 = omega arith in
+            rw (tree_at-absent r rest z, beside-empty (tree_at r kids)) (tree_at-single r kids (omega arith)))
             (λ (le : occurs r kids ≤ 0).
-              let z : occurs r kids ≡ 0 = omega arith in
-              rw (tree_at-absent r kids z) (tree_at-single r rest (omega arith)))
+            let z : occurs r kids ≡ 0 = omega arith in
+            rw (tree_at-absent r kids z) (tree_at-single r rest (omega arith)))
             (cases_lt 0 (occurs r kids)))
       ]
 
@@ -187,8 +188,8 @@ module _ {X : Type 0} where
   Lies-tree_at at r q empty l = tt
   Lies-tree_at at r q (node x kids rest) l =
       elim (same_or x.number r) [
-        same e t ↦
-          let a : q ≡ parent_in (at r) = sym (subst (λ k. parent_in (at k) ≡ q) e (rw l.0 refl)) in
-          rw t (subst (λ (p : Option ℕ). at x.number ≡ Some (record { value = x; parent = p; children = tops kids })) a l.0, l.1, Lies-tree_at at r q rest l.2)
-      | apart ne t ↦ rw t (Lies-beside at (parent_in (at r)) (tree_at r kids) (tree_at r rest) (Lies-tree_at at r (Some x.number) kids l.1) (Lies-tree_at at r q rest l.2))
+        | same e t ↦
+            let a : q ≡ parent_in (at r) = sym (subst (λ k. parent_in (at k) ≡ q) e (rw l.0 refl)) in
+            rw t (subst (λ (p : Option ℕ). at x.number ≡ Some (record { value = x; parent = p; children = tops kids })) a l.0, l.1, Lies-tree_at at r q rest l.2)
+        | apart ne t ↦ rw t (Lies-beside at (parent_in (at r)) (tree_at r kids) (tree_at r rest) (Lies-tree_at at r (Some x.number) kids l.1) (Lies-tree_at at r q rest l.2))
       ]

@@ -32,9 +32,9 @@ module _ {X : Type 0} {a : Arena (Node X)} (l : IsSound a) where
   pub previous-named : (s : ℕ) (o : Option ℕ) → o ≡ previous_in (entry_at a) s → (x : ℕ) → o ≡ Some x → IsHeld a x
   previous-named s o e x h =
       ⊎_elim
-        (λ (z : None ≡ Some x). absurd (cc z))
-        (λ (lt : 0 < hits x (siblings_in (entry_at a) s)). sibling-held (entry_at a) l.linked s x lt)
-        (hits-before None s (siblings_in (entry_at a) s) x (sym e ∙ h))
+      (λ (z : None ≡ Some x). absurd (cc z))
+      (λ (lt : 0 < hits x (siblings_in (entry_at a) s)). sibling-held (entry_at a) l.linked s x lt)
+      (hits-before None s (siblings_in (entry_at a) s) x (sym e ∙ h))
 
 module _ {X : Type 0} {a : Arena (Node X)} {table : List (Option ℕ)} {live : ℕ} (k : IsKept a table live) {w : Grove X} (v : record { forest = shown a table; made = length table } ≡ w) where
   pub slot-held : (n : ℕ) → HasNode w.forest n → (t : List (Option ℕ)) → t ≡ table → IsSome (slot_in t n)
@@ -103,6 +103,7 @@ module _ {X : Type 0} {a : Arena (Node X)} {table : List (Option ℕ)} {live : �
     where
       forest : shown a' table ≡ change w.forest
       forest = h ∙ ap (λ (g : Grove X). change g.forest) v
+
       made : length table ≡ w.made
       made = ap (λ (g : Grove X). g.made) v
 
@@ -127,13 +128,13 @@ module _ {X : Type 0} {a : Arena (Node X)} {table : List (Option ℕ)} {live : �
       let ip : slot_in table np ≡ Some sp = ap (λ r. slot_in r np) (sym e) ∙ ep in
       let j : option_map (number_at (entry_at a)) (parent_in (entry_at a x)) ≡ Some np = sym (parent-slot k n x i) ∙ ap (λ (g : Grove X). parent_of g.forest n) v ∙ h n refl in
       elim (seen (parent_in (entry_at a x))) [
-        nothing z ↦ absurd (let j2 = rw z at j in cc j2)
-      | just q z ↦
-          let j2 = rw z at j in
-          let m : number_at (entry_at a) q ≡ np = cc j2 in
-          let hq = parent-held (entry_at a) l.linked x q z in
-          let hp = k.tabled.named np sp ip in
-          z ∙ ap Some (one_slot (entry_at a) (slot_in table) k.tabled q sp hq hp.0 (m ∙ sym hp.1))
+        | nothing z ↦ absurd (let j2 = rw z at j in cc j2)
+        | just q z ↦
+            let j2 = rw z at j in
+            let m : number_at (entry_at a) q ≡ np = cc j2 in
+            let hq = parent-held (entry_at a) l.linked x q z in
+            let hp = k.tabled.named np sp ip in
+            z ∙ ap Some (one_slot (entry_at a) (slot_in table) k.tabled q sp hq hp.0 (m ∙ sym hp.1))
       ]
 
   pub slots-held : (nb : Option ℕ) (t : List (Option ℕ)) → t ≡ table → (p : ℕ) → ForSome nb (λ b. parent_of w.forest b ≡ Some p) → (n : ℕ) → nb ≡ Some n → IsSome (slot_in t n)
@@ -153,10 +154,10 @@ module _ {X : Type 0} {a : Arena (Node X)} {table : List (Option ℕ)} {live : �
   pub put-done : IsSound a → (np sp nc sc : ℕ) (nb sb : Option ℕ) (t u r : List (Option ℕ)) → t ≡ table → u ≡ table → r ≡ table → slot_in t np ≡ Some sp → slot_in u nc ≡ Some sc → slot_for r nb ≡ sb → parent_of w.forest nc ≡ None → among nc (ancestors np w.forest) ≡ false → ForSome nb (λ b. parent_of w.forest b ≡ Some np) → MayStand w.forest np nc → (a' : Arena (Node X)) → a' ≡ linked a sp sc sb → Keeps a' table live (put np nc nb (shown a table))
   put-done l np sp nc sc nb sb t u r e eu er ep ec eb root cy under may a' ea =
       rw ea (put-kept k l np sp nc sc nb sb (ap (λ y. slot_in y np) (sym e) ∙ ep) (ap (λ y. slot_in y nc) (sym eu) ∙ ec) (ap (λ y. slot_for y nb) (sym er) ∙ eb)
-        (λ n d. slots-held nb table refl np under n d)
-        (parent-none nc sc u eu ec root)
-        (ap (λ (g : Grove X). among nc (ancestors np g.forest)) v ∙ cy)
-        (subst (λ (g : Grove X). MayStand g.forest np nc) (sym v) may))
+      (λ n d. slots-held nb table refl np under n d)
+      (parent-none nc sc u eu ec root)
+      (ap (λ (g : Grove X). among nc (ancestors np g.forest)) v ∙ cy)
+      (subst (λ (g : Grove X). MayStand g.forest np nc) (sym v) may))
 
   -- a node written to its slot, with the number and the label that stood there
   pub write-done : (n s : ℕ) (t : List (Option ℕ)) → t ≡ table → slot_in t n ≡ Some s → (x y z : Node X) (h : Node X → Node X) → ((q : Node X) → (h q).number ≡ q.number) → ((q : Node X) → (h q).label ≡ q.label) → y ≡ x → z ≡ h y → IfSome (entry_at a s) (λ e. x ≡ e.value) → Keeps (altered (with_value z) a s) table live (with_node n h (shown a table))

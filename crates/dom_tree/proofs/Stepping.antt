@@ -32,12 +32,12 @@ module _ {X : Type 0} where
   single-below : (x : Node X) (kids : Forest X) (n : ℕ) → (x.number ≡ n → ⊥) → 0 < occurs n (node x kids empty) → (0 < occurs n kids) × (past None n (node x kids empty) ≡ past None n kids)
   single-below x kids n ne h =
       elim (same_or x.number n) [
-        same e t ↦ absurd (ne e)
-      | apart _ t ↦
-          let k = rw t at h in
-          let lt : 0 < occurs n kids = omega arith in
-          let v : nat_lt 0 (occurs n kids) ≡ true = lt-ltb 0 (occurs n kids) lt in
-          (lt, rw (t, v) refl)
+        | same e t ↦ absurd (ne e)
+        | apart _ t ↦
+            let k = rw t at h in
+            let lt : 0 < occurs n kids = omega arith in
+            let v : nat_lt 0 (occurs n kids) ≡ true = lt-ltb 0 (occurs n kids) lt in
+            (lt, rw (t, v) refl)
       ]
 
   single-next : (at : (ℕ → Option (Entry (Node X)))) (q : Option ℕ) (x : Node X) (kids : Forest X) (n m : ℕ) → ((k : ℕ) → occurs k (node x kids empty) ≤ 1) → Lies at q (node x kids empty) → (x.number ≡ n → ⊥) → 0 < occurs n (node x kids empty) → next_in at n ≡ Some m → past None n (node x kids empty) ≡ Some m
@@ -67,11 +67,11 @@ module _ {X : Type 0} {g : Grove X} (s : IsForest g) where
   tree : (r n : ℕ) → 0 < occurs n (tree_at r g.forest) → Single r (tree_at r g.forest)
   tree r n h =
       tree_at-single r g.forest
-        (⊎_elim
-          (λ (lt : 0 < occurs r g.forest). omega (arith, s.once r))
-          (λ (le : occurs r g.forest ≤ 0).
-            absurd (let z : tree_at r g.forest ≡ empty = tree_at-absent r g.forest (omega arith) in let k = rw z at h in omega arith))
-          (cases_lt 0 (occurs r g.forest)))
+      (⊎_elim
+      (λ (lt : 0 < occurs r g.forest). omega (arith, s.once r))
+      (λ (le : occurs r g.forest ≤ 0).
+      absurd (let z : tree_at r g.forest ≡ empty = tree_at-absent r g.forest (omega arith) in let k = rw z at h in omega arith))
+      (cases_lt 0 (occurs r g.forest)))
 
   pub tree-after : (r n : ℕ) → 0 < occurs n (tree_at r g.forest) → after n (inclusive_descendants g.forest r) ≡ or_else (head_of (children_of g.forest n)) (past None n (tree_at r g.forest))
   tree-after r n h =
@@ -95,11 +95,11 @@ module _ {X : Type 0} {g : Grove X} (s : IsForest g) where
       from : Single r (tree_at r g.forest) → past None n (tree_at r g.forest) ≡ Some m
       from (single x kids d t) =
           rw t (single-next (entry_in g.forest) (parent_of g.forest r) x kids n m
-            (λ k. subst (λ (u : Forest X). occurs k u ≤ 1) t (once_inside r k))
-            (subst (λ (u : Forest X). Lies (entry_in g.forest) (parent_of g.forest r) u) t (lies r))
-            (λ i. ne (sym i ∙ d))
-            (subst (λ (u : Forest X). 0 < occurs n u) t h)
-            e)
+          (λ k. subst (λ (u : Forest X). occurs k u ≤ 1) t (once_inside r k))
+          (subst (λ (u : Forest X). Lies (entry_in g.forest) (parent_of g.forest r) u) t (lies r))
+          (λ i. ne (sym i ∙ d))
+          (subst (λ (u : Forest X). 0 < occurs n u) t h)
+          e)
 
   tree-rise : (r n : ℕ) → 0 < occurs n (tree_at r g.forest) → (n ≡ r → ⊥) → next_of g.forest n ≡ None → Rise n (parent_of g.forest n) (tree_at r g.forest)
   tree-rise r n h ne e = from (tree r n h)
@@ -107,12 +107,12 @@ module _ {X : Type 0} {g : Grove X} (s : IsForest g) where
       from : Single r (tree_at r g.forest) → Rise n (parent_of g.forest n) (tree_at r g.forest)
       from (single x kids d t) =
           subst (λ (u : Forest X). Rise n (parent_of g.forest n) u) (sym t)
-            (single-up (entry_in g.forest) (parent_of g.forest r) x kids n
-              (λ k. subst (λ (u : Forest X). occurs k u ≤ 1) t (once_inside r k))
-              (subst (λ (u : Forest X). Lies (entry_in g.forest) (parent_of g.forest r) u) t (lies r))
-              (λ i. ne (sym i ∙ d))
-              (subst (λ (u : Forest X). 0 < occurs n u) t h)
-              e)
+          (single-up (entry_in g.forest) (parent_of g.forest r) x kids n
+          (λ k. subst (λ (u : Forest X). occurs k u ≤ 1) t (once_inside r k))
+          (subst (λ (u : Forest X). Lies (entry_in g.forest) (parent_of g.forest r) u) t (lies r))
+          (λ i. ne (sym i ∙ d))
+          (subst (λ (u : Forest X). 0 < occurs n u) t h)
+          e)
 
   pub tree-parent : (r n : ℕ) → 0 < occurs n (tree_at r g.forest) → (n ≡ r → ⊥) → next_of g.forest n ≡ None → IsSome (parent_of g.forest n)
   tree-parent r n h ne e = from (tree-rise r n h ne e)
@@ -149,22 +149,22 @@ module _ {X : Type 0} {g : Grove X} (s : IsForest g) where
   pub Past-next : (n here m : ℕ) → HasNode g.forest n → Past g.forest n here → next_of g.forest here ≡ Some m → IfSome (root_of g.forest n) (λ r. Some m ≡ after n (inclusive_descendants g.forest r))
   Past-next n here m i p e =
       IfSome-from (root_of g.forest n) _ (λ r h.
-        let t = root-parent s n r i h in
-        let ne : here ≡ r → ⊥ = λ d. (let z : next_of g.forest r ≡ None = next-root g.forest r t in let y : None ≡ Some m = sym z ∙ ap (next_of g.forest) (sym d) ∙ e in cc y) in
-        sym ((p r h).1 ∙ tree-next s r here m (p r h).0 ne e))
+      let t = root-parent s n r i h in
+      let ne : here ≡ r → ⊥ = λ d. (let z : next_of g.forest r ≡ None = next-root g.forest r t in let y : None ≡ Some m = sym z ∙ ap (next_of g.forest) (sym d) ∙ e in cc y) in
+      sym ((p r h).1 ∙ tree-next s r here m (p r h).0 ne e))
 
   pub Past-up : (n here q : ℕ) → HasNode g.forest n → Past g.forest n here → next_of g.forest here ≡ None → parent_of g.forest here ≡ Some q → Past g.forest n q
   Past-up n here q i p e a =
       λ r h.
-        let t = root-parent s n r i h in
-        let ne : here ≡ r → ⊥ = λ d. (let y : None ≡ Some q = sym t ∙ ap (parent_of g.forest) (sym d) ∙ a in cc y) in
-        let k = tree-up s r here q (p r h).0 ne e a in
-        (k.0, (p r h).1 ∙ k.1)
+      let t = root-parent s n r i h in
+      let ne : here ≡ r → ⊥ = λ d. (let y : None ≡ Some q = sym t ∙ ap (parent_of g.forest) (sym d) ∙ a in cc y) in
+      let k = tree-up s r here q (p r h).0 ne e a in
+      (k.0, (p r h).1 ∙ k.1)
 
   pub Past-end : (n here : ℕ) → HasNode g.forest n → Past g.forest n here → next_of g.forest here ≡ None → parent_of g.forest here ≡ None → IfSome (root_of g.forest n) (λ r. None ≡ after n (inclusive_descendants g.forest r))
   Past-end n here i p e a =
       IfSome-from (root_of g.forest n) _ (λ r h.
-        elim (same_or here r) [
-          same d t ↦ sym ((p r h).1 ∙ tree-top s r here (p r h).0 d)
+      elim (same_or here r) [
+        | same d t ↦ sym ((p r h).1 ∙ tree-top s r here (p r h).0 d)
         | apart ne t ↦ absurd (let k = tree-parent s r here (p r h).0 ne e in let k2 = rw a at k in false≢true k2)
-        ])
+      ])

@@ -14,32 +14,32 @@ module _ {X : Type 0} where
   total-tree_at w n empty = refl
   total-tree_at w n (node x kids rest) =
       elim (same_or x.number n) [
-        same e t ↦ rw t (omega (arith, total-tree_at w n rest))
-      | apart ne t ↦ rw t (omega (arith, total-beside w (tree_at n kids) (tree_at n rest), total-tree_at w n kids, total-tree_at w n rest))
+        | same e t ↦ rw t (omega (arith, total-tree_at w n rest))
+        | apart ne t ↦ rw t (omega (arith, total-beside w (tree_at n kids) (tree_at n rest), total-tree_at w n kids, total-tree_at w n rest))
       ]
 
   pub total-placed_before : (w : ℕ → ℕ) (b : Option ℕ) (t f : Forest X) → total w (placed_before b t f) ≡ total w f + total w t
   total-placed_before w b t empty = omega arith
   total-placed_before w b t (node x kids rest) =
       elim (is_number b x.number) as (λ v. total w (if v then beside t (node x kids rest) else node x kids (placed_before b t rest)) ≡ total w (node x kids rest) + total w t) [
-        true ↦ omega (arith, total-beside w t (node x kids rest))
-      | false ↦ omega (arith, total-placed_before w b t rest)
+        | true ↦ omega (arith, total-beside w t (node x kids rest))
+        | false ↦ omega (arith, total-placed_before w b t rest)
       ]
 
   pub total-placed_root : (w : ℕ → ℕ) (n : ℕ) (t f : Forest X) → total w (placed_root n t f) ≡ total w f + total w t
   total-placed_root w n t empty = omega arith
   total-placed_root w n t (node x kids rest) =
       elim (nat_lt n x.number) as (λ v. total w (if v then beside t (node x kids rest) else node x kids (placed_root n t rest)) ≡ total w (node x kids rest) + total w t) [
-        true ↦ omega (arith, total-beside w t (node x kids rest))
-      | false ↦ omega (arith, total-placed_root w n t rest)
+        | true ↦ omega (arith, total-beside w t (node x kids rest))
+        | false ↦ omega (arith, total-placed_root w n t rest)
       ]
 
   pub total-placed_under : (w : ℕ → ℕ) (p : ℕ) (b : Option ℕ) (t f : Forest X) → total w (placed_under p b t f) ≡ total w f + occurs p f * total w t
   total-placed_under w p b t empty = omega arith
   total-placed_under w p b t (node x kids rest) =
       elim (same_or x.number p) [
-        same e v ↦ rw v (omega (arith, total-placed_before w b t (placed_under p b t kids), total-placed_under w p b t kids, total-placed_under w p b t rest))
-      | apart ne v ↦ rw v (omega (arith, total-placed_under w p b t kids, total-placed_under w p b t rest))
+        | same e v ↦ rw v (omega (arith, total-placed_before w b t (placed_under p b t kids), total-placed_under w p b t kids, total-placed_under w p b t rest))
+        | apart ne v ↦ rw v (omega (arith, total-placed_under w p b t kids, total-placed_under w p b t rest))
       ]
 
   pub total-cut : (w : ℕ → ℕ) (c : ℕ) (f : Forest X) → total w (cut c f) ≡ total w f
@@ -56,32 +56,32 @@ module _ {X : Type 0} where
   occurs-without c empty = refl
   occurs-without c (node x kids rest) =
       elim (same_or x.number c) [
-        same e t ↦ rw t (occurs-without c rest)
-      | apart ne t ↦ rw (t, t) (omega (arith, occurs-without c kids, occurs-without c rest))
+        | same e t ↦ rw t (occurs-without c rest)
+        | apart ne t ↦ rw (t, t) (omega (arith, occurs-without c kids, occurs-without c rest))
       ]
 
   pub without-absent : (c : ℕ) (f : Forest X) → occurs c f ≡ 0 → without c f ≡ f
   without-absent c empty h = refl
   without-absent c (node x kids rest) h =
       elim (same_or x.number c) [
-        same e t ↦ absurd (let k = rw t at h in omega arith)
-      | apart ne t ↦
-          let k = rw t at h in
-          let a : occurs c kids ≡ 0 = omega arith in
-          let b : occurs c rest ≡ 0 = omega arith in
-          rw (t, without-absent c kids a, without-absent c rest b) refl
+        | same e t ↦ absurd (let k = rw t at h in omega arith)
+        | apart ne t ↦
+            let k = rw t at h in
+            let a : occurs c kids ≡ 0 = omega arith in
+            let b : occurs c rest ≡ 0 = omega arith in
+            rw (t, without-absent c kids a, without-absent c rest b) refl
       ]
 
   pub tree_at-absent : (c : ℕ) (f : Forest X) → occurs c f ≡ 0 → tree_at c f ≡ empty
   tree_at-absent c empty h = refl
   tree_at-absent c (node x kids rest) h =
       elim (same_or x.number c) [
-        same e t ↦ absurd (let k = rw t at h in omega arith)
-      | apart ne t ↦
-          let k = rw t at h in
-          let a : occurs c kids ≡ 0 = omega arith in
-          let b : occurs c rest ≡ 0 = omega arith in
-          rw (t, tree_at-absent c kids a, tree_at-absent c rest b) refl
+        | same e t ↦ absurd (let k = rw t at h in omega arith)
+        | apart ne t ↦
+            let k = rw t at h in
+            let a : occurs c kids ≡ 0 = omega arith in
+            let b : occurs c rest ≡ 0 = omega arith in
+            rw (t, tree_at-absent c kids a, tree_at-absent c rest b) refl
       ]
 
   pub beside-empty : (f : Forest X) → beside f empty ≡ f

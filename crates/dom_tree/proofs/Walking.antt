@@ -28,25 +28,25 @@ module _ {X : Type 0} where
   root-top n r empty h e = absurd (omega arith)
   root-top n r (node x kids rest) h e =
       elim (same_or x.number n) [
-        same d t ↦
-          let k = rw t at e in
-          let i : n ≡ r = cc k in
-          let j : x.number ≡ r = d ∙ i in
-          elim (same_or x.number r) [ same _ v ↦ rw v (omega arith) | apart ne v ↦ absurd (ne j) ]
-      | apart ne t ↦
-          let k = rw t at h in
-          ⊎_elim
+        | same d t ↦
+            let k = rw t at e in
+            let i : n ≡ r = cc k in
+            let j : x.number ≡ r = d ∙ i in
+            elim (same_or x.number r) [ same _ v ↦ rw v (omega arith) | apart ne v ↦ absurd (ne j) ]
+        | apart ne t ↦
+            let k = rw t at h in
+            ⊎_elim
             (λ (lt : 0 < occurs n kids).
-              let i = ancestors-there n kids lt in
-              let a = ancestors-kids n n i.0 x kids rest ne i.1 in
-              let b = rw a at e in
-              let j : Some x.number ≡ Some r = sym (last_of-append (n ∷ i.0) x.number) ∙ b in
-              let m : x.number ≡ r = cc j in
-              elim (same_or x.number r) [ same _ v ↦ rw v (omega arith) | apart nm v ↦ absurd (nm m) ])
+            let i = ancestors-there n kids lt in
+            let a = ancestors-kids n n i.0 x kids rest ne i.1 in
+            let b = rw a at e in
+            let j : Some x.number ≡ Some r = sym (last_of-append (n ∷ i.0) x.number) ∙ b in
+            let m : x.number ≡ r = cc j in
+            elim (same_or x.number r) [ same _ v ↦ rw v (omega arith) | apart nm v ↦ absurd (nm m) ])
             (λ (le : occurs n kids ≤ 0).
-              let a = ancestors-rest n x kids rest ne (omega arith) in
-              let b = rw a at e in
-              omega (arith, root-top n r rest (omega arith) b))
+            let a = ancestors-rest n x kids rest ne (omega arith) in
+            let b = rw a at e in
+            omega (arith, root-top n r rest (omega arith) b))
             (cases_lt 0 (occurs n kids))
       ]
 

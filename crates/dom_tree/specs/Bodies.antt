@@ -3,7 +3,7 @@ use Rattle.std.specs.Prelude.{ℕ}
 use Rattle.std.specs.Borrow.{Lends, MutBor, Fml, RattleType}
 use Rattle.dom_model.specs.Arena.{Arena, Entry, with_value, altered}
 use Rattle.dom_model.specs.Forest.{Node}
-use Rattle.dom_links.specs.contracts.Links as links
+use Rattle.dom_links.specs.contracts.links.Links as links
 use Rattle.dom_tree.specs.contracts.item.Item as item
 
 -- the node with another body

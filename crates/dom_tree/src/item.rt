@@ -1,9 +1,8 @@
 //! What stands in a slot.
 
+use crate::node_id::NodeId;
 use dom_kinds::Label;
 use std::marker::Model;
-
-use crate::node_id::NodeId;
 
 /// A node as its slot holds it, with the number that callers know it by.
 #[derive(Drop)]

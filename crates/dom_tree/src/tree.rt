@@ -6,18 +6,16 @@ ghost use Rattle.std.specs.Option.{ForSome};
 ghost use Rattle.dom_model.specs.Lists.{among, head_of, last_of};
 ghost use Rattle.dom_model.specs.Arena.{IsHeld, entry_at};
 ghost use Rattle.dom_model.specs.Forest.{empty, node, beside, size, entry_in, HasNode, parent_of, children_of, next_of, previous_of, ancestors, put, cut, with_node, in_document, IsForest};
-
 ghost use Rattle.dom_tree.specs.Bodies.{lends_item_body};
 ghost use Rattle.dom_tree.specs.Spelled.{slot_in, slot_for, number_at};
 ghost use Rattle.dom_tree.specs.Standing.{MayStand};
 
+use crate::item::Item;
+use crate::node_id::NodeId;
 use dom_kinds::Label;
 use dom_links::{Links, Slot};
 use std::alloc::{AllocError, Global};
 use std::marker::Model;
-
-use crate::item::Item;
-use crate::node_id::NodeId;
 
 /// A forest of nodes, each a root or among the children of one parent. A node keeps its number wherever it stands.
 #[derive(Drop)]
@@ -92,7 +90,12 @@ fn body_in<X>(links: &mut Links<Item<X>>, slot: Slot) -> &mut X
 
 impl<X: Drop> Tree<X> {
     /// Makes a root with no children, in the given document or, where there is none, in itself.
-    pub fn make(&mut self, label: Label, body: X, document: Option<NodeId>) -> Result<NodeId, AllocError>
+    pub fn make(
+        &mut self,
+        label: Label,
+        body: X,
+        document: Option<NodeId>,
+    ) -> Result<NodeId, AllocError>
         requires room { self.old.made < 4294967295 }
         ensures number { IfOk result (λ id. id ≡ self.old.made) }
         ensures made { OnOk result (self.new ≡ record { forest = beside self.old.forest (node (record { number = self.old.made; document = unwrap_or document self.old.made; label = label; body = body }) empty empty); made = self.old.made + 1 }) }

@@ -6,11 +6,10 @@ ghost use Rattle.dom_model.specs.Arena.{siblings_in};
 ghost use Rattle.dom_model.specs.Forest.{HasNode, entry_in, children_of, index_of, root_of, ancestors, numbers, inclusive_descendants, adopted};
 ghost use Rattle.dom_tree.specs.Lengths.{length_of};
 
-use dom_kinds::Kind;
-
 use crate::body::Body;
 use crate::node_id::NodeId;
 use crate::tree::Tree;
+use dom_kinds::Kind;
 
 impl<X> Tree<X> {
     /// The root: the last of the inclusive ancestors.

@@ -6,9 +6,8 @@ mod running;
 #[cfg(test)]
 mod tests;
 
-pub use running::{fault_text, run};
-
 use dom_serve::{FromRead, ToWrite};
+pub use running::{fault_text, run};
 use std::env;
 use std::io::{ErrorKind, Write};
 use std::process::ExitCode;
@@ -24,11 +23,19 @@ fn main(rt: HostRuntime) -> ExitCode {
             if let ErrorKind::OutOfMemory = error.kind() {
                 return ExitCode::from(running::without_memory(&mut errors));
             }
-            let _ = errors.write_all(b"error: invalid UTF-8 was detected in one or more arguments\n");
+            let _ = errors.write_all(
+                b"error: invalid UTF-8 was detected in one or more arguments\n",
+            );
             return ExitCode::from(2);
         }
     };
     let mut reader = FromRead::new(rt.stdin());
     let mut writer = ToWrite::new(rt.stdout());
-    ExitCode::from(run(rt.alloc(), words.as_slice(), &mut reader, &mut writer, &mut errors))
+    ExitCode::from(run(
+        rt.alloc(),
+        words.as_slice(),
+        &mut reader,
+        &mut writer,
+        &mut errors,
+    ))
 }

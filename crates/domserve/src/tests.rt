@@ -189,5 +189,8 @@ fn texts_of_faults(rt: HostRuntime) {
     assert_eq!(rt; fault_text(&Fault::Read), "domserve: read failed");
     assert_eq!(rt; fault_text(&Fault::Write), "domserve: write failed");
     assert_eq!(rt; fault_text(&Fault::Memory), "domserve: out of memory");
-    assert_eq!(rt; fault_text(&Fault::InputTooLong), "domserve: input too long");
+    assert_eq!(rt;
+        fault_text(&Fault::InputTooLong),
+        "domserve: input too long"
+    );
 }

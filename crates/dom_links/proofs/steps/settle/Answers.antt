@@ -1,4 +1,3 @@
-use Rattle.std.proofs.Common.{refl}
 use Rattle.dom_links.specs.Wiring.{settled}
 use Rattle.dom_links.proofs.Cells.{same_ptr_refl, put_length}
 use Rattle.dom_links.proofs.Places.{look-step}

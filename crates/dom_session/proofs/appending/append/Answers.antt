@@ -37,10 +37,10 @@ set_document-requires c =
     let o = c.detach.ensures.sound.once in
     let ok = passed f c.args.parent c.args.node c.requires.single c.requires.fits in
     rw (c.put.ensures, c.detach.ensures.detached)
-      (HasNode-put c.args.parent c.args.node (detached c.args.node f) (IsOnce-detached c.args.node f o)
-        (HasNode-detached c.args.node c.args.parent f o c.requires.parent_held)
-        (HasNode-detached c.args.node c.args.node f o c.requires.node_held)
-        (outside-detached c.args.node c.args.parent f o ok.outside))
+    (HasNode-put c.args.parent c.args.node (detached c.args.node f) (IsOnce-detached c.args.node f o)
+    (HasNode-detached c.args.node c.args.parent f o c.requires.parent_held)
+    (HasNode-detached c.args.node c.args.node f o c.requires.node_held)
+    (outside-detached c.args.node c.args.parent f o ok.outside))
 
 pub returns : goal.returns
 returns c =

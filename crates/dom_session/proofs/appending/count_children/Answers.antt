@@ -55,8 +55,8 @@ loop-child-preserved c =
     let counted = rw (c.in-Some.is, split, count_kind-cons c.args.kind f c.in-Some.id (from_optional (after c.in-Some.id all) all), ← c.is_of_kind.ensures) at c.loop-child.invariant.counted in
     record {
       counted = rw next (elim c.if-is_of_kind.branch [
-          then-is_of_kind w ↦ rw w.count-is (let h = rw w.if-is_of_kind.true at counted in omega (arith, h))
+        | then-is_of_kind w ↦ rw w.count-is (let h = rw w.if-is_of_kind.true at counted in omega (arith, h))
         | else-is_of_kind w ↦ rw w.count-is (let h = rw w.if-is_of_kind.false at counted in omega (arith, h))
-        ]);
+      ]);
       within = rw next (IsAmong-after c.in-Some.id all once);
     }

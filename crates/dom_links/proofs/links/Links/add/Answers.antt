@@ -1,6 +1,5 @@
-use Rattle.std.proofs.Common.{◌∙◌, subst, refl, arith, None}
+use Rattle.std.proofs.Common.{◌∙◌, arith}
 use Rattle.std.proofs.lemmas.List.{length-set}
-use Rattle.dom_model.specs.Arena.{entry_at}
 use Rattle.dom_links.proofs.Closing.{free_read}
 use Rattle.dom_links.proofs.Filling.{given_slot, add_closes}
 use Rattle.dom_links.proofs.links.Links.add.Goals as goal

@@ -1,6 +1,5 @@
 use Rattle.std.proofs.Common.{[], refl, arith}
-use Rattle.dom_links.proofs.Closing.{closes, stands-none, restands}
-
+use Rattle.dom_links.proofs.Closing.{closes, stands-none}
 use Rattle.dom_links.proofs.links.Links.new.Goals as goal
 
 pub invariant_of-result : goal.invariant_of-result

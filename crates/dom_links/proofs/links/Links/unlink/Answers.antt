@@ -1,4 +1,4 @@
-use Rattle.std.proofs.Common.{refl, ◌∙◌, None}
+use Rattle.std.proofs.Common.{refl}
 use Rattle.dom_links.specs.Wiring.{led_on}
 use Rattle.dom_links.proofs.Reading.{previous_found, next_found}
 use Rattle.dom_links.proofs.Closing.{free_read}

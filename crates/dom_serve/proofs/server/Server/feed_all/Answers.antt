@@ -1,4 +1,4 @@
-use Rattle.std.proofs.Common.{refl, ◌∙◌, sym}
+use Rattle.std.proofs.Common.{refl}
 use Rattle.dom_serve.proofs.Fed.{Breaks-within}
 use Rattle.dom_serve.proofs.server.Server.feed_all.Goals as goal
 

@@ -8,7 +8,7 @@ returns-then-self-clause-finishes g c = λ b bytes h.
     Finishes-fed b bytes c.args.self.now c.end_line.new.self _ _ c.end_line.result h (inl c.if-self.true) (c.end_line.ensures.fed b bytes h)
 
 pub returns-then-is_empty-clause-finishes : goal.returns-then-is_empty-clause-finishes
-returns-then-is_empty-clause-finishes g c = λ b bytes h. Finishes-none b bytes c.args.self.now _ h c.if-self.false 
+returns-then-is_empty-clause-finishes g c = λ b bytes h. Finishes-none b bytes c.args.self.now _ h c.if-self.false
     (length-zero c.args.self.now.kept.items (sym c.args.self.now.kept.ok.0 ∙ eqb-true _ 0 (sym c.is_empty.ensures ∙ c.if-is_empty.true)))
 
 pub returns-clause-finishes : goal.returns-clause-finishes

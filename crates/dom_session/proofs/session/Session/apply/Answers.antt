@@ -11,6 +11,6 @@ invariant_of-self c =
 pub returns-in-Ok-clause-answers : goal.returns-in-Ok-clause-answers
 returns-in-Ok-clause-answers c =
     rw (← c.self.view_is)
-      (IsAnswered-step (record { tree = c.self.inside.tree; bounds = bounds_of c.self.inside.limits; ended = c.self.inside.ended })
-        (record { tree = c.answered.new.tree; bounds = bounds_of c.self.inside.limits; ended = c.self.inside.ended })
-        c.args.command c.in-Ok.reply c.in-Ok.ensures.step)
+    (IsAnswered-step (record { tree = c.self.inside.tree; bounds = bounds_of c.self.inside.limits; ended = c.self.inside.ended })
+    (record { tree = c.answered.new.tree; bounds = bounds_of c.self.inside.limits; ended = c.self.inside.ended })
+    c.args.command c.in-Ok.reply c.in-Ok.ensures.step)

@@ -14,9 +14,10 @@ invariant_of-self-lent g c =
     λ w. (alter-done c.self.invariant c.self.view_is c.args.id c.slot_of-slot.result c.deref.result.now c.deref.ensures.value c.slot_of-slot.ensures (with_body w) (λ q. refl) (λ q. refl)).kept
 
 pub returns : goal.returns
-returns g c =
-    ((refl, λ w. keeps-shown c.self.invariant c.self.view_is (with_node c.args.id (with_body w)) (alter-done c.self.invariant c.self.view_is c.args.id c.slot_of-slot.result c.deref.result.now c.deref.ensures.value c.slot_of-slot.ensures (with_body w) (λ q. refl) (λ q. refl))),
-      record {
-        writes_back = tt;
-        value = part-read c.self.invariant c.self.view_is (λ (x : Node g.row.X.Denot). x.body) c.args.id c.slot_of-slot.result c.deref.result.now c.deref.ensures.value c.slot_of-slot.ensures c.body_in.result.now c.body_in.ensures.value
-      })
+returns g c = (
+  (refl, λ w. keeps-shown c.self.invariant c.self.view_is (with_node c.args.id (with_body w)) (alter-done c.self.invariant c.self.view_is c.args.id c.slot_of-slot.result c.deref.result.now c.deref.ensures.value c.slot_of-slot.ensures (with_body w) (λ q. refl) (λ q. refl))),
+  record {
+    writes_back = tt;
+    value = part-read c.self.invariant c.self.view_is (λ (x : Node g.row.X.Denot). x.body) c.args.id c.slot_of-slot.result c.deref.result.now c.deref.ensures.value c.slot_of-slot.ensures c.body_in.result.now c.body_in.ensures.value;
+  },
+)

@@ -18,4 +18,4 @@ invariant_of-self g c =
 pub returns : goal.returns
 returns g c =
     changed-shown c.self.invariant c.self.view_is c.unlink.new.self (cut c.args.child)
-      (cut-done c.self.invariant c.self.view_is c.sound.ensures c.args.child c.slot_of-slot.result c.deref.result.now c.deref.ensures.value c.slot_of-slot.ensures c.requires c.unlink.new.self c.unlink.ensures).same
+    (cut-done c.self.invariant c.self.view_is c.sound.ensures c.args.child c.slot_of-slot.result c.deref.result.now c.deref.ensures.value c.slot_of-slot.ensures c.requires c.unlink.new.self c.unlink.ensures).same

@@ -30,4 +30,4 @@ returns-clause-made g c =
     let done = made-keeps c.self.invariant c.self.view_is c.sound.ensures x c.add.new.self c.push.new.self.items c.in-Ok.slot number_is fresh c.requires.room added_is slot_is table_is in
     let m = number_is ∙ made-is c.self.invariant c.self.view_is in
     made-shown c.self.invariant c.self.view_is x _ c.add.new.self c.push.new.self.items c.in-Ok.slot
-      (λ i. record { number = m i; document = (c.unwrap_or.ensures ∙ ap (λ n. unwrap_or c.args.document n) m) i; label = c.args.label; body = c.args.body }) table_is done
+    (λ i. record { number = m i; document = (c.unwrap_or.ensures ∙ ap (λ n. unwrap_or c.args.document n) m) i; label = c.args.label; body = c.args.body }) table_is done

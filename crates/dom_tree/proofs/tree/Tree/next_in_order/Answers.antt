@@ -29,7 +29,7 @@ pub loop-next-preserved : goal.loop-next-preserved
 loop-next-preserved g c =
     record {
       there = (above c.sound.ensures c.loop-next.here c.in-Some-parent.parent c.loop-next.invariant.there (sym c.parent.ensures ∙ c.in-Some-parent.is)).there;
-      same = Past-up c.sound.ensures c.args.id c.loop-next.here c.in-Some-parent.parent c.requires c.loop-next.invariant.same (sym c.next.ensures ∙ c.in_default-next.is) (sym c.parent.ensures ∙ c.in-Some-parent.is)
+      same = Past-up c.sound.ensures c.args.id c.loop-next.here c.in-Some-parent.parent c.requires c.loop-next.invariant.same (sym c.next.ensures ∙ c.in_default-next.is) (sym c.parent.ensures ∙ c.in-Some-parent.is);
     }
 
 pub returns-in-None : goal.returns-in-None

@@ -15,7 +15,7 @@ loop-top-init g c =
     record {
       there = c.requires.held;
       within = inside c.sound.ensures c.args.top c.args.id c.requires.under;
-      same = none-after c.sound.ensures c.args.top c.args.id (inside c.sound.ensures c.args.top c.args.id c.requires.under) (sym c.first.ensures ∙ c.in_default.is)
+      same = none-after c.sound.ensures c.args.top c.args.id (inside c.sound.ensures c.args.top c.args.id c.requires.under) (sym c.first.ensures ∙ c.in_default.is);
     }
 
 pub next-requires : goal.next-requires
@@ -41,7 +41,7 @@ loop-top-preserved g c =
     record {
       there = (above c.sound.ensures c.loop-top.here c.unwrap-here.result c.loop-top.invariant.there (sym c.parent.ensures ∙ c.unwrap-here.ensures)).there;
       within = k.0;
-      same = c.loop-top.invariant.same ∙ k.1
+      same = c.loop-top.invariant.same ∙ k.1;
     }
 
 pub returns : goal.returns

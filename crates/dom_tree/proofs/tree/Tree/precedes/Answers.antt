@@ -32,9 +32,9 @@ loop-next-preserved g c =
       there = i.1.1;
       root = i.1.0 ∙ c.loop-next.invariant.root;
       same =
-        lt-step (place_in c.loop-next.here (numbers c.args.self.now.forest)) (place_in c.args.b (numbers c.args.self.now.forest)) (place_in c.in-Some.next (numbers c.args.self.now.forest)) i.0
+          lt-step (place_in c.loop-next.here (numbers c.args.self.now.forest)) (place_in c.args.b (numbers c.args.self.now.forest)) (place_in c.in-Some.next (numbers c.args.self.now.forest)) i.0
           (order-same c.sound.ensures c.in-Some.next c.args.b i.1.1 c.requires.b_held ne)
-          ∙ c.loop-next.invariant.same
+          ∙ c.loop-next.invariant.same;
     }
 
 pub returns : goal.returns

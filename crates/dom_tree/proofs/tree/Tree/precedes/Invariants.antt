@@ -8,7 +8,7 @@ abbrev pub invariant-loop-next : goal.invariant-loop-next
 invariant-loop-next g l = record {
   there : HasNode l.self.forest l.here;
   root : root_of l.self.forest l.here ≡ root_of l.self.forest l.fn.a;
-  same : nat_lt (place_in l.here (numbers l.self.forest)) (place_in l.b (numbers l.self.forest)) ≡ nat_lt (place_in l.fn.a (numbers l.self.forest)) (place_in l.b (numbers l.self.forest))
+  same : nat_lt (place_in l.here (numbers l.self.forest)) (place_in l.b (numbers l.self.forest)) ≡ nat_lt (place_in l.fn.a (numbers l.self.forest)) (place_in l.b (numbers l.self.forest));
 }
 
 abbrev pub decreases-loop-next : goal.decreases-loop-next

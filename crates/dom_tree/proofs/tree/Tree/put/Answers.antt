@@ -32,4 +32,4 @@ invariant_of-self g c = (put-done c.self.invariant c.self.view_is c.sound.ensure
 pub returns : goal.returns
 returns g c =
     changed-shown c.self.invariant c.self.view_is c.link.new.self (put c.args.parent c.args.child c.args.before)
-      (put-done c.self.invariant c.self.view_is c.sound.ensures c.args.parent c.slot_of-above.result c.args.child c.slot_of-below.result c.args.before c.slot_of_any-next.result c.deref.result.now c.deref-2.result.now c.deref-3.result.now c.deref.ensures.value c.deref-2.ensures.value c.deref-3.ensures.value c.slot_of-above.ensures c.slot_of-below.ensures c.slot_of_any-next.ensures c.requires.no_parent c.requires.no_cycle c.requires.before_under c.requires.kinds c.link.new.self c.link.ensures).same
+    (put-done c.self.invariant c.self.view_is c.sound.ensures c.args.parent c.slot_of-above.result c.args.child c.slot_of-below.result c.args.before c.slot_of_any-next.result c.deref.result.now c.deref-2.result.now c.deref-3.result.now c.deref.ensures.value c.deref-2.ensures.value c.deref-3.ensures.value c.slot_of-above.ensures c.slot_of-below.ensures c.slot_of_any-next.ensures c.requires.no_parent c.requires.no_cycle c.requires.before_under c.requires.kinds c.link.new.self c.link.ensures).same

@@ -1,0 +1,61 @@
+//! A reader of stated pieces.
+
+ghost use Rattle.std.specs.Prelude.{◌≡◌, ◌++◌, Some, length, min, take, drop};
+ghost use Rattle.std.specs.Io.KnownBytes.{Consumes};
+
+use dom_serve::{Failed, Source};
+
+/// A reader that gives its bytes in pieces, and may fail.
+#[derive(Drop)]
+pub struct Feeder<'a> {
+    /// The bytes that are left.
+    pub rest: &'a [u8],
+    /// No read goes past the first so many bytes of those; none where that is 0.
+    pub cut: usize,
+    /// The most bytes that a read gives; 0 is taken for 1.
+    pub most: usize,
+    /// How many reads do not fail.
+    pub reads: u64,
+    /// Whether a read has failed.
+    pub failed: bool,
+}
+
+// Copies as many bytes as both have, and says how many.
+fn copy_front(from: &[u8], to: &mut [u8]) -> usize
+    ensures count { result ≡ min (length from.now) (length to.old) }
+    ensures copied { to.new ≡ take result from.now ++ drop result to.old }
+{
+    let count = from.len().min(to.len());
+    to[..count].copy_from_slice(&from[..count]);
+    count
+}
+
+impl Source for Feeder<'_> {
+    ghost left = { λ s. Some s.rest.now };
+
+    ghost gives = { λ s bytes t. Consumes (Some s.rest.now) (Some t.rest.now) bytes };
+
+    ghost has_failed = { λ s. s.failed };
+
+    fn read(&mut self, buf: &mut [u8]) -> Result<usize, Failed> {
+        if self.failed || self.reads == 0 {
+            self.failed = true;
+            return Err(Failed);
+        }
+        self.reads -= 1;
+        let most = if self.cut == 0 {
+            self.most
+        } else {
+            self.most.min(self.cut)
+        };
+        let most = most.max(1).min(self.rest.len());
+        let count = copy_front(&self.rest[..most], buf);
+        self.rest = &self.rest[count..];
+        self.cut = self.cut.saturating_sub(count);
+        Ok(count)
+    }
+
+    fn failed(&self) -> bool {
+        self.failed
+    }
+}

@@ -1,0 +1,25 @@
+//! The tests that cross crates: dialogues from bytes to bytes, cut anywhere, with bad lines, faults, moves and large inputs;
+//! and the reader and the writer of stated pieces that they use.
+#![tactic(auto)]
+
+#[cfg(test)]
+mod chains;
+#[cfg(test)]
+mod cuts;
+#[cfg(test)]
+mod dialogues;
+#[cfg(test)]
+mod faults;
+mod feeder;
+#[cfg(test)]
+mod memory;
+#[cfg(test)]
+mod refusals;
+#[cfg(test)]
+mod refused_lines;
+#[cfg(test)]
+mod runs;
+mod taker;
+
+pub use feeder::Feeder;
+pub use taker::Taker;

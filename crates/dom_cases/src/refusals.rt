@@ -1,0 +1,94 @@
+//! Dialogues of which any growth may be refused. What the writer takes has its room before, so that a growth that is refused
+//! is one of the server's; where the room itself is refused, there is nothing to show.
+
+use crate::Taker;
+use crate::dialogues::{DIALOGUES, Dialogue};
+use crate::runs::{USUAL, all_taken, first_lines, in_pieces};
+use dom_serve::{Fault, Summary, serve};
+use std::alloc::{AllocError, Global};
+use std::process::Abort;
+use std::test::Fail;
+
+const OUT_OF_MEMORY: &[u8] = b"{\"error\":\"out-of-memory\"}\n";
+
+// A writer with room for the replies of each dialogue.
+fn roomy(alloc: Global) -> Result<Taker, AllocError> {
+    let mut writer = all_taken(alloc);
+    writer.taken.reserve(1000)?;
+    Ok(writer)
+}
+
+// That the text is some first lines of the output, and then the line that says that memory was wanting.
+fn is_cut_by_want(output: &[u8], text: &[u8]) -> bool {
+    (0..100).any(|count| match text.strip_prefix(first_lines(output, count)) {
+        Some(rest) => rest == OUT_OF_MEMORY,
+        None => false,
+    })
+}
+
+// That the dialogue is answered whole, or up to a want of memory.
+fn is_answered_or_wants(rt: &impl Abort, alloc: Global, dialogue: &Dialogue) {
+    let Ok(mut writer) = roomy(alloc) else {
+        return;
+    };
+    let limits = dialogue.limits();
+    assert!(rt; 1 <= limits.numbers && limits.numbers <= 4294967295 && 1 <= limits.line);
+    let mut reader = in_pieces(dialogue.input.as_bytes(), 65536);
+    let ended = serve(alloc, limits, &mut reader, &mut writer);
+    let output = dialogue.output.as_bytes();
+    let text = writer.taken.as_slice();
+    let name = dialogue.name;
+    match ended {
+        Ok(_) => assert!(rt; text == output, "{name}"),
+        Err(fault) => {
+            assert!(rt; fault == Fault::Memory, "{name}");
+            assert!(rt; is_cut_by_want(output, text), "{name}");
+        }
+    }
+}
+
+#[test]
+fn first_dialogue_under_refusals(rt: HostRuntime) {
+    is_answered_or_wants(&rt, rt.alloc(), &DIALOGUES[2]);
+}
+
+#[test]
+fn dialogues_under_refusals(rt: HostRuntime) {
+    for dialogue in &DIALOGUES {
+        is_answered_or_wants(&rt, rt.alloc(), dialogue);
+    }
+}
+
+// Each reply is one write, and so is the line that says that memory was wanting.
+#[test]
+fn failing_writers_under_refusals(rt: HostRuntime) {
+    let dialogue = &DIALOGUES[2];
+    let output = dialogue.output.as_bytes();
+    for writes in 0..3u8 {
+        let Ok(mut writer) = roomy(rt.alloc()) else {
+            return;
+        };
+        writer.writes = u64::from(writes);
+        let mut reader = in_pieces(dialogue.input.as_bytes(), 65536);
+        let ended = serve(rt.alloc(), USUAL, &mut reader, &mut writer);
+        let text = writer.taken.as_slice();
+        if ended == Err(Fault::Memory) {
+            assert!(rt; is_cut_by_want(output, text));
+        } else {
+            assert_eq!(rt; ended, Err(Fault::Write));
+            assert!(rt; text == first_lines(output, usize::from(writes)));
+        }
+    }
+}
+
+// The first of these tests, where no growth is refused.
+#[test]
+fn first_dialogue_with_memory(rt: HostRuntime) -> Result<(), Fail> {
+    let dialogue = &DIALOGUES[2];
+    let mut writer = roomy(rt.alloc())?;
+    let mut reader = in_pieces(dialogue.input.as_bytes(), 65536);
+    let ended = serve(rt.alloc(), USUAL, &mut reader, &mut writer);
+    assert_eq!(rt; ended, Ok(Summary { lines: 3 }));
+    assert!(rt; writer.taken.as_slice() == dialogue.output.as_bytes());
+    Ok(())
+}

@@ -1,0 +1,73 @@
+//! Serving over the reader and the writer of stated pieces.
+
+use crate::{Feeder, Taker};
+use dom_serve::{Fault, Limits, Summary, serve};
+use std::alloc::Global;
+use std::process::Abort;
+
+/// The limits where none are given.
+pub const USUAL: Limits = Limits {
+    numbers: 4294967295,
+    line: 1048576,
+};
+
+/// A reader that gives all bytes in pieces of at most so many.
+pub fn in_pieces(bytes: &[u8], most: usize) -> Feeder<'_> {
+    Feeder {
+        rest: bytes,
+        cut: 0,
+        most,
+        reads: u64::MAX,
+        failed: false,
+    }
+}
+
+/// A writer that takes all bytes.
+pub fn all_taken(alloc: Global) -> Taker {
+    Taker {
+        taken: Vec::new(alloc),
+        most: usize::MAX,
+        writes: u64::MAX,
+        flushes: u64::MAX,
+        failed: false,
+    }
+}
+
+/// How serving ended, and what was written.
+#[derive(Drop)]
+pub struct Served {
+    pub ended: Result<Summary, Fault>,
+    pub written: Vec<u8>,
+}
+
+/// Serves the reader, to a writer that takes all bytes.
+pub fn serve_all(rt: &impl Abort, alloc: Global, limits: Limits, mut reader: Feeder<'_>) -> Served {
+    assert!(rt; 1 <= limits.numbers && limits.numbers <= 4294967295);
+    assert!(rt; 1 <= limits.line);
+    assert!(rt; !reader.failed);
+    let mut writer = all_taken(alloc);
+    let ended = serve(alloc, limits, &mut reader, &mut writer);
+    Served {
+        ended,
+        written: writer.taken,
+    }
+}
+
+/// The front of a text, up to and with its first so many newlines.
+pub fn first_lines(text: &[u8], count: usize) -> &[u8] {
+    let mut lines = 0;
+    for (at, byte) in text.iter().enumerate() {
+        if lines == count {
+            return text.get(..at).unwrap_or(text);
+        }
+        if *byte == b'\n' {
+            lines += 1;
+        }
+    }
+    text
+}
+
+/// How many newlines there are.
+pub fn newlines(text: &[u8]) -> usize {
+    text.iter().filter(|byte| **byte == b'\n').count()
+}
