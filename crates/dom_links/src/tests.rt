@@ -155,6 +155,18 @@ fn a_thousand_children(rt: HostRuntime) -> Result<(), Fail> {
     Ok(())
 }
 
+// Where a growth is refused the value comes back, and the next try takes it.
+#[test]
+fn a_refused_add_hands_the_value_back(rt: HostRuntime) {
+    let mut links = Links::new(rt.alloc());
+    for value in 0..1000u32 {
+        if let Err(refused) = links.add(value) {
+            assert_eq!(rt; refused.value, value);
+            assert!(rt; links.add(refused.value).is_ok());
+        }
+    }
+}
+
 #[test]
 fn each_value_is_dropped_once(rt: HostRuntime) -> Result<(), Fail> {
     let drops = Rc::new(rt.alloc(), Cell::new(0u32))?;

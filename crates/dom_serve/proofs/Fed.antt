@@ -18,7 +18,7 @@ use Rattle.dom_serve.specs.declared.server.Server.{Server}
 use Rattle.dom_serve.specs.Writes.{IsPrefix}
 use Rattle.dom_serve.specs.Server.{held_command, held_step, Fails, HoldsPiece, Stands, Grows, Breaks, Fed, Finishes, SaysWant}
 use Rattle.dom_serve.proofs.Lines.{whole_lines-append_newline, last_piece-append_newline, whole_lines-append_other, last_piece-append_other, due-append, due-other, due-newline, world-newline}
-use Rattle.dom_serve.proofs.Growth.{Grows-same, Grows-one, Breaks-more, Breaks-after, Breaks-want, Breaks-front}
+use Rattle.dom_serve.proofs.Growth.{Grows-same, Grows-one, Grows-trans, Breaks-more, Breaks-after, Breaks-want, Breaks-front}
 
 -- ---- the line that is held
 
@@ -166,6 +166,21 @@ Breaks-within b bytes piece i byte taken taken' taken'' fault inside e p q =
     Breaks-after (due served_table b bytes false) (due served_table b (bytes ++ take i piece) false) (due served_table b (bytes ++ piece) false) taken taken' taken'' fault p
     (Breaks-more (due served_table b (bytes ++ take i piece) false) (due served_table b ((bytes ++ take i piece) ++ byte ∷ []) false) (due served_table b (bytes ++ piece) false)
     taken' taken'' fault more q)
+
+-- one byte more of many
+pub Fed-more : (b : Bounds) (bytes piece : List ℕ) (i byte : ℕ) (s' : Server) (taken taken' taken'' : Option (List ℕ)) → i < length piece → get_or piece i 0 ≡ byte
+    → Grows (due served_table b bytes false) (due served_table b (bytes ++ take i piece) false) taken taken'
+    → Stands b ((bytes ++ take i piece) ++ byte ∷ []) s'
+    × Grows (due served_table b (bytes ++ take i piece) false) (due served_table b ((bytes ++ take i piece) ++ byte ∷ []) false) taken' taken''
+    → Stands b (bytes ++ take (i + 1) piece) s' × Grows (due served_table b bytes false) (due served_table b (bytes ++ take (i + 1) piece) false) taken taken''
+Fed-more b bytes piece i byte s' taken taken' taken'' inside e p q =
+    let front : take (i + 1) piece ≡ take i piece ++ byte ∷ [] = take_more piece i 0 inside ∙ ap (λ x. take i piece ++ x ∷ []) e in
+    let same : (bytes ++ take i piece) ++ byte ∷ [] ≡ bytes ++ take (i + 1) piece = append_assoc bytes (take i piece) (byte ∷ []) ∙ ap (λ l. bytes ++ l) (sym front) in (
+      subst (λ l. Stands b l s') same q.0,
+      subst (λ l. Grows (due served_table b bytes false) (due served_table b l false) taken taken'') same
+          (Grows-trans (due served_table b bytes false) (due served_table b (bytes ++ take i piece) false) (due served_table b ((bytes ++ take i piece) ++ byte ∷ []) false)
+          taken taken' taken'' p q.1),
+    )
 
 -- ---- the end
 
