@@ -1,5 +1,7 @@
 //! Serving over the reader and the writer of stated pieces.
 
+ghost use Rattle.std.specs.Prelude.{◌≡◌, false};
+
 use crate::{Feeder, Taker};
 use dom_serve::{Fault, Limits, Summary, serve};
 use std::alloc::Global;
@@ -12,7 +14,9 @@ pub const USUAL: Limits = Limits {
 };
 
 /// A reader that gives all bytes in pieces of at most so many.
-pub fn in_pieces(bytes: &[u8], most: usize) -> Feeder<'_> {
+pub fn in_pieces(bytes: &[u8], most: usize) -> Feeder<'_>
+    ensures { result.failed ≡ false }
+{
     Feeder {
         rest: bytes,
         cut: 0,
@@ -23,7 +27,9 @@ pub fn in_pieces(bytes: &[u8], most: usize) -> Feeder<'_> {
 }
 
 /// A writer that takes all bytes.
-pub fn all_taken(alloc: Global) -> Taker {
+pub fn all_taken(alloc: Global) -> Taker
+    ensures { result.failed ≡ false }
+{
     Taker {
         taken: Vec::new(alloc),
         most: usize::MAX,
@@ -55,13 +61,13 @@ pub fn serve_all(rt: &impl Abort, alloc: Global, limits: Limits, mut reader: Fee
 
 /// The front of a text, up to and with its first so many newlines.
 pub fn first_lines(text: &[u8], count: usize) -> &[u8] {
-    let mut lines = 0;
+    let mut left = count;
     for (at, byte) in text.iter().enumerate() {
-        if lines == count {
+        if left == 0 {
             return text.get(..at).unwrap_or(text);
         }
         if *byte == b'\n' {
-            lines += 1;
+            left -= 1;
         }
     }
     text
