@@ -155,6 +155,31 @@ fn a_thousand_children(rt: HostRuntime) -> Result<(), Fail> {
     Ok(())
 }
 
+// All nodes stand before the first link. Room of 7,777 bytes marks where that is: a preloaded `malloc` may refuse
+// everything after it, the room of the last line too, and the links come out the same (tools/refused_growths).
+#[test]
+fn a_thousand_links_without_a_growth(rt: HostRuntime) -> Result<(), Fail> {
+    let mut links = Links::new(rt.alloc());
+    let mut slots = Vec::new(rt.alloc());
+    let top = added(&rt, &mut links, 5000);
+    for value in 0..1000u32 {
+        slots.push(added(&rt, &mut links, value))?;
+    }
+    let mut mark: Vec<u8> = Vec::new(rt.alloc());
+    mark.reserve(7777)?;
+    for slot in &slots {
+        put(&rt, &mut links, top, *slot, None);
+    }
+    has_children(&rt, &links, top, slots.as_slice());
+    for slot in &slots {
+        cut(&rt, &mut links, *slot);
+    }
+    has_children(&rt, &links, top, &[]);
+    let mut last: Vec<u8> = Vec::new(rt.alloc());
+    let _refused = last.reserve(1);
+    Ok(())
+}
+
 // Where a growth is refused the value comes back, and the next try takes it.
 #[test]
 fn a_refused_add_hands_the_value_back(rt: HostRuntime) {
