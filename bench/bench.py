@@ -3,8 +3,9 @@
 
 Usage: bench/bench.py [--program PATH] [--sizes N N ..]
 
-For each size N two streams are made: a tree of N nodes built front to back (each new element is appended to the one
-before it or to the document's element in turn), and one built at random places; each is printed once at the end.
+For each size N four streams are made: N nodes under the document's element, front to back; N nodes at random places; a
+chain of N elements from above (each new one goes into the one before it) and from below (the chain so far goes into each
+new one). Each tree is printed once at the end.
 The program reads the stream from a file and writes its replies to a file. Python's json reads each line and prints a
 value of the reply's shape, with no tree at all. The ratio is the program's commands per second over Python's.
 """
@@ -44,6 +45,30 @@ def at_random(count):
     yield ["tree", 0]
 
 
+def from_above(count):
+    for number in range(1, count + 1):
+        yield ["createElement", 0, "item"]
+        yield ["appendChild", number - 1, number]
+    yield ["tree", 0]
+
+
+def from_below(count):
+    yield ["createElement", 0, "item"]
+    for number in range(2, count + 1):
+        yield ["createElement", 0, "item"]
+        yield ["appendChild", number, number - 1]
+    yield ["appendChild", 0, count]
+    yield ["tree", 0]
+
+
+STREAMS = (
+    ("front to back", front_to_back),
+    ("at random", at_random),
+    ("chain from above", from_above),
+    ("chain from below", from_below),
+)
+
+
 def served(program, path):
     with open(path, "rb") as lines, tempfile.TemporaryFile() as replies:
         start = time.perf_counter()
@@ -77,8 +102,8 @@ def main():
     given = parser.parse_args()
     if not os.access(given.program, os.X_OK):
         sys.exit(f"{given.program} is not built: run ./domserve once")
-    print(f"{'stream':>14} {'nodes':>8} {'commands':>9} {'program/s':>12} {'json/s':>12} {'ratio':>6}")
-    for name, stream in (("front to back", front_to_back), ("at random", at_random)):
+    print(f"{'stream':>16} {'nodes':>8} {'commands':>9} {'program/s':>12} {'json/s':>12} {'ratio':>6}")
+    for name, stream in STREAMS:
         for size in given.sizes:
             with tempfile.NamedTemporaryFile("w", suffix=".lines") as file:
                 count = 0
@@ -88,7 +113,7 @@ def main():
                 file.flush()
                 seconds, replies = served(given.program, file.name)
                 alone = read_and_printed(file.name, replies)
-            print(f"{name:>14} {size:>8} {count:>9} {count / seconds:>12,.0f} {count / alone:>12,.0f} {alone / seconds:>6.2f}")
+            print(f"{name:>16} {size:>8} {count:>9} {count / seconds:>12,.0f} {count / alone:>12,.0f} {alone / seconds:>6.2f}")
 
 
 if __name__ == "__main__":
