@@ -14,7 +14,9 @@ pub mod CopiesAndPositions
 pub mod CopiesLimited
 pub mod DataCountedInUnits
 pub mod DiscardedTrees
+pub mod Documents
 pub mod DocumentsOfCopies
+pub mod EachNode
 pub mod EmptyEndsExtracted
 pub mod EndsAfterInsertion
 pub mod EndsAfterNormalizing

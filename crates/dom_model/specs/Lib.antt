@@ -16,6 +16,8 @@ pub mod CommandEdits
 pub mod Contents
 pub mod Data
 pub mod Discarding
+pub mod Documents
+pub mod EachNode
 pub mod Editing
 pub mod Edits
 pub mod Erasing
