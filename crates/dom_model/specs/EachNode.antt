@@ -1,4 +1,4 @@
--- What holds of each node of a forest, wherever it stands.
+-- What holds of each node of a forest, wherever it stands. DOM Standard, "Trees".
 use Rattle.dom_model.specs.Forest.{Node, Forest, empty, node}
 
 module _ {X : Type 0} where

@@ -1,5 +1,5 @@
 -- From the step of a tree to the step of a session.
-use Rattle.std.proofs.Common.{◌≡◌, ℕ, [], refl, sym, ap, ◌∙◌, subst}
+use Rattle.std.proofs.Common.{◌≡◌, [], refl, ap, ◌∙◌, subst}
 use Rattle.dom_model.specs.Forest.{Grove, IsForest}
 use Rattle.dom_model.specs.World.{Content, World}
 use Rattle.dom_model.specs.Command as model
@@ -8,7 +8,7 @@ use Rattle.dom_session.specs.declared.command.Command.{Command}
 use Rattle.dom_session.specs.declared.command.Command.TheVariants.{NewDocument, CreateElement, CreateText, AppendChild, Tree}
 use Rattle.dom_session.specs.declared.reply.Reply.{Reply}
 use Rattle.dom_session.specs.Views.{command_view}
-use Rattle.dom_session.specs.Stands.{Held, StandsFor, Shows, HasNoFragment, IsStep, IsAnswered}
+use Rattle.dom_session.specs.Stands.{Held, StandsFor, Shows, IsSessionForest, IsStep, IsAnswered}
 use Rattle.dom_session.specs.Limiting.{numbered}
 
 -- an answer knows nothing of the limit of a line
@@ -31,7 +31,7 @@ plain_world g = record {
   static_ranges = [];
 }
 
-shows_plain : (g : Grove Content) → IsForest g → HasNoFragment g.forest → Shows g (plain_world g)
+shows_plain : (g : Grove Content) → IsForest g → IsSessionForest g.forest → Shows g (plain_world g)
 unfolding plain_world
 shows_plain g sound whole = record {
   forest = refl;
@@ -40,13 +40,13 @@ shows_plain g sound whole = record {
   iterators = refl;
   registrations = refl;
   sound = sound;
-  fragments = whole;
+  kept = whole;
 }
 
--- a step leaves no fragment
-pub HasNoFragment-step : (old new : Grove Content) (b : Bounds) (c : model.Command) (r : Reply) → IsForest old → HasNoFragment old.forest → IsStep old new b c r → HasNoFragment new.forest
-HasNoFragment-step old new b c r sound whole step =
-    let shown = step.world_is (plain_world old) (shows_plain old sound whole) in shown.fragments
+-- a step leaves what the forest of a session keeps
+pub IsSessionForest-step : (old new : Grove Content) (b : Bounds) (c : model.Command) (r : Reply) → IsForest old → IsSessionForest old.forest → IsStep old new b c r → IsSessionForest new.forest
+IsSessionForest-step old new b c r sound whole step =
+    let shown = step.world_is (plain_world old) (shows_plain old sound whole) in shown.kept
 
 pub IsAnswered-step : (old new : Held) (c : Command) (r : Reply) → IsStep old.tree new.tree (numbered old.bounds.numbers) (command_view c) r → (w : World) → StandsFor old w → IsAnswered r w old new (command_view c)
 IsAnswered-step old new c r step w stands =

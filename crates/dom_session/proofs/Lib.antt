@@ -3,7 +3,7 @@ pub mod Laws
 pub mod Siblings
 pub mod Detaching
 pub mod Standing
-pub mod Fragments
+pub mod Kept
 pub mod Moves
 pub mod Waits
 pub mod Applying

@@ -1,12 +1,10 @@
 -- The step of appending a node, from any world that the tree shows.
-use Rattle.std.specs.Prelude.{if◌then◌else◌, is_none, is_some, IsSome}
-use Rattle.std.proofs.Common.{◌≡◌, ℕ, ◌+◌, Bool, true, false, not, List, [], ◌∷◌, ◌++◌, map, filter, flat_map, Option, Some, None, refl, sym, ap, ◌∙◌, subst}
-use Rattle.dom_model.specs.declared.Kind.TheVariants.{DocumentFragment}
-use Rattle.dom_model.specs.declared.OwnError.TheVariants.{NoSuchObject}
+use Rattle.std.specs.Prelude.{is_none, is_some}
+use Rattle.std.proofs.Common.{◌≡◌, ℕ, true, false, List, [], ◌∷◌, Option, Some, None, refl, sym, ap, ◌∙◌, subst}
 use Rattle.dom_model.specs.Arena.{Entry}
-use Rattle.dom_model.specs.Forest.{Node, Forest, Grove, IsForest, entry_in, HasNode, parent_of}
-use Rattle.dom_model.specs.World.{Content, Registration, Observing, World}
-use Rattle.dom_model.specs.Observing.{registered_on, standing_on, with_transients}
+use Rattle.dom_model.specs.Forest.{Node, Grove, IsForest, entry_in, parent_of}
+use Rattle.dom_model.specs.World.{Content, Observing, World}
+use Rattle.dom_model.specs.Observing.{standing_on, with_transients}
 use Rattle.dom_model.specs.Checks.{check_insert}
 use Rattle.dom_model.specs.Editing.{removed_from, remove, insert_all, is_fragment, append}
 use Rattle.dom_model.specs.Command.{AppendChild}
@@ -14,10 +12,10 @@ use Rattle.dom_model.specs.Reply as model
 use Rattle.dom_model.specs.Answer.{Bounds, Step, answer}
 use Rattle.dom_session.specs.declared.reply.Answer.TheVariants.{Number}
 use Rattle.dom_session.specs.declared.reply.Reply.TheVariants.{Done}
-use Rattle.dom_session.specs.Stands.{IsStep, Shows, HasNoFragment, no_ranges, no_iterators, no_registrations}
-use Rattle.dom_session.specs.Appending.{cut_where, detached, put_last, appended}
+use Rattle.dom_session.specs.Stands.{IsStep, Shows, no_ranges, no_iterators, no_registrations}
+use Rattle.dom_session.specs.Appending.{cut_where, put_last, appended}
 use Rattle.dom_session.proofs.Standing.{no_fragment}
-use Rattle.dom_session.proofs.Fragments.{HasNoFragment-appended}
+use Rattle.dom_session.proofs.Kept.{IsSessionForest-appended}
 
 -- where there is no registration, none stands
 none_standing : (ns : List ℕ) → standing_on ns no_registrations ≡ no_registrations
@@ -54,7 +52,7 @@ append-single n p w h = rw (h, h) refl
 
 Shows-appended : (old new : Grove Content) (p n : ℕ) → new ≡ record old { forest = appended p n old.forest } → IsForest new → (w : World) → Shows old w → Shows new (append n p w)
 Shows-appended old new p n e sound w shown =
-    let single : is_fragment w n ≡ false = rw shown.forest (no_fragment None n old.forest shown.fragments) in
+    let single : is_fragment w n ≡ false = rw shown.forest (no_fragment None n old.forest shown.kept.fragments) in
     let P : World → Type 0 = λ v. Shows new v in
     let q = parent_of w.forest n in
     let plain = plain_removed n q w (record { ranges = shown.ranges; iterators = shown.iterators; registrations = shown.registrations }) in
@@ -65,7 +63,7 @@ Shows-appended old new p n e sound w shown =
       iterators = plain.iterators;
       registrations = plain.registrations;
       sound = sound;
-      fragments = rw e (HasNoFragment-appended p n old.forest shown.fragments);
+      kept = rw e (IsSessionForest-appended p n old.forest shown.sound.once shown.kept);
     })
 
 held_is : (o : Option (Entry (Node Content))) → is_some o ≡ true → is_none o ≡ false

@@ -1,11 +1,11 @@
 -- The steps of the commands that make nodes, from any world that the tree shows.
-use Rattle.std.proofs.Common.{◌≡◌, ℕ, ◌+◌, nat_lt, Bool, true, false, not, List, [], ◌∷◌, Option, Some, None, refl, sym, ap, ◌∙◌, subst}
-use Rattle.std.specs.Prelude.{is_none, string_bytes}
+use Rattle.std.proofs.Common.{◌≡◌, ℕ, ◌+◌, nat_lt, Bool, true, false, not, List, [], ◌∷◌, None, refl, sym, ap, ◌∙◌, subst}
+use Rattle.std.specs.Prelude.{is_none}
 use Rattle.dom_model.specs.declared.Kind.TheVariants.{Element, Text, Document, DocumentFragment}
 use Rattle.dom_model.specs.declared.DomError.TheVariants.{TypeError}
 use Rattle.dom_model.specs.declared.OwnError.TheVariants.{NoSuchObject, Limit}
 use Rattle.dom_model.specs.Kinds.{Label, is_kind}
-use Rattle.dom_model.specs.Forest.{Node, Forest, empty, node, Grove, IsForest, entry_in, beside}
+use Rattle.dom_model.specs.Forest.{empty, node, Grove, IsForest, entry_in, beside}
 use Rattle.dom_model.specs.World.{Content, World, no_content, document_label}
 use Rattle.dom_model.specs.Reply as model
 use Rattle.dom_model.specs.Checks.{first_refusal, kind_passes}
@@ -15,7 +15,8 @@ use Rattle.dom_model.specs.Answer.{Bounds, Step, guarded, no_node, wrong_kind, n
 use Rattle.dom_session.specs.declared.reply.Answer.TheVariants.{Number}
 use Rattle.dom_session.specs.declared.reply.Reply.TheVariants.{Done}
 use Rattle.dom_session.specs.Limiting.{numbered}
-use Rattle.dom_session.specs.Stands.{IsStep, Shows, HasNoFragment, making_refusal}
+use Rattle.dom_session.specs.Stands.{IsStep, Shows, making_refusal}
+use Rattle.dom_session.proofs.Kept.{IsSessionForest-new_root}
 
 -- where none of three tests refuses, the guards behind them decide
 pub guarded-past_three : (a b c : Bool) (x y z : model.Reply) (cs : List (Bool × model.Reply)) (w : World) (s : Step) → first_refusal ((a, x) ∷ (b, y) ∷ (c, z) ∷ []) ≡ None → guarded ((a, x) ∷ (b, y) ∷ (c, z) ∷ cs) w s ≡ guarded cs w s
@@ -28,10 +29,6 @@ pub guarded-making : (g : Grove Content) (b : Bounds) (d : ℕ) (cs : List (Bool
 guarded-making g b d cs w s shown none =
     guarded-past_three (is_none (entry_in w.forest d)) (not (kind_passes (is_kind Document) w.forest d)) (nat_lt b.numbers (w.made + 1)) (model.Own NoSuchObject) (model.Dom TypeError) (model.Own Limit) cs w s (rw (shown.forest, shown.made) none)
 
-pub HasNoFragment-beside : (f : Forest Content) (x : Node Content) → HasNoFragment f → is_kind DocumentFragment x.label.kind ≡ false → HasNoFragment (beside f (node x empty empty))
-HasNoFragment-beside empty x h k = (k, tt, tt)
-HasNoFragment-beside (node y kids rest) x h k = (h.0, h.1, HasNoFragment-beside rest x h.2 k)
-
 -- a tree with one more node shows the world with that node
 pub Shows-made : (old new : Grove Content) (document : ℕ) (label : Label) (body : Content) → new ≡ record { forest = beside old.forest (node (record { number = old.made; document = document; label = label; body = body }) empty empty); made = old.made + 1 } → IsForest new → is_kind DocumentFragment label.kind ≡ false → (w : World) → Shows old w → Shows new (made_node document label body w)
 Shows-made old new document label body e sound kind w shown = record {
@@ -41,7 +38,7 @@ Shows-made old new document label body e sound kind w shown = record {
   iterators = shown.iterators;
   registrations = shown.registrations;
   sound = sound;
-  fragments = rw e (HasNoFragment-beside _ _ shown.fragments kind);
+  kept = rw e (IsSessionForest-new_root _ _ shown.kept kind);
 }
 
 -- a step that leads from every world that the old tree shows to that world with a new node

@@ -4,7 +4,9 @@ use Rattle.dom_model.specs.declared.Kind.TheVariants.{Document, DocumentFragment
 use Rattle.dom_model.specs.declared.DomError.TheVariants.{TypeError}
 use Rattle.dom_model.specs.declared.OwnError.TheVariants.{NoSuchObject, Limit}
 use Rattle.dom_model.specs.Kinds.{is_kind}
-use Rattle.dom_model.specs.Forest.{Node, Forest, empty, node, Grove, IsForest, entry_in}
+use Rattle.dom_model.specs.Forest.{Forest, Grove, IsForest, entry_in}
+use Rattle.dom_model.specs.EachNode.{EachNode}
+use Rattle.dom_model.specs.Documents.{HasOneDocument}
 use Rattle.dom_model.specs.World.{Content, Range, Iterator, Registration, World}
 use Rattle.dom_model.specs.Command.{Command}
 use Rattle.dom_model.specs.Reply as model
@@ -30,8 +32,12 @@ no_registrations = []
 
 -- no command makes a fragment yet
 abbrev pub HasNoFragment : Forest Content → Type 0
-HasNoFragment empty = Unit {0}
-HasNoFragment (node x kids rest) = (is_kind DocumentFragment x.label.kind ≡ false) × HasNoFragment kids × HasNoFragment rest
+HasNoFragment f = EachNode (λ x. is_kind DocumentFragment x.label.kind ≡ false) f
+
+-- the forest of a session: no fragment, and in each tree one node document
+pub record IsSessionForest (f : Forest Content) : Type 0 where
+  pub fragments : HasNoFragment f
+  pub documents : HasOneDocument f
 
 -- A tree shows the worlds of its forest that have no ranges, iterators or observers.
 pub record Shows (tree : Grove Content) (w : World) : Type 0 where
@@ -41,7 +47,7 @@ pub record Shows (tree : Grove Content) (w : World) : Type 0 where
   pub iterators : w.iterators ≡ no_iterators
   pub registrations : w.observing.registrations ≡ no_registrations
   pub sound : IsForest tree
-  pub fragments : HasNoFragment tree.forest
+  pub kept : IsSessionForest tree.forest
 
 -- the worlds that a session stands for
 abbrev pub StandsFor : Held → World → Type 0

@@ -2,7 +2,7 @@
 
 ghost use Rattle.std.specs.Prelude.{◌≡◌, ℕ, ◌≤◌, true, IfOk, OnErr};
 ghost use Rattle.dom_session.specs.Views.{command_view, reply_view};
-ghost use Rattle.dom_session.specs.Stands.{IsStep, HasNoFragment, is_refusal};
+ghost use Rattle.dom_session.specs.Stands.{IsStep, IsSessionForest, is_refusal};
 ghost use Rattle.dom_session.specs.Limiting.{numbered};
 
 use crate::appending::append_child;
@@ -22,7 +22,7 @@ pub fn answered(
     command: Command,
 ) -> Result<Reply, AllocError>
     requires numbers { numbers ≤ 4294967295 }
-    requires single { HasNoFragment tree.old.forest }
+    requires kept { IsSessionForest tree.old.forest }
     ensures step { IfOk result (IsStep tree.old tree.new (numbered numbers) (command_view command)) }
     ensures refused { IfOk result (λ reply. is_refusal (reply_view reply) ≡ true → tree.new ≡ tree.old) }
     ensures unchanged { OnErr result (tree.new ≡ tree.old) }

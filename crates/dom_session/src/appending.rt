@@ -7,7 +7,7 @@ ghost use Rattle.dom_model.specs.Forest.{HasNode, children_of, ancestors, IsFore
 ghost use Rattle.dom_model.specs.Checks.{is_of_kind, count_kind, has_kind, holds_too_much, document_refuses, check_insert};
 ghost use Rattle.dom_model.specs.Command.{AppendChild};
 ghost use Rattle.dom_session.specs.Views.{reply_view};
-ghost use Rattle.dom_session.specs.Stands.{IsStep, HasNoFragment, is_refusal};
+ghost use Rattle.dom_session.specs.Stands.{IsStep, IsSessionForest, is_refusal};
 ghost use Rattle.dom_session.specs.Limiting.{numbered};
 ghost use Rattle.dom_session.specs.Appending.{detached, appended};
 
@@ -143,18 +143,22 @@ fn append(tree: &mut Tree<Content>, parent: NodeId, node: NodeId)
     requires parent_held { HasNode tree.old.forest parent }
     requires node_held { HasNode tree.old.forest node }
     requires fits { check_insert tree.old.forest parent node None ≡ None }
-    requires single { HasNoFragment tree.old.forest }
+    requires kept { IsSessionForest tree.old.forest }
     ensures { tree.new ≡ record tree.old { forest = appended parent node tree.old.forest } }
 {
     detach(tree, node);
     let document = tree.document_of(parent);
+    let stays = tree.document_of(node) == document;
     tree.put(parent, node, None);
-    tree.set_document(node, document);
+    // adopt: nothing is to be set where the node document stays (DOM Standard, "Interface Document")
+    if !stays {
+        tree.set_document(node, document);
+    }
 }
 
 /// Appends a node to a parent's children.
 pub fn append_child(tree: &mut Tree<Content>, numbers: u64, parent: NodeId, node: NodeId) -> Reply
-    requires { HasNoFragment tree.old.forest }
+    requires { IsSessionForest tree.old.forest }
     ensures step { IsStep tree.old tree.new (numbered numbers) (AppendChild parent node) result }
     ensures refused { is_refusal (reply_view result) ≡ true → tree.new ≡ tree.old }
 {

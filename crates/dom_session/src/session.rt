@@ -49,9 +49,9 @@ impl Model for Session {
     ghost view = { λ s. record { tree = s.tree; bounds = bounds_of s.limits; ended = s.ended } };
 
     ghost use Rattle.std.specs.Prelude.{◌≤◌};
-    ghost use Rattle.dom_session.specs.Stands.{HasNoFragment};
+    ghost use Rattle.dom_session.specs.Stands.{IsSessionForest};
 
-    ghost invariant = { λ s. (s.limits.numbers ≤ 4294967295) × HasNoFragment s.tree.forest };
+    ghost invariant = { λ s. (s.limits.numbers ≤ 4294967295) × IsSessionForest s.tree.forest };
 }
 
 impl Session {

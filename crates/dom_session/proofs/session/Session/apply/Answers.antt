@@ -1,12 +1,12 @@
 use Rattle.dom_session.specs.Bounding.{bounds_of}
 use Rattle.dom_session.specs.Limiting.{numbered}
 use Rattle.dom_session.specs.Views.{command_view}
-use Rattle.dom_session.proofs.Applying.{HasNoFragment-step, IsAnswered-step}
+use Rattle.dom_session.proofs.Applying.{IsSessionForest-step, IsAnswered-step}
 use Rattle.dom_session.proofs.session.Session.apply.Goals as goal
 
 pub invariant_of-self : goal.invariant_of-self
 invariant_of-self c =
-    (c.self.invariant.0, HasNoFragment-step c.self.inside.tree c.answered.new.tree (numbered c.self.inside.limits.numbers) (command_view c.args.command) c.in-Ok.reply c.sound.ensures c.self.invariant.1 c.in-Ok.ensures.step)
+    (c.self.invariant.0, IsSessionForest-step c.self.inside.tree c.answered.new.tree (numbered c.self.inside.limits.numbers) (command_view c.args.command) c.in-Ok.reply c.sound.ensures c.self.invariant.1 c.in-Ok.ensures.step)
 
 pub returns-in-Ok-clause-answers : goal.returns-in-Ok-clause-answers
 returns-in-Ok-clause-answers c =
