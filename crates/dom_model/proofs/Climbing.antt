@@ -5,7 +5,7 @@ use Rattle.std.proofs.lemmas.Bool.Decides.{nat_tests}
 use Rattle.dom_model.specs.Lists.{hits, among}
 use Rattle.dom_model.specs.Arena.{Entry, parent_in}
 use Rattle.dom_model.specs.Forest.{Node, Forest, empty, node, occurs, one_at, tree_at, ancestors}
-use Rattle.dom_model.proofs.Lies.{Lies}
+use Rattle.dom_model.specs.Lies.{Lies}
 use Rattle.dom_model.proofs.Numbers.{same_or, same, apart}
 use Rattle.dom_model.proofs.Totals.{total-beside, total-tree_at, tree_at-absent}
 

@@ -5,7 +5,7 @@ use Rattle.std.proofs.lemmas.Bool.Decides.{nat_tests}
 use Rattle.dom_model.specs.Lists.{or_else, left_out, entered}
 use Rattle.dom_model.specs.Arena.{Entry, held, parent_in, children_in}
 use Rattle.dom_model.specs.Forest.{Node, Forest, empty, node, occurs, one_at, tops, entry_under, entry_in, HasNode, parent_of, children_of, tree_at, without, cut, put}
-use Rattle.dom_model.proofs.Lies.{Lies}
+use Rattle.dom_model.specs.Lies.{Lies}
 use Rattle.dom_model.proofs.Numbers.{same_or, same, apart}
 use Rattle.dom_model.proofs.Totals.{total-tree_at, total-cut, total-put, occurs-without}
 use Rattle.dom_model.proofs.Tops.{tops-tree_at}

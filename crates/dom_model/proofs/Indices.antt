@@ -7,7 +7,7 @@ use Rattle.dom_model.specs.Arena.{Entry, parent_in, children_in}
 use Rattle.dom_model.specs.Forest.{Node, Forest, empty, node, occurs, tops, tree_at, cut, put, entry_in, parent_of, children_of, index_of, ancestors}
 use Rattle.dom_model.specs.Points.{path_places}
 use Rattle.dom_model.proofs.Numbers.{same_or, same, apart}
-use Rattle.dom_model.proofs.Lies.{Lies}
+use Rattle.dom_model.specs.Lies.{Lies}
 use Rattle.dom_model.proofs.Climbing.{ancestors-there}
 use Rattle.dom_model.proofs.Entries.{Lies-entry_in, entry_under-absent, parent-cut, children-cut, parent-put, children-put}
 use Rattle.dom_model.proofs.Paths.{parent-path, root-path}

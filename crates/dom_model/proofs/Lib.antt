@@ -38,7 +38,6 @@ pub mod Indices
 pub mod IteratorFallsBack
 pub mod IteratorGivesWay
 pub mod IteratorsStay
-pub mod Lies
 pub mod LinesLimited
 pub mod Lying
 pub mod MalformedLines

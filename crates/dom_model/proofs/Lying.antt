@@ -4,7 +4,7 @@ use Rattle.std.proofs.lemmas.Bool.Decides.{nat_tests}
 use Rattle.dom_model.specs.Lists.{hits, is_number, left_out}
 use Rattle.dom_model.specs.Arena.{Entry, parent_in}
 use Rattle.dom_model.specs.Forest.{Node, Forest, empty, node, total, occurs, one_at, tops, beside, tree_at, without, placed_before, placed_under, placed_root, with_node}
-use Rattle.dom_model.proofs.Lies.{Lies}
+use Rattle.dom_model.specs.Lies.{Lies}
 use Rattle.dom_model.proofs.Numbers.{same_or, same, apart}
 use Rattle.dom_model.proofs.Totals.{total-beside, without-absent}
 use Rattle.dom_model.proofs.Tops.{tops-without, tops-placed_under, tops-placed_before, hits-tops}

@@ -7,7 +7,7 @@ use Rattle.dom_model.specs.Forest.{Node, Forest, empty, node, occurs, one_at, to
 use Rattle.dom_model.proofs.Numbers.{same_or, same, apart}
 use Rattle.dom_model.proofs.Totals.{total-tree_at, without-absent, tree_at-absent, beside-empty}
 use Rattle.dom_model.proofs.Tops.{hits-tops}
-use Rattle.dom_model.proofs.Lies.{Lies}
+use Rattle.dom_model.specs.Lies.{Lies}
 use Rattle.dom_model.proofs.Entries.{Lies-entry_in}
 use Rattle.dom_model.proofs.Undone.{placed_under-absent, put-cut}
 use Rattle.dom_model.proofs.Rising.{hits-low}

@@ -13,7 +13,7 @@ use Rattle.dom_model.specs.Points.{place_of, order_of, after_removal}
 use Rattle.dom_model.proofs.Numbers.{same_or, same, apart}
 use Rattle.dom_model.proofs.Changes.{seen, nothing, just}
 use Rattle.dom_model.proofs.Totals.{total-tree_at}
-use Rattle.dom_model.proofs.Lies.{Lies}
+use Rattle.dom_model.specs.Lies.{Lies}
 use Rattle.dom_model.proofs.Climbing.{among-hits, hits-among, hits-ancestors, ancestors-there, hits-append}
 use Rattle.dom_model.proofs.Entries.{Lies-entry_in}
 use Rattle.dom_model.proofs.Paths.{parent-path, root-path, ancestors-cut, up_with}

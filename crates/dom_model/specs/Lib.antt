@@ -27,6 +27,7 @@ pub mod Guards
 pub mod Iterators
 pub mod Kinds
 pub mod Lengths
+pub mod Lies
 pub mod Line
 pub mod Lists
 pub mod Making

@@ -7,9 +7,9 @@ use Rattle.dom_model.specs.Arena.{Entry, parent_in}
 use Rattle.dom_model.specs.Forest.{Node, Forest, occurs, tree_at, without, cut, put, entry_in, HasNode, parent_of, ancestors}
 use Rattle.dom_model.specs.World.{Content}
 use Rattle.dom_model.specs.Editing.{document_in}
-use Rattle.dom_tree.proofs.Changes.{cut_at}
-use Rattle.dom_tree.proofs.Totals.{total-cut, total-put, total-tree_at}
-use Rattle.dom_tree.proofs.Climbing.{hits-ancestors, not_among-hits}
+use Rattle.dom_model.proofs.Changes.{cut_at}
+use Rattle.dom_model.proofs.Totals.{total-cut, total-put, total-tree_at}
+use Rattle.dom_model.proofs.Climbing.{hits-ancestors, not_among-hits}
 use Rattle.dom_session.specs.Appending.{cut_where, detached}
 use Rattle.dom_session.proofs.Laws.{IsOnce, HasNode-occurs, occurs-HasNode, entry_in-cut, among-ancestors-cut}
 use Rattle.dom_session.proofs.Standing.{Stands, Stands-cut}

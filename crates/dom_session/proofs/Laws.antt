@@ -6,14 +6,14 @@ use Rattle.std.proofs.lemmas.Bool.Decides.{nat_tests}
 use Rattle.dom_model.specs.Lists.{hits, among, or_else, is_number, left_out}
 use Rattle.dom_model.specs.Arena.{Entry, held, names, parent_in, children_in, IsLinked}
 use Rattle.dom_model.specs.Forest.{Node, Forest, empty, node, Grove, IsForest, occurs, tops, beside, tree_at, without, placed_root, cut, entry_under, entry_in, HasNode, parent_of, children_of, ancestors}
-use Rattle.dom_tree.specs.Spelled.{Lies}
-use Rattle.dom_tree.proofs.Numbers.{same_or, same, apart}
-use Rattle.dom_tree.proofs.Changes.{Seen, seen, nothing, just, cut_at, held-cut_at}
-use Rattle.dom_tree.proofs.Totals.{total-cut, total-beside, total-tree_at, tree_at-absent, occurs-without}
-use Rattle.dom_tree.proofs.Tops.{hits-tops}
-use Rattle.dom_tree.proofs.Lying.{Lies-kept, Lies-cut}
+use Rattle.dom_model.specs.Lies.{Lies}
+use Rattle.dom_model.proofs.Numbers.{same_or, same, apart}
+use Rattle.dom_model.proofs.Changes.{Seen, seen, nothing, just, cut_at, held-cut_at}
+use Rattle.dom_model.proofs.Totals.{total-cut, total-beside, total-tree_at, tree_at-absent, occurs-without}
+use Rattle.dom_model.proofs.Tops.{hits-tops}
+use Rattle.dom_model.proofs.Lying.{Lies-kept, Lies-cut}
 use Rattle.dom_tree.proofs.Growing.{entry_under-absent, entry_under-Lies}
-use Rattle.dom_tree.proofs.Climbing.{hits-ancestors, among-hits, hits-among, not_among-hits}
+use Rattle.dom_model.proofs.Climbing.{hits-ancestors, among-hits, hits-among, not_among-hits}
 
 -- a number stands in a forest at most once
 abbrev pub IsOnce : {X : Type 0} → Forest X → Type 0

@@ -5,8 +5,8 @@ use Rattle.std.proofs.lemmas.Bool.Decides.{nat_tests}
 use Rattle.dom_model.specs.Lists.{hits, head_of, among}
 use Rattle.dom_model.specs.Forest.{Forest, empty, node, Grove, IsForest, one_at, occurs, tops, tree_at, entry_in, HasNode, children_of, ancestors}
 use Rattle.dom_model.specs.World.{Content}
-use Rattle.dom_tree.proofs.Numbers.{same_or, same, apart}
-use Rattle.dom_tree.proofs.Climbing.{hits-ancestors, hits-among}
+use Rattle.dom_model.proofs.Numbers.{same_or, same, apart}
+use Rattle.dom_model.proofs.Climbing.{hits-ancestors, hits-among}
 use Rattle.dom_session.proofs.Laws.{IsOnce, Lies-own, occurs-HasNode, among-none}
 use Rattle.dom_session.proofs.Waits.{TopTree, top_tree}
 

@@ -11,7 +11,7 @@ use Rattle.dom_model.specs.Arena.{Entry}
 use Rattle.dom_model.specs.Forest.{Node, Forest, empty, node, tops, entry_under, entry_in, ancestors}
 use Rattle.dom_model.specs.World.{Content}
 use Rattle.dom_model.specs.Checks.{first_refusal, entry_has, kind_passes, is_of_kind, is_misplaced, kind_refuses, document_refuses, check_insert}
-use Rattle.dom_tree.proofs.Changes.{cut_at}
+use Rattle.dom_model.proofs.Changes.{cut_at}
 use Rattle.dom_session.specs.Stands.{HasNoFragment}
 
 -- none of six tests holds

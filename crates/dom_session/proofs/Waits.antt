@@ -10,9 +10,9 @@ use Rattle.dom_model.specs.Forest.{Node, Forest, empty, node, Grove, IsForest, R
 use Rattle.dom_model.specs.World.{Content}
 use Rattle.dom_model.specs.Reply.{TreeRow}
 use Rattle.dom_model.specs.Answer.{tree_row, tree_rows}
-use Rattle.dom_tree.specs.Spelled.{Lies}
-use Rattle.dom_tree.proofs.Numbers.{same_or, same, apart}
-use Rattle.dom_tree.proofs.Totals.{tree_at-absent, beside-empty}
+use Rattle.dom_model.specs.Lies.{Lies}
+use Rattle.dom_model.proofs.Numbers.{same_or, same, apart}
+use Rattle.dom_model.proofs.Totals.{tree_at-absent, beside-empty}
 use Rattle.dom_session.specs.declared.printing.Waiting.{Waiting}
 use Rattle.dom_session.specs.Printing.{row_at, waiting_for}
 use Rattle.dom_session.proofs.Laws.{IsOnce, Lies-own, occurs-HasNode}

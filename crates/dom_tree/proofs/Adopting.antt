@@ -4,11 +4,11 @@ use Rattle.std.proofs.lemmas.Bool.{cases_lt, false≢true, false_from_ne_true}
 use Rattle.std.proofs.lemmas.Bool.Decides.{nat_tests}
 use Rattle.dom_model.specs.Lists.{hits, among, head_of, after}
 use Rattle.dom_model.specs.Forest.{Node, Forest, empty, node, Grove, total, occurs, one_at, numbers, HasNode, ancestors, beside, tree_at, without, map_nodes, with_node, with_tree, in_document, adopted, inclusive_descendants, IsForest}
-use Rattle.dom_tree.proofs.Numbers.{same_or, same, apart}
-use Rattle.dom_tree.proofs.Totals.{total-beside, total-tree_at}
-use Rattle.dom_tree.proofs.Lying.{total-with_node}
+use Rattle.dom_model.proofs.Numbers.{same_or, same, apart}
+use Rattle.dom_model.proofs.Totals.{total-beside, total-tree_at}
+use Rattle.dom_model.proofs.Lying.{total-with_node}
 use Rattle.dom_tree.proofs.Numbering.{hits-after, hits-head_of}
-use Rattle.dom_tree.proofs.Climbing.{hits-among, among-hits}
+use Rattle.dom_model.proofs.Climbing.{hits-among, among-hits}
 use Rattle.dom_tree.proofs.Forests.{occurs-HasNode, HasNode-occurs}
 use Rattle.dom_tree.proofs.Ordering.{Single, single, tree_at-single, hits-numbers}
 use Rattle.dom_tree.proofs.Walking.{inside, inside-among}

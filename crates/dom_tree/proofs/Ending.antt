@@ -5,10 +5,10 @@ use Rattle.std.proofs.lemmas.Bool.Decides.{nat_tests}
 use Rattle.dom_model.specs.Lists.{hits, head_of, last_of}
 use Rattle.dom_model.specs.Arena.{Entry, parent_in, children_in}
 use Rattle.dom_model.specs.Forest.{Node, Forest, empty, node, Grove, total, occurs, size, one_at, tops, numbers, beside, tree_at, without, entry_in, HasNode, children_of, inclusive_descendants, IsForest}
-use Rattle.dom_tree.specs.Spelled.{Lies}
-use Rattle.dom_tree.proofs.Numbers.{same_or, same, apart}
-use Rattle.dom_tree.proofs.Totals.{total-tree_at, tree_at-absent, beside-empty}
-use Rattle.dom_tree.proofs.Tops.{hits-tops}
+use Rattle.dom_model.specs.Lies.{Lies}
+use Rattle.dom_model.proofs.Numbers.{same_or, same, apart}
+use Rattle.dom_model.proofs.Totals.{total-tree_at, tree_at-absent, beside-empty}
+use Rattle.dom_model.proofs.Tops.{hits-tops}
 use Rattle.dom_tree.proofs.Numbering.{hits-last_of}
 use Rattle.dom_tree.proofs.Ordering.{Single, single, tree_at-single, Lies-tree_at}
 use Rattle.dom_tree.proofs.Forests.{occurs-HasNode, HasNode-occurs, Lies-entry_in}

@@ -5,10 +5,10 @@ use Rattle.std.proofs.lemmas.Bool.Decides.{nat_tests}
 use Rattle.dom_model.specs.Lists.{hits, among, last_of, or_else}
 use Rattle.dom_model.specs.Arena.{Entry, parent_in}
 use Rattle.dom_model.specs.Forest.{Node, Forest, empty, node, Grove, total, occurs, one_at, tops, entry_under, entry_in, HasNode, parent_of, ancestors, root_of, IsForest}
-use Rattle.dom_tree.specs.Spelled.{Lies}
-use Rattle.dom_tree.proofs.Numbers.{same_or, same, apart}
+use Rattle.dom_model.specs.Lies.{Lies}
+use Rattle.dom_model.proofs.Numbers.{same_or, same, apart}
 use Rattle.dom_tree.proofs.Growing.{entry_under-absent}
-use Rattle.dom_tree.proofs.Climbing.{climbs, climbs-root}
+use Rattle.dom_model.proofs.Climbing.{climbs, climbs-root}
 
 module _ {X : Type 0} where
   pub entry_under-there : (q : Option ℕ) (n : ℕ) (f : Forest X) → 0 < occurs n f → IsSome (entry_under q n f)

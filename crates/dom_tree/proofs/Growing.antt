@@ -5,10 +5,11 @@ use Rattle.std.proofs.lemmas.Bool.Decides.{nat_tests}
 use Rattle.dom_model.specs.Lists.{hits, or_else}
 use Rattle.dom_model.specs.Arena.{Entry, held, parent_in, children_in}
 use Rattle.dom_model.specs.Forest.{Node, Forest, empty, node, total, occurs, one_at, size, tops, entry_under, entry_in, IsRising}
-use Rattle.dom_tree.specs.Spelled.{Lies, Spells, grown, grown_list, grown_node, root_first, root_under, roots_from, forest_of}
-use Rattle.dom_tree.proofs.Numbers.{same_or, same, apart}
-use Rattle.dom_tree.proofs.Tops.{IsRising-from, hits-tops}
-use Rattle.dom_tree.proofs.Changes.{Seen, seen, nothing, just}
+use Rattle.dom_model.specs.Lies.{Lies}
+use Rattle.dom_tree.specs.Spelled.{Spells, grown, grown_list, grown_node, root_first, root_under, roots_from, forest_of}
+use Rattle.dom_model.proofs.Numbers.{same_or, same, apart}
+use Rattle.dom_model.proofs.Tops.{IsRising-from, hits-tops}
+use Rattle.dom_model.proofs.Changes.{Seen, seen, nothing, just}
 
 -- numbers that rise and stand in both lists alike
 pub hits-low : (low n : ℕ) (ns : List ℕ) → IsRising low ns → n < low → hits n ns ≡ 0

@@ -9,13 +9,13 @@ use Rattle.dom_model.specs.Arena.{Arena, Entry, entry_at, held, parent_in, child
 use Rattle.dom_model.specs.Forest.{Node, Forest, Grove, occurs, one_at, size, tree_at, without, entry_in, HasNode, parent_of, children_of, next_of, previous_of, ancestors, cut, put, KindsFit, IsForest}
 use Rattle.dom_tree.specs.Spelled.{number_at, renumbered, by_number, slot_in, slot_for, numbered, shown, Spells, IsTabled, IsKept}
 use Rattle.dom_tree.specs.Standing.{MayStand}
-use Rattle.dom_tree.proofs.Totals.{total-cut, total-put, total-tree_at}
-use Rattle.dom_tree.proofs.Changes.{Seen, seen, nothing, just, cut_at, link_at, change_at}
-use Rattle.dom_tree.proofs.Lying.{Lies-without_root}
+use Rattle.dom_model.proofs.Totals.{total-cut, total-put, total-tree_at}
+use Rattle.dom_model.proofs.Changes.{Seen, seen, nothing, just, cut_at, link_at, change_at}
+use Rattle.dom_model.proofs.Lying.{Lies-without_root}
 use Rattle.dom_tree.proofs.Growing.{forest_of-Spells, entry_in-Spells}
 use Rattle.dom_tree.proofs.Spelling.{once_in, Spells-cut, Spells-put, IsForest-Spells}
 use Rattle.dom_tree.proofs.KindsFitting.{KindsFit-cut, KindsFit-without, KindsFit-under, KindsFit-placed_under}
-use Rattle.dom_tree.proofs.Climbing.{Climb, on_top, under, climb, hits-ancestors, climbs, hits-self, hits-among, among-hits, not_among-hits}
+use Rattle.dom_model.proofs.Climbing.{Climb, on_top, under, climb, hits-ancestors, climbs, hits-self, hits-among, among-hits, not_among-hits}
 use Rattle.dom_tree.proofs.Stores.{linked-at, unlinked-at}
 use Rattle.dom_tree.proofs.Numbering.{head_of-map, last_of-map, hits-head_of, hits-last_of, hits-after, hits-before, child-held, parent-held, sibling-held, slot-there, by_number-slot, parent_in-map, children_in-map, next_in-map, previous_in-map, one_slot}
 use Rattle.dom_tree.proofs.Renumbering.{IsTabled-linked, IsTabled-unlinked, by_number-linked, by_number-unlinked}

@@ -1,13 +1,9 @@
 pub mod Adopting
-pub mod Changes
-pub mod Climbing
 pub mod Ending
 pub mod Forests
 pub mod Growing
 pub mod Kept
 pub mod KindsFitting
-pub mod Lying
-pub mod Numbers
 pub mod Making
 pub mod Numbering
 pub mod Ordering
@@ -18,6 +14,4 @@ pub mod Siblings
 pub mod Spelling
 pub mod Stepping
 pub mod Stores
-pub mod Tops
-pub mod Totals
 pub mod Walking

@@ -7,10 +7,10 @@ use Rattle.dom_model.specs.declared.Kind.{Kind}
 use Rattle.dom_model.specs.Arena.{Arena, Entry, entry_at, held, alone, added, altered, with_value, next_slot, IsSound}
 use Rattle.dom_model.specs.Forest.{Node, Forest, empty, node, Grove, total, size, beside, with_node, in_document, KindsFit}
 use Rattle.dom_tree.specs.Spelled.{number_in, number_at, by_number, slot_in, numbered, shown, Spells, IsTabled, IsKept}
-use Rattle.dom_tree.proofs.Numbers.{same_or, same, apart}
-use Rattle.dom_tree.proofs.Totals.{total-beside}
-use Rattle.dom_tree.proofs.Changes.{Seen, seen, nothing, just, change_at}
-use Rattle.dom_tree.proofs.Lying.{total-with_node}
+use Rattle.dom_model.proofs.Numbers.{same_or, same, apart}
+use Rattle.dom_model.proofs.Totals.{total-beside}
+use Rattle.dom_model.proofs.Changes.{Seen, seen, nothing, just, change_at}
+use Rattle.dom_model.proofs.Lying.{total-with_node}
 use Rattle.dom_tree.proofs.Spelling.{Spells-pushed, Spells-with_node}
 use Rattle.dom_tree.proofs.KindsFitting.{KindsFit-beside, KindsFit-with_node}
 use Rattle.dom_tree.proofs.Stores.{altered-at, added-new, added-old}

@@ -6,8 +6,8 @@ use Rattle.dom_model.specs.Lists.{hits, is_number, entered, left_out, head_of, l
 use Rattle.dom_model.specs.Arena.{Arena, Entry, entry_at, held, names, parent_in, children_in, siblings_in, list_under, next_in, previous_in, alone, IsLinked}
 use Rattle.dom_model.specs.Forest.{Node}
 use Rattle.dom_tree.specs.Spelled.{number_in, number_at, renumbered, entry_in_slot, by_number, IsTabled}
-use Rattle.dom_tree.proofs.Numbers.{same_or, same, apart}
-use Rattle.dom_tree.proofs.Changes.{Seen, seen, nothing, just, cut_at, link_at, change_at}
+use Rattle.dom_model.proofs.Numbers.{same_or, same, apart}
+use Rattle.dom_model.proofs.Changes.{Seen, seen, nothing, just, cut_at, link_at, change_at}
 use Rattle.dom_tree.proofs.Stores.{linked_at, unlinked_at}
 
 hits-first : (x : ℕ) (xs : List ℕ) → 0 < hits x (x ∷ xs)

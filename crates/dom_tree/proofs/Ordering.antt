@@ -5,13 +5,13 @@ use Rattle.std.proofs.lemmas.Bool.Decides.{nat_tests}
 use Rattle.dom_model.specs.Lists.{hits, head_of, last_of, after, or_else}
 use Rattle.dom_model.specs.Arena.{Entry, held, parent_in, children_in, list_under, siblings_in, next_in}
 use Rattle.dom_model.specs.Forest.{Node, Forest, empty, node, total, occurs, one_at, tops, numbers, beside, tree_at, without}
-use Rattle.dom_tree.specs.Spelled.{Lies}
-use Rattle.dom_tree.proofs.Numbers.{same_or, same, apart}
-use Rattle.dom_tree.proofs.Changes.{Seen, seen, nothing, just}
-use Rattle.dom_tree.proofs.Totals.{tree_at-absent, beside-empty}
-use Rattle.dom_tree.proofs.Tops.{hits-tops}
-use Rattle.dom_tree.proofs.Lying.{Lies-beside}
-use Rattle.dom_tree.proofs.Climbing.{hits-append}
+use Rattle.dom_model.specs.Lies.{Lies}
+use Rattle.dom_model.proofs.Numbers.{same_or, same, apart}
+use Rattle.dom_model.proofs.Changes.{Seen, seen, nothing, just}
+use Rattle.dom_model.proofs.Totals.{tree_at-absent, beside-empty}
+use Rattle.dom_model.proofs.Tops.{hits-tops}
+use Rattle.dom_model.proofs.Lying.{Lies-beside}
+use Rattle.dom_model.proofs.Climbing.{hits-append}
 
 head_of-append : (xs ys : List ℕ) → head_of (xs ++ ys) ≡ or_else (head_of xs) (head_of ys)
 head_of-append [] ys = refl

@@ -4,11 +4,11 @@ use Rattle.std.proofs.lemmas.Bool.{cases_lt, false≢true, lt-ltb, le-ltb}
 use Rattle.std.proofs.lemmas.Bool.Decides.{nat_tests}
 use Rattle.dom_model.specs.Lists.{hits, head_of, last_of, after, place_in}
 use Rattle.dom_model.specs.Forest.{Node, Forest, empty, node, Grove, total, occurs, one_at, tops, numbers, tree_at, HasNode, ancestors, root_of, inclusive_descendants, IsForest}
-use Rattle.dom_tree.proofs.Numbers.{same_or, same, apart}
-use Rattle.dom_tree.proofs.Changes.{Seen, seen, nothing, just}
-use Rattle.dom_tree.proofs.Totals.{total-tree_at, tree_at-absent}
-use Rattle.dom_tree.proofs.Tops.{hits-tops}
-use Rattle.dom_tree.proofs.Climbing.{ancestors-there, ancestors-kids, ancestors-rest, ancestors-first}
+use Rattle.dom_model.proofs.Numbers.{same_or, same, apart}
+use Rattle.dom_model.proofs.Changes.{Seen, seen, nothing, just}
+use Rattle.dom_model.proofs.Totals.{total-tree_at, tree_at-absent}
+use Rattle.dom_model.proofs.Tops.{hits-tops}
+use Rattle.dom_model.proofs.Climbing.{ancestors-there, ancestors-kids, ancestors-rest, ancestors-first}
 use Rattle.dom_tree.proofs.Numbering.{hits-after, hits-head_of}
 use Rattle.dom_tree.proofs.Ordering.{hits-numbers}
 use Rattle.dom_tree.proofs.Forests.{occurs-HasNode, HasNode-occurs}

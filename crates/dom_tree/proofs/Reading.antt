@@ -8,8 +8,8 @@ use Rattle.dom_model.specs.Arena.{Arena, Entry, entry_at, held, parent_in, child
 use Rattle.dom_model.specs.Forest.{Node, Forest, Grove, size, entry_in, HasNode, parent_of, children_of, next_of, previous_of, ancestors, cut, put, with_node, IsForest}
 use Rattle.dom_tree.specs.Standing.{MayStand}
 use Rattle.dom_tree.specs.Spelled.{number_at, renumbered, entry_in_slot, slot_in, slot_for, numbered, shown, IsKept}
-use Rattle.dom_tree.proofs.Changes.{Seen, seen, nothing, just}
-use Rattle.dom_tree.proofs.Climbing.{not_among-hits}
+use Rattle.dom_model.proofs.Changes.{Seen, seen, nothing, just}
+use Rattle.dom_model.proofs.Climbing.{not_among-hits}
 use Rattle.dom_tree.proofs.Making.{write-kept, alter-kept}
 use Rattle.dom_tree.proofs.Kept.{Keeps, cut-kept, put-kept, stands-among, entry-numbered, entry-slot, parent-slot, children-slot, next-slot, previous-slot, slot-node, slot-parent, option_map-none, option_map-some}
 use Rattle.dom_tree.proofs.Numbering.{head_of-map, last_of-map, hits-head_of, hits-last_of, hits-after, hits-before, child-held, parent-held, sibling-held, one_slot}

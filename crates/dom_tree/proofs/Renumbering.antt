@@ -5,8 +5,8 @@ use Rattle.dom_model.specs.Lists.{hits, is_number, entered, left_out}
 use Rattle.dom_model.specs.Arena.{Entry, held, parent_in, children_in, alone, IsLinked}
 use Rattle.dom_model.specs.Forest.{Node}
 use Rattle.dom_tree.specs.Spelled.{number_in, number_at, renumbered, entry_in_slot, by_number, IsTabled}
-use Rattle.dom_tree.proofs.Numbers.{same_or, same, apart}
-use Rattle.dom_tree.proofs.Changes.{Seen, seen, nothing, just, cut_at, link_at, change_at}
+use Rattle.dom_model.proofs.Numbers.{same_or, same, apart}
+use Rattle.dom_model.proofs.Changes.{Seen, seen, nothing, just, cut_at, link_at, change_at}
 use Rattle.dom_tree.proofs.Stores.{linked_at, unlinked_at}
 use Rattle.dom_tree.proofs.Numbering.{child-held, parent-held, same_test, left_out-map, entered-map, map-same}
 

@@ -6,10 +6,10 @@ use Rattle.std.specs.Prelude.{slice_get}
 use Rattle.dom_model.specs.Lists.{hits, head_of, last_of, after, before, before_from, place_in}
 use Rattle.dom_model.specs.Arena.{Entry, parent_in, children_in, list_under, siblings_in, next_in, previous_in}
 use Rattle.dom_model.specs.Forest.{Node, Forest, empty, node, Grove, total, occurs, one_at, tops, entry_in, HasNode, parent_of, children_of, next_of, previous_of, index_of, IsForest}
-use Rattle.dom_tree.specs.Spelled.{Lies}
-use Rattle.dom_tree.proofs.Numbers.{same_or, same, apart}
-use Rattle.dom_tree.proofs.Changes.{Seen, seen, nothing, just}
-use Rattle.dom_tree.proofs.Tops.{hits-tops}
+use Rattle.dom_model.specs.Lies.{Lies}
+use Rattle.dom_model.proofs.Numbers.{same_or, same, apart}
+use Rattle.dom_model.proofs.Changes.{Seen, seen, nothing, just}
+use Rattle.dom_model.proofs.Tops.{hits-tops}
 use Rattle.dom_tree.proofs.Numbering.{hits-before}
 use Rattle.dom_tree.proofs.Forests.{Above, above, occurs-HasNode, HasNode-occurs, Lies-entry_in}
 

@@ -5,9 +5,9 @@ use Rattle.std.proofs.lemmas.Bool.Decides.{nat_tests}
 use Rattle.dom_model.specs.Lists.{hits, among, head_of, last_of, after, or_else}
 use Rattle.dom_model.specs.Arena.{Entry, parent_in, children_in, next_in}
 use Rattle.dom_model.specs.Forest.{Node, Forest, empty, node, Grove, total, occurs, one_at, tops, numbers, entry_in, HasNode, parent_of, children_of, next_of, ancestors, root_of, tree_at, inclusive_descendants, IsForest}
-use Rattle.dom_tree.specs.Spelled.{Lies}
-use Rattle.dom_tree.proofs.Numbers.{same_or, same, apart}
-use Rattle.dom_tree.proofs.Totals.{total-tree_at, tree_at-absent}
+use Rattle.dom_model.specs.Lies.{Lies}
+use Rattle.dom_model.proofs.Numbers.{same_or, same, apart}
+use Rattle.dom_model.proofs.Totals.{total-tree_at, tree_at-absent}
 use Rattle.dom_tree.proofs.Forests.{Lies-entry_in}
 use Rattle.dom_tree.proofs.Numbering.{hits-after}
 use Rattle.dom_tree.proofs.Ordering.{past, after-numbers, past-next, past-up, Up, over, up, Single, single, tree_at-single, Lies-tree_at, hits-numbers}

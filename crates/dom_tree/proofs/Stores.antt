@@ -5,9 +5,9 @@ use Rattle.std.proofs.lemmas.List.{get_or-set_same, get_or-set_other, get_or_pas
 use Rattle.std.proofs.Math.Seq.{get_or-append_seam}
 use Rattle.dom_model.specs.Lists.{hits, is_number, entered, left_out}
 use Rattle.dom_model.specs.Arena.{Arena, Entry, entry_at, held, names, parent_in, children_in, with_parent, with_children, with_value, altered, linked, unlinked, unlinked_from, added, added_from, next_slot, next_from, alone, IsLinked, IsSound}
-use Rattle.dom_tree.proofs.Numbers.{same_or, same, apart}
-use Rattle.dom_tree.proofs.Changes.{Seen, seen, nothing, just}
-use Rattle.dom_tree.proofs.Lying.{left_out-absent}
+use Rattle.dom_model.proofs.Numbers.{same_or, same, apart}
+use Rattle.dom_model.proofs.Changes.{Seen, seen, nothing, just}
+use Rattle.dom_model.proofs.Lying.{left_out-absent}
 
 -- an entry under a test on its slot
 abbrev pub linked_at : {T : Type 0} → ℕ → Option ℕ → ℕ → ℕ → Option (Entry T) → Option (Entry T)

@@ -4,13 +4,13 @@ use Rattle.std.proofs.lemmas.Bool.{cases_lt, false≢true}
 use Rattle.dom_model.specs.Lists.{hits, among, last_of}
 use Rattle.dom_model.specs.Arena.{Entry, held, parent_in, next_in, previous_in}
 use Rattle.dom_model.specs.Forest.{Node, Forest, empty, node, Grove, occurs, tops, entry_in, HasNode, parent_of, next_of, previous_of, ancestors, root_of, tree_at, IsForest}
-use Rattle.dom_tree.specs.Spelled.{Lies}
-use Rattle.dom_tree.proofs.Numbers.{same_or, same, apart}
-use Rattle.dom_tree.proofs.Changes.{Seen, seen, nothing, just}
-use Rattle.dom_tree.proofs.Tops.{hits-tops}
+use Rattle.dom_model.specs.Lies.{Lies}
+use Rattle.dom_model.proofs.Numbers.{same_or, same, apart}
+use Rattle.dom_model.proofs.Changes.{Seen, seen, nothing, just}
+use Rattle.dom_model.proofs.Tops.{hits-tops}
 use Rattle.dom_tree.proofs.Growing.{rooted, rootless, rooted-tops}
 use Rattle.dom_tree.proofs.Numbering.{hits-last_of}
-use Rattle.dom_tree.proofs.Climbing.{ancestors-there, ancestors-kids, ancestors-rest, hits-ancestors, hits-among, among-hits}
+use Rattle.dom_model.proofs.Climbing.{ancestors-there, ancestors-kids, ancestors-rest, hits-ancestors, hits-among, among-hits}
 use Rattle.dom_tree.proofs.Forests.{Above, above, ancestors-root, occurs-HasNode, HasNode-occurs, Lies-entry_in}
 
 pub IfSome-from : {A : Type 0} (o : Option A) (P : A → Type 0) → ((x : A) → o ≡ Some x → P x) → IfSome o P

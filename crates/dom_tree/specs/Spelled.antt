@@ -1,6 +1,7 @@
 -- What the slots spell: a forest, told by the entries at its numbers.
 use Rattle.std.specs.Prelude.{◌≡◌, ℕ, zero, suc, ◌≤◌, ◌<◌, ◌^◌, List, [], ◌∷◌, length, map, slice_index_or, Option, Some, None, IsSome, option_map}
 use Rattle.dom_model.specs.Arena.{Arena, Entry, entry_at, held}
+use Rattle.dom_model.specs.Lies.{Lies}
 use Rattle.dom_model.specs.Forest.{Node, Forest, empty, node, tops, occurs, size, IsRising, KindsFit}
 
 -- the number before the rest, where it has no parent
@@ -43,12 +44,6 @@ module _ {X : Type 0} where
   pub record IsTabled (at : ℕ → Option (Entry (Node X))) (slot_of : ℕ → Option ℕ) : Type 0 where
     pub named : (n slot : ℕ) → slot_of n ≡ Some slot → IsSome (at slot) × (number_at at slot ≡ n)
     pub listed : (slot : ℕ) → IsSome (at slot) → slot_of (number_at at slot) ≡ Some slot
-
-  -- the entries at the forest's numbers are its nodes, below `parent`
-  abbrev pub Lies : (ℕ → Option (Entry (Node X))) → Option ℕ → Forest X → Type 0
-  Lies at parent empty = Unit {0}
-  Lies at parent (node x kids rest) =
-      (at x.number ≡ Some (record { value = x; parent = parent; children = tops kids })) × Lies at (Some x.number) kids × Lies at parent rest
 
   -- the entries spell the forest, and no more
   pub record Spells (made : ℕ) (at : ℕ → Option (Entry (Node X))) (f : Forest X) : Type 0 where
