@@ -23,6 +23,7 @@ pub mod Edits
 pub mod Erasing
 pub mod Filters
 pub mod Forest
+pub mod ForestCode
 pub mod Guards
 pub mod Iterators
 pub mod Kinds

@@ -5,7 +5,7 @@ use Rattle.dom_model.specs.Attributes.{Attribute}
 use Rattle.dom_model.specs.World.{Content}
 use Rattle.dom_model.specs.Forest.{Grove}
 use Rattle.dom_model.specs.Answer.{Bounds}
-use Rattle.dom_tree.specs.ForestCode.{grove_code}
+use Rattle.dom_model.specs.ForestCode.{grove_code}
 use Rattle.dom_session.specs.Stands.{Held}
 
 abbrev pub attribute_code : Coded Attribute

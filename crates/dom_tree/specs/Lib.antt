@@ -1,5 +1,4 @@
 pub mod Bodies
-pub mod ForestCode
 pub mod Lends
 pub mod Lengths
 pub mod Spelled

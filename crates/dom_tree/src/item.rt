@@ -15,7 +15,7 @@ pub struct Item<X> {
 
 impl<X> Model for Item<X> {
     ghost use Rattle.dom_model.specs.Forest.{Node};
-    ghost use Rattle.dom_tree.specs.ForestCode.{node_code};
+    ghost use Rattle.dom_model.specs.ForestCode.{node_code};
 
     ghost Value = { Node X };
 

@@ -28,7 +28,7 @@ pub struct Tree<X> {
 impl<X> Model for Tree<X> {
     ghost use Rattle.std.specs.Prelude.{length};
     ghost use Rattle.dom_model.specs.Forest.{Grove};
-    ghost use Rattle.dom_tree.specs.ForestCode.{grove_code};
+    ghost use Rattle.dom_model.specs.ForestCode.{grove_code};
     ghost use Rattle.dom_tree.specs.Spelled.{shown, IsKept};
 
     ghost Value = { Grove X };
