@@ -18,6 +18,9 @@ pub hits-append : (n : ℕ) (xs ys : List ℕ) → hits n (xs ++ ys) ≡ hits n 
 hits-append n [] ys = omega arith
 hits-append n (x ∷ xs) ys = omega (arith, hits-append n xs ys)
 
+pub hits-first : (n : ℕ) (ns : List ℕ) → 0 < hits n (n ∷ ns)
+hits-first n ns = elim (same_or n n) [ same e t ↦ rw t (omega arith) | apart ne t ↦ absurd (ne refl) ]
+
 pub among-hits : (n : ℕ) (xs : List ℕ) → among n xs ≡ true → 0 < hits n xs
 among-hits n [] h = absurd (false≢true h)
 among-hits n (x ∷ xs) h =
@@ -40,6 +43,14 @@ not_among-hits n (x ∷ xs) h =
     elim (same_or x n) [
       | same e t ↦ absurd (false≢true (let k = rw t at h in sym k))
       | apart ne t ↦ (let k = rw t at h in rw t (omega (arith, not_among-hits n xs k)))
+    ]
+
+pub hits-not_among : (n : ℕ) (xs : List ℕ) → hits n xs ≡ 0 → among n xs ≡ false
+hits-not_among n [] h = refl
+hits-not_among n (x ∷ xs) h =
+    elim (same_or x n) [
+      | same e t ↦ absurd (let k = rw t at h in omega arith)
+      | apart ne t ↦ (let k = rw t at h in rw t (hits-not_among n xs (omega arith)))
     ]
 
 module _ {X : Type 0} where

@@ -1,18 +1,19 @@
 -- Children and parents name one another; the index of a node, and its place on paths, as trees are cut and put.
-use Rattle.std.proofs.Common.{◌≡◌, ℕ, ◌+◌, ◌*◌, ◌<◌, ◌≤◌, ◌==◌, nat_lt, nat_le, Bool, true, false, if◌then◌else◌, [], ◌∷◌, ◌++◌, map, reverse, drop, Option, Some, None, refl, ap, sym, ◌∙◌, arith, ◌⊎◌, inl, inr, ⊎_elim}
+use Rattle.std.proofs.Common.{◌≡◌, ℕ, ◌+◌, ◌*◌, ◌<◌, ◌≤◌, ◌==◌, nat_lt, nat_le, Bool, true, false, if◌then◌else◌, [], ◌∷◌, ◌++◌, map, reverse, drop, Option, Some, None, refl, ap, sym, ◌∙◌, arith, ◌⊎◌, inl, inr, ⊎_elim, subst}
 use Rattle.std.proofs.lemmas.Bool.{cases_lt, false≢true}
 use Rattle.std.proofs.lemmas.List.{reverse-append, drop-append-le, length-reverse, map-append}
 use Rattle.dom_model.specs.Lists.{hits, place_in, entered, left_out}
-use Rattle.dom_model.specs.Arena.{Entry, parent_in, children_in}
+use Rattle.dom_model.specs.Arena.{Entry, parent_in, children_in, names, IsLinked}
 use Rattle.dom_model.specs.Forest.{Node, Forest, empty, node, occurs, tops, tree_at, cut, put, entry_in, parent_of, children_of, index_of, ancestors}
 use Rattle.dom_model.specs.Points.{path_places}
 use Rattle.dom_model.proofs.Numbers.{same_or, same, apart}
 use Rattle.dom_model.specs.Lies.{Lies}
 use Rattle.dom_model.proofs.Climbing.{ancestors-there}
-use Rattle.dom_model.proofs.Entries.{Lies-entry_in, entry_under-absent, parent-cut, children-cut, parent-put, children-put}
+use Rattle.dom_model.proofs.Entries.{Lies-entry_in, entry_under-absent, parent-cut, children-cut, parent-put, children-put, occurs-HasNode}
 use Rattle.dom_model.proofs.Paths.{parent-path, root-path}
 use Rattle.dom_model.proofs.Places.{place_before, place-left_out, place-kept}
 use Rattle.dom_model.proofs.PutBack.{child-inside}
+use Rattle.dom_model.proofs.Changes.{seen, nothing, just}
 
 module _ {X : Type 0} where
   listed : (at : (ℕ → Option (Entry (Node X)))) (above : Option ℕ) (n q : ℕ) (f : Forest X) → Lies at above f → 0 < occurs n f → parent_in (at n) ≡ Some q → ((above ≡ Some q) × (0 < hits n (tops f))) ⊎ (0 < hits n (children_in (at q)))
@@ -56,6 +57,79 @@ module _ {X : Type 0} where
       (λ (lt : 0 < occurs q f). let i = child-inside (entry_in f) None q n f (Lies-entry_in f o) lt in let k = o n in omega arith)
       (λ (le : occurs q f ≤ 0). let z : entry_in f q ≡ None = entry_under-absent None q f (omega arith) in rw z (omega arith))
       (cases_lt 0 (occurs q f))
+
+  tops-parent : (at : (ℕ → Option (Entry (Node X)))) (above : Option ℕ) (n : ℕ) (f : Forest X) → Lies at above f → 0 < hits n (tops f) → parent_in (at n) ≡ above
+  tops-parent at above n empty l h = absurd (omega arith)
+  tops-parent at above n (node x kids rest) l h =
+      elim (same_or x.number n) [
+        | same e t ↦ ap (λ m. parent_in (at m)) (sym e) ∙ ap parent_in l.0
+        | apart ne t ↦ (let k = rw t at h in tops-parent at above n rest l.2 (omega arith))
+      ]
+
+  listed-back : (at : (ℕ → Option (Entry (Node X)))) (above : Option ℕ) (n q : ℕ) (f : Forest X) → Lies at above f → 0 < occurs q f → 0 < hits n (children_in (at q)) → parent_in (at n) ≡ Some q
+  listed-back at above n q empty l h i = absurd (omega arith)
+  listed-back at above n q (node x kids rest) l h i =
+      elim (same_or x.number q) [
+        | same e t ↦
+            let s : children_in (at q) ≡ tops kids = ap (λ m. children_in (at m)) (sym e) ∙ ap children_in l.0 in
+            let j = rw s at i in
+            tops-parent at (Some x.number) n kids l.1 j ∙ ap (λ m. Some m) e
+        | apart ne t ↦
+            let k = rw t at h in
+            ⊎_elim
+            (λ (lt : 0 < occurs q kids). listed-back at (Some x.number) n q kids l.1 lt i)
+            (λ (le : occurs q kids ≤ 0). listed-back at above n q rest l.2 (omega arith) i)
+            (cases_lt 0 (occurs q kids))
+      ]
+
+  children-there : (f : Forest X) (n q : ℕ) → 0 < hits n (children_of f q) → 0 < occurs q f
+  children-there f n q h =
+      elim (seen (entry_in f q)) [
+        | nothing e ↦ absurd (let k = rw e at h in omega arith)
+        | just a e ↦ occurs-HasNode f q (rw e refl)
+      ]
+
+  -- a child of a node has it as its parent
+  pub child-parent : (f : Forest X) → ((m : ℕ) → occurs m f ≤ 1) → (n q : ℕ) → 0 < hits n (children_of f q) → parent_of f n ≡ Some q
+  child-parent f o n q h = listed-back (entry_in f) None n q f (Lies-entry_in f o) (children-there f n q h) h
+
+  parent-there : (f : Forest X) (n q : ℕ) → parent_of f n ≡ Some q → 0 < occurs n f
+  parent-there f n q h =
+      elim (seen (entry_in f n)) [
+        | nothing e ↦ absurd (let k : None ≡ Some q = rw e at h in cc k)
+        | just a e ↦ occurs-HasNode f n (rw e refl)
+      ]
+
+  -- and stands in the forest
+  pub child-there : (f : Forest X) → ((m : ℕ) → occurs m f ≤ 1) → (n q : ℕ) → 0 < hits n (children_of f q) → 0 < occurs n f
+  child-there f o n q h = parent-there f n q (child-parent f o n q h)
+
+  -- each child names its parent, and stands once among its children and no other's
+  pub IsLinked-forest : (f : Forest X) → ((m : ℕ) → occurs m f ≤ 1) → IsLinked (entry_in f)
+  IsLinked-forest f o q n = linked (parent_of f n) refl
+    where
+      listed_under : (p : Option ℕ) → parent_of f n ≡ p → 0 < hits n (children_of f q) → p ≡ Some q
+      listed_under p e h = sym e ∙ child-parent f o n q h
+
+      linked : (p : Option ℕ) → parent_of f n ≡ p → hits n (children_of f q) ≡ names p q
+      linked None e =
+          ⊎_elim
+          (λ (lt : 0 < hits n (children_of f q)). absurd (let k = listed_under None e lt in cc k))
+          (λ (le : hits n (children_of f q) ≤ 0). omega arith)
+          (cases_lt 0 (hits n (children_of f q)))
+      linked (Some p) e =
+          elim (same_or p q) [
+            | same d t ↦
+                let u : parent_of f n ≡ Some q = e ∙ ap (λ k. Some k) d in
+                let i = child-listed f o n q (parent-there f n q u) u in
+                let j = child-once f o n q in
+                rw t (omega arith)
+            | apart ne t ↦
+                ⊎_elim
+                (λ (lt : 0 < hits n (children_of f q)). absurd (let k = listed_under (Some p) e lt in ne (cc k)))
+                (λ (le : hits n (children_of f q) ≤ 0). rw t (omega arith))
+                (cases_lt 0 (hits n (children_of f q)))
+          ]
 
   -- the index of a child is its place among its parent's children
   pub index-child : (f : Forest X) (n q : ℕ) → parent_of f n ≡ Some q → index_of f n ≡ place_in n (children_of f q)

@@ -8,7 +8,7 @@ use Rattle.dom_model.specs.World.{Iterator}
 use Rattle.dom_model.specs.PreRemoval.{past, following_outside, moved_on, moved_back, stepped_off, pre_removed_among, pre_removed}
 use Rattle.dom_model.proofs.Numbers.{same_or, same, apart}
 use Rattle.dom_model.proofs.Totals.{total-tree_at, tree_at-absent, without-absent, total-beside, occurs-without}
-use Rattle.dom_model.proofs.Climbing.{among-hits, hits-among, not_among-hits, hits-append, hits-ancestors, ancestors-there}
+use Rattle.dom_model.proofs.Climbing.{among-hits, hits-among, not_among-hits, hits-append, hits-ancestors, ancestors-there, hits-first}
 use Rattle.dom_model.proofs.Undone.{tree_at-beside, without-beside, tree_at-placed_root}
 use Rattle.dom_model.proofs.Tops.{tops-tree_at}
 use Rattle.dom_model.proofs.RemovalOrder.{ancestors-split}
@@ -71,9 +71,6 @@ before-there y n (z ∷ ahead) rest =
       | same e t ↦ (y, rw t refl)
       | apart ne t ↦ (let i = before-there z n ahead rest in (i.0, rw t i.1))
     ]
-
-hits-first : (n : ℕ) (ns : List ℕ) → 0 < hits n (n ∷ ns)
-hits-first n ns = elim (same_or n n) [ same e t ↦ rw t (omega arith) | apart ne t ↦ absurd (ne refl) ]
 
 first-same : (m n : ℕ) (ms ns : List ℕ) → m ∷ ms ≡ n ∷ ns → m ≡ n
 first-same m n ms ns e = let k : Some m ≡ Some n = ap head_of e in cc k

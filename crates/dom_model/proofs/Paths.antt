@@ -4,10 +4,11 @@ use Rattle.std.proofs.lemmas.Bool.{false≢true}
 use Rattle.dom_model.specs.Lists.{among}
 use Rattle.dom_model.specs.Forest.{Forest, occurs, one_at, entry_in, parent_of, tree_at, cut, put, ancestors}
 use Rattle.dom_model.proofs.Numbers.{same_or, same, apart}
-use Rattle.dom_model.proofs.Totals.{total-tree_at, total-cut, total-put}
+use Rattle.dom_model.proofs.Totals.{total-tree_at, total-cut, total-put, IsOnce-cut}
 use Rattle.dom_model.proofs.Changes.{seen, nothing, just}
-use Rattle.dom_model.proofs.Climbing.{climbs, climbs-root, ancestors-there, hits-ancestors, among-hits}
+use Rattle.dom_model.proofs.Climbing.{climbs, climbs-root, ancestors-there, hits-ancestors, among-hits, not_among-hits, hits-not_among}
 use Rattle.dom_model.proofs.Entries.{Lies-entry_in, parent-cut, parent-put}
+use Rattle.dom_model.proofs.Undone.{tree_at-cut}
 
 -- a path from a node upwards, up to and with c
 abbrev pub up_with : ℕ → List ℕ → List ℕ
@@ -28,11 +29,20 @@ module _ {X : Type 0} where
   path-long : (f : Forest X) (n : ℕ) → 0 < occurs n f → 0 < length (ancestors n f)
   path-long f n h = let i = ancestors-there n f h in rw i.1 (omega arith)
 
+  -- what is not inside a node is not inside it after it is cut
+  pub outside-cut : (f : Forest X) → ((m : ℕ) → occurs m f ≤ 1) → (c n : ℕ) → among c (ancestors n f) ≡ false → among c (ancestors n (cut c f)) ≡ false
+  outside-cut f o c n h =
+      let z = not_among-hits c (ancestors n f) h in
+      let i = hits-ancestors c n f o in
+      let j = hits-ancestors c n (cut c f) (IsOnce-cut c f o) in
+      let k : occurs n (tree_at c (cut c f)) ≡ occurs n (tree_at c f) = ap (λ (t : Forest X). occurs n t) (tree_at-cut c f) in
+      hits-not_among c (ancestors n (cut c f)) (omega arith)
+
   pub ancestors-cut : (f : Forest X) → ((m : ℕ) → occurs m f ≤ 1) → (c n : ℕ) → 0 < occurs n f → ancestors n (cut c f) ≡ up_with c (ancestors n f)
   ancestors-cut f o c n h = go (length (ancestors n f)) n (omega arith) h
     where
       o' : (m : ℕ) → occurs m (cut c f) ≤ 1
-      o' m = let k = o m in rw (total-cut (one_at m) c f) k
+      o' = IsOnce-cut c f o
 
       there : (m : ℕ) → 0 < occurs m f → 0 < occurs m (cut c f)
       there m k = rw (total-cut (one_at m) c f) k

@@ -12,15 +12,15 @@ use Rattle.dom_model.proofs.Entries.{Lies-entry_in}
 use Rattle.dom_model.proofs.Undone.{placed_under-absent, put-cut}
 use Rattle.dom_model.proofs.Rising.{hits-low}
 
-hits-head : (ns : List ℕ) (b : ℕ) → head_of ns ≡ Some b → 0 < hits b ns
-hits-head [] b e = absurd (cc e)
-hits-head (n ∷ ns) b e = elim (same_or n b) [ same d t ↦ rw t (omega arith) | apart ne t ↦ absurd (ne (let d : Some n ≡ Some b = e in cc d)) ]
+pub hits-head_of : (ns : List ℕ) (b : ℕ) → head_of ns ≡ Some b → 0 < hits b ns
+hits-head_of [] b e = absurd (cc e)
+hits-head_of (n ∷ ns) b e = elim (same_or n b) [ same d t ↦ rw t (omega arith) | apart ne t ↦ absurd (ne (let d : Some n ≡ Some b = e in cc d)) ]
 
-hits-after : (c : ℕ) (ns : List ℕ) (b : ℕ) → after c ns ≡ Some b → 0 < hits b ns
+pub hits-after : (c : ℕ) (ns : List ℕ) (b : ℕ) → after c ns ≡ Some b → 0 < hits b ns
 hits-after c [] b e = absurd (cc e)
 hits-after c (n ∷ ns) b e =
     elim (same_or n c) [
-      | same d t ↦ (let k = rw t at e in omega (arith, hits-head ns b k))
+      | same d t ↦ (let k = rw t at e in omega (arith, hits-head_of ns b k))
       | apart ne t ↦ (let k = rw t at e in omega (arith, hits-after c ns b k))
     ]
 

@@ -19,7 +19,7 @@ use Rattle.dom_model.proofs.Entries.{Lies-entry_in}
 use Rattle.dom_model.proofs.Paths.{parent-path, root-path, ancestors-cut, up_with}
 use Rattle.dom_model.proofs.Places.{place-absent, place-there}
 use Rattle.dom_model.proofs.Flattened.{hits-numbers}
-use Rattle.dom_model.proofs.Indices.{child-listed, index-child, index-cut}
+use Rattle.dom_model.proofs.Indices.{child-listed, index-child, index-cut, child-parent}
 use Rattle.dom_model.proofs.PointOrder.{nat_cmp-same, nat_cmp-less, nat_cmp-greater}
 use Rattle.dom_model.proofs.Chains.{way_to, IsWay, way, index-apart}
 use Rattle.dom_model.proofs.WaysKept.{place_by}
@@ -66,34 +66,6 @@ index-after : (i y y' : ℕ) → y' + (if true then (if nat_lt i y then 1 else 0
 index-after i y y' e h = grind (arith, nat_tests)
 
 module _ {X : Type 0} where
-  tops-parent : (at : (ℕ → Option (Entry (Node X)))) (above : Option ℕ) (n : ℕ) (f : Forest X) → Lies at above f → 0 < hits n (tops f) → parent_in (at n) ≡ above
-  tops-parent at above n empty l h = absurd (omega arith)
-  tops-parent at above n (node x kids rest) l h =
-      elim (same_or x.number n) [
-        | same e t ↦ ap (λ m. parent_in (at m)) (sym e) ∙ ap parent_in l.0
-        | apart ne t ↦ (let k = rw t at h in tops-parent at above n rest l.2 (omega arith))
-      ]
-
-  listed-back : (at : (ℕ → Option (Entry (Node X)))) (above : Option ℕ) (n q : ℕ) (f : Forest X) → Lies at above f → 0 < occurs q f → 0 < hits n (children_in (at q)) → parent_in (at n) ≡ Some q
-  listed-back at above n q empty l h i = absurd (omega arith)
-  listed-back at above n q (node x kids rest) l h i =
-      elim (same_or x.number q) [
-        | same e t ↦
-            let s : children_in (at q) ≡ tops kids = ap (λ m. children_in (at m)) (sym e) ∙ ap children_in l.0 in
-            let j = rw s at i in
-            tops-parent at (Some x.number) n kids l.1 j ∙ ap (λ m. Some m) e
-        | apart ne t ↦
-            let k = rw t at h in
-            ⊎_elim
-            (λ (lt : 0 < occurs q kids). listed-back at (Some x.number) n q kids l.1 lt i)
-            (λ (le : occurs q kids ≤ 0). listed-back at above n q rest l.2 (omega arith) i)
-            (cases_lt 0 (occurs q kids))
-      ]
-
-  -- a child of a node has it as its parent
-  pub child-parent : (f : Forest X) → ((m : ℕ) → occurs m f ≤ 1) → (n q : ℕ) → 0 < occurs q f → 0 < hits n (children_of f q) → parent_of f n ≡ Some q
-  child-parent f o n q h i = listed-back (entry_in f) None n q f (Lies-entry_in f o) h i
-
   -- the ancestors of a node end with those of each of them
   pub ancestors-split : (f : Forest X) → ((m : ℕ) → occurs m f ≤ 1) → (c n : ℕ) → 0 < occurs n f → 0 < hits c (ancestors n f) → (xs : List ℕ) × (ancestors n f ≡ xs ++ ancestors c f)
   ancestors-split f o c n h i = go (length (ancestors n f)) n (omega arith) h i
@@ -143,7 +115,7 @@ module _ {X : Type 0} where
           | apart ne t ↦
               let none : hits c (children_of f u) ≡ 0 =
               ⊎_elim
-              (λ (lt : 0 < hits c (children_of f u)). absurd (ne (let w : Some u ≡ Some p = sym (child-parent f o c u (parent-path f o m u h e).0 lt) ∙ par in cc w)))
+              (λ (lt : 0 < hits c (children_of f u)). absurd (ne (let w : Some u ≡ Some p = sym (child-parent f o c u lt) ∙ par in cc w)))
               (λ (le : hits c (children_of f u) ≤ 0). omega arith)
               (cases_lt 0 (hits c (children_of f u))) in
               let far_on : index_of f m < place_in c (children_of f u) = rw (place-absent c (children_of f u) none, index-child f m u e) (place-there m (children_of f u) (child-listed f o m u h e)) in

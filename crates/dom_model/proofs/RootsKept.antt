@@ -19,10 +19,10 @@ use Rattle.dom_model.proofs.Flattened.{hits-numbers}
 use Rattle.dom_model.proofs.RemovalOrder.{ancestors-split, up_with-clear, no_cycle}
 use Rattle.dom_model.proofs.IteratorsStay.{IsInRoot, hits-past}
 
-last-behind : (xs : List ℕ) (y : ℕ) (ys : List ℕ) → last_of (xs ++ y ∷ ys) ≡ last_of (y ∷ ys)
-last-behind [] y ys = refl
-last-behind (x ∷ []) y ys = refl
-last-behind (x ∷ z ∷ xs) y ys = last-behind (z ∷ xs) y ys
+pub last_of-behind : (xs : List ℕ) (y : ℕ) (ys : List ℕ) → last_of (xs ++ y ∷ ys) ≡ last_of (y ∷ ys)
+last_of-behind [] y ys = refl
+last_of-behind (x ∷ []) y ys = refl
+last_of-behind (x ∷ z ∷ xs) y ys = last_of-behind (z ∷ xs) y ys
 
 hits-up_to : (x n : ℕ) (xs : List ℕ) → hits x (up_to n xs) ≤ hits x xs
 hits-up_to x n [] = omega arith
@@ -92,7 +92,7 @@ module _ {X : Type 0} where
     root-put n h = ap last_of (ancestors-put f o p c b hp hc r z n h) ∙ go (among c (ancestors n f))
       where
         go : (v : Bool) → last_of (ancestors n f ++ (if v then ancestors p f else [])) ≡ (if v then root_of f p else root_of f n)
-        go true = (let i = ancestors-there p f hp in ap (λ ns. last_of (ancestors n f ++ ns)) i.1 ∙ last-behind (ancestors n f) p i.0 ∙ sym (ap last_of i.1))
+        go true = (let i = ancestors-there p f hp in ap (λ ns. last_of (ancestors n f ++ ns)) i.1 ∙ last_of-behind (ancestors n f) p i.0 ∙ sym (ap last_of i.1))
         go false = ap last_of (append-nil (ancestors n f))
 
     -- a node is in the tree that is put where its root is put
@@ -100,7 +100,7 @@ module _ {X : Type 0} where
     root-among n h e =
         let i = ancestors-split f o c n h (among-hits c (ancestors n f) e) in
         let a = root-path f o c hc r in
-        ap last_of (i.1 ∙ ap (λ ns. i.0 ++ ns) a) ∙ last-behind i.0 c []
+        ap last_of (i.1 ∙ ap (λ ns. i.0 ++ ns) a) ∙ last_of-behind i.0 c []
 
     last-among : (c : ℕ) (ns : List ℕ) → last_of ns ≡ Some c → among c ns ≡ true
     last-among c [] e = absurd (cc e)
@@ -147,7 +147,7 @@ module _ {X : Type 0} where
             let j = ancestors-there p f i.0 in
             root-outside p i.0 (no_cycle f o p c hc par)
             ∙ ap last_of j.1
-            ∙ sym (ap last_of (s.1 ∙ ap (λ ns. s.0 ++ ns) (i.1 ∙ ap (λ ns. c ∷ ns) j.1)) ∙ last-behind s.0 c (p ∷ j.0))
+            ∙ sym (ap last_of (s.1 ∙ ap (λ ns. s.0 ++ ns) (i.1 ∙ ap (λ ns. c ∷ ns) j.1)) ∙ last_of-behind s.0 c (p ∷ j.0))
 
         go : (v : Bool) → among n (inclusive_descendants f c) ≡ v → (w : Bool) → ((n == p) && nat_lt (index_of f c) a) ≡ w → root_of (cut c f) (after_removal (inclusive_descendants f c) p (index_of f c) (record { node = n; offset = a })).node ≡ root_of f n
         go true e w d = rw e (inside (let k = among-hits n (inclusive_descendants f c) e in let j = hits-numbers n (tree_at c f) in let l = hits-ancestors c n f o in omega arith))

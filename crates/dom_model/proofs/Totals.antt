@@ -1,9 +1,13 @@
 -- Weights and counts of numbers over a changed forest.
-use Rattle.std.proofs.Common.{◌≡◌, ℕ, ◌+◌, ◌*◌, true, false, if◌then◌else◌, nat_lt, Option, refl, arith}
+use Rattle.std.proofs.Common.{◌≡◌, ℕ, ◌+◌, ◌*◌, true, false, if◌then◌else◌, nat_lt, Option, refl, arith, ◌≤◌}
 use Rattle.std.proofs.lemmas.Bool.Decides.{nat_tests}
 use Rattle.dom_model.specs.Lists.{is_number}
-use Rattle.dom_model.specs.Forest.{Node, Forest, empty, node, total, occurs, beside, tree_at, without, placed_before, placed_under, placed_root, cut, put}
+use Rattle.dom_model.specs.Forest.{Node, Forest, empty, node, total, occurs, beside, tree_at, without, placed_before, placed_under, placed_root, cut, put, one_at}
 use Rattle.dom_model.proofs.Numbers.{same_or, same, apart}
+
+-- a number stands in a forest at most once
+abbrev pub IsOnce : {X : Type 0} → Forest X → Type 0
+IsOnce f = (n : ℕ) → occurs n f ≤ 1
 
 module _ {X : Type 0} where
   pub total-beside : (w : ℕ → ℕ) (f g : Forest X) → total w (beside f g) ≡ total w f + total w g
@@ -44,6 +48,9 @@ module _ {X : Type 0} where
 
   pub total-cut : (w : ℕ → ℕ) (c : ℕ) (f : Forest X) → total w (cut c f) ≡ total w f
   total-cut w c f = omega (arith, total-placed_root w c (tree_at c f) (without c f), total-tree_at w c f)
+
+  pub IsOnce-cut : (c : ℕ) (f : Forest X) → IsOnce f → IsOnce (cut c f)
+  IsOnce-cut c f o n = let k = o n in rw (total-cut (one_at n) c f) k
 
   pub total-put : (w : ℕ → ℕ) (p c : ℕ) (b : Option ℕ) (f : Forest X) → occurs p (without c f) ≡ 1 → total w (put p c b f) ≡ total w f
   total-put w p c b f once =

@@ -6,8 +6,9 @@ use Rattle.dom_model.specs.Lists.{hits, head_of, among}
 use Rattle.dom_model.specs.Forest.{Forest, empty, node, Grove, IsForest, one_at, occurs, tops, tree_at, entry_in, HasNode, children_of, ancestors}
 use Rattle.dom_model.specs.World.{Content}
 use Rattle.dom_model.proofs.Numbers.{same_or, same, apart}
-use Rattle.dom_model.proofs.Climbing.{hits-ancestors, hits-among}
-use Rattle.dom_session.proofs.Laws.{IsOnce, Lies-own, occurs-HasNode, among-none}
+use Rattle.dom_model.proofs.Climbing.{hits-ancestors, hits-among, hits-not_among}
+use Rattle.dom_model.proofs.Totals.{IsOnce}
+use Rattle.dom_model.proofs.Entries.{occurs-HasNode}
 use Rattle.dom_session.proofs.Waits.{TopTree, top_tree}
 
 no_tops : (f : Forest Content) → head_of (tops f) ≡ None → f ≡ empty
@@ -17,8 +18,7 @@ no_tops (node x kids rest) h = cc
 -- how often a number stands in the tree of a leaf
 occurs-leaf : (f : Forest Content) → IsOnce f → (n p : ℕ) → HasNode f n → head_of (children_of f n) ≡ None → occurs p (tree_at n f) ≡ one_at p n
 occurs-leaf f o n p held h =
-    let there = occurs-HasNode f n o held in
-    let t = top_tree (entry_in f) None f n o (Lies-own None f o) (omega arith) in
+    let t = top_tree f n o (occurs-HasNode f n held) in
     let bare : t.kids ≡ empty = no_tops t.kids (rw t.entry at h) in
     let e = ap (λ k. occurs p (node t.x k empty)) bare in
     let d = ap (λ g. occurs p g) t.are in
@@ -33,5 +33,5 @@ among-leaf g sound n p held h =
     let leaf = occurs-leaf f sound.once n p held h in
     elim (same_or n p) [
       | same d t ↦ let k = rw t at leaf in rw t (hits-among n (ancestors p f) (omega arith))
-      | apart ne t ↦ let k = rw t at leaf in rw t (among-none n (ancestors p f) (omega arith))
+      | apart ne t ↦ let k = rw t at leaf in rw t (hits-not_among n (ancestors p f) (omega arith))
     ]

@@ -1,5 +1,4 @@
 pub mod Steps
-pub mod Laws
 pub mod Siblings
 pub mod Detaching
 pub mod Standing

@@ -6,17 +6,19 @@ use Rattle.std.proofs.lemmas.Bool.{cases_lt}
 use Rattle.std.proofs.lemmas.Bool.Decides.{nat_tests}
 use Rattle.dom_model.specs.Lists.{hits, head_of, after}
 use Rattle.dom_model.specs.Arena.{Entry, parent_in, list_under}
-use Rattle.dom_model.specs.Forest.{Node, Forest, empty, node, Grove, IsForest, Row, rows, occurs, tops, beside, tree_at, entry_in, HasNode, children_of, next_of}
+use Rattle.dom_model.specs.Forest.{Node, Forest, empty, node, Grove, IsForest, Row, rows, occurs, tops, beside, tree_at, entry_in, HasNode, children_of, next_of, parent_of}
 use Rattle.dom_model.specs.World.{Content}
 use Rattle.dom_model.specs.Reply.{TreeRow}
 use Rattle.dom_model.specs.Answer.{tree_row, tree_rows}
 use Rattle.dom_model.specs.Lies.{Lies}
 use Rattle.dom_model.proofs.Numbers.{same_or, same, apart}
-use Rattle.dom_model.proofs.Totals.{tree_at-absent, beside-empty}
+use Rattle.dom_model.proofs.Totals.{tree_at-absent, beside-empty, IsOnce}
+use Rattle.dom_model.proofs.Entries.{occurs-HasNode, Lies-entry_in}
+use Rattle.dom_model.proofs.Indices.{child-once}
+use Rattle.dom_model.proofs.Climbing.{hits-first, hits-append}
 use Rattle.dom_session.specs.declared.printing.Waiting.{Waiting}
 use Rattle.dom_session.specs.Printing.{row_at, waiting_for}
-use Rattle.dom_session.proofs.Laws.{IsOnce, Lies-own, occurs-HasNode}
-use Rattle.dom_session.proofs.Siblings.{IsOnce-children}
+use Rattle.dom_tree.proofs.Ordering.{Single, single, tree_at-single, Lies-tree_at, after-front}
 
 -- a part of the forest: trees that stand beside one another at a depth
 pub record Part : Type 0 where
@@ -112,18 +114,14 @@ to_come-wait : (ts : List Part) (d : ℕ) (k : Forest Content) → to_come (ts +
 to_come-wait ts d empty = rw (append-nil ts) refl
 to_come-wait ts d (node x kids rest) = to_come-push ts (record { depth = d; trees = node x kids rest })
 
-hits-passed : (x : ℕ) (passed ys : List ℕ) → 0 < hits x (passed ++ x ∷ ys)
-hits-passed x [] ys = elim (same_or x x) [ same e t ↦ rw t (omega arith) | apart ne t ↦ absurd (ne refl) ]
-hits-passed x (p ∷ ps) ys = let h = hits-passed x ps ys in omega arith
-
 -- what comes after the first of a part is the first of its rest
 after-passed : (x : ℕ) (passed ys : List ℕ) → ((m : ℕ) → hits m (passed ++ x ∷ ys) ≤ 1) → after x (passed ++ x ∷ ys) ≡ head_of ys
-after-passed x [] ys once = elim (same_or x x) [ same e t ↦ rw t refl | apart ne t ↦ absurd (ne refl) ]
-after-passed x (p ∷ ps) ys once =
-    elim (same_or p x) [
-      | same e t ↦ absurd (let h = once x in let k = rw t at h in let g = hits-passed x ps ys in omega arith)
-      | apart ne t ↦ rw t (after-passed x ps ys (λ m. let h = once m in omega arith))
-    ]
+after-passed x passed ys once =
+    let h = once x in
+    let i = hits-append x passed (x ∷ ys) in
+    let j = hits-first x ys in
+    let first : after x (x ∷ ys) ≡ head_of ys = elim (same_or x x) [ same e t ↦ rw t refl | apart ne t ↦ absurd (ne refl) ] in
+    after-front x passed (x ∷ ys) (omega arith) ∙ first
 
 -- the trees of a part: its first node, that one's children, and the trees after it
 record Opened (f : Forest Content) (limit : ℕ) (w : Waiting) (t : Part) : Type 0 where
@@ -170,7 +168,7 @@ IsPrinting-step g sound all done ws w r i row =
     let p = Match-pop f (length done) ws w i.parts i.matched in
     let o = opened f (length done) w p.part p.last in
     let more : length (done ++ r ∷ []) ≡ length done + 1 = omega (arith, length-append done (r ∷ [])) in
-    let once : (m : ℕ) → hits m (o.passed ++ w.first ∷ tops o.rest) ≤ 1 = λ m. rw (← o.within) (IsOnce-children g sound o.above m) in
+    let once : (m : ℕ) → hits m (o.passed ++ w.first ∷ tops o.rest) ≤ 1 = λ m. rw (← o.within) (child-once f sound.once m o.above) in
     let next : next_of f w.first ≡ head_of (tops o.rest) = rw (o.entry, o.within) (after-passed w.first o.passed (tops o.rest) once) in
     let down : head_of (children_of f w.first) ≡ head_of (tops o.kids) = rw o.entry refl in
     let is : r ≡ row_at w.first w.depth o.x = rw o.entry at row in
@@ -190,51 +188,30 @@ IsPrinting-step g sound all done ws w r i row =
     }
 
 -- the tree of one number: its node, its children, and no more
-pub record TopTree (f : Forest Content) (at : ℕ → Option (Entry (Node Content))) (top : ℕ) : Type 0 where
+pub record TopTree (f : Forest Content) (top : ℕ) : Type 0 where
   pub x : Node Content
   pub kids : Forest Content
   pub parent : Option ℕ
   pub are : tree_at top f ≡ node x kids empty
   pub number : x.number ≡ top
-  pub entry : at top ≡ Some (record { value = x; parent = parent; children = tops kids })
-  pub lies : Lies at (Some top) kids
+  pub entry : entry_in f top ≡ Some (record { value = x; parent = parent; children = tops kids })
+  pub lies : Lies (entry_in f) (Some top) kids
 
-tree_in_kids : (top : ℕ) (x : Node Content) (kids rest : Forest Content) → (x.number == top) ≡ false → occurs top rest ≡ 0 → tree_at top (node x kids rest) ≡ tree_at top kids
-tree_in_kids top x kids rest t z = rw (t, tree_at-absent top rest z, beside-empty (tree_at top kids)) refl
-
-tree_in_rest : (top : ℕ) (x : Node Content) (kids rest : Forest Content) → (x.number == top) ≡ false → occurs top kids ≡ 0 → tree_at top (node x kids rest) ≡ tree_at top rest
-tree_in_rest top x kids rest t z = rw (t, tree_at-absent top kids z) refl
-
-pub top_tree : (at : ℕ → Option (Entry (Node Content))) (q : Option ℕ) (f : Forest Content) (top : ℕ) → IsOnce f → Lies at q f → 0 < occurs top f → TopTree f at top
-top_tree at q empty top o l h = absurd (omega arith)
-top_tree at q (node x kids rest) top o l h =
-    elim (same_or x.number top) [
-      | same e t ↦
-          let z : occurs top rest ≡ 0 = let w = o top in let k = rw t at w in omega arith in
-          let P : ℕ → Type 0 = λ m. at m ≡ Some (record { value = x; parent = q; children = tops kids }) in
-          let Q : ℕ → Type 0 = λ m. Lies at (Some m) kids in
-          record { x = x; kids = kids; parent = q; are = rw (t, tree_at-absent top rest z) refl; number = e; entry = subst P e l.0; lies = subst Q e l.1 }
-      | apart ne t ↦
-          let w = o top in
-          let k = rw t at h in
-          ⊎_elim
-          (λ (lt : 0 < occurs top kids).
-          let i = top_tree at (Some x.number) kids top (λ m. let v = o m in omega arith) l.1 lt in
-          let z : occurs top rest ≡ 0 = omega arith in
-          record { x = i.x; kids = i.kids; parent = i.parent; are = tree_in_kids top x kids rest t z ∙ i.are; number = i.number; entry = i.entry; lies = i.lies })
-          (λ (le : occurs top kids ≤ 0).
-          let i = top_tree at q rest top (λ m. let v = o m in omega arith) l.2 (omega arith) in
-          let z : occurs top kids ≡ 0 = omega arith in
-          record { x = i.x; kids = i.kids; parent = i.parent; are = tree_in_rest top x kids rest t z ∙ i.are; number = i.number; entry = i.entry; lies = i.lies })
-          (cases_lt 0 (occurs top kids))
-    ]
+pub top_tree : (f : Forest Content) (top : ℕ) → IsOnce f → 0 < occurs top f → TopTree f top
+top_tree f top o h = from (tree_at-single top f (let k = o top in omega arith))
+  where
+    from : Single top (tree_at top f) → TopTree f top
+    from (single x kids e t) =
+        let l = subst (λ (u : Forest Content). Lies (entry_in f) (parent_of f top) u) t (Lies-tree_at (entry_in f) top None f (Lies-entry_in f o)) in
+        let P : ℕ → Type 0 = λ m. entry_in f m ≡ Some (record { value = x; parent = parent_of f top; children = tops kids }) in
+        let Q : ℕ → Type 0 = λ m. Lies (entry_in f) (Some m) kids in
+        record { x = x; kids = kids; parent = parent_of f top; are = t; number = e; entry = subst P e l.0; lies = subst Q e l.1 }
 
 -- after the row of the top, its children wait
 pub IsPrinting-start : (g : Grove Content) → IsForest g → (top : ℕ) → HasNode g.forest top → (r : TreeRow) → IfSome (entry_in g.forest top) (λ e. r ≡ row_at top 0 e.value) → IsPrinting g.forest (tree_rows g.forest top) (r ∷ []) (waiting_for (head_of (children_of g.forest top)) 1)
 IsPrinting-start g sound top held r row =
     let f = g.forest in
-    let there = occurs-HasNode f top sound.once held in
-    let o = top_tree (entry_in f) None f top sound.once (Lies-own None f sound.once) (omega arith) in
+    let o = top_tree f top sound.once (occurs-HasNode f top held) in
     let is : r ≡ row_at top 0 o.x = rw o.entry at row in
     let down : head_of (children_of f top) ≡ head_of (tops o.kids) = rw o.entry refl in
     record {

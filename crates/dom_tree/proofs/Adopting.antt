@@ -7,10 +7,11 @@ use Rattle.dom_model.specs.Forest.{Node, Forest, empty, node, Grove, total, occu
 use Rattle.dom_model.proofs.Numbers.{same_or, same, apart}
 use Rattle.dom_model.proofs.Totals.{total-beside, total-tree_at}
 use Rattle.dom_model.proofs.Lying.{total-with_node}
-use Rattle.dom_tree.proofs.Numbering.{hits-after, hits-head_of}
 use Rattle.dom_model.proofs.Climbing.{hits-among, among-hits}
-use Rattle.dom_tree.proofs.Forests.{occurs-HasNode, HasNode-occurs}
-use Rattle.dom_tree.proofs.Ordering.{Single, single, tree_at-single, hits-numbers}
+use Rattle.dom_model.proofs.PutBack.{hits-after, hits-head_of}
+use Rattle.dom_model.proofs.Flattened.{hits-numbers}
+use Rattle.dom_model.proofs.Entries.{occurs-HasNode, HasNode-occurs}
+use Rattle.dom_tree.proofs.Ordering.{Single, single, tree_at-single}
 use Rattle.dom_tree.proofs.Walking.{inside, inside-among}
 use Rattle.dom_tree.proofs.Stepping.{after-inside}
 

@@ -1,5 +1,5 @@
 -- The last of the inclusive descendants.
-use Rattle.std.proofs.Common.{◌≡◌, ℕ, zero, suc, ◌+◌, ◌<◌, ◌≤◌, ◌==◌, true, false, List, [], ◌∷◌, ◌++◌, length, Option, Some, None, IsSome, refl, ap, sym, ◌∙◌, subst, arith, ◌⊎◌, inl, inr, ⊎_elim}
+use Rattle.std.proofs.Common.{◌≡◌, ℕ, zero, suc, ◌+◌, ◌<◌, ◌≤◌, ◌==◌, true, false, List, [], ◌∷◌, ◌++◌, length, Option, Some, None, IsSome, refl, ap, sym, ◌∙◌, subst, arith, ◌⊎◌, inl, inr, ⊎_elim, append-nil}
 use Rattle.std.proofs.lemmas.Bool.{cases_lt, false≢true}
 use Rattle.std.proofs.lemmas.Bool.Decides.{nat_tests}
 use Rattle.dom_model.specs.Lists.{hits, head_of, last_of}
@@ -9,70 +9,13 @@ use Rattle.dom_model.specs.Lies.{Lies}
 use Rattle.dom_model.proofs.Numbers.{same_or, same, apart}
 use Rattle.dom_model.proofs.Totals.{total-tree_at, tree_at-absent, beside-empty}
 use Rattle.dom_model.proofs.Tops.{hits-tops}
+use Rattle.dom_model.proofs.RootsKept.{last_of-behind}
+use Rattle.dom_model.proofs.IteratorsStay.{tree_at-inside}
+use Rattle.dom_model.proofs.Entries.{occurs-HasNode, HasNode-occurs, Lies-entry_in}
 use Rattle.dom_tree.proofs.Numbering.{hits-last_of}
 use Rattle.dom_tree.proofs.Ordering.{Single, single, tree_at-single, Lies-tree_at}
-use Rattle.dom_tree.proofs.Forests.{occurs-HasNode, HasNode-occurs, Lies-entry_in}
-use Rattle.dom_tree.proofs.Siblings.{child-there}
-
-last_of-behind : (xs : List ℕ) (y : ℕ) (ys : List ℕ) → last_of (xs ++ y ∷ ys) ≡ last_of (y ∷ ys)
-last_of-behind [] y ys = refl
-last_of-behind (x ∷ []) y ys = refl
-last_of-behind (x ∷ z ∷ zs) y ys = last_of-behind (z ∷ zs) y ys
-
-append-nothing : (xs : List ℕ) → xs ++ [] ≡ xs
-append-nothing [] = refl
-append-nothing (x ∷ xs) = ap (λ l. x ∷ l) (append-nothing xs)
 
 module _ {X : Type 0} where
-  -- a tree in a tree is the tree of the whole forest
-  pub tree_at-inside : (m n : ℕ) (f : Forest X) → ((k : ℕ) → occurs k f ≤ 1) → 0 < occurs m (tree_at n f) → tree_at m (tree_at n f) ≡ tree_at m f
-  tree_at-inside m n empty o h = refl
-  tree_at-inside m n (node x kids rest) o h =
-      let om = o m in
-      let on = o n in
-      elim (same_or x.number n) [
-        | same e t ↦
-            let k = rw t at on in
-            let nr : occurs n rest ≡ 0 = omega arith in
-            let tr = tree_at-absent n rest nr in
-            let h2 = rw (t, tr) at h in
-            let mr : occurs m rest ≡ 0 = omega arith in
-            let zr = tree_at-absent m rest mr in
-            rw (t, tr) (elim (same_or x.number m) [
-              | same _ v ↦ rw (v, zr) refl
-              | apart _ v ↦ rw (v, zr) refl
-            ])
-        | apart ne t ↦
-            let k = rw t at on in
-            let h2 = rw t at h in
-            ⊎_elim
-            (λ (lt : 0 < occurs n kids).
-            let nr : occurs n rest ≡ 0 = omega arith in
-            let tr = tree_at-absent n rest nr in
-            let h3 : 0 < occurs m (tree_at n kids) = rw (tr, beside-empty (tree_at n kids)) at h2 in
-            let mk : 0 < occurs m kids = omega (arith, total-tree_at (one_at m) n kids) in
-            let mr : occurs m rest ≡ 0 = omega arith in
-            let zr = tree_at-absent m rest mr in
-            let ih = tree_at-inside m n kids (λ j. let w = o j in omega arith) h3 in
-            rw (t, tr, beside-empty (tree_at n kids), ih) (elim (same_or x.number m) [
-              | same d v ↦ absurd (let w = rw v at om in omega arith)
-              | apart _ v ↦ rw (v, zr, beside-empty (tree_at m kids)) refl
-            ]))
-            (λ (le : occurs n kids ≤ 0).
-            let nk : occurs n kids ≡ 0 = omega arith in
-            let tk = tree_at-absent n kids nk in
-            let h3 : 0 < occurs m (tree_at n rest) = rw tk at h2 in
-            let mr : 0 < occurs m rest = omega (arith, total-tree_at (one_at m) n rest) in
-            let mk : occurs m kids ≡ 0 = omega arith in
-            let zk = tree_at-absent m kids mk in
-            let ih = tree_at-inside m n rest (λ j. let w = o j in omega arith) h3 in
-            rw (t, tk, ih) (elim (same_or x.number m) [
-              | same d v ↦ absurd (let w = rw v at om in omega arith)
-              | apart _ v ↦ rw (v, zk) refl
-            ]))
-            (cases_lt 0 (occurs n kids))
-      ]
-
   -- the last number is the last one's of the last tree
   pub last-tree : (m : ℕ) (f : Forest X) → ((k : ℕ) → occurs k f ≤ 1) → last_of (tops f) ≡ Some m → last_of (numbers f) ≡ last_of (numbers (tree_at m f))
   last-tree m empty o e = refl
@@ -142,4 +85,4 @@ module _ {X : Type 0} {g : Grove X} (s : IsForest g) where
         where
           last_nodes : (x : Node X) (kids : Forest X) → last_of (tops kids) ≡ Some m → last_of (numbers (node x kids empty)) ≡ last_of (numbers kids)
           last_nodes x empty z = absurd (cc z)
-          last_nodes x (node y ks r) z = ap (λ l. last_of (x.number ∷ l)) (append-nothing (numbers (node y ks r)))
+          last_nodes x (node y ks r) z = ap (λ l. last_of (x.number ∷ l)) (append-nil (numbers (node y ks r)))

@@ -10,19 +10,10 @@ use Rattle.dom_tree.specs.Spelled.{Spells, grown, grown_list, grown_node, root_f
 use Rattle.dom_model.proofs.Numbers.{same_or, same, apart}
 use Rattle.dom_model.proofs.Tops.{IsRising-from, hits-tops}
 use Rattle.dom_model.proofs.Changes.{Seen, seen, nothing, just}
+use Rattle.dom_model.proofs.Rising.{hits-low}
+use Rattle.dom_model.proofs.Entries.{entry_in-Lies}
 
 -- numbers that rise and stand in both lists alike
-pub hits-low : (low n : ℕ) (ns : List ℕ) → IsRising low ns → n < low → hits n ns ≡ 0
-hits-low low n [] r h = refl
-hits-low low n (m ∷ ms) r h =
-    let k : low ≤ m = r.0 in
-    elim (same_or m n) [
-      | same e t ↦ absurd (omega arith)
-      | apart ne t ↦
-          let z : hits n ms ≡ 0 = hits-low (suc m) n ms r.1 (omega arith) in
-          rw t (omega arith)
-    ]
-
 pub rising_same : (low : ℕ) (xs ys : List ℕ) → IsRising low xs → IsRising low ys → ((n : ℕ) → hits n xs ≡ hits n ys) → xs ≡ ys
 rising_same low [] [] r s h = refl
 rising_same low [] (y ∷ ys) r s h = absurd (let k = h y in grind (arith, nat_tests))
@@ -174,40 +165,5 @@ module _ {X : Type 0} where
   forest_of-Spells made at f s =
       rw (roots_from-Spells made at f s) (grown-Lies (suc made) at None f (let k = s.fits in omega arith) s.placed)
 
-  pub entry_under-absent : (q : Option ℕ) (n : ℕ) (f : Forest X) → occurs n f ≡ 0 → entry_under q n f ≡ None
-  entry_under-absent q n empty h = refl
-  entry_under-absent q n (node x kids rest) h =
-      elim (same_or x.number n) [
-        | same e t ↦ absurd (let k = rw t at h in omega arith)
-        | apart ne t ↦
-            let k = rw t at h in
-            let a : occurs n kids ≡ 0 = omega arith in
-            let b : occurs n rest ≡ 0 = omega arith in
-            rw (t, entry_under-absent (Some x.number) n kids a) (entry_under-absent q n rest b)
-      ]
-
-  pub entry_under-Lies : (at : (ℕ → Option (Entry (Node X)))) (q : Option ℕ) (n : ℕ) (f : Forest X) (e : Entry (Node X)) → Lies at q f → 0 < occurs n f → at n ≡ Some e → entry_under q n f ≡ Some e
-  entry_under-Lies at q n empty e l h s = absurd (omega arith)
-  entry_under-Lies at q n (node x kids rest) e l h s =
-      elim (same_or x.number n) [
-        | same d t ↦ rw t (sym l.0 ∙ ap at d ∙ s)
-        | apart ne t ↦
-            let k = rw t at h in
-            rw t (⊎_elim
-            (λ (lt : 0 < occurs n kids). rw (entry_under-Lies at (Some x.number) n kids e l.1 lt s) refl)
-            (λ (le : occurs n kids ≤ 0).
-            let z : occurs n kids ≡ 0 = omega arith in
-            rw (entry_under-absent (Some x.number) n kids z) (entry_under-Lies at q n rest e l.2 (omega arith) s))
-            (cases_lt 0 (occurs n kids)))
-      ]
-
   pub entry_in-Spells : (made : ℕ) (at : (ℕ → Option (Entry (Node X)))) (f : Forest X) → Spells made at f → (n : ℕ) → entry_in f n ≡ at n
-  entry_in-Spells made at f s n =
-      elim (seen (at n)) [
-        | nothing e ↦
-            let z : occurs n f ≡ 0 = s.counted n ∙ ap held e in
-            rw e (entry_under-absent None n f z)
-        | just a e ↦
-            let o : occurs n f ≡ 1 = s.counted n ∙ ap held e in
-            entry_under-Lies at None n f a s.placed (omega arith) e ∙ sym e
-      ]
+  entry_in-Spells made at f s n = entry_in-Lies at f s.placed s.counted n

@@ -17,7 +17,7 @@ use Rattle.dom_tree.proofs.Spelling.{once_in, Spells-cut, Spells-put, IsForest-S
 use Rattle.dom_tree.proofs.KindsFitting.{KindsFit-cut, KindsFit-without, KindsFit-under, KindsFit-placed_under}
 use Rattle.dom_model.proofs.Climbing.{Climb, on_top, under, climb, hits-ancestors, climbs, hits-self, hits-among, among-hits, not_among-hits}
 use Rattle.dom_tree.proofs.Stores.{linked-at, unlinked-at}
-use Rattle.dom_tree.proofs.Numbering.{head_of-map, last_of-map, hits-head_of, hits-last_of, hits-after, hits-before, child-held, parent-held, sibling-held, slot-there, by_number-slot, parent_in-map, children_in-map, next_in-map, previous_in-map, one_slot}
+use Rattle.dom_tree.proofs.Numbering.{head_of-map, last_of-map, hits-last_of, hits-before, child-held, parent-held, sibling-held, slot-there, by_number-slot, parent_in-map, children_in-map, next_in-map, previous_in-map, one_slot}
 use Rattle.dom_tree.proofs.Renumbering.{IsTabled-linked, IsTabled-unlinked, by_number-linked, by_number-unlinked}
 
 -- a store and a table that spell a forest

@@ -8,10 +8,8 @@ use Rattle.dom_model.specs.Forest.{Node}
 use Rattle.dom_tree.specs.Spelled.{number_in, number_at, renumbered, entry_in_slot, by_number, IsTabled}
 use Rattle.dom_model.proofs.Numbers.{same_or, same, apart}
 use Rattle.dom_model.proofs.Changes.{Seen, seen, nothing, just, cut_at, link_at, change_at}
+use Rattle.dom_model.proofs.Climbing.{hits-first}
 use Rattle.dom_tree.proofs.Stores.{linked_at, unlinked_at}
-
-hits-first : (x : ℕ) (xs : List ℕ) → 0 < hits x (x ∷ xs)
-hits-first x xs = elim (same_or x x) [ same e t ↦ rw t (omega arith) | apart ne t ↦ absurd (ne refl) ]
 
 -- a list mapped, and a question asked of it before or after
 pub head_of-map : (f : ℕ → ℕ) (l : List ℕ) → head_of (map f l) ≡ option_map f (head_of l)
@@ -59,22 +57,10 @@ pub map-same : (f g : ℕ → ℕ) (l : List ℕ) → ((x : ℕ) → 0 < hits x 
 map-same f g [] h = refl
 map-same f g (x ∷ xs) h = rw (h x (hits-first x xs), map-same f g xs (λ y k. h y (omega arith))) refl
 
-pub hits-head_of : (l : List ℕ) (x : ℕ) → head_of l ≡ Some x → 0 < hits x l
-hits-head_of [] x e = absurd (cc e)
-hits-head_of (y ∷ ys) x e = (let d : y ≡ x = cc e in subst (λ m. 0 < hits m (y ∷ ys)) d (hits-first y ys))
-
 pub hits-last_of : (l : List ℕ) (x : ℕ) → last_of l ≡ Some x → 0 < hits x l
 hits-last_of [] x e = absurd (cc e)
 hits-last_of (y ∷ []) x e = (let d : y ≡ x = cc e in subst (λ m. 0 < hits m (y ∷ [])) d (hits-first y []))
 hits-last_of (y ∷ z ∷ zs) x e = omega (arith, hits-last_of (z ∷ zs) x e)
-
-pub hits-after : (s : ℕ) (l : List ℕ) (x : ℕ) → after s l ≡ Some x → 0 < hits x l
-hits-after s [] x e = absurd (cc e)
-hits-after s (y ∷ ys) x e =
-    elim (same_or y s) [
-      | same d t ↦ (let k = rw t at e in omega (arith, hits-head_of ys x k))
-      | apart ne t ↦ (let k = rw t at e in omega (arith, hits-after s ys x k))
-    ]
 
 pub hits-before : (passed : Option ℕ) (s : ℕ) (l : List ℕ) (x : ℕ) → before_from passed s l ≡ Some x → (passed ≡ Some x) ⊎ (0 < hits x l)
 hits-before passed s [] x e = absurd (cc e)

@@ -12,12 +12,13 @@ use Rattle.dom_model.proofs.Totals.{tree_at-absent, beside-empty}
 use Rattle.dom_model.proofs.Tops.{hits-tops}
 use Rattle.dom_model.proofs.Lying.{Lies-beside}
 use Rattle.dom_model.proofs.Climbing.{hits-append}
+use Rattle.dom_model.proofs.Flattened.{hits-numbers}
 
 head_of-append : (xs ys : List ℕ) → head_of (xs ++ ys) ≡ or_else (head_of xs) (head_of ys)
 head_of-append [] ys = refl
 head_of-append (x ∷ xs) ys = refl
 
-after-front : (n : ℕ) (xs ys : List ℕ) → hits n xs ≡ 0 → after n (xs ++ ys) ≡ after n ys
+pub after-front : (n : ℕ) (xs ys : List ℕ) → hits n xs ≡ 0 → after n (xs ++ ys) ≡ after n ys
 after-front n [] ys h = refl
 after-front n (x ∷ xs) ys h =
     elim (same_or x n) [
@@ -58,10 +59,6 @@ module _ {X : Type 0} where
   head_of-numbers : (f : Forest X) → head_of (numbers f) ≡ head_of (tops f)
   head_of-numbers empty = refl
   head_of-numbers (node x kids rest) = refl
-
-  pub hits-numbers : (n : ℕ) (f : Forest X) → hits n (numbers f) ≡ occurs n f
-  hits-numbers n empty = refl
-  hits-numbers n (node x kids rest) = omega (arith, hits-append n (numbers kids) (numbers rest), hits-numbers n kids, hits-numbers n rest)
 
   -- the next number in tree order is the first child, or what comes past the tree
   pub after-numbers : (at : (ℕ → Option (Entry (Node X)))) (q : Option ℕ) (n : ℕ) (f : Forest X) (tail : List ℕ) → ((m : ℕ) → occurs m f ≤ 1) → Lies at q f → 0 < occurs n f → after n (numbers f ++ tail) ≡ or_else (head_of (children_in (at n))) (past (head_of tail) n f)

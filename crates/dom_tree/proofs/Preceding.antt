@@ -9,10 +9,13 @@ use Rattle.dom_model.proofs.Changes.{Seen, seen, nothing, just}
 use Rattle.dom_model.proofs.Totals.{total-tree_at, tree_at-absent}
 use Rattle.dom_model.proofs.Tops.{hits-tops}
 use Rattle.dom_model.proofs.Climbing.{ancestors-there, ancestors-kids, ancestors-rest, ancestors-first}
-use Rattle.dom_tree.proofs.Numbering.{hits-after, hits-head_of}
-use Rattle.dom_tree.proofs.Ordering.{hits-numbers}
-use Rattle.dom_tree.proofs.Forests.{occurs-HasNode, HasNode-occurs}
-use Rattle.dom_tree.proofs.Walking.{last_of-append, root-top, inside-root}
+use Rattle.dom_model.proofs.RootsKept.{last_of-behind}
+use Rattle.dom_model.proofs.Places.{place-there}
+use Rattle.dom_model.proofs.Chains.{place-apart}
+use Rattle.dom_model.proofs.PutBack.{hits-after, hits-head_of}
+use Rattle.dom_model.proofs.Flattened.{hits-numbers}
+use Rattle.dom_model.proofs.Entries.{occurs-HasNode, HasNode-occurs}
+use Rattle.dom_tree.proofs.Walking.{root-top, inside-root}
 use Rattle.dom_tree.proofs.Stepping.{after-inside}
 
 pub place-after : (n m : ℕ) (l : List ℕ) → ((k : ℕ) → hits k l ≤ 1) → after n l ≡ Some m → place_in m l ≡ 1 + place_in n l
@@ -50,34 +53,6 @@ place-last n (x ∷ xs) h e =
     ends : (ys : List ℕ) → head_of ys ≡ None → 1 + 0 ≡ suc (length ys)
     ends [] z = refl
     ends (y ∷ ys) z = absurd (cc z)
-
-pub place-within : (n : ℕ) (l : List ℕ) → 0 < hits n l → place_in n l < length l
-place-within n [] h = h
-place-within n (x ∷ xs) h =
-    elim (same_or x n) [
-      | same d t ↦ rw t (omega arith)
-      | apart ne t ↦ (let w = rw t at h in rw t (omega (arith, place-within n xs (omega arith))))
-    ]
-
-pub place-same : (a b : ℕ) (l : List ℕ) → 0 < hits a l → 0 < hits b l → place_in a l ≡ place_in b l → a ≡ b
-place-same a b [] h k e = absurd (omega arith)
-place-same a b (x ∷ xs) h k e =
-    elim (same_or x a) [
-      | same d t ↦
-          elim (same_or x b) [
-            | same d2 v ↦ sym d ∙ d2
-            | apart ne v ↦ absurd (let w = rw (t, v) at e in omega arith)
-          ]
-      | apart ne t ↦
-          elim (same_or x b) [
-            | same d2 v ↦ absurd (let w = rw (t, v) at e in omega arith)
-            | apart nb v ↦
-                let w = rw (t, v) at e in
-                let h2 = rw t at h in
-                let k2 = rw v at k in
-                place-same a b xs (omega arith) (omega arith) (omega arith)
-          ]
-    ]
 
 place-front : (n : ℕ) (xs ys : List ℕ) → 0 < hits n xs → place_in n (xs ++ ys) ≡ place_in n xs
 place-front n [] ys h = absurd (omega arith)
@@ -151,7 +126,7 @@ module _ {X : Type 0} where
               | apart ne v ↦
                   let k3 = rw v at k2 in
                   let i = ancestors-there m kids (omega arith) in
-                  let w = last_of-append (m ∷ i.0) x.number in
+                  let w = last_of-behind (m ∷ i.0) x.number [] in
                   rw (ancestors-kids m m i.0 x kids rest ne i.1) (subst (λ j. last_of ((m ∷ i.0) ++ x.number ∷ []) ≡ Some j) e w)
             ]
         | apart ne t ↦
@@ -221,15 +196,15 @@ module _ {X : Type 0} {g : Grove X} (s : IsForest g) where
             let pn = place-root r n g.forest s.once top inn in
             let pb = place-root r b g.forest s.once top inb in
             let ln = place-last n (inclusive_descendants g.forest r) (omega (arith, hits-numbers n (tree_at r g.forest))) a in
-            let lb = place-within b (inclusive_descendants g.forest r) (omega (arith, hits-numbers b (tree_at r g.forest))) in
+            let lb = place-there b (inclusive_descendants g.forest r) (omega (arith, hits-numbers b (tree_at r g.forest))) in
             omega arith
       ]
 
   pub order-same : (m b : ℕ) → HasNode g.forest m → HasNode g.forest b → (m ≡ b → ⊥) → place_in m (numbers g.forest) ≡ place_in b (numbers g.forest) → ⊥
-  order-same m b hm hb ne e = ne (place-same m b (numbers g.forest) (listed-there m hm) (listed-there b hb) e)
+  order-same m b hm hb ne e = ne (place-apart m b (numbers g.forest) (listed-there m hm) e)
 
   pub order-within : (m : ℕ) → HasNode g.forest m → place_in m (numbers g.forest) < length (numbers g.forest)
-  order-within m h = place-within m (numbers g.forest) (listed-there m h)
+  order-within m h = place-there m (numbers g.forest) (listed-there m h)
 
 -- a place further on answers alike, past any place but its own
 pub lt-step : (p q m : ℕ) → m ≡ 1 + p → (m ≡ q → ⊥) → nat_lt m q ≡ nat_lt p q

@@ -10,9 +10,10 @@ use Rattle.dom_tree.specs.Standing.{MayStand}
 use Rattle.dom_tree.specs.Spelled.{number_at, renumbered, entry_in_slot, slot_in, slot_for, numbered, shown, IsKept}
 use Rattle.dom_model.proofs.Changes.{Seen, seen, nothing, just}
 use Rattle.dom_model.proofs.Climbing.{not_among-hits}
+use Rattle.dom_model.proofs.PutBack.{hits-head_of, hits-after}
 use Rattle.dom_tree.proofs.Making.{write-kept, alter-kept}
 use Rattle.dom_tree.proofs.Kept.{Keeps, cut-kept, put-kept, stands-among, entry-numbered, entry-slot, parent-slot, children-slot, next-slot, previous-slot, slot-node, slot-parent, option_map-none, option_map-some}
-use Rattle.dom_tree.proofs.Numbering.{head_of-map, last_of-map, hits-head_of, hits-last_of, hits-after, hits-before, child-held, parent-held, sibling-held, one_slot}
+use Rattle.dom_tree.proofs.Numbering.{head_of-map, last_of-map, hits-last_of, hits-before, child-held, parent-held, sibling-held, one_slot}
 use Rattle.dom_tree.proofs.Spelling.{IsForest-Spells}
 
 -- what a reading of the links names is held

@@ -1,5 +1,5 @@
 -- Tree order among the inclusive descendants of a node, step by step.
-use Rattle.std.proofs.Common.{◌≡◌, ℕ, zero, suc, ◌+◌, ◌<◌, ◌≤◌, ◌==◌, nat_lt, true, false, List, [], ◌∷◌, ◌++◌, length, Option, Some, None, IsSome, IfSome, refl, ap, sym, ◌∙◌, subst, arith, ◌⊎◌, inl, inr, ⊎_elim}
+use Rattle.std.proofs.Common.{◌≡◌, ℕ, zero, suc, ◌+◌, ◌<◌, ◌≤◌, ◌==◌, nat_lt, true, false, List, [], ◌∷◌, ◌++◌, length, Option, Some, None, IsSome, IfSome, refl, ap, sym, ◌∙◌, subst, arith, ◌⊎◌, inl, inr, ⊎_elim, append-nil}
 use Rattle.std.proofs.lemmas.Bool.{cases_lt, false≢true, lt-ltb}
 use Rattle.std.proofs.lemmas.Bool.Decides.{nat_tests}
 use Rattle.dom_model.specs.Lists.{hits, among, head_of, last_of, after, or_else}
@@ -8,18 +8,15 @@ use Rattle.dom_model.specs.Forest.{Node, Forest, empty, node, Grove, total, occu
 use Rattle.dom_model.specs.Lies.{Lies}
 use Rattle.dom_model.proofs.Numbers.{same_or, same, apart}
 use Rattle.dom_model.proofs.Totals.{total-tree_at, tree_at-absent}
-use Rattle.dom_tree.proofs.Forests.{Lies-entry_in}
-use Rattle.dom_tree.proofs.Numbering.{hits-after}
-use Rattle.dom_tree.proofs.Ordering.{past, after-numbers, past-next, past-up, Up, over, up, Single, single, tree_at-single, Lies-tree_at, hits-numbers}
+use Rattle.dom_model.proofs.Entries.{Lies-entry_in}
+use Rattle.dom_model.proofs.PutBack.{hits-after}
+use Rattle.dom_model.proofs.Flattened.{hits-numbers}
+use Rattle.dom_tree.proofs.Ordering.{past, after-numbers, past-next, past-up, Up, over, up, Single, single, tree_at-single, Lies-tree_at}
 use Rattle.dom_tree.proofs.Walking.{IfSome-from, next-root, root-parent, inside-root}
 
 -- a parent in the tree, with the same past
 pub data Rise {X : Type 0} (n : ℕ) (parent : Option ℕ) (t : Forest X) : Type 0 where
   rise : (q : ℕ) → parent ≡ Some q → 0 < occurs q t → past None n t ≡ past None q t → Rise n parent t
-
-append-nothing : (xs : List ℕ) → xs ++ [] ≡ xs
-append-nothing [] = refl
-append-nothing (x ∷ xs) = ap (λ l. x ∷ l) (append-nothing xs)
 
 or_else-none : (o : Option ℕ) → or_else o None ≡ o
 or_else-none None = refl
@@ -75,7 +72,7 @@ module _ {X : Type 0} {g : Grove X} (s : IsForest g) where
 
   pub tree-after : (r n : ℕ) → 0 < occurs n (tree_at r g.forest) → after n (inclusive_descendants g.forest r) ≡ or_else (head_of (children_of g.forest n)) (past None n (tree_at r g.forest))
   tree-after r n h =
-      ap (after n) (sym (append-nothing (numbers (tree_at r g.forest)))) ∙ after-numbers (entry_in g.forest) (parent_of g.forest r) n (tree_at r g.forest) [] (once_inside r) (lies r) h
+      ap (after n) (sym (append-nil (numbers (tree_at r g.forest)))) ∙ after-numbers (entry_in g.forest) (parent_of g.forest r) n (tree_at r g.forest) [] (once_inside r) (lies r) h
 
   pub first-after : (r n c : ℕ) → 0 < occurs n (tree_at r g.forest) → head_of (children_of g.forest n) ≡ Some c → Some c ≡ after n (inclusive_descendants g.forest r)
   first-after r n c h e = sym (tree-after r n h ∙ ap (λ o. or_else o (past None n (tree_at r g.forest))) e)

@@ -11,16 +11,14 @@ use Rattle.dom_model.proofs.Tops.{hits-tops}
 use Rattle.dom_tree.proofs.Growing.{rooted, rootless, rooted-tops}
 use Rattle.dom_tree.proofs.Numbering.{hits-last_of}
 use Rattle.dom_model.proofs.Climbing.{ancestors-there, ancestors-kids, ancestors-rest, hits-ancestors, hits-among, among-hits}
-use Rattle.dom_tree.proofs.Forests.{Above, above, ancestors-root, occurs-HasNode, HasNode-occurs, Lies-entry_in}
+use Rattle.dom_model.proofs.Entries.{occurs-HasNode, HasNode-occurs, Lies-entry_in}
+use Rattle.dom_model.proofs.RootsKept.{last_of-behind}
+use Rattle.dom_model.proofs.Paths.{root-path}
+use Rattle.dom_tree.proofs.Forests.{Above, above}
 
 pub IfSome-from : {A : Type 0} (o : Option A) (P : A → Type 0) → ((x : A) → o ≡ Some x → P x) → IfSome o P
 IfSome-from None P h = tt
 IfSome-from (Some x) P h = h x refl
-
-pub last_of-append : (xs : List ℕ) (x : ℕ) → last_of (xs ++ x ∷ []) ≡ Some x
-last_of-append [] x = refl
-last_of-append (y ∷ []) x = refl
-last_of-append (y ∷ z ∷ zs) x = last_of-append (z ∷ zs) x
 
 module _ {X : Type 0} where
   -- the last of the ancestors is on top
@@ -40,7 +38,7 @@ module _ {X : Type 0} where
             let i = ancestors-there n kids lt in
             let a = ancestors-kids n n i.0 x kids rest ne i.1 in
             let b = rw a at e in
-            let j : Some x.number ≡ Some r = sym (last_of-append (n ∷ i.0) x.number) ∙ b in
+            let j : Some x.number ≡ Some r = sym (last_of-behind (n ∷ i.0) x.number []) ∙ b in
             let m : x.number ≡ r = cc j in
             elim (same_or x.number r) [ same _ v ↦ rw v (omega arith) | apart nm v ↦ absurd (nm m) ])
             (λ (le : occurs n kids ≤ 0).
@@ -82,10 +80,10 @@ module _ {X : Type 0} where
 
 module _ {X : Type 0} {g : Grove X} (s : IsForest g) where
   pub root-is : (n : ℕ) → HasNode g.forest n → parent_of g.forest n ≡ None → root_of g.forest n ≡ Some n
-  root-is n h p = rw (ancestors-root s n h p) refl
+  root-is n h p = rw (root-path g.forest s.once n (occurs-HasNode g.forest n h) p) refl
 
   pub among-top : (c n : ℕ) → HasNode g.forest n → parent_of g.forest n ≡ None → (n == c) ≡ false → false ≡ among c (ancestors n g.forest)
-  among-top c n h p ne = rw (ancestors-root s n h p, ne) refl
+  among-top c n h p ne = rw (root-path g.forest s.once n (occurs-HasNode g.forest n h) p, ne) refl
 
   -- a root has no parent
   pub root-parent : (n r : ℕ) → HasNode g.forest n → root_of g.forest n ≡ Some r → parent_of g.forest r ≡ None

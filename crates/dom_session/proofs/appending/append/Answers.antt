@@ -9,15 +9,15 @@ use Rattle.dom_session.proofs.appending.append.Goals as goal
 
 pub document_of-document-requires : goal.document_of-document-requires
 document_of-document-requires c =
-    rw c.detach.ensures.detached (HasNode-detached c.args.node c.args.parent c.args.tree.now.forest c.detach.ensures.sound.once c.requires.parent_held)
+    rw c.detach.ensures.detached (HasNode-detached c.args.node c.args.parent c.args.tree.now.forest c.requires.parent_held)
 
 pub put-requires-clause-parent_held : goal.put-requires-clause-parent_held
 put-requires-clause-parent_held c =
-    rw c.detach.ensures.detached (HasNode-detached c.args.node c.args.parent c.args.tree.now.forest c.detach.ensures.sound.once c.requires.parent_held)
+    rw c.detach.ensures.detached (HasNode-detached c.args.node c.args.parent c.args.tree.now.forest c.requires.parent_held)
 
 pub put-requires-clause-child_held : goal.put-requires-clause-child_held
 put-requires-clause-child_held c =
-    rw c.detach.ensures.detached (HasNode-detached c.args.node c.args.node c.args.tree.now.forest c.detach.ensures.sound.once c.requires.node_held)
+    rw c.detach.ensures.detached (HasNode-detached c.args.node c.args.node c.args.tree.now.forest c.requires.node_held)
 
 pub put-requires-clause-no_parent : goal.put-requires-clause-no_parent
 put-requires-clause-no_parent c =
@@ -40,8 +40,8 @@ set_document-requires c =
     let ok = passed f c.args.parent c.args.node c.requires.kept.fragments c.requires.fits in
     rw (c.put.ensures, c.detach.ensures.detached)
     (HasNode-put c.args.parent c.args.node (detached c.args.node f) (IsOnce-detached c.args.node f o)
-    (HasNode-detached c.args.node c.args.parent f o c.requires.parent_held)
-    (HasNode-detached c.args.node c.args.node f o c.requires.node_held)
+    (HasNode-detached c.args.node c.args.parent f c.requires.parent_held)
+    (HasNode-detached c.args.node c.args.node f c.requires.node_held)
     (outside-detached c.args.node c.args.parent f o ok.outside))
 
 pub document_of-requires : goal.document_of-requires
@@ -51,10 +51,9 @@ document_of-requires c =
 pub returns-then-not-stays : goal.returns-then-not-stays
 returns-then-not-stays c =
     let f = c.args.tree.now.forest in
-    let o = c.detach.ensures.sound.once in
     let g = detached c.args.node f in
     let told = rw c.detach.ensures.detached at c.document_of-document.ensures in
-    let document = document_told (entry_in g c.args.parent) c.document_of-document.result (HasNode-detached c.args.node c.args.parent f o c.requires.parent_held) told in
+    let document = document_told (entry_in g c.args.parent) c.document_of-document.result (HasNode-detached c.args.node c.args.parent f c.requires.parent_held) told in
     rw (c.set_document.ensures, c.put.ensures, document, c.detach.ensures.detached) refl
 
 pub returns-else-not-stays : goal.returns-else-not-stays
