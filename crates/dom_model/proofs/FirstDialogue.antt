@@ -7,7 +7,6 @@ use Rattle.std.specs.Fmt.{digits}
 use lib.Utf8.{encode}
 use Rattle.dom_model.specs.Table.{whole_table, served_table}
 use Rattle.dom_model.specs.Line.{json_of, command_of, command_within}
-use Rattle.dom_model.specs.Answer.{Bounds}
 use Rattle.dom_model.specs.Output.{whole_lines, last_piece, due, output_of}
 
 pub first_dialogue : output_of served_table (record { numbers = 4294967295; line = 1048576 })

@@ -28,14 +28,11 @@ filter-passes : (p : ℕ → Bool) (xs : List ℕ) (x : ℕ) → head_of (filter
 filter-passes p [] x e = absurd (cc e)
 filter-passes p (y ∷ xs) x e = go (p y) refl (filter-passes p xs x)
   where
-    self : (m : ℕ) → 0 < hits m (m ∷ xs)
-    self m = elim (same_or m m) [ same d t ↦ rw t (omega arith) | apart ne t ↦ absurd (ne refl) ]
-
     go : (v : Bool) → p y ≡ v → (head_of (filter p xs) ≡ Some x → (0 < hits x xs) × (p x ≡ true)) → (0 < hits x (y ∷ xs)) × (p x ≡ true)
     go true h below =
         let k = rw h at e in
         let d : y ≡ x = (let u : Some y ≡ Some x = k in cc u) in
-        subst (λ z. (0 < hits z (y ∷ xs)) × (p z ≡ true)) d (self y, h)
+        subst (λ z. (0 < hits z (y ∷ xs)) × (p z ≡ true)) d (hits-first y xs, h)
     go false h below =
         let k = rw h at e in
         let i = below k in

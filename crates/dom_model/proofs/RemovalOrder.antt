@@ -1,5 +1,5 @@
 -- A cut with the removal that it makes of points puts no point after one that it was not after.
-use Rattle.std.proofs.Common.{◌≡◌, ℕ, zero, suc, ◌+◌, ◌-◌, ◌*◌, ◌<◌, ◌≤◌, ◌==◌, nat_lt, Bool, true, false, ◌&&◌, if◌then◌else◌, List, [], ◌∷◌, ◌++◌, reverse, drop, length, Option, Some, None, refl, ap, sym, ◌∙◌, subst, arith, append_assoc, ⊎_elim}
+use Rattle.std.proofs.Common.{◌≡◌, ℕ, zero, suc, ◌+◌, ◌-◌, ◌*◌, ◌<◌, ◌≤◌, ◌==◌, nat_lt, Bool, true, false, ◌&&◌, if◌then◌else◌, List, [], ◌∷◌, ◌++◌, reverse, drop, length, Some, refl, ap, sym, ◌∙◌, subst, arith, append_assoc, ⊎_elim}
 use Rattle.std.specs.Ordering.{nat_cmp}
 use Rattle.std.specs.declared.cmp.Ordering.TheVariants.{Greater}
 use Rattle.std.specs.Cmp.Lexicographic.{slice_cmp}
@@ -7,15 +7,12 @@ use Rattle.std.proofs.lemmas.Bool.{cases_lt, false≢true, le-ltb}
 use Rattle.std.proofs.lemmas.Bool.Decides.{nat_tests}
 use Rattle.std.proofs.lemmas.List.{reverse-append, drop-append-le, length-reverse}
 use Rattle.dom_model.specs.Lists.{hits, among, place_in}
-use Rattle.dom_model.specs.Arena.{Entry, parent_in, children_in}
-use Rattle.dom_model.specs.Forest.{Node, Forest, empty, node, occurs, one_at, tops, tree_at, inclusive_descendants, cut, entry_in, parent_of, children_of, index_of, ancestors, root_of}
+use Rattle.dom_model.specs.Forest.{Forest, occurs, one_at, tree_at, inclusive_descendants, cut, parent_of, children_of, index_of, ancestors, root_of}
 use Rattle.dom_model.specs.Points.{place_of, order_of, after_removal}
 use Rattle.dom_model.proofs.Numbers.{same_or, same, apart}
 use Rattle.dom_model.proofs.Changes.{seen, nothing, just}
 use Rattle.dom_model.proofs.Totals.{total-tree_at}
-use Rattle.dom_model.specs.Lies.{Lies}
 use Rattle.dom_model.proofs.Climbing.{among-hits, hits-among, hits-ancestors, ancestors-there, hits-append}
-use Rattle.dom_model.proofs.Entries.{Lies-entry_in}
 use Rattle.dom_model.proofs.Paths.{parent-path, root-path, ancestors-cut, up_with}
 use Rattle.dom_model.proofs.Places.{place-absent, place-there}
 use Rattle.dom_model.proofs.Flattened.{hits-numbers}

@@ -13,7 +13,7 @@ use Rattle.dom_model.specs.Iterators.{from_reference, back_from_reference, itera
 use Rattle.dom_model.specs.Filters.{accepts}
 use Rattle.dom_model.proofs.Numbers.{same_or, same, apart}
 use Rattle.dom_model.proofs.Totals.{total-put, total-tree_at}
-use Rattle.dom_model.proofs.Climbing.{among-hits, not_among-hits, hits-append, hits-ancestors, ancestors-there}
+use Rattle.dom_model.proofs.Climbing.{among-hits, not_among-hits, hits-append, hits-ancestors, ancestors-there, hits-first}
 use Rattle.dom_model.proofs.Paths.{parent-path, root-path, ancestors-cut, ancestors-put}
 use Rattle.dom_model.proofs.Flattened.{hits-numbers}
 use Rattle.dom_model.proofs.RemovalOrder.{ancestors-split, up_with-clear, no_cycle}
@@ -40,14 +40,11 @@ hits-found : (p : ℕ → Bool) (xs : List ℕ) (x : ℕ) → find p xs ≡ Some
 hits-found p [] x e = absurd (cc e)
 hits-found p (y ∷ xs) x e = go (p y) refl (hits-found p xs x)
   where
-    self : (m : ℕ) → 0 < hits m (m ∷ xs)
-    self m = elim (same_or m m) [ same d t ↦ rw t (omega arith) | apart ne t ↦ absurd (ne refl) ]
-
     go : (v : Bool) → p y ≡ v → (find p xs ≡ Some x → 0 < hits x xs) → 0 < hits x (y ∷ xs)
     go true h below =
         let k = rw h at e in
         let d : y ≡ x = (let u : Some y ≡ Some x = k in cc u) in
-        subst (λ z. 0 < hits z (y ∷ xs)) d (self y)
+        subst (λ z. 0 < hits z (y ∷ xs)) d (hits-first y xs)
     go false h below = (let k = rw h at e in let i = below k in omega arith)
 
 -- what is among the reference and a part of a list was in the list

@@ -1,13 +1,13 @@
 -- A forest in which a node was taken from its parent, and put under another.
-use Rattle.std.specs.Prelude.{is_some, IsSome, IfSome, if◌then◌else◌, ◌==◌}
-use Rattle.std.proofs.Common.{◌≡◌, ℕ, ◌+◌, ◌<◌, ◌≤◌, Bool, true, false, Option, Some, None, refl, sym, ap, ◌∙◌, subst, arith}
+use Rattle.std.specs.Prelude.{IsSome, IfSome, ◌==◌}
+use Rattle.std.proofs.Common.{◌≡◌, ℕ, ◌+◌, true, false, Option, Some, None, refl, arith}
 use Rattle.std.proofs.lemmas.Bool.Decides.{nat_tests}
-use Rattle.dom_model.specs.Lists.{hits, among}
-use Rattle.dom_model.specs.Arena.{Entry, parent_in}
-use Rattle.dom_model.specs.Forest.{Node, Forest, occurs, tree_at, without, cut, put, entry_in, HasNode, parent_of, ancestors}
+use Rattle.dom_model.specs.Lists.{among}
+use Rattle.dom_model.specs.Arena.{Entry}
+use Rattle.dom_model.specs.Forest.{Node, Forest, occurs, tree_at, without, put, entry_in, HasNode, parent_of, ancestors}
 use Rattle.dom_model.specs.World.{Content}
 use Rattle.dom_model.specs.Editing.{document_in}
-use Rattle.dom_model.proofs.Totals.{total-cut, total-put, total-tree_at, IsOnce, IsOnce-cut}
+use Rattle.dom_model.proofs.Totals.{total-cut, total-put, total-tree_at, IsOnce}
 use Rattle.dom_model.proofs.Climbing.{hits-ancestors, not_among-hits}
 use Rattle.dom_model.proofs.Entries.{HasNode-occurs, occurs-HasNode, entry-cut, parent-cut}
 use Rattle.dom_model.proofs.Paths.{outside-cut}

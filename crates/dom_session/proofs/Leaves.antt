@@ -1,15 +1,14 @@
 -- A node without children has none but itself inside it.
-use Rattle.std.specs.Prelude.{◌==◌, if◌then◌else◌}
-use Rattle.std.proofs.Common.{◌≡◌, ℕ, ◌+◌, ◌<◌, ◌≤◌, Bool, true, false, List, [], ◌∷◌, Option, Some, None, refl, sym, ap, ◌∙◌, arith}
-use Rattle.std.proofs.lemmas.Bool.Decides.{nat_tests}
-use Rattle.dom_model.specs.Lists.{hits, head_of, among}
-use Rattle.dom_model.specs.Forest.{Forest, empty, node, Grove, IsForest, one_at, occurs, tops, tree_at, entry_in, HasNode, children_of, ancestors}
+use Rattle.std.specs.Prelude.{◌==◌}
+use Rattle.std.proofs.Common.{◌≡◌, ℕ, None, refl, ap, arith}
+use Rattle.dom_model.specs.Lists.{head_of, among}
+use Rattle.dom_model.specs.Forest.{Forest, empty, node, Grove, IsForest, one_at, occurs, tops, tree_at, HasNode, children_of, ancestors}
 use Rattle.dom_model.specs.World.{Content}
 use Rattle.dom_model.proofs.Numbers.{same_or, same, apart}
 use Rattle.dom_model.proofs.Climbing.{hits-ancestors, hits-among, hits-not_among}
 use Rattle.dom_model.proofs.Totals.{IsOnce}
 use Rattle.dom_model.proofs.Entries.{occurs-HasNode}
-use Rattle.dom_session.proofs.Waits.{TopTree, top_tree}
+use Rattle.dom_session.proofs.Waits.{top_tree}
 
 no_tops : (f : Forest Content) → head_of (tops f) ≡ None → f ≡ empty
 no_tops empty h = refl

@@ -1,11 +1,11 @@
 -- Going along the children of a node: what is left of the list from a child on.
-use Rattle.std.specs.Prelude.{◌==◌, if◌then◌else◌, is_some, IsSome, not, ◌||◌, nat_eq}
-use Rattle.std.proofs.Common.{◌≡◌, ◌≢◌, ℕ, ◌+◌, ◌<◌, ◌≤◌, Bool, true, false, List, [], ◌∷◌, ◌++◌, length, Option, Some, None, refl, sym, ap, ◌∙◌, subst, arith}
+use Rattle.std.specs.Prelude.{◌==◌, if◌then◌else◌, not, ◌||◌, nat_eq}
+use Rattle.std.proofs.Common.{◌≡◌, ℕ, ◌+◌, ◌≤◌, Bool, true, false, List, [], ◌∷◌, length, Option, Some, None, refl, ap, arith}
 use Rattle.std.proofs.lemmas.Bool.Decides.{nat_tests}
 use Rattle.dom_model.specs.declared.Kind.{Kind}
-use Rattle.dom_model.specs.Lists.{hits, head_of, after, is_number}
-use Rattle.dom_model.specs.Arena.{Entry, parent_in, children_in, list_under, names}
-use Rattle.dom_model.specs.Forest.{Node, Forest, Grove, IsForest, entry_in, HasNode, parent_of, children_of, next_of}
+use Rattle.dom_model.specs.Lists.{hits, head_of, after}
+use Rattle.dom_model.specs.Arena.{list_under}
+use Rattle.dom_model.specs.Forest.{Forest, Grove, IsForest, entry_in, HasNode, children_of, next_of}
 use Rattle.dom_model.specs.Checks.{is_of_kind, count_kind, has_kind}
 use Rattle.dom_model.proofs.Changes.{seen, nothing, just}
 use Rattle.dom_model.proofs.Climbing.{hits-first}

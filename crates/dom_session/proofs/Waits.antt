@@ -1,18 +1,15 @@
 -- What waits to be printed stands for parts of the forest, and their rows are what is still to come.
-use Rattle.std.specs.Prelude.{◌==◌, if◌then◌else◌, is_some, IsSome, IfSome}
-use Rattle.std.proofs.Common.{◌≡◌, ℕ, zero, suc, ◌+◌, ◌-◌, ◌<◌, ◌≤◌, Bool, true, false, List, [], ◌∷◌, ◌++◌, length, map, Option, Some, None, refl, sym, ap, ◌∙◌, subst, arith, append_assoc, length-append, add-one, ◌⊎◌, inl, inr, ⊎_elim}
+use Rattle.std.specs.Prelude.{IfSome}
+use Rattle.std.proofs.Common.{◌≡◌, ℕ, suc, ◌+◌, ◌<◌, ◌≤◌, List, [], ◌∷◌, ◌++◌, length, map, Option, Some, None, refl, sym, ap, ◌∙◌, subst, arith, append_assoc, length-append, add-one}
 use Rattle.std.proofs.lemmas.List.{append-nil, map-append}
-use Rattle.std.proofs.lemmas.Bool.{cases_lt}
-use Rattle.std.proofs.lemmas.Bool.Decides.{nat_tests}
 use Rattle.dom_model.specs.Lists.{hits, head_of, after}
-use Rattle.dom_model.specs.Arena.{Entry, parent_in, list_under}
-use Rattle.dom_model.specs.Forest.{Node, Forest, empty, node, Grove, IsForest, Row, rows, occurs, tops, beside, tree_at, entry_in, HasNode, children_of, next_of, parent_of}
+use Rattle.dom_model.specs.Forest.{Node, Forest, empty, node, Grove, IsForest, rows, occurs, tops, tree_at, entry_in, HasNode, children_of, next_of, parent_of}
 use Rattle.dom_model.specs.World.{Content}
 use Rattle.dom_model.specs.Reply.{TreeRow}
 use Rattle.dom_model.specs.Answer.{tree_row, tree_rows}
 use Rattle.dom_model.specs.Lies.{Lies}
 use Rattle.dom_model.proofs.Numbers.{same_or, same, apart}
-use Rattle.dom_model.proofs.Totals.{tree_at-absent, beside-empty, IsOnce}
+use Rattle.dom_model.proofs.Totals.{IsOnce}
 use Rattle.dom_model.proofs.Entries.{occurs-HasNode, Lies-entry_in}
 use Rattle.dom_model.proofs.Indices.{child-once}
 use Rattle.dom_model.proofs.Climbing.{hits-first, hits-append}

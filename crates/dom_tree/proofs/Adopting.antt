@@ -1,18 +1,17 @@
 -- The node document set node by node, in tree order.
-use Rattle.std.proofs.Common.{◌≡◌, ℕ, zero, suc, ◌+◌, ◌<◌, ◌≤◌, ◌==◌, Bool, true, false, if◌then◌else◌, List, [], ◌∷◌, ◌++◌, length, Option, Some, None, IsSome, refl, ap, sym, ◌∙◌, subst, arith, ◌⊎◌, inl, inr, ⊎_elim}
-use Rattle.std.proofs.lemmas.Bool.{cases_lt, false≢true, false_from_ne_true}
+use Rattle.std.proofs.Common.{◌≡◌, ℕ, ◌<◌, ◌≤◌, ◌==◌, Bool, true, false, if◌then◌else◌, List, [], ◌∷◌, ◌++◌, length, Some, None, refl, ap, sym, ◌∙◌, arith}
+use Rattle.std.proofs.lemmas.Bool.{false_from_ne_true}
 use Rattle.std.proofs.lemmas.Bool.Decides.{nat_tests}
 use Rattle.dom_model.specs.Lists.{hits, among, head_of, after}
-use Rattle.dom_model.specs.Forest.{Node, Forest, empty, node, Grove, total, occurs, one_at, numbers, HasNode, ancestors, beside, tree_at, without, map_nodes, with_node, with_tree, in_document, adopted, inclusive_descendants, IsForest}
+use Rattle.dom_model.specs.Forest.{Node, Forest, empty, node, Grove, occurs, one_at, numbers, HasNode, ancestors, beside, tree_at, without, map_nodes, with_node, with_tree, in_document, adopted, inclusive_descendants, IsForest}
 use Rattle.dom_model.proofs.Numbers.{same_or, same, apart}
 use Rattle.dom_model.proofs.Totals.{total-beside, total-tree_at}
-use Rattle.dom_model.proofs.Lying.{total-with_node}
 use Rattle.dom_model.proofs.Climbing.{hits-among, among-hits}
 use Rattle.dom_model.proofs.PutBack.{hits-after, hits-head_of}
 use Rattle.dom_model.proofs.Flattened.{hits-numbers}
 use Rattle.dom_model.proofs.Entries.{occurs-HasNode, HasNode-occurs}
 use Rattle.dom_tree.proofs.Ordering.{Single, single, tree_at-single}
-use Rattle.dom_tree.proofs.Walking.{inside, inside-among}
+use Rattle.dom_tree.proofs.Walking.{inside-among}
 use Rattle.dom_tree.proofs.Stepping.{after-inside}
 
 -- a list from the first n on
@@ -132,16 +131,16 @@ module _ {X : Type 0} where
       (λ m h. hits-among m (numbers (tree_at top f)) (omega (arith, hits-numbers m (tree_at top f))))
       (λ m h. false_from_ne_true (among m (numbers (tree_at top f))) (λ e. let k = among-hits m (numbers (tree_at top f)) e in let a = hits-numbers m (tree_at top f) in let b = total-tree_at (one_at m) top f in let c = o m in omega arith))
 
-  tree_at-beside : (n : ℕ) (h : Node X → Node X) (f g : Forest X) → with_node n h (beside f g) ≡ beside (with_node n h f) (with_node n h g)
-  tree_at-beside n h empty g = refl
-  tree_at-beside n h (node x kids rest) g = rw (tree_at-beside n h rest g) refl
+  with_node-beside : (n : ℕ) (h : Node X → Node X) (f g : Forest X) → with_node n h (beside f g) ≡ beside (with_node n h f) (with_node n h g)
+  with_node-beside n h empty g = refl
+  with_node-beside n h (node x kids rest) g = rw (with_node-beside n h rest g) refl
 
   pub tree_at-with_node : (top n d : ℕ) (f : Forest X) → tree_at top (with_node n (in_document d) f) ≡ with_node n (in_document d) (tree_at top f)
   tree_at-with_node top n d empty = refl
   tree_at-with_node top n d (node x kids rest) =
       rw (number_is d n x) (elim (same_or x.number top) [
         | same e t ↦ rw (t, tree_at-with_node top n d rest) refl
-        | apart ne t ↦ rw (t, tree_at-with_node top n d kids, tree_at-with_node top n d rest) (sym (tree_at-beside n (in_document d) (tree_at top kids) (tree_at top rest)))
+        | apart ne t ↦ rw (t, tree_at-with_node top n d kids, tree_at-with_node top n d rest) (sym (with_node-beside n (in_document d) (tree_at top kids) (tree_at top rest)))
       ])
     where
       number_is : (d n : ℕ) (x : Node X) → (if x.number == n then in_document d x else x).number ≡ x.number

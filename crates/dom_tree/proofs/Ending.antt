@@ -1,10 +1,8 @@
 -- The last of the inclusive descendants.
-use Rattle.std.proofs.Common.{◌≡◌, ℕ, zero, suc, ◌+◌, ◌<◌, ◌≤◌, ◌==◌, true, false, List, [], ◌∷◌, ◌++◌, length, Option, Some, None, IsSome, refl, ap, sym, ◌∙◌, subst, arith, ◌⊎◌, inl, inr, ⊎_elim, append-nil}
-use Rattle.std.proofs.lemmas.Bool.{cases_lt, false≢true}
-use Rattle.std.proofs.lemmas.Bool.Decides.{nat_tests}
-use Rattle.dom_model.specs.Lists.{hits, head_of, last_of}
-use Rattle.dom_model.specs.Arena.{Entry, parent_in, children_in}
-use Rattle.dom_model.specs.Forest.{Node, Forest, empty, node, Grove, total, occurs, size, one_at, tops, numbers, beside, tree_at, without, entry_in, HasNode, children_of, inclusive_descendants, IsForest}
+use Rattle.std.proofs.Common.{◌≡◌, ℕ, ◌<◌, ◌≤◌, ◌∷◌, ◌++◌, Some, None, refl, ap, sym, ◌∙◌, subst, arith, append-nil}
+use Rattle.dom_model.specs.Lists.{last_of}
+use Rattle.dom_model.specs.Arena.{parent_in}
+use Rattle.dom_model.specs.Forest.{Node, Forest, empty, node, Grove, occurs, size, one_at, tops, numbers, tree_at, entry_in, HasNode, children_of, inclusive_descendants, IsForest}
 use Rattle.dom_model.specs.Lies.{Lies}
 use Rattle.dom_model.proofs.Numbers.{same_or, same, apart}
 use Rattle.dom_model.proofs.Totals.{total-tree_at, tree_at-absent, beside-empty}

@@ -1,11 +1,6 @@
--- What every forest has, told on nested lists alone.
-use Rattle.std.proofs.Common.{◌≡◌, ℕ, zero, suc, ◌+◌, ◌<◌, ◌≤◌, ◌==◌, true, false, List, [], ◌∷◌, length, Option, Some, None, IsSome, refl, ap, sym, ◌∙◌, subst, arith, ◌⊎◌, inl, inr, ⊎_elim}
-use Rattle.std.proofs.lemmas.Bool.{cases_lt, false≢true}
-use Rattle.std.proofs.lemmas.Bool.Decides.{nat_tests}
-use Rattle.dom_model.specs.Lists.{hits, among, last_of, or_else}
-use Rattle.dom_model.specs.Arena.{Entry, parent_in}
-use Rattle.dom_model.specs.Forest.{Node, Forest, empty, node, Grove, total, occurs, one_at, tops, entry_under, entry_in, HasNode, parent_of, ancestors, root_of, IsForest}
-use Rattle.dom_model.specs.Lies.{Lies}
+-- A node and its parent: the parent is there, and its ancestors follow the node.
+use Rattle.std.proofs.Common.{◌≡◌, ℕ, ◌∷◌, Some}
+use Rattle.dom_model.specs.Forest.{Forest, Grove, HasNode, parent_of, ancestors, IsForest}
 use Rattle.dom_model.proofs.Entries.{occurs-HasNode, HasNode-occurs}
 use Rattle.dom_model.proofs.Paths.{parent-path}
 

@@ -1,15 +1,14 @@
 -- Entries spell one forest at most: the one that grows from them.
-use Rattle.std.proofs.Common.{◌≡◌, ℕ, zero, suc, ◌+◌, ◌*◌, ◌<◌, ◌≤◌, ◌==◌, true, false, List, [], ◌∷◌, Option, Some, None, refl, ap, sym, ◌∙◌, subst, arith, ◌⊎◌, inl, inr, ⊎_elim}
+use Rattle.std.proofs.Common.{◌≡◌, ℕ, zero, suc, ◌+◌, ◌*◌, ◌<◌, ◌≤◌, List, [], ◌∷◌, Option, Some, None, refl, ap, sym, ◌∙◌, subst, arith, ⊎_elim}
 use Rattle.std.proofs.lemmas.Bool.{cases_lt}
 use Rattle.std.proofs.lemmas.Bool.Decides.{nat_tests}
-use Rattle.dom_model.specs.Lists.{hits, or_else}
-use Rattle.dom_model.specs.Arena.{Entry, held, parent_in, children_in}
-use Rattle.dom_model.specs.Forest.{Node, Forest, empty, node, total, occurs, one_at, size, tops, entry_under, entry_in, IsRising}
+use Rattle.dom_model.specs.Lists.{hits}
+use Rattle.dom_model.specs.Arena.{Entry, held}
+use Rattle.dom_model.specs.Forest.{Node, Forest, empty, node, occurs, one_at, size, tops, entry_in, IsRising}
 use Rattle.dom_model.specs.Lies.{Lies}
-use Rattle.dom_tree.specs.Spelled.{Spells, grown, grown_list, grown_node, root_first, root_under, roots_from, forest_of}
+use Rattle.dom_tree.specs.Spelled.{Spells, grown, root_first, root_under, roots_from, forest_of}
 use Rattle.dom_model.proofs.Numbers.{same_or, same, apart}
 use Rattle.dom_model.proofs.Tops.{IsRising-from, hits-tops}
-use Rattle.dom_model.proofs.Changes.{Seen, seen, nothing, just}
 use Rattle.dom_model.proofs.Rising.{hits-low}
 use Rattle.dom_model.proofs.Entries.{entry_in-Lies}
 

@@ -1,23 +1,21 @@
 -- What a tree keeps of its store and its table, and what its value then is.
-use Rattle.std.proofs.Common.{◌≡◌, ℕ, zero, suc, ◌+◌, ◌<◌, ◌≤◌, ◌^◌, ◌==◌, true, false, List, [], ◌∷◌, length, map, Option, Some, None, option_map, IsSome, is_some, IfSome, refl, ap, sym, ◌∙◌, subst, arith, ◌⊎◌, inl, inr, ⊎_elim, lit<}
-use Rattle.std.proofs.lemmas.Bool.{false≢true, cases_lt}
-use Rattle.std.proofs.lemmas.List.{length-map}
+use Rattle.std.proofs.Common.{◌≡◌, ℕ, ◌<◌, ◌≤◌, ◌^◌, false, List, length, map, Option, Some, None, option_map, IsSome, refl, ap, sym, ◌∙◌, subst, arith}
+use Rattle.std.proofs.lemmas.Bool.{false≢true}
 use Rattle.std.specs.Option.{ForSome}
-use Rattle.dom_model.specs.Lists.{hits, among, head_of, last_of}
-use Rattle.dom_model.specs.Kinds.{may_stand_in}
-use Rattle.dom_model.specs.Arena.{Arena, Entry, entry_at, held, parent_in, children_in, siblings_in, next_in, previous_in, unlinked, linked, StandsUnder, itself, below, IsHeld, IsSound, IsLinked}
-use Rattle.dom_model.specs.Forest.{Node, Forest, Grove, occurs, one_at, size, tree_at, without, entry_in, HasNode, parent_of, children_of, next_of, previous_of, ancestors, cut, put, KindsFit, IsForest}
-use Rattle.dom_tree.specs.Spelled.{number_at, renumbered, by_number, slot_in, slot_for, numbered, shown, Spells, IsTabled, IsKept}
+use Rattle.dom_model.specs.Lists.{hits, among}
+use Rattle.dom_model.specs.Arena.{Arena, Entry, entry_at, held, parent_in, children_in, next_in, previous_in, unlinked, linked, StandsUnder, itself, below, IsSound}
+use Rattle.dom_model.specs.Forest.{Node, Forest, occurs, one_at, size, tree_at, without, entry_in, HasNode, parent_of, children_of, next_of, previous_of, ancestors, cut, put, KindsFit}
+use Rattle.dom_tree.specs.Spelled.{number_at, renumbered, slot_in, slot_for, numbered, shown, Spells, IsTabled, IsKept}
 use Rattle.dom_tree.specs.Standing.{MayStand}
 use Rattle.dom_model.proofs.Totals.{total-cut, total-put, total-tree_at}
-use Rattle.dom_model.proofs.Changes.{Seen, seen, nothing, just, cut_at, link_at, change_at}
+use Rattle.dom_model.proofs.Changes.{seen, nothing, just, cut_at, link_at}
 use Rattle.dom_model.proofs.Lying.{Lies-without_root}
 use Rattle.dom_tree.proofs.Growing.{forest_of-Spells, entry_in-Spells}
-use Rattle.dom_tree.proofs.Spelling.{once_in, Spells-cut, Spells-put, IsForest-Spells}
+use Rattle.dom_tree.proofs.Spelling.{once_in, Spells-cut, Spells-put}
 use Rattle.dom_tree.proofs.KindsFitting.{KindsFit-cut, KindsFit-without, KindsFit-under, KindsFit-placed_under}
-use Rattle.dom_model.proofs.Climbing.{Climb, on_top, under, climb, hits-ancestors, climbs, hits-self, hits-among, among-hits, not_among-hits}
+use Rattle.dom_model.proofs.Climbing.{hits-ancestors, climbs, hits-self, not_among-hits}
 use Rattle.dom_tree.proofs.Stores.{linked-at, unlinked-at}
-use Rattle.dom_tree.proofs.Numbering.{head_of-map, last_of-map, hits-last_of, hits-before, child-held, parent-held, sibling-held, slot-there, by_number-slot, parent_in-map, children_in-map, next_in-map, previous_in-map, one_slot}
+use Rattle.dom_tree.proofs.Numbering.{parent-held, slot-there, by_number-slot, parent_in-map, children_in-map, next_in-map, previous_in-map}
 use Rattle.dom_tree.proofs.Renumbering.{IsTabled-linked, IsTabled-unlinked, by_number-linked, by_number-unlinked}
 
 -- a store and a table that spell a forest

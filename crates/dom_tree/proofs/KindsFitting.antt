@@ -4,7 +4,7 @@ use Rattle.dom_model.specs.Lists.{is_number}
 use Rattle.dom_model.specs.Arena.{Entry}
 use Rattle.dom_model.specs.declared.Kind.{Kind}
 use Rattle.dom_model.specs.Kinds.{Label, may_stand_under, may_stand_in}
-use Rattle.dom_model.specs.Forest.{Node, Forest, empty, node, beside, tree_at, without, placed_under, placed_before, placed_root, tops, cut, put, with_node, KindsFit}
+use Rattle.dom_model.specs.Forest.{Node, Forest, empty, node, beside, tree_at, without, placed_under, placed_before, placed_root, tops, cut, with_node, KindsFit}
 use Rattle.dom_model.specs.Lies.{Lies}
 use Rattle.dom_model.proofs.Numbers.{same_or, same, apart}
 

@@ -1,15 +1,14 @@
 -- A node made, and a node with other contents.
-use Rattle.std.proofs.Common.{◌≡◌, ℕ, zero, suc, ◌+◌, ◌<◌, ◌≤◌, ◌^◌, ◌==◌, true, false, if◌then◌else◌, List, [], ◌∷◌, ◌++◌, length, Option, Some, None, option_map, IsSome, IfSome, refl, ap, sym, ◌∙◌, subst, arith, ◌⊎◌, inl, inr, ⊎_elim, length-append}
-use Rattle.std.proofs.lemmas.Bool.{false≢true, cases_lt}
+use Rattle.std.proofs.Common.{◌≡◌, ℕ, ◌+◌, ◌<◌, ◌≤◌, List, [], ◌∷◌, ◌++◌, length, Option, Some, None, option_map, IfSome, refl, ap, sym, ◌∙◌, subst, arith, ⊎_elim, length-append}
+use Rattle.std.proofs.lemmas.Bool.{cases_lt}
 use Rattle.std.proofs.lemmas.List.{get_or_past, get_or_append_left}
 use Rattle.std.proofs.Math.Seq.{get_or-append_seam}
-use Rattle.dom_model.specs.declared.Kind.{Kind}
-use Rattle.dom_model.specs.Arena.{Arena, Entry, entry_at, held, alone, added, altered, with_value, next_slot, IsSound}
-use Rattle.dom_model.specs.Forest.{Node, Forest, empty, node, Grove, total, size, beside, with_node, in_document, KindsFit}
-use Rattle.dom_tree.specs.Spelled.{number_in, number_at, by_number, slot_in, numbered, shown, Spells, IsTabled, IsKept}
+use Rattle.dom_model.specs.Arena.{Arena, Entry, entry_at, alone, added, altered, with_value, next_slot, IsSound}
+use Rattle.dom_model.specs.Forest.{Node, empty, node, Grove, beside, with_node}
+use Rattle.dom_tree.specs.Spelled.{slot_in, numbered, shown, Spells, IsKept}
 use Rattle.dom_model.proofs.Numbers.{same_or, same, apart}
 use Rattle.dom_model.proofs.Totals.{total-beside}
-use Rattle.dom_model.proofs.Changes.{Seen, seen, nothing, just, change_at}
+use Rattle.dom_model.proofs.Changes.{change_at}
 use Rattle.dom_model.proofs.Lying.{total-with_node}
 use Rattle.dom_tree.proofs.Spelling.{Spells-pushed, Spells-with_node}
 use Rattle.dom_tree.proofs.KindsFitting.{KindsFit-beside, KindsFit-with_node}

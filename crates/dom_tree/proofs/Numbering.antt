@@ -1,15 +1,13 @@
 -- Entries by number, through a table from numbers to slots.
-use Rattle.std.proofs.Common.{◌≡◌, ℕ, zero, suc, ◌+◌, ◌<◌, ◌≤◌, ◌==◌, true, false, if◌then◌else◌, List, [], ◌∷◌, ◌++◌, length, map, slice_index_or, Option, Some, None, option_map, IsSome, refl, ap, sym, ◌∙◌, subst, arith, ◌⊎◌, inl, inr, ⊎_elim}
-use Rattle.std.proofs.lemmas.Bool.{cases_lt, ne_eqb, eq-eqb, false≢true}
-use Rattle.std.specs.Option.{ForSome}
-use Rattle.dom_model.specs.Lists.{hits, is_number, entered, left_out, head_of, last_of, after, before, before_from}
-use Rattle.dom_model.specs.Arena.{Arena, Entry, entry_at, held, names, parent_in, children_in, siblings_in, list_under, next_in, previous_in, alone, IsLinked}
+use Rattle.std.proofs.Common.{◌≡◌, ℕ, ◌<◌, ◌==◌, true, false, if◌then◌else◌, List, [], ◌∷◌, map, Option, Some, None, option_map, IsSome, refl, ap, sym, ◌∙◌, subst, arith, ◌⊎◌, inl, inr, ⊎_elim}
+use Rattle.std.proofs.lemmas.Bool.{ne_eqb, eq-eqb}
+use Rattle.dom_model.specs.Lists.{hits, is_number, entered, left_out, head_of, last_of, after, before_from}
+use Rattle.dom_model.specs.Arena.{Entry, held, names, parent_in, children_in, siblings_in, list_under, next_in, previous_in, IsLinked}
 use Rattle.dom_model.specs.Forest.{Node}
-use Rattle.dom_tree.specs.Spelled.{number_in, number_at, renumbered, entry_in_slot, by_number, IsTabled}
+use Rattle.dom_tree.specs.Spelled.{number_at, renumbered, entry_in_slot, by_number, IsTabled}
 use Rattle.dom_model.proofs.Numbers.{same_or, same, apart}
-use Rattle.dom_model.proofs.Changes.{Seen, seen, nothing, just, cut_at, link_at, change_at}
+use Rattle.dom_model.proofs.Changes.{seen, nothing, just}
 use Rattle.dom_model.proofs.Climbing.{hits-first}
-use Rattle.dom_tree.proofs.Stores.{linked_at, unlinked_at}
 
 -- a list mapped, and a question asked of it before or after
 pub head_of-map : (f : ℕ → ℕ) (l : List ℕ) → head_of (map f l) ≡ option_map f (head_of l)

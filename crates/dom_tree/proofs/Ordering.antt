@@ -1,17 +1,15 @@
 -- Tree order, step by step.
-use Rattle.std.proofs.Common.{◌≡◌, ℕ, zero, suc, ◌+◌, ◌<◌, ◌≤◌, ◌==◌, nat_lt, true, false, if◌then◌else◌, List, [], ◌∷◌, ◌++◌, length, Option, Some, None, IsSome, refl, ap, sym, ◌∙◌, subst, arith, ◌⊎◌, inl, inr, ⊎_elim, append_assoc}
-use Rattle.std.proofs.lemmas.Bool.{cases_lt, false≢true, lt-ltb, le-ltb}
+use Rattle.std.proofs.Common.{◌≡◌, ℕ, ◌<◌, ◌≤◌, ◌==◌, nat_lt, true, false, if◌then◌else◌, List, [], ◌∷◌, ◌++◌, Option, Some, None, refl, ap, sym, ◌∙◌, subst, arith, ⊎_elim, append_assoc}
+use Rattle.std.proofs.lemmas.Bool.{cases_lt, lt-ltb, le-ltb}
 use Rattle.std.proofs.lemmas.Bool.Decides.{nat_tests}
-use Rattle.dom_model.specs.Lists.{hits, head_of, last_of, after, or_else}
-use Rattle.dom_model.specs.Arena.{Entry, held, parent_in, children_in, list_under, siblings_in, next_in}
-use Rattle.dom_model.specs.Forest.{Node, Forest, empty, node, total, occurs, one_at, tops, numbers, beside, tree_at, without}
+use Rattle.dom_model.specs.Lists.{hits, head_of, after, or_else}
+use Rattle.dom_model.specs.Arena.{Entry, parent_in, children_in, list_under, next_in}
+use Rattle.dom_model.specs.Forest.{Node, Forest, empty, node, occurs, tops, numbers, tree_at}
 use Rattle.dom_model.specs.Lies.{Lies}
 use Rattle.dom_model.proofs.Numbers.{same_or, same, apart}
-use Rattle.dom_model.proofs.Changes.{Seen, seen, nothing, just}
 use Rattle.dom_model.proofs.Totals.{tree_at-absent, beside-empty}
 use Rattle.dom_model.proofs.Tops.{hits-tops}
 use Rattle.dom_model.proofs.Lying.{Lies-beside}
-use Rattle.dom_model.proofs.Climbing.{hits-append}
 use Rattle.dom_model.proofs.Flattened.{hits-numbers}
 
 head_of-append : (xs ys : List ℕ) → head_of (xs ++ ys) ≡ or_else (head_of xs) (head_of ys)

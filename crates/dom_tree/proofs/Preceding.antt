@@ -1,14 +1,13 @@
 -- Which of two nodes comes first in tree order.
-use Rattle.std.proofs.Common.{◌≡◌, ℕ, zero, suc, ◌+◌, ◌-◌, ◌<◌, ◌≤◌, ◌==◌, nat_lt, Bool, true, false, if◌then◌else◌, List, [], ◌∷◌, ◌++◌, length, Option, Some, None, IsSome, IfSome, refl, ap, sym, ◌∙◌, subst, arith, ◌⊎◌, inl, inr, ⊎_elim, length-append}
+use Rattle.std.proofs.Common.{◌≡◌, ℕ, suc, ◌+◌, ◌<◌, ◌≤◌, ◌==◌, nat_lt, true, false, if◌then◌else◌, List, [], ◌∷◌, ◌++◌, length, Option, Some, None, IsSome, IfSome, refl, ap, sym, ◌∙◌, subst, arith, ⊎_elim}
 use Rattle.std.proofs.lemmas.Bool.{cases_lt, false≢true, lt-ltb, le-ltb}
-use Rattle.std.proofs.lemmas.Bool.Decides.{nat_tests}
 use Rattle.dom_model.specs.Lists.{hits, head_of, last_of, after, place_in}
-use Rattle.dom_model.specs.Forest.{Node, Forest, empty, node, Grove, total, occurs, one_at, tops, numbers, tree_at, HasNode, ancestors, root_of, inclusive_descendants, IsForest}
+use Rattle.dom_model.specs.Forest.{Forest, empty, node, Grove, occurs, one_at, tops, numbers, tree_at, HasNode, ancestors, root_of, inclusive_descendants, IsForest}
 use Rattle.dom_model.proofs.Numbers.{same_or, same, apart}
-use Rattle.dom_model.proofs.Changes.{Seen, seen, nothing, just}
+use Rattle.dom_model.proofs.Changes.{seen, nothing, just}
 use Rattle.dom_model.proofs.Totals.{total-tree_at, tree_at-absent}
 use Rattle.dom_model.proofs.Tops.{hits-tops}
-use Rattle.dom_model.proofs.Climbing.{ancestors-there, ancestors-kids, ancestors-rest, ancestors-first}
+use Rattle.dom_model.proofs.Climbing.{ancestors-there, ancestors-kids, ancestors-rest}
 use Rattle.dom_model.proofs.RootsKept.{last_of-behind}
 use Rattle.dom_model.proofs.Places.{place-there}
 use Rattle.dom_model.proofs.Chains.{place-apart}

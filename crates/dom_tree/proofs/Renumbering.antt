@@ -1,13 +1,12 @@
 -- The entries by number after a link, an unlink, an add or a write by slot.
-use Rattle.std.proofs.Common.{◌≡◌, ℕ, zero, suc, ◌+◌, ◌<◌, ◌≤◌, ◌==◌, true, false, if◌then◌else◌, List, [], ◌∷◌, ◌++◌, map, Option, Some, None, option_map, IsSome, is_some, refl, ap, sym, ◌∙◌, subst, arith}
+use Rattle.std.proofs.Common.{◌≡◌, ℕ, ◌<◌, ◌==◌, true, false, if◌then◌else◌, List, map, Option, Some, None, option_map, IsSome, is_some, refl, ap, sym, ◌∙◌, subst, arith}
 use Rattle.std.proofs.lemmas.Bool.{false≢true}
 use Rattle.dom_model.specs.Lists.{hits, is_number, entered, left_out}
-use Rattle.dom_model.specs.Arena.{Entry, held, parent_in, children_in, alone, IsLinked}
+use Rattle.dom_model.specs.Arena.{Entry, held, alone, IsLinked}
 use Rattle.dom_model.specs.Forest.{Node}
-use Rattle.dom_tree.specs.Spelled.{number_in, number_at, renumbered, entry_in_slot, by_number, IsTabled}
+use Rattle.dom_tree.specs.Spelled.{number_in, number_at, renumbered, by_number, IsTabled}
 use Rattle.dom_model.proofs.Numbers.{same_or, same, apart}
-use Rattle.dom_model.proofs.Changes.{Seen, seen, nothing, just, cut_at, link_at, change_at}
-use Rattle.dom_tree.proofs.Stores.{linked_at, unlinked_at}
+use Rattle.dom_model.proofs.Changes.{seen, nothing, just, cut_at, link_at, change_at, held-cut_at, held-link_at}
 use Rattle.dom_tree.proofs.Numbering.{child-held, parent-held, same_test, left_out-map, entered-map, map-same}
 
 module _ {X : Type 0} where
@@ -24,29 +23,21 @@ module _ {X : Type 0} where
       some_from (Some d) None e i = absurd (omega arith)
       some_from (Some d) (Some g) e i = refl
 
-  number_in-linked : (p : ℕ) (b : Option ℕ) (c s : ℕ) (o : Option (Entry (Node X))) → number_in (linked_at p b c s o) ≡ number_in o
+  number_in-linked : (p : ℕ) (b : Option ℕ) (c s : ℕ) (o : Option (Entry (Node X))) → number_in (link_at p b c s o) ≡ number_in o
   number_in-linked p b c s None = refl
   number_in-linked p b c s (Some e) = refl
 
-  number_in-unlinked : (c s : ℕ) (o : Option (Entry (Node X))) → number_in (unlinked_at c s o) ≡ number_in o
+  number_in-unlinked : (c s : ℕ) (o : Option (Entry (Node X))) → number_in (cut_at c s o) ≡ number_in o
   number_in-unlinked c s None = refl
   number_in-unlinked c s (Some e) = refl
 
-  held-linked : (p : ℕ) (b : Option ℕ) (c s : ℕ) (o : Option (Entry (Node X))) → held (linked_at p b c s o) ≡ held o
-  held-linked p b c s None = refl
-  held-linked p b c s (Some e) = refl
-
-  held-unlinked : (c s : ℕ) (o : Option (Entry (Node X))) → held (unlinked_at c s o) ≡ held o
-  held-unlinked c s None = refl
-  held-unlinked c s (Some e) = refl
-
-  pub IsTabled-linked : (at at' : (ℕ → Option (Entry (Node X)))) (sl : ℕ → Option ℕ) (p c : ℕ) (b : Option ℕ) → ((s : ℕ) → at' s ≡ linked_at p b c s (at s)) → IsTabled at sl → IsTabled at' sl
+  pub IsTabled-linked : (at at' : (ℕ → Option (Entry (Node X)))) (sl : ℕ → Option ℕ) (p c : ℕ) (b : Option ℕ) → ((s : ℕ) → at' s ≡ link_at p b c s (at s)) → IsTabled at sl → IsTabled at' sl
   IsTabled-linked at at' sl p c b h t =
-      IsTabled-kept at at' sl (λ s. ap held (h s) ∙ held-linked p b c s (at s)) (λ s. ap number_in (h s) ∙ number_in-linked p b c s (at s)) t
+      IsTabled-kept at at' sl (λ s. ap held (h s) ∙ held-link_at p b c s (at s)) (λ s. ap number_in (h s) ∙ number_in-linked p b c s (at s)) t
 
-  pub IsTabled-unlinked : (at at' : (ℕ → Option (Entry (Node X)))) (sl : ℕ → Option ℕ) (c : ℕ) → ((s : ℕ) → at' s ≡ unlinked_at c s (at s)) → IsTabled at sl → IsTabled at' sl
+  pub IsTabled-unlinked : (at at' : (ℕ → Option (Entry (Node X)))) (sl : ℕ → Option ℕ) (c : ℕ) → ((s : ℕ) → at' s ≡ cut_at c s (at s)) → IsTabled at sl → IsTabled at' sl
   IsTabled-unlinked at at' sl c h t =
-      IsTabled-kept at at' sl (λ s. ap held (h s) ∙ held-unlinked c s (at s)) (λ s. ap number_in (h s) ∙ number_in-unlinked c s (at s)) t
+      IsTabled-kept at at' sl (λ s. ap held (h s) ∙ held-cut_at c s (at s)) (λ s. ap number_in (h s) ∙ number_in-unlinked c s (at s)) t
 
   map_numbers : (at at' : (ℕ → Option (Entry (Node X)))) (l : List ℕ) → ((s : ℕ) → number_in (at' s) ≡ number_in (at s)) → map (number_at at') l ≡ map (number_at at) l
   map_numbers at at' l h = map-same (number_at at') (number_at at) l (λ x _. h x)
@@ -56,7 +47,7 @@ module _ {X : Type 0} where
   option_numbers at at' (Some x) h = ap Some (h x)
 
   -- to link by slot is to link by number
-  pub by_number-linked : (at at' : (ℕ → Option (Entry (Node X)))) (sl : ℕ → Option ℕ) (p c : ℕ) (b : Option ℕ) → IsTabled at sl → IsLinked at → IsSome (at p) → IsSome (at c) → ((q : ℕ) → b ≡ Some q → IsSome (at q)) → ((s : ℕ) → at' s ≡ linked_at p b c s (at s)) → (n : ℕ) → by_number at' sl n ≡ link_at (number_at at p) (option_map (number_at at) b) (number_at at c) n (by_number at sl n)
+  pub by_number-linked : (at at' : (ℕ → Option (Entry (Node X)))) (sl : ℕ → Option ℕ) (p c : ℕ) (b : Option ℕ) → IsTabled at sl → IsLinked at → IsSome (at p) → IsSome (at c) → ((q : ℕ) → b ≡ Some q → IsSome (at q)) → ((s : ℕ) → at' s ≡ link_at p b c s (at s)) → (n : ℕ) → by_number at' sl n ≡ link_at (number_at at p) (option_map (number_at at) b) (number_at at c) n (by_number at sl n)
   by_number-linked at at' sl p c b t l hp hc hb h n =
       elim (seen (sl n)) [
         | nothing e ↦ rw e refl
@@ -103,7 +94,7 @@ module _ {X : Type 0} where
           let hx : (x : ℕ) → 0 < hits x a.children → IsSome (at x) = λ x k. child-held at l s x (rw d k) in
           λ j. record { value = a.value; parent = parents s a.parent e i j; children = lists s a.children e i hx j }
 
-  pub by_number-unlinked : (at at' : (ℕ → Option (Entry (Node X)))) (sl : ℕ → Option ℕ) (c : ℕ) → IsTabled at sl → IsLinked at → IsSome (at c) → ((s : ℕ) → at' s ≡ unlinked_at c s (at s)) → (n : ℕ) → by_number at' sl n ≡ cut_at (number_at at c) n (by_number at sl n)
+  pub by_number-unlinked : (at at' : (ℕ → Option (Entry (Node X)))) (sl : ℕ → Option ℕ) (c : ℕ) → IsTabled at sl → IsLinked at → IsSome (at c) → ((s : ℕ) → at' s ≡ cut_at c s (at s)) → (n : ℕ) → by_number at' sl n ≡ cut_at (number_at at c) n (by_number at sl n)
   by_number-unlinked at at' sl c t l hc h n =
       elim (seen (sl n)) [
         | nothing e ↦ rw e refl

@@ -1,15 +1,11 @@
 -- Children and siblings, told on nested lists alone.
-use Rattle.std.proofs.Common.{◌≡◌, ℕ, zero, suc, ◌+◌, ◌<◌, ◌≤◌, ◌==◌, true, false, List, [], ◌∷◌, ◌++◌, length, Option, Some, None, IsSome, refl, ap, sym, ◌∙◌, subst, arith, ◌⊎◌, inl, inr, ⊎_elim}
-use Rattle.std.proofs.lemmas.Bool.{cases_lt, false≢true}
-use Rattle.std.proofs.lemmas.Bool.Decides.{nat_tests}
+use Rattle.std.proofs.Common.{◌≡◌, ℕ, zero, suc, ◌+◌, ◌<◌, ◌≤◌, List, [], ◌∷◌, length, Some, None, refl, sym, ◌∙◌, arith, ⊎_elim}
 use Rattle.std.specs.Prelude.{slice_get}
-use Rattle.dom_model.specs.Lists.{hits, head_of, last_of, after, before, before_from, place_in}
-use Rattle.dom_model.specs.Arena.{Entry, parent_in, children_in, list_under, siblings_in, next_in, previous_in}
-use Rattle.dom_model.specs.Forest.{Node, Forest, empty, node, Grove, total, occurs, one_at, tops, entry_in, HasNode, parent_of, children_of, next_of, previous_of, index_of, IsForest}
-use Rattle.dom_model.specs.Lies.{Lies}
+use Rattle.dom_model.specs.Lists.{hits, head_of, after, before, before_from, place_in}
+use Rattle.dom_model.specs.Arena.{siblings_in}
+use Rattle.dom_model.specs.Forest.{Forest, Grove, entry_in, HasNode, parent_of, children_of, next_of, previous_of, index_of, IsForest}
 use Rattle.dom_model.proofs.Numbers.{same_or, same, apart}
-use Rattle.dom_model.proofs.Changes.{Seen, seen, nothing, just}
-use Rattle.dom_model.proofs.Tops.{hits-tops}
+use Rattle.dom_model.proofs.Changes.{seen, nothing, just}
 use Rattle.dom_model.proofs.Entries.{occurs-HasNode, HasNode-occurs}
 use Rattle.dom_model.proofs.Indices.{child-parent, child-there, child-listed, child-once}
 use Rattle.dom_tree.proofs.Numbering.{hits-before}

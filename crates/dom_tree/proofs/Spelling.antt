@@ -1,16 +1,13 @@
 -- A change of the entries spells the changed forest.
-use Rattle.std.proofs.Common.{◌≡◌, ℕ, zero, suc, ◌+◌, ◌<◌, ◌≤◌, ◌==◌, true, false, List, [], ◌∷◌, Option, Some, None, refl, ap, sym, ◌∙◌, subst, arith, ◌⊎◌, inl, inr, ⊎_elim}
+use Rattle.std.proofs.Common.{◌≡◌, ℕ, suc, ◌+◌, ◌<◌, ◌≤◌, Option, Some, None, ap, sym, ◌∙◌, subst, arith, ⊎_elim}
 use Rattle.std.proofs.lemmas.Bool.{cases_lt}
 use Rattle.std.proofs.lemmas.Bool.Decides.{nat_tests}
-use Rattle.dom_model.specs.Lists.{hits, left_out, or_else}
-use Rattle.dom_model.specs.Arena.{Entry, held, parent_in, children_in, alone}
-use Rattle.dom_model.specs.Kinds.{may_stand_under, may_stand_in}
-use Rattle.dom_model.specs.Forest.{Node, Forest, empty, node, Grove, total, occurs, one_at, size, tops, beside, tree_at, without, placed_under, placed_before, placed_root, cut, put, with_node, IsRising, KindsFit, IsForest}
-use Rattle.dom_model.specs.Lies.{Lies}
+use Rattle.dom_model.specs.Arena.{Entry, held, parent_in, alone}
+use Rattle.dom_model.specs.Forest.{Node, Forest, empty, node, occurs, one_at, tops, beside, tree_at, without, cut, put, with_node, IsRising, KindsFit, IsForest}
 use Rattle.dom_tree.specs.Spelled.{Spells}
 use Rattle.dom_model.proofs.Numbers.{same_or, same, apart}
-use Rattle.dom_model.proofs.Totals.{total-beside, total-tree_at, total-cut, total-put, occurs-without, tree_at-absent}
-use Rattle.dom_model.proofs.Tops.{IsRising-left_out, IsRising-placed_root, tops-without, tops-placed_under, tops-tree_at, tops-beside, hits-tops}
+use Rattle.dom_model.proofs.Totals.{total-beside, total-tree_at, total-cut, total-put, occurs-without}
+use Rattle.dom_model.proofs.Tops.{IsRising-left_out, IsRising-placed_root, tops-without, tops-placed_under, tops-tree_at, hits-tops}
 use Rattle.dom_model.proofs.Changes.{cut_at, link_at, change_at, held-cut_at, held-link_at, held-change_at}
 use Rattle.dom_model.proofs.Lying.{Lies-beside, Lies-kept, Lies-cut, Lies-without_root, Lies-put_top, Lies-placed_under, tops-with_node, total-with_node, Lies-with_node}
 

@@ -1,10 +1,10 @@
 -- Tree order among the inclusive descendants of a node, step by step.
-use Rattle.std.proofs.Common.{◌≡◌, ℕ, zero, suc, ◌+◌, ◌<◌, ◌≤◌, ◌==◌, nat_lt, true, false, List, [], ◌∷◌, ◌++◌, length, Option, Some, None, IsSome, IfSome, refl, ap, sym, ◌∙◌, subst, arith, ◌⊎◌, inl, inr, ⊎_elim, append-nil}
+use Rattle.std.proofs.Common.{◌≡◌, ℕ, ◌<◌, ◌≤◌, nat_lt, true, [], Option, Some, None, IsSome, IfSome, refl, ap, sym, ◌∙◌, subst, arith, ⊎_elim, append-nil}
 use Rattle.std.proofs.lemmas.Bool.{cases_lt, false≢true, lt-ltb}
 use Rattle.std.proofs.lemmas.Bool.Decides.{nat_tests}
-use Rattle.dom_model.specs.Lists.{hits, among, head_of, last_of, after, or_else}
-use Rattle.dom_model.specs.Arena.{Entry, parent_in, children_in, next_in}
-use Rattle.dom_model.specs.Forest.{Node, Forest, empty, node, Grove, total, occurs, one_at, tops, numbers, entry_in, HasNode, parent_of, children_of, next_of, ancestors, root_of, tree_at, inclusive_descendants, IsForest}
+use Rattle.dom_model.specs.Lists.{head_of, after, or_else}
+use Rattle.dom_model.specs.Arena.{Entry, parent_in, next_in}
+use Rattle.dom_model.specs.Forest.{Node, Forest, empty, node, Grove, occurs, one_at, numbers, entry_in, HasNode, parent_of, children_of, next_of, root_of, tree_at, inclusive_descendants, IsForest}
 use Rattle.dom_model.specs.Lies.{Lies}
 use Rattle.dom_model.proofs.Numbers.{same_or, same, apart}
 use Rattle.dom_model.proofs.Totals.{total-tree_at, tree_at-absent}

@@ -1,22 +1,13 @@
 -- The entries of a store after a link, an unlink, an add or a write.
-use Rattle.std.proofs.Common.{◌≡◌, ℕ, zero, suc, ◌+◌, ◌<◌, ◌≤◌, ◌==◌, nat_lt, true, false, if◌then◌else◌, List, [], ◌∷◌, ◌++◌, length, slice_index_or, slice_set, Option, Some, None, option_map, IsSome, refl, ap, sym, ◌∙◌, subst, arith, ◌⊎◌, inl, inr, ⊎_elim, length-append}
-use Rattle.std.proofs.lemmas.Bool.{cases_lt, ltb-true, le-ltb, false≢true}
+use Rattle.std.proofs.Common.{◌≡◌, ℕ, ◌+◌, ◌<◌, ◌≤◌, ◌==◌, nat_lt, true, false, if◌then◌else◌, List, [], ◌∷◌, ◌++◌, length, slice_set, Option, Some, None, option_map, IsSome, refl, ap, sym, ◌∙◌, arith, ⊎_elim, length-append}
+use Rattle.std.proofs.lemmas.Bool.{cases_lt, le-ltb, false≢true}
 use Rattle.std.proofs.lemmas.List.{get_or-set_same, get_or-set_other, get_or_past, length-set, get_or_append_left}
 use Rattle.std.proofs.Math.Seq.{get_or-append_seam}
-use Rattle.dom_model.specs.Lists.{hits, is_number, entered, left_out}
-use Rattle.dom_model.specs.Arena.{Arena, Entry, entry_at, held, names, parent_in, children_in, with_parent, with_children, with_value, altered, linked, unlinked, unlinked_from, added, added_from, next_slot, next_from, alone, IsLinked, IsSound}
+use Rattle.dom_model.specs.Lists.{hits, entered, left_out}
+use Rattle.dom_model.specs.Arena.{Arena, Entry, entry_at, held, names, parent_in, children_in, with_parent, with_children, altered, linked, unlinked, added, added_from, next_slot, next_from, alone, IsLinked, IsSound}
 use Rattle.dom_model.proofs.Numbers.{same_or, same, apart}
-use Rattle.dom_model.proofs.Changes.{Seen, seen, nothing, just}
+use Rattle.dom_model.proofs.Changes.{seen, nothing, just, cut_at, link_at}
 use Rattle.dom_model.proofs.Lying.{left_out-absent}
-
--- an entry under a test on its slot
-abbrev pub linked_at : {T : Type 0} → ℕ → Option ℕ → ℕ → ℕ → Option (Entry T) → Option (Entry T)
-linked_at {T} p b c s o =
-    option_map (λ (e : Entry T). record { value = e.value; parent = if s == c then Some p else e.parent; children = if s == p then entered b c e.children else e.children }) o
-
-abbrev pub unlinked_at : {T : Type 0} → ℕ → ℕ → Option (Entry T) → Option (Entry T)
-unlinked_at {T} c s o =
-    option_map (λ (e : Entry T). record { value = e.value; parent = if s == c then None else e.parent; children = left_out c e.children }) o
 
 module _ {T : Type 0} where
   pub altered-at : (f : Entry T → Entry T) (a : Arena T) (n k : ℕ) → entry_at (altered f a n) k ≡ (if k == n then option_map f (entry_at a k) else entry_at a k)
@@ -33,13 +24,13 @@ module _ {T : Type 0} where
         | apart ne t ↦ rw t (get_or-set_other a.slots n k (option_map f (entry_at a n)) None ne)
       ]
 
-  pub linked-at : (a : Arena T) (p c : ℕ) (b : Option ℕ) (k : ℕ) → entry_at (linked a p c b) k ≡ linked_at p b c k (entry_at a k)
+  pub linked-at : (a : Arena T) (p c : ℕ) (b : Option ℕ) (k : ℕ) → entry_at (linked a p c b) k ≡ link_at p b c k (entry_at a k)
   linked-at a p c b k =
       altered-at (λ (e : Entry T). with_children (entered b c e.children) e) (altered (with_parent (Some p)) a c) p k
       ∙ ap (λ (o : Option (Entry T)). if k == p then option_map (λ (e : Entry T). with_children (entered b c e.children) e) o else o) (altered-at (with_parent (Some p)) a c k)
       ∙ both (entry_at a k)
     where
-      both : (o : Option (Entry T)) → (if k == p then option_map (λ (e : Entry T). with_children (entered b c e.children) e) (if k == c then option_map (with_parent (Some p)) o else o) else (if k == c then option_map (with_parent (Some p)) o else o)) ≡ linked_at p b c k o
+      both : (o : Option (Entry T)) → (if k == p then option_map (λ (e : Entry T). with_children (entered b c e.children) e) (if k == c then option_map (with_parent (Some p)) o else o) else (if k == c then option_map (with_parent (Some p)) o else o)) ≡ link_at p b c k o
       both o =
           elim (same_or k p) [
             | same e t ↦ rw t (inner o)
@@ -54,7 +45,7 @@ module _ {T : Type 0} where
           plain None = elim (k == c) as (λ v. (if◌then◌else◌ {A = Option (Entry T)} v None None) ≡ None) [ true ↦ refl | false ↦ refl ]
           plain (Some d) = elim (k == c) as (λ v. (if v then Some (with_parent (Some p) d) else Some d) ≡ Some (record { value = d.value; parent = if v then Some p else d.parent; children = d.children })) [ true ↦ refl | false ↦ refl ]
 
-  pub unlinked-at : (a : Arena T) (c : ℕ) → IsLinked (entry_at a) → IsSome (parent_in (entry_at a c)) → (k : ℕ) → entry_at (unlinked a c) k ≡ unlinked_at c k (entry_at a k)
+  pub unlinked-at : (a : Arena T) (c : ℕ) → IsLinked (entry_at a) → IsSome (parent_in (entry_at a c)) → (k : ℕ) → entry_at (unlinked a c) k ≡ cut_at c k (entry_at a k)
   unlinked-at a c l i k =
       elim (seen (parent_in (entry_at a c))) [
         | nothing e ↦ absurd (let j = rw e at i in false≢true j)
@@ -67,18 +58,18 @@ module _ {T : Type 0} where
       other : (p : ℕ) → (k ≡ p → ⊥) → names (Some p) k ≡ 0
       other p ne = elim (same_or p k) [ same e t ↦ absurd (ne (sym e)) | apart _ t ↦ rw t refl ]
 
-      both : (p : ℕ) (o : Option (Entry T)) → ((k ≡ p → ⊥) → hits c (children_in o) ≡ 0) → (if k == p then option_map (λ (d : Entry T). with_children (left_out c d.children) d) (if k == c then option_map (with_parent None) o else o) else (if k == c then option_map (with_parent None) o else o)) ≡ unlinked_at c k o
+      both : (p : ℕ) (o : Option (Entry T)) → ((k ≡ p → ⊥) → hits c (children_in o) ≡ 0) → (if k == p then option_map (λ (d : Entry T). with_children (left_out c d.children) d) (if k == c then option_map (with_parent None) o else o) else (if k == c then option_map (with_parent None) o else o)) ≡ cut_at c k o
       both p o z =
           elim (same_or k p) [
             | same e t ↦ rw t (inner o)
             | apart ne t ↦ rw t (plain o (z ne))
           ]
         where
-          inner : (o : Option (Entry T)) → option_map (λ (d : Entry T). with_children (left_out c d.children) d) (if k == c then option_map (with_parent None) o else o) ≡ unlinked_at c k o
+          inner : (o : Option (Entry T)) → option_map (λ (d : Entry T). with_children (left_out c d.children) d) (if k == c then option_map (with_parent None) o else o) ≡ cut_at c k o
           inner None = elim (k == c) as (λ v. option_map (λ (d : Entry T). with_children (left_out c d.children) d) (if◌then◌else◌ {A = Option (Entry T)} v None None) ≡ None) [ true ↦ refl | false ↦ refl ]
           inner (Some d) = elim (k == c) as (λ v. option_map (λ (d : Entry T). with_children (left_out c d.children) d) (if v then Some (with_parent None d) else Some d) ≡ Some (record { value = d.value; parent = if v then None else d.parent; children = left_out c d.children })) [ true ↦ refl | false ↦ refl ]
 
-          plain : (o : Option (Entry T)) → hits c (children_in o) ≡ 0 → (if k == c then option_map (with_parent None) o else o) ≡ unlinked_at c k o
+          plain : (o : Option (Entry T)) → hits c (children_in o) ≡ 0 → (if k == c then option_map (with_parent None) o else o) ≡ cut_at c k o
           plain None h = elim (k == c) as (λ v. (if◌then◌else◌ {A = Option (Entry T)} v None None) ≡ None) [ true ↦ refl | false ↦ refl ]
           plain (Some d) h = rw (left_out-absent c d.children h) (elim (k == c) as (λ v. (if v then Some (with_parent None d) else Some d) ≡ Some (record { value = d.value; parent = if v then None else d.parent; children = d.children })) [ true ↦ refl | false ↦ refl ])
 

@@ -1,20 +1,18 @@
 -- A walk to the root, told on nested lists alone.
-use Rattle.std.proofs.Common.{◌≡◌, ℕ, zero, suc, ◌+◌, ◌<◌, ◌≤◌, ◌==◌, true, false, not, List, [], ◌∷◌, ◌++◌, length, Option, Some, None, IsSome, IfSome, refl, ap, sym, ◌∙◌, subst, arith, ◌⊎◌, inl, inr, ⊎_elim}
-use Rattle.std.proofs.lemmas.Bool.{cases_lt, false≢true}
+use Rattle.std.proofs.Common.{◌≡◌, ℕ, ◌<◌, ◌≤◌, ◌==◌, true, false, [], ◌∷◌, length, Option, Some, None, IfSome, refl, sym, ◌∙◌, arith, ⊎_elim}
+use Rattle.std.proofs.lemmas.Bool.{cases_lt}
 use Rattle.dom_model.specs.Lists.{hits, among, last_of}
-use Rattle.dom_model.specs.Arena.{Entry, held, parent_in, next_in, previous_in}
+use Rattle.dom_model.specs.Arena.{Entry, parent_in}
 use Rattle.dom_model.specs.Forest.{Node, Forest, empty, node, Grove, occurs, tops, entry_in, HasNode, parent_of, next_of, previous_of, ancestors, root_of, tree_at, IsForest}
-use Rattle.dom_model.specs.Lies.{Lies}
 use Rattle.dom_model.proofs.Numbers.{same_or, same, apart}
-use Rattle.dom_model.proofs.Changes.{Seen, seen, nothing, just}
 use Rattle.dom_model.proofs.Tops.{hits-tops}
 use Rattle.dom_tree.proofs.Growing.{rooted, rootless, rooted-tops}
 use Rattle.dom_tree.proofs.Numbering.{hits-last_of}
 use Rattle.dom_model.proofs.Climbing.{ancestors-there, ancestors-kids, ancestors-rest, hits-ancestors, hits-among, among-hits}
-use Rattle.dom_model.proofs.Entries.{occurs-HasNode, HasNode-occurs, Lies-entry_in}
+use Rattle.dom_model.proofs.Entries.{occurs-HasNode, Lies-entry_in}
 use Rattle.dom_model.proofs.RootsKept.{last_of-behind}
 use Rattle.dom_model.proofs.Paths.{root-path}
-use Rattle.dom_tree.proofs.Forests.{Above, above}
+use Rattle.dom_tree.proofs.Forests.{Above}
 
 pub IfSome-from : {A : Type 0} (o : Option A) (P : A → Type 0) → ((x : A) → o ≡ Some x → P x) → IfSome o P
 IfSome-from None P h = tt

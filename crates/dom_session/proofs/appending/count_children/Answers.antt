@@ -1,10 +1,7 @@
-use Rattle.std.specs.Prelude.{if◌then◌else◌, IsSome, IfSome, is_some}
-use Rattle.std.proofs.Common.{◌≡◌, ℕ, ◌+◌, ◌<◌, ◌≤◌, Bool, true, false, List, ◌∷◌, length, Option, Some, None, refl, sym, ap, ◌∙◌, arith}
-use Rattle.dom_model.specs.declared.Kind.{Kind}
+use Rattle.std.proofs.Common.{◌≡◌, ℕ, ◌≤◌, ◌∙◌, arith}
 use Rattle.dom_model.specs.Lists.{hits, after}
-use Rattle.dom_model.specs.Forest.{children_of, next_of}
-use Rattle.dom_model.specs.Checks.{count_kind, is_of_kind}
-use Rattle.dom_session.proofs.Siblings.{from_optional, from_optional-head, IsAmong, IsAmong-head, IsAmong-after, from_first-after, HasNode-child, next_of-child, count_kind-cons, count_kind_le-length}
+use Rattle.dom_model.specs.Forest.{children_of}
+use Rattle.dom_session.proofs.Siblings.{from_optional, from_optional-head, IsAmong-head, IsAmong-after, from_first-after, HasNode-child, next_of-child, count_kind-cons, count_kind_le-length}
 use Rattle.dom_session.proofs.appending.count_children.Goals as goal
 use Rattle.dom_session.proofs.appending.count_children.Goals.{then-is_of_kind, else-is_of_kind}
 use Rattle.dom_model.proofs.Indices.{child-once}

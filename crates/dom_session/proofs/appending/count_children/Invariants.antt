@@ -1,4 +1,4 @@
-use Rattle.std.proofs.Common.{◌≡◌, ℕ, ◌+◌, ◌≤◌, true, length, Option, Some, None}
+use Rattle.std.proofs.Common.{◌≡◌, ◌+◌, length}
 use Rattle.dom_model.specs.Forest.{children_of}
 use Rattle.dom_model.specs.Checks.{count_kind}
 use Rattle.dom_session.proofs.Siblings.{from_optional, IsAmong}

@@ -1,6 +1,6 @@
-use Rattle.std.proofs.Common.{◌≡◌, ◌+◌, ◌<◌, [], ◌∷◌, ◌++◌, length, refl, sym, ◌∙◌, arith, vec_len}
+use Rattle.std.proofs.Common.{arith}
 use Rattle.dom_model.specs.Answer.{tree_rows}
-use Rattle.dom_session.proofs.Waits.{IsPrinting, IsPrinting-start, IsPrinting-step, HasNode-waiting, shallow_waiting, more_to_come, all_printed}
+use Rattle.dom_session.proofs.Waits.{IsPrinting-start, IsPrinting-step, HasNode-waiting, shallow_waiting, more_to_come}
 use Rattle.dom_session.proofs.printing.rows_of.Goals as goal
 
 pub loop-next-init : goal.loop-next-init

@@ -1,5 +1,5 @@
 -- A number has a node where the table has a slot for it.
-use Rattle.std.proofs.Common.{◌≡◌, ℕ, ◌≤◌, List, Option, None, is_some, length, sym, ap, ◌∙◌}
+use Rattle.std.proofs.Common.{◌≡◌, None, is_some, sym, ap, ◌∙◌}
 use Rattle.std.proofs.lemmas.List.{get_or_past}
 use Rattle.dom_tree.specs.Spelled.{slot_in}
 use Rattle.dom_tree.proofs.Reading.{holds-read}

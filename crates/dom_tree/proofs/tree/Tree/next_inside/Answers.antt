@@ -1,5 +1,5 @@
 -- The first child, or else the next sibling of the nearest ancestor below the top that has one.
-use Rattle.std.proofs.Common.{◌≡◌, ◌==◌, IsSome, sym, ◌∙◌}
+use Rattle.std.proofs.Common.{◌==◌, sym, ◌∙◌}
 use Rattle.std.proofs.lemmas.Bool.{not-true, not-false, eqb-true, eqb-false}
 use Rattle.dom_tree.proofs.Forests.{above}
 use Rattle.dom_tree.proofs.Walking.{shorter, inside}
