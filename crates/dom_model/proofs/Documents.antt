@@ -5,7 +5,7 @@ use Rattle.dom_model.specs.Lists.{is_number}
 use Rattle.dom_model.specs.Arena.{Entry, parent_in}
 use Rattle.dom_model.specs.Forest.{Node, Forest, empty, node, occurs, entry_in, parent_of, beside, tree_at, without, placed_before, placed_under, placed_root, cut, put, map_nodes, in_document, adopted}
 use Rattle.dom_model.specs.Documents.{IsInDocument, HasOneDocument, HasDocument}
-use Rattle.dom_model.proofs.Lies.{Lies}
+use Rattle.dom_model.specs.Lies.{Lies}
 use Rattle.dom_model.proofs.Numbers.{same_or, same, apart}
 use Rattle.dom_model.proofs.Totals.{occurs-without, tree_at-absent}
 use Rattle.dom_model.proofs.Undone.{placed_under-absent}

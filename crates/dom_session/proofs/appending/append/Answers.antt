@@ -46,7 +46,7 @@ set_document-requires c =
 
 pub document_of-requires : goal.document_of-requires
 document_of-requires c =
-    rw c.detach.ensures.detached (HasNode-detached c.args.node c.args.node c.args.tree.now.forest c.detach.ensures.sound.once c.requires.node_held)
+    rw c.detach.ensures.detached (HasNode-detached c.args.node c.args.node c.args.tree.now.forest c.requires.node_held)
 
 pub returns-then-not-stays : goal.returns-then-not-stays
 returns-then-not-stays c =
@@ -62,7 +62,7 @@ returns-else-not-stays c =
     let o = c.detach.ensures.sound.once in
     let g = detached c.args.node f in
     let told = rw c.detach.ensures.detached at c.document_of-document.ensures in
-    let document = document_told (entry_in g c.args.parent) c.document_of-document.result (HasNode-detached c.args.node c.args.parent f o c.requires.parent_held) told in
+    let document = document_told (entry_in g c.args.parent) c.document_of-document.result (HasNode-detached c.args.node c.args.parent f c.requires.parent_held) told in
     let same : c.document_of.result ≡ c.document_of-document.result = grind (arith, nat_tests) in
     let node_told = rw (c.detach.ensures.detached, same, document) at c.document_of.ensures in
     let kept = IsSessionForest-detached c.args.node f c.requires.kept in
