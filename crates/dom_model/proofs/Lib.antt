@@ -14,6 +14,7 @@ pub mod CopiesAndPositions
 pub mod CopiesLimited
 pub mod DataCountedInUnits
 pub mod DiscardedTrees
+pub mod DiscardsFelt
 pub mod Documents
 pub mod DocumentsOfCopies
 pub mod EachNode
@@ -26,7 +27,17 @@ pub mod EndsAtJoinedTexts
 pub mod EndsCompared
 pub mod EndsInTheirGaps
 pub mod Entries
+pub mod ErasedContents
+pub mod ErasedData
 pub mod ErasedDialogues
+pub mod ErasedObservers
+pub mod ErasedObserving
+pub mod ErasedSteps
+pub mod ErasedTreeAnswers
+pub mod ErasedWatcherAnswers
+pub mod ErasedWatchers
+pub mod ErasedWorlds
+pub mod ErasedWrapping
 pub mod ExtractAcrossParagraphs
 pub mod FiltersByKindAndName
 pub mod FirstDialogue

@@ -3,7 +3,7 @@
 use Rattle.std.specs.Prelude.{ℕ, Bool, true, false, not, if◌then◌else◌, List, [], ◌∷◌, filter}
 use Rattle.std.specs.List.{list_any}
 use Rattle.dom_model.specs.World.{World}
-use Rattle.dom_model.specs.Command.{Command, CreateRange, CloneRange, DescribeRange, SetStart, SetEnd, SetStartBefore, SetStartAfter, SetEndBefore, SetEndAfter, Collapse, SelectNode, SelectNodeContents, CompareBoundaryPoints, ComparePoint, IsPointInRange, IntersectsNode, CommonAncestor, RangeText, DeleteContents, ExtractContents, CloneContents, InsertNode, SurroundContents, ReleaseRange, CreateIterator, CreateWalker, DescribeIterator, NextNode, PreviousNode, DescribeWalker, SetCurrent, Walk, Observe, Disconnect, TakeRecords, Notify, Pending, CreateStaticRange, DescribeStaticRange}
+use Rattle.dom_model.specs.Command.{Command, CreateRange, CloneRange, DescribeRange, SetStart, SetEnd, SetStartBefore, SetStartAfter, SetEndBefore, SetEndAfter, Collapse, SelectNode, SelectNodeContents, CompareBoundaryPoints, ComparePoint, IsPointInRange, IntersectsNode, CommonAncestor, RangeText, DeleteContents, ExtractContents, CloneContents, InsertNode, SurroundContents, ReleaseRange, CreateIterator, CreateWalker, DescribeIterator, NextNode, PreviousNode, DescribeWalker, SetCurrent, Walk, Observe, Disconnect, TakeRecords, Notify, Pending, CreateStaticRange, DescribeStaticRange, Discard}
 use Rattle.dom_model.specs.Reply.{Told, Answer, Numbers, Notified, Reply, Done, Dom, Own}
 use Rattle.dom_model.specs.Guards.{Bounds}
 use Rattle.dom_model.specs.Answer.{answer}
@@ -23,6 +23,15 @@ replies_left erases left [] rs = []
 replies_left erases left (c ∷ cs) [] = []
 replies_left erases left (c ∷ cs) (r ∷ rs) =
     if erases c then replies_left erases left cs rs else left c r ∷ replies_left erases left cs rs
+
+-- `discard` is left out of the laws of erasing: a registration, a record that is not taken or a range may be what refuses it.
+
+abbrev pub discards : Command → Bool
+discards (Discard n) = true
+discards _ = false
+
+abbrev pub makes_no_discard : List Command → Bool
+makes_no_discard cs = not (list_any discards cs)
 
 -- Observers, told by a test of their numbers: what they observe, disconnect and take is erased; that they are made is not.
 
