@@ -6,15 +6,12 @@ use Rattle.std.proofs.lemmas.List.{ext_get_or, length-map, get_or-map}
 use denote.RawPtr.{Ptr}
 use Rattle.dom_model.specs.Lists.{hits, is_number, head_of, last_of, after, before}
 use Rattle.dom_model.specs.Arena.{Entry, Arena, names, entry_at, parent_in, children_in, list_under, siblings_in, next_in, previous_in, IsLinked}
+use Rattle.dom_model.proofs.Climbing.{hits-append}
 use Rattle.dom_links.specs.Cells.{look}
 use Rattle.dom_links.specs.declared.links.Node.{Node}
 use Rattle.dom_links.specs.Standing.{place_in, link_in, node_behind, node_in, slot_behind, slots_from, slots_along, entry_from, arena_of, wired, Stands}
 use Rattle.dom_links.proofs.Neighbours.{after-none, before_from-none, head_of-none, last_from-none, last_of-last_from}
 use Rattle.dom_links.proofs.Cutting.{names-same, names-other, hits-le}
-
-pub hits-append : (n : ℕ) (xs ys : List ℕ) → hits n (xs ++ ys) ≡ hits n xs + hits n ys
-hits-append n [] ys = omega arith
-hits-append n (x ∷ xs) ys = omega (arith, hits-append n xs ys)
 
 after-append : (n : ℕ) (us xs : List ℕ) → hits n us ≡ 0 → after n (us ++ n ∷ xs) ≡ head_of xs
 after-append n [] xs h = rw (eq-eqb n n refl)

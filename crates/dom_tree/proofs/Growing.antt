@@ -11,6 +11,7 @@ use Rattle.dom_model.proofs.Numbers.{same_or, same, apart}
 use Rattle.dom_model.proofs.Tops.{IsRising-from, hits-tops}
 use Rattle.dom_model.proofs.Rising.{hits-low}
 use Rattle.dom_model.proofs.Entries.{entry_in-Lies}
+use Rattle.dom_tree.proofs.Spelling.{held_at_most}
 
 -- numbers that rise and stand in both lists alike
 pub rising_same : (low : ℕ) (xs ys : List ℕ) → IsRising low xs → IsRising low ys → ((n : ℕ) → hits n xs ≡ hits n ys) → xs ≡ ys
@@ -132,10 +133,6 @@ module _ {X : Type 0} where
   roots_from-Spells made at f s =
       rising_same 0 (roots_from 0 made at) (tops f) (roots_from-rising at 0 made) s.rising alike
     where
-      held_at_most : (o : Option (Entry (Node X))) → held o ≤ 1
-      held_at_most None = omega arith
-      held_at_most (Some e) = omega arith
-
       counted : (n : ℕ) → hits n (tops f) ≡ rooted (at n)
       counted n =
           ⊎_elim
