@@ -5,6 +5,7 @@ mod answering;
 mod appending;
 mod command;
 mod content;
+pub mod laws;
 mod making;
 mod printing;
 mod reply;
