@@ -43,6 +43,22 @@ module _ {X : Type 0} where
   way-last f u [] q n w h e = (h, e ∙ ap (λ k. Some k) (sym w), refl)
   way-last f u (m ∷ ms) q n w h e = (w.0, w.1, way-last f m ms q n w.2 h e)
 
+  -- the way to a child is its parent's, and the child
+  pub way-child : (f : Forest X) → ((m : ℕ) → occurs m f ≤ 1) → (m q : ℕ) → 0 < occurs m f → parent_of f m ≡ Some q → way_to f m ≡ way_to f q ++ m ∷ []
+  way-child f o m q hm e =
+      let i = parent-path f o m q hm e in
+      let j = ancestors-there q f i.0 in
+      ap (λ ns. drop 1 (reverse ns)) i.1
+      ∙ ap (drop 1) (reverse-append (m ∷ []) (ancestors q f))
+      ∙ drop-append-le 1 (reverse (ancestors q f)) (m ∷ []) (rw (length-reverse (ancestors q f), j.1) (omega arith))
+
+  -- a child has its parent's root
+  pub root-child : (f : Forest X) → ((m : ℕ) → occurs m f ≤ 1) → (m q : ℕ) → 0 < occurs m f → parent_of f m ≡ Some q → root_of f m ≡ root_of f q
+  root-child f o m q hm e =
+      let i = parent-path f o m q hm e in
+      let j = ancestors-there q f i.0 in
+      ap last_of i.1 ∙ ap (λ ns. last_of (m ∷ ns)) j.1 ∙ sym (ap last_of j.1)
+
   -- the way to a node goes down from its root
   pub way : (f : Forest X) → ((m : ℕ) → occurs m f ≤ 1) → (n : ℕ) → 0 < occurs n f → (r : ℕ) × (root_of f n ≡ Some r) × IsWay f r (way_to f n) n
   way f o n h = go (length (ancestors n f)) n (omega arith) h
@@ -56,17 +72,17 @@ module _ {X : Type 0} where
                 (m, ap last_of a, subst (λ ns. IsWay f m (drop 1 (reverse ns)) m) (sym a) refl)
             | just q e ↦
                 let i = parent-path f o m q hm e in
-                let j = ancestors-there q f i.0 in
                 let s = rw i.1 at l in
                 let r = go k q (omega arith) i.0 in
-                let a : way_to f m ≡ way_to f q ++ m ∷ [] =
-                ap (λ ns. drop 1 (reverse ns)) i.1
-                ∙ ap (drop 1) (reverse-append (m ∷ []) (ancestors q f))
-                ∙ drop-append-le 1 (reverse (ancestors q f)) (m ∷ []) (rw (length-reverse (ancestors q f), j.1) (omega arith)) in
-                let b : root_of f m ≡ root_of f q =
-                ap last_of i.1 ∙ ap (λ ns. last_of (m ∷ ns)) j.1 ∙ sym (ap last_of j.1) in
+                let a = way-child f o m q hm e in
+                let b = root-child f o m q hm e in
                 (r.0, b ∙ r.1, subst (λ ns. IsWay f r.0 ns m) (sym a) (way-last f r.0 (way_to f q) q m r.2 hm e))
           ]
+
+  -- a node without children stands last on a way
+  pub childless-last : (f : Forest X) → ((m : ℕ) → occurs m f ≤ 1) → (u : ℕ) (ms : List ℕ) (n : ℕ) → children_of f u ≡ [] → IsWay f u ms n → (ms ≡ []) × (u ≡ n)
+  childless-last f o u [] n c w = (refl, w)
+  childless-last f o u (m ∷ ms) n c w = absurd (let h = rw c at (child-listed f o m u w.0 w.1) in omega arith)
 
   -- children of one parent with one index are one
   pub index-apart : (f : Forest X) → ((m : ℕ) → occurs m f ≤ 1) → (m n u : ℕ) → 0 < occurs m f → parent_of f m ≡ Some u → parent_of f n ≡ Some u → index_of f m ≡ index_of f n → m ≡ n

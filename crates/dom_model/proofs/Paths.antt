@@ -83,10 +83,10 @@ module _ {X : Type 0} where
     put-total : (m : ℕ) → occurs m (put p c b f) ≡ occurs m f
     put-total m = total-put (one_at m) p c b f (let k = o p in omega (arith, total-tree_at (one_at p) c f))
 
-    put-once : (m : ℕ) → occurs m (put p c b f) ≤ 1
+    pub put-once : (m : ℕ) → occurs m (put p c b f) ≤ 1
     put-once m = let k = o m in rw (put-total m) k
 
-    put-there : (m : ℕ) → 0 < occurs m f → 0 < occurs m (put p c b f)
+    pub put-there : (m : ℕ) → 0 < occurs m f → 0 < occurs m (put p c b f)
     put-there m k = rw (put-total m) k
 
     outside-path : (k m : ℕ) → length (ancestors m f) ≤ k → 0 < occurs m f → among c (ancestors m f) ≡ false → ancestors m (put p c b f) ≡ ancestors m f

@@ -1,5 +1,5 @@
 -- The order of points: of one node by their offsets, of a node and one above it by the child towards it; and what a map does to points of one node.
-use Rattle.std.proofs.Common.{◌≡◌, ℕ, ◌+◌, ◌-◌, ◌*◌, ◌<◌, ◌≤◌, ◌==◌, nat_lt, nat_le, Bool, true, false, ◌&&◌, if◌then◌else◌, List, [], ◌∷◌, ◌++◌, refl, ap, sym, ◌∙◌, arith, append_assoc, ⊎_elim}
+use Rattle.std.proofs.Common.{◌≡◌, ℕ, ◌+◌, ◌-◌, ◌*◌, ◌<◌, ◌≤◌, ◌==◌, nat_lt, nat_le, Bool, true, false, ◌&&◌, if◌then◌else◌, List, [], ◌∷◌, ◌++◌, refl, ap, sym, ◌∙◌, arith, append_assoc, Option, Some, None, ◌⊎◌, inl, inr, ⊎_elim}
 use Rattle.std.specs.Ordering.{nat_cmp, ordering_then}
 use Rattle.std.specs.declared.cmp.Ordering.{Ordering}
 use Rattle.std.specs.declared.cmp.Ordering.TheVariants.{Less, Equal, Greater}
@@ -7,8 +7,8 @@ use Rattle.std.specs.Cmp.Lexicographic.{slice_cmp}
 use Rattle.std.proofs.lemmas.Bool.{cases_lt, lt-ltb, le-ltb}
 use Rattle.std.proofs.lemmas.Bool.Decides.{nat_tests}
 use Rattle.dom_model.specs.Forest.{Forest}
-use Rattle.dom_model.specs.World.{Point}
-use Rattle.dom_model.specs.Points.{path_places, order_of, after_gap}
+use Rattle.dom_model.specs.World.{Point, Range}
+use Rattle.dom_model.specs.Points.{path_places, order_of, after_gap, moved_range, map_ranges}
 use Rattle.dom_model.proofs.Numbers.{same_or, same, apart}
 
 pub nat_cmp-same : (n : ℕ) → nat_cmp n n ≡ Equal
@@ -47,6 +47,11 @@ slice_cmp-one a b = go (nat_cmp a b)
     go Less = refl
     go Equal = refl
     go Greater = refl
+
+-- where the first numbers of two lists are apart, and stay so
+pub heads-kept : (x y x' y' : ℕ) (xs ys xs' ys' : List ℕ) → ((x < y) × (x' < y')) ⊎ ((y < x) × (y' < x')) → slice_cmp nat_cmp (x' ∷ xs') (y' ∷ ys') ≡ slice_cmp nat_cmp (x ∷ xs) (y ∷ ys)
+heads-kept x y x' y' xs ys xs' ys' (inl i) = rw (nat_cmp-less x' y' i.1, nat_cmp-less x y i.0) refl
+heads-kept x y x' y' xs ys xs' ys' (inr i) = rw (nat_cmp-greater x' y' i.1, nat_cmp-greater x y i.0) refl
 
 module _ {X : Type 0} where
   -- points of one node stand as their offsets do
@@ -99,3 +104,9 @@ spliced_offset offset count added a = if nat_lt offset a then (if nat_le a (offs
 
 pub splice-order : (offset count added a b : ℕ) → a ≤ b → spliced_offset offset count added a ≤ spliced_offset offset count added b
 splice-order offset count added a b h = grind (arith, nat_tests)
+
+-- two maps on the ends of live ranges, one after the other
+pub map_ranges-twice : (g h : Point → Point) (ranges : List (Option Range)) → map_ranges g (map_ranges h ranges) ≡ map_ranges (λ q. g (h q)) ranges
+map_ranges-twice g h [] = refl
+map_ranges-twice g h (None ∷ ranges) = ap (λ rs. None ∷ rs) (map_ranges-twice g h ranges)
+map_ranges-twice g h (Some r ∷ ranges) = ap (λ rs. Some (moved_range (λ q. g (h q)) r) ∷ rs) (map_ranges-twice g h ranges)

@@ -1,25 +1,27 @@
 -- The order of two points of one root is kept where indices and offsets move together.
-use Rattle.std.proofs.Common.{◌≡◌, ℕ, ◌+◌, ◌*◌, ◌<◌, ◌≤◌, List, [], ◌∷◌, ◌++◌, map, Some, refl, ap, sym, ◌∙◌, subst, arith, ◌⊎◌, inl, inr, ⊎_elim}
+use Rattle.std.proofs.Common.{◌≡◌, ℕ, ◌+◌, ◌*◌, ◌<◌, ◌≤◌, List, [], ◌∷◌, ◌++◌, map, Some, ap, sym, ◌∙◌, subst, arith, append_assoc, ◌⊎◌, inl, inr, ⊎_elim}
 use Rattle.std.specs.Ordering.{nat_cmp}
 use Rattle.std.specs.Cmp.Lexicographic.{slice_cmp}
 use Rattle.std.proofs.lemmas.Bool.{cases_lt}
+use Rattle.std.proofs.lemmas.List.{map-append}
 use Rattle.dom_model.specs.Forest.{Forest, occurs, parent_of, index_of}
-use Rattle.dom_model.proofs.PointOrder.{nat_cmp-same, nat_cmp-less, nat_cmp-greater, nat_cmp-kept, slice_cmp-one}
+use Rattle.dom_model.proofs.PointOrder.{nat_cmp-same, nat_cmp-kept, slice_cmp-one, heads-kept}
 use Rattle.dom_model.proofs.Chains.{IsWay, index-apart}
 
 -- a list of nodes on a way, and an offset at its end, as a place
 abbrev pub place_by : (ℕ → ℕ) → List ℕ → ℕ → List ℕ
 place_by index ms a = map (λ m. 2 * index m + 1) ms ++ (2 * a) ∷ []
 
+pub place-last : (index : ℕ → ℕ) (ms : List ℕ) (m a : ℕ) → place_by index (ms ++ m ∷ []) a ≡ map (λ k. 2 * index k + 1) ms ++ (2 * index m + 1) ∷ (2 * a) ∷ []
+place-last index ms m a =
+    ap (λ xs. xs ++ (2 * a) ∷ []) (map-append (λ k. 2 * index k + 1) ms (m ∷ []))
+    ∙ append_assoc (map (λ k. 2 * index k + 1) ms) ((2 * index m + 1) ∷ []) ((2 * a) ∷ [])
+
 module _ {X : Type 0} (f : Forest X) (o : (m : ℕ) → occurs m f ≤ 1) (index : ℕ → ℕ) (offset : ℕ → ℕ → ℕ)
     (offsets : (u a b : ℕ) → a < b → offset u a < offset u b)
     (children : (u m n : ℕ) → 0 < occurs m f → parent_of f m ≡ Some u → 0 < occurs n f → parent_of f n ≡ Some u → index_of f m < index_of f n → index m < index n)
     (between : (u m a : ℕ) → 0 < occurs m f → parent_of f m ≡ Some u → a ≤ index_of f m → offset u a ≤ index m)
     (beyond : (u m a : ℕ) → 0 < occurs m f → parent_of f m ≡ Some u → index_of f m < a → index m < offset u a) where
-  head-kept : (x y x' y' : ℕ) (xs ys xs' ys' : List ℕ) → ((x < y) × (x' < y')) ⊎ ((y < x) × (y' < x')) → slice_cmp nat_cmp (x' ∷ xs') (y' ∷ ys') ≡ slice_cmp nat_cmp (x ∷ xs) (y ∷ ys)
-  head-kept x y x' y' xs ys xs' ys' (inl i) = rw (nat_cmp-less x' y' i.1, nat_cmp-less x y i.0) refl
-  head-kept x y x' y' xs ys xs' ys' (inr i) = rw (nat_cmp-greater x' y' i.1, nat_cmp-greater x y i.0) refl
-
   pub ways-kept : (u : ℕ) (ms ns : List ℕ) (n k a b : ℕ) → IsWay f u ms n → IsWay f u ns k → slice_cmp nat_cmp (place_by index ms (offset n a)) (place_by index ns (offset k b)) ≡ slice_cmp nat_cmp (place_by (index_of f) ms a) (place_by (index_of f) ns b)
   ways-kept u [] [] n k a b v w =
       slice_cmp-one (2 * offset n a) (2 * offset k b)
@@ -29,13 +31,13 @@ module _ {X : Type 0} (f : Forest X) (o : (m : ℕ) → occurs m f ≤ 1) (index
       (λ e. ap (λ x. 2 * x) (subst (λ m. offset n a ≡ offset m b) (sym v ∙ w) (ap (offset n) e)))
       ∙ sym (slice_cmp-one (2 * a) (2 * b) ∙ nat_cmp-kept a b (2 * a) (2 * b) (λ lt. omega arith) (λ gt. omega arith) (λ e. ap (λ x. 2 * x) e))
   ways-kept u [] (m ∷ ns) n k a b v w =
-      head-kept (2 * a) (2 * index_of f m + 1) (2 * offset n a) (2 * index m + 1) [] (place_by (index_of f) ns b) [] (place_by index ns (offset k b))
+      heads-kept (2 * a) (2 * index_of f m + 1) (2 * offset n a) (2 * index m + 1) [] (place_by (index_of f) ns b) [] (place_by index ns (offset k b))
       (⊎_elim
       (λ (lt : index_of f m < a). inr (omega arith, (let i = beyond u m a w.0 w.1 lt in let j = subst (λ x. index m < offset x a) v i in omega arith)))
       (λ (le : a ≤ index_of f m). inl (omega arith, (let i = between u m a w.0 w.1 le in let j = subst (λ x. offset x a ≤ index m) v i in omega arith)))
       (cases_lt (index_of f m) a))
   ways-kept u (m ∷ ms) [] n k a b v w =
-      head-kept (2 * index_of f m + 1) (2 * b) (2 * index m + 1) (2 * offset k b) (place_by (index_of f) ms a) [] (place_by index ms (offset n a)) []
+      heads-kept (2 * index_of f m + 1) (2 * b) (2 * index m + 1) (2 * offset k b) (place_by (index_of f) ms a) [] (place_by index ms (offset n a)) []
       (⊎_elim
       (λ (lt : index_of f m < b). inl (omega arith, (let i = beyond u m b v.0 v.1 lt in let j = subst (λ x. index m < offset x b) w i in omega arith)))
       (λ (le : b ≤ index_of f m). inr (omega arith, (let i = between u m b v.0 v.1 le in let j = subst (λ x. offset x b ≤ index m) w i in omega arith)))
@@ -55,7 +57,7 @@ module _ {X : Type 0} (f : Forest X) (o : (m : ℕ) → occurs m f ≤ 1) (index
       (cases_lt (index_of f m) (index_of f l))
     where
       apart_heads : ((2 * index_of f m + 1 < 2 * index_of f l + 1) × (2 * index m + 1 < 2 * index l + 1)) ⊎ ((2 * index_of f l + 1 < 2 * index_of f m + 1) × (2 * index l + 1 < 2 * index m + 1)) → slice_cmp nat_cmp (place_by index (m ∷ ms) (offset n a)) (place_by index (l ∷ ns) (offset k b)) ≡ slice_cmp nat_cmp (place_by (index_of f) (m ∷ ms) a) (place_by (index_of f) (l ∷ ns) b)
-      apart_heads i = head-kept (2 * index_of f m + 1) (2 * index_of f l + 1) (2 * index m + 1) (2 * index l + 1) (place_by (index_of f) ms a) (place_by (index_of f) ns b) (place_by index ms (offset n a)) (place_by index ns (offset k b)) i
+      apart_heads i = heads-kept (2 * index_of f m + 1) (2 * index_of f l + 1) (2 * index m + 1) (2 * index l + 1) (place_by (index_of f) ms a) (place_by (index_of f) ns b) (place_by index ms (offset n a)) (place_by index ns (offset k b)) i
 
       one_head : m ≡ l → slice_cmp nat_cmp (place_by index ms (offset n a)) (place_by index ns (offset k b)) ≡ slice_cmp nat_cmp (place_by (index_of f) ms a) (place_by (index_of f) ns b) → slice_cmp nat_cmp (place_by index (m ∷ ms) (offset n a)) (place_by index (l ∷ ns) (offset k b)) ≡ slice_cmp nat_cmp (place_by (index_of f) (m ∷ ms) a) (place_by (index_of f) (l ∷ ns) b)
       one_head d i =

@@ -24,6 +24,7 @@ pub mod Erasing
 pub mod Filters
 pub mod Forest
 pub mod ForestCode
+pub mod Gaps
 pub mod Guards
 pub mod Iterators
 pub mod Kinds
