@@ -1,6 +1,7 @@
 pub mod Agreement
 pub mod Apart
 pub mod AttributesInOrder
+pub mod Below
 pub mod BlankLine
 pub mod Chains
 pub mod Changes
@@ -56,6 +57,7 @@ pub mod IteratorFallsBack
 pub mod IteratorGivesWay
 pub mod IteratorsStay
 pub mod LinesLimited
+pub mod ListsOfWalks
 pub mod Lots
 pub mod Lying
 pub mod MalformedLines
@@ -63,6 +65,7 @@ pub mod MarkedGap
 pub mod MergeInPlace
 pub mod MergeOrder
 pub mod MergedWorlds
+pub mod Mirrored
 pub mod NestedAlike
 pub mod NextSibling
 pub mod NoInput
@@ -90,10 +93,12 @@ pub mod ReplyLines
 pub mod Rising
 pub mod RoomAfterDiscarding
 pub mod RootsKept
+pub mod Shown
 pub mod SpliceOrder
 pub mod SplitInPlace
 pub mod SplitOrder
 pub mod SplitPastTheEnd
+pub mod Standing
 pub mod StaticRangesStay
 pub mod SurroundAllOrNothing
 pub mod TextsSurrounded
@@ -108,5 +113,10 @@ pub mod WalkerLists
 pub mod WalkerMoves
 pub mod WalkerOutsideItsRoot
 pub mod WalkerPastItsRoot
+pub mod WalksBackward
+pub mod WalksForward
+pub mod WalksFound
+pub mod WalksMirrored
+pub mod WalksToSiblings
 pub mod WatchersLimited
 pub mod WaysKept

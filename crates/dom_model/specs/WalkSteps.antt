@@ -124,11 +124,13 @@ module _ {X : Type 0} (f : Forest X) (filter : Filter) (root current : ℕ) wher
   abbrev pub first_child_by_steps : Option ℕ
   first_child_by_steps = walked first_child_step moves_allowed (at_or (first_child current) (ended None))
 
+  -- to traverse siblings: "if node is root, then return null"
   abbrev pub next_sibling_by_steps : Option ℕ
-  next_sibling_by_steps = walked next_sibling_step moves_allowed (leaving current)
+  next_sibling_by_steps = if current == root then None else walked next_sibling_step moves_allowed (leaving current)
 
   abbrev pub next_by_steps : Option ℕ
   next_by_steps = walked next_step moves_allowed (at_or (first_child current) (leaving current))
 
+  -- to the previous node: "while node is not root"
   abbrev pub previous_by_steps : Option ℕ
-  previous_by_steps = walked previous_step moves_allowed (leaving current)
+  previous_by_steps = if current == root then None else walked previous_step moves_allowed (leaving current)
