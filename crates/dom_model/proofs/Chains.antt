@@ -39,7 +39,7 @@ module _ {X : Type 0} where
   IsWay f u [] n = u ≡ n
   IsWay f u (m ∷ ms) n = (0 < occurs m f) × (parent_of f m ≡ Some u) × IsWay f m ms n
 
-  way-last : (f : Forest X) (u : ℕ) (ms : List ℕ) (q n : ℕ) → IsWay f u ms q → 0 < occurs n f → parent_of f n ≡ Some q → IsWay f u (ms ++ n ∷ []) n
+  pub way-last : (f : Forest X) (u : ℕ) (ms : List ℕ) (q n : ℕ) → IsWay f u ms q → 0 < occurs n f → parent_of f n ≡ Some q → IsWay f u (ms ++ n ∷ []) n
   way-last f u [] q n w h e = (h, e ∙ ap (λ k. Some k) (sym w), refl)
   way-last f u (m ∷ ms) q n w h e = (w.0, w.1, way-last f m ms q n w.2 h e)
 

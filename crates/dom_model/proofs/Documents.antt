@@ -140,7 +140,7 @@ module _ {X : Type 0} where
   set-same d empty h = refl
   set-same d (node x kids rest) h = rw (set-same d kids h.1, set-same d rest h.2, ← h.0) refl
 
-  adopted-absent : (n d : ℕ) (f : Forest X) → occurs n f ≡ 0 → adopted n d f ≡ f
+  pub adopted-absent : (n d : ℕ) (f : Forest X) → occurs n f ≡ 0 → adopted n d f ≡ f
   adopted-absent n d empty h = refl
   adopted-absent n d (node x kids rest) h =
       elim (same_or x.number n) [
@@ -183,7 +183,7 @@ module _ {X : Type 0} where
   adopted-put_same p c d b f h hp hc =
       adopted-same c d (put p c b f) (HasOneDocument-put p c d b f h hp hc) (EachNode-put _ p c b f hc)
 
-  adopted-beside : (n d : ℕ) (f g : Forest X) → adopted n d (beside f g) ≡ beside (adopted n d f) (adopted n d g)
+  pub adopted-beside : (n d : ℕ) (f g : Forest X) → adopted n d (beside f g) ≡ beside (adopted n d f) (adopted n d g)
   adopted-beside n d empty g = refl
   adopted-beside n d (node x kids rest) g =
       elim (same_or x.number n) [

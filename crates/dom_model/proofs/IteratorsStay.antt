@@ -24,7 +24,7 @@ hits-past x n (y ∷ xs) =
     ]
 
 -- what a filter lets through was there, and passes
-filter-passes : (p : ℕ → Bool) (xs : List ℕ) (x : ℕ) → head_of (filter p xs) ≡ Some x → (0 < hits x xs) × (p x ≡ true)
+pub filter-passes : (p : ℕ → Bool) (xs : List ℕ) (x : ℕ) → head_of (filter p xs) ≡ Some x → (0 < hits x xs) × (p x ≡ true)
 filter-passes p [] x e = absurd (cc e)
 filter-passes p (y ∷ xs) x e = go (p y) refl (filter-passes p xs x)
   where

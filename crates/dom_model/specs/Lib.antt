@@ -14,6 +14,7 @@ pub mod Clones
 pub mod Command
 pub mod CommandEdits
 pub mod Contents
+pub mod Counts
 pub mod Data
 pub mod Discarding
 pub mod Documents

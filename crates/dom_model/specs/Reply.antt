@@ -1,5 +1,5 @@
 -- Replies: an answer of some shape, or a refusal by its name.
-use Rattle.std.specs.Prelude.{ℕ, List, Bool, Option}
+use Rattle.std.specs.Prelude.{ℕ, List, Bool, true, false, Option}
 use Rattle.std.specs.declared.cmp.Ordering.{Ordering}
 use Rattle.dom_model.specs.declared.DomError.{DomError}
 use Rattle.dom_model.specs.declared.OwnError.{OwnError}
@@ -61,3 +61,9 @@ pub data Reply : Type 0 where
   Done : Answer → Reply
   Dom : DomError → Reply
   Own : OwnError → Reply
+
+-- a refusal, by whatever name
+abbrev pub is_refusal : Reply → Bool
+is_refusal (Done a) = false
+is_refusal (Dom e) = true
+is_refusal (Own e) = true
