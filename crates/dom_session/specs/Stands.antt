@@ -63,12 +63,6 @@ pub record IsStep (old new : Grove Content) (b : Bounds) (c : Command) (reply : 
   pub reply_is : (w : World) → Shows old w → reply_view reply ≡ (answer b w c).reply
   pub world_is : (w : World) → Shows old w → Shows new (answer b w c).world
 
--- a refusal, by whatever name
-abbrev pub is_refusal : model.Reply → Bool
-is_refusal (model.Done a) = false
-is_refusal (model.Dom e) = true
-is_refusal (model.Own e) = true
-
 -- what stands in the way of a new node in a document: no such node, not a Document, no number left
 abbrev pub making_refusal : Grove Content → ℕ → ℕ → Option model.Reply
 making_refusal g numbers document =

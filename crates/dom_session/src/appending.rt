@@ -6,8 +6,9 @@ ghost use Rattle.dom_model.specs.Lists.{among};
 ghost use Rattle.dom_model.specs.Forest.{HasNode, children_of, ancestors, IsForest};
 ghost use Rattle.dom_model.specs.Checks.{is_of_kind, count_kind, has_kind, holds_too_much, document_refuses, check_insert};
 ghost use Rattle.dom_model.specs.Command.{AppendChild};
+ghost use Rattle.dom_model.specs.Reply.{is_refusal};
 ghost use Rattle.dom_session.specs.Views.{reply_view};
-ghost use Rattle.dom_session.specs.Stands.{IsStep, IsSessionForest, is_refusal};
+ghost use Rattle.dom_session.specs.Stands.{IsStep, IsSessionForest};
 ghost use Rattle.dom_session.specs.Limiting.{numbered};
 ghost use Rattle.dom_session.specs.Appending.{detached, appended};
 

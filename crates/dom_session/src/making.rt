@@ -4,8 +4,9 @@ ghost use Rattle.std.specs.Prelude.{◌≡◌, ℕ, ◌≤◌, [], true, IfOk, O
 ghost use Rattle.dom_model.specs.World.{document_label};
 ghost use Rattle.dom_model.specs.Answer.{named};
 ghost use Rattle.dom_model.specs.Command.{NewDocument, CreateElement, CreateText};
+ghost use Rattle.dom_model.specs.Reply.{is_refusal};
 ghost use Rattle.dom_session.specs.Views.{reply_view};
-ghost use Rattle.dom_session.specs.Stands.{IsStep, is_refusal, making_refusal};
+ghost use Rattle.dom_session.specs.Stands.{IsStep, making_refusal};
 ghost use Rattle.dom_session.specs.Limiting.{numbered};
 
 use crate::content::Content;
