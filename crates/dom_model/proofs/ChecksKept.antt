@@ -1,5 +1,5 @@
 -- What an insertion's check asks of a forest, and that it passes on another forest that is like it there. DOM Standard, "Mutation algorithms".
-use Rattle.std.proofs.Common.{◌≡◌, ℕ, ◌+◌, ◌<◌, ◌≤◌, ◌==◌, nat_lt, Bool, true, false, not, ◌&&◌, ◌||◌, if◌then◌else◌, List, [], ◌∷◌, ◌++◌, length, Option, Some, None, refl, ap, sym, ◌∙◌, subst, arith}
+use Rattle.std.proofs.Common.{◌≡◌, ℕ, ◌<◌, ◌==◌, Bool, true, false, not, ◌&&◌, ◌||◌, if◌then◌else◌, List, [], ◌∷◌, length, Option, Some, None, refl, ap, sym, ◌∙◌, subst, arith}
 use Rattle.std.specs.Prelude.{filter, cond}
 use Rattle.std.specs.List.{list_any}
 use Rattle.std.proofs.lemmas.Bool.{false≢true}
@@ -11,7 +11,7 @@ use Rattle.dom_model.specs.Arena.{Entry}
 use Rattle.dom_model.specs.Kinds.{is_kind, may_be_parent, may_stand_under}
 use Rattle.dom_model.specs.Forest.{Node, Forest, empty, node, occurs, tops, entry_under, entry_in, parent_of, children_of, ancestors, KindsFit}
 use Rattle.dom_model.specs.World.{Content}
-use Rattle.dom_model.specs.Checks.{first_refusal, if_given, entry_has, kind_passes, is_of_kind, has_kind, count_kind, doctype_from, element_before, holds_too_much, element_refused, doctype_refused, document_refuses, is_misplaced, kind_refuses, check_insert}
+use Rattle.dom_model.specs.Checks.{if_given, kind_passes, is_of_kind, has_kind, count_kind, doctype_from, holds_too_much, element_refused, doctype_refused, document_refuses, is_misplaced, kind_refuses, check_insert}
 use Rattle.dom_model.proofs.Numbers.{same_or, same, apart}
 use Rattle.dom_model.proofs.Changes.{seen, nothing, just}
 use Rattle.dom_model.proofs.Totals.{IsOnce}
@@ -48,7 +48,7 @@ any-none test (m ∷ ns) h =
     or_both (test m) (list_any test ns) (h m (elim (same_or m m) [ same e t ↦ rw t (omega arith) | apart ne t ↦ absurd (ne refl) ]))
     (any-none test ns (λ n k. h n (omega arith)))
 
-refusal-head : (c : Bool) (e : DomError) (rest : Option DomError) → (if c then Some e else rest) ≡ None → (c ≡ false) × (rest ≡ None)
+pub refusal-head : (c : Bool) (e : DomError) (rest : Option DomError) → (if c then Some e else rest) ≡ None → (c ≡ false) × (rest ≡ None)
 refusal-head true e rest h = absurd (cc h)
 refusal-head false e rest h = (refl, h)
 

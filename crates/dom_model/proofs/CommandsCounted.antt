@@ -20,7 +20,7 @@ use Rattle.dom_model.specs.Contents.{check_extract}
 use Rattle.dom_model.specs.Wrapping.{insert_node, surround}
 use Rattle.dom_model.specs.StaticRanges.{check_static, static_at, made_static}
 use Rattle.dom_model.specs.Records.{options_refusal, with_observer}
-use Rattle.dom_model.specs.Counts.{no_numbers, node_numbers, numbers_for_copies, asked}
+use Rattle.dom_model.specs.Counts.{no_numbers, node_numbers, numbers_for_copies, asked, Needed}
 use Rattle.dom_model.specs.Guards.{Bounds, Step, guarded, answers, does, no_node, no_node_given, wrong_kind, no_room, no_room_for_copies, bad_name, throws}
 use Rattle.dom_model.specs.Command.{Command, NewDocument, CreateElement, CreateText, CreateComment, CreatePI, CreateDoctype, CreateFragment, InsertBefore, AppendChild, AdoptNode, ReplaceChild, RemoveChild, Remove, ReplaceChildren, ImportNode, CloneNode, Normalize, DescribeNode, Children, Index, Length, Root, IsContaining, IsEqual, ComparePosition, TextContent, SetTextContent, Tree, GetData, SetData, AppendData, InsertData, DeleteData, ReplaceData, SubstringData, SplitText, SetAttribute, GetAttribute, HasAttribute, RemoveAttribute, ToggleAttribute, AttributeNames, CreateRange, CloneRange, DescribeRange, SetStart, SetEnd, SetStartBefore, SetStartAfter, SetEndBefore, SetEndAfter, Collapse, SelectNode, SelectNodeContents, CompareBoundaryPoints, ComparePoint, IsPointInRange, IntersectsNode, CommonAncestor, RangeText, DeleteContents, ExtractContents, CloneContents, InsertNode, SurroundContents, ReleaseRange, CreateIterator, CreateWalker, DescribeIterator, NextNode, PreviousNode, DescribeWalker, SetCurrent, Walk, CreateObserver, Observe, Disconnect, TakeRecords, Notify, Pending, Discard, CreateStaticRange, DescribeStaticRange}
 use Rattle.dom_model.specs.AnswerTree.{is_child_node, described, check_replace_children}
@@ -41,12 +41,12 @@ use Rattle.dom_model.proofs.StepsCounted.{IsCounted, leaves, takes, guarded-coun
 
 module _ (b : Bounds) (w : World) where
   -- A question leaves the world.
-  asks : (cs : List (Bool × Reply)) (s : Step) → s.world ≡ w → IsCounted b no_numbers w (guarded cs w s)
+  asks : {needs : Type 0} → (cs : List (Bool × Reply)) (s : Step) → s.world ≡ w → IsCounted b no_numbers needs w (guarded cs w s)
   asks cs s e = guarded-counted b no_numbers cs w s (λ h. leaves e)
 
   -- Objects of the other kinds: one more of them.
 
-  range-counted : (range : Range) → nat_lt b.numbers (length w.ranges + 1) ≡ false → IsCounted b (record no_numbers { ranges = 1 }) w (makes_range range w)
+  range-counted : {needs : Type 0} → (range : Range) → nat_lt b.numbers (length w.ranges + 1) ≡ false → IsCounted b (record no_numbers { ranges = 1 }) needs w (makes_range range w)
   range-counted range room =
       let l = length-append w.ranges (Some range ∷ []) in
       let r = ltb-false b.numbers (length w.ranges + 1) room in
@@ -55,7 +55,7 @@ module _ (b : Bounds) (w : World) where
       (record { nodes = omega arith; ranges = omega arith; iterators = omega arith; walkers = omega arith; observers = omega arith; static_ranges = omega arith })
       (λ o. record { nodes = omega arith; ranges = omega arith; iterators = omega arith; walkers = omega arith; observers = omega arith; static_ranges = omega arith })
 
-  iterator-counted : (it : Iterator) (a : Answer) → nat_lt b.numbers (length w.iterators + 1) ≡ false → IsCounted b (record no_numbers { iterators = 1 }) w (answers a (record w { iterators = w.iterators ++ it ∷ [] }))
+  iterator-counted : {needs : Type 0} → (it : Iterator) (a : Answer) → nat_lt b.numbers (length w.iterators + 1) ≡ false → IsCounted b (record no_numbers { iterators = 1 }) needs w (answers a (record w { iterators = w.iterators ++ it ∷ [] }))
   iterator-counted it a room =
       let l = length-append w.iterators (it ∷ []) in
       let r = ltb-false b.numbers (length w.iterators + 1) room in
@@ -64,7 +64,7 @@ module _ (b : Bounds) (w : World) where
       (record { nodes = omega arith; ranges = omega arith; iterators = omega arith; walkers = omega arith; observers = omega arith; static_ranges = omega arith })
       (λ o. record { nodes = omega arith; ranges = omega arith; iterators = omega arith; walkers = omega arith; observers = omega arith; static_ranges = omega arith })
 
-  walker-counted : (k : Walker) (a : Answer) → nat_lt b.numbers (length w.walkers + 1) ≡ false → IsCounted b (record no_numbers { walkers = 1 }) w (answers a (record w { walkers = w.walkers ++ k ∷ [] }))
+  walker-counted : {needs : Type 0} → (k : Walker) (a : Answer) → nat_lt b.numbers (length w.walkers + 1) ≡ false → IsCounted b (record no_numbers { walkers = 1 }) needs w (answers a (record w { walkers = w.walkers ++ k ∷ [] }))
   walker-counted k a room =
       let l = length-append w.walkers (k ∷ []) in
       let r = ltb-false b.numbers (length w.walkers + 1) room in
@@ -73,7 +73,7 @@ module _ (b : Bounds) (w : World) where
       (record { nodes = omega arith; ranges = omega arith; iterators = omega arith; walkers = omega arith; observers = omega arith; static_ranges = omega arith })
       (λ o. record { nodes = omega arith; ranges = omega arith; iterators = omega arith; walkers = omega arith; observers = omega arith; static_ranges = omega arith })
 
-  observer-counted : (a : Answer) → nat_lt b.numbers (length w.observing.places + 1) ≡ false → IsCounted b (record no_numbers { observers = 1 }) w (answers a (with_observing (with_observer w.observing) w))
+  observer-counted : {needs : Type 0} → (a : Answer) → nat_lt b.numbers (length w.observing.places + 1) ≡ false → IsCounted b (record no_numbers { observers = 1 }) needs w (answers a (with_observing (with_observer w.observing) w))
   observer-counted a room =
       let l = length-append w.observing.places (length w.observing.mutations ∷ []) in
       let r = ltb-false b.numbers (length w.observing.places + 1) room in
@@ -82,7 +82,7 @@ module _ (b : Bounds) (w : World) where
       (record { nodes = omega arith; ranges = omega arith; iterators = omega arith; walkers = omega arith; observers = omega arith; static_ranges = omega arith })
       (λ o. record { nodes = omega arith; ranges = omega arith; iterators = omega arith; walkers = omega arith; observers = omega arith; static_ranges = omega arith })
 
-  static-counted : (range : Range) (a : Answer) → nat_lt b.numbers (length w.static_ranges + 1) ≡ false → IsCounted b (record no_numbers { static_ranges = 1 }) w (answers a (made_static range w))
+  static-counted : {needs : Type 0} → (range : Range) (a : Answer) → nat_lt b.numbers (length w.static_ranges + 1) ≡ false → IsCounted b (record no_numbers { static_ranges = 1 }) needs w (answers a (made_static range w))
   static-counted range a room =
       let l = length-append w.static_ranges (range ∷ []) in
       let r = ltb-false b.numbers (length w.static_ranges + 1) room in
@@ -93,36 +93,36 @@ module _ (b : Bounds) (w : World) where
 
   -- Changes that take no number.
 
-  with_iterator-counted : (i : ℕ) (it : Iterator) (a : Answer) → IsCounted b no_numbers w (answers a (with_iterator i it w))
+  with_iterator-counted : {needs : Type 0} → (i : ℕ) (it : Iterator) (a : Answer) → IsCounted b no_numbers needs w (answers a (with_iterator i it w))
   with_iterator-counted i it a =
       keeps b w (with_iterator i it w) a (record { least = omega arith; most = omega arith; ranges = refl; iterators = length-set w.iterators i it; walkers = refl; observers = refl; static_ranges = refl })
 
-  with_walker-counted : (i : ℕ) (k : Walker) (a : Answer) → IsCounted b no_numbers w (answers a (with_walker i k w))
+  with_walker-counted : {needs : Type 0} → (i : ℕ) (k : Walker) (a : Answer) → IsCounted b no_numbers needs w (answers a (with_walker i k w))
   with_walker-counted i k a =
       keeps b w (with_walker i k w) a (record { least = omega arith; most = omega arith; ranges = refl; iterators = refl; walkers = length-set w.walkers i k; observers = refl; static_ranges = refl })
 
-  sets-counted : (r : ℕ) (o : Option Range) (set : Range → Range) → IsCounted b no_numbers w (on_range o w (λ range. does (with_range r (set range) w)))
+  sets-counted : {needs : Type 0} → (r : ℕ) (o : Option Range) (set : Range → Range) → IsCounted b no_numbers needs w (on_range o w (λ range. does (with_range r (set range) w)))
   sets-counted r o set = on_range-counted b no_numbers o w _ (λ range. keeps b w _ _ (with_range-kept r (set range) w))
 
-  sets_start-counted : (r n : ℕ) (p : Option Point) → IsCounted b no_numbers w (sets_start r n p w)
+  sets_start-counted : {needs : Type 0} → (r n : ℕ) (p : Option Point) → IsCounted b no_numbers needs w (sets_start r n p w)
   sets_start-counted r n p =
       guarded-counted b no_numbers (no_range r w ∷ no_node n w ∷ []) w _
       (λ h. at_point-counted b no_numbers p w _ (λ q. sets-counted r (range_at w r) (start_set w.forest q)))
 
-  sets_end-counted : (r n : ℕ) (p : Option Point) → IsCounted b no_numbers w (sets_end r n p w)
+  sets_end-counted : {needs : Type 0} → (r n : ℕ) (p : Option Point) → IsCounted b no_numbers needs w (sets_end r n p w)
   sets_end-counted r n p =
       guarded-counted b no_numbers (no_range r w ∷ no_node n w ∷ []) w _
       (λ h. at_point-counted b no_numbers p w _ (λ q. sets-counted r (range_at w r) (end_set w.forest q)))
 
-  described-counted : (n : ℕ) (e : Option (Entry (Node Content))) → IsCounted b no_numbers w (described w n e)
+  described-counted : {needs : Type 0} → (n : ℕ) (e : Option (Entry (Node Content))) → IsCounted b no_numbers needs w (described w n e)
   described-counted n None = leaves refl
   described-counted n (Some e) = leaves refl
 
-  told-counted : (range : Option Range) → IsCounted b no_numbers w (static_told w range)
+  told-counted : {needs : Type 0} → (range : Option Range) → IsCounted b no_numbers needs w (static_told w range)
   told-counted None = leaves refl
   told-counted (Some range) = leaves refl
 
-pub command-counted : (b : Bounds) (w : World) (c : Command) → IsCounted b (asked w c) w (answer b w c)
+pub command-counted : (b : Bounds) (w : World) (c : Command) → IsCounted b (asked w c) (Needed w c) w (answer b w c)
 command-counted b w NewDocument = guarded-counted b (node_numbers 1) (no_room b w.made 1 ∷ []) w _ (λ h. grows b 1 1 w _ _ h.0 (omega arith) (made_node-grown _ _ _ w))
 command-counted b w (CreateElement d name) = guarded-counted b (node_numbers 1) (no_node d w ∷ wrong_kind (is_kind Document) d w ∷ no_room b w.made 1 ∷ bad_name (is_element_name name) ∷ []) w _ (λ h. grows b 1 1 w _ _ h.1.1.0 (omega arith) (made_node-grown _ _ _ w))
 command-counted b w (CreateText d text) = guarded-counted b (node_numbers 1) (no_node d w ∷ wrong_kind (is_kind Document) d w ∷ no_room b w.made 1 ∷ []) w _ (λ h. grows b 1 1 w _ _ h.1.1.0 (omega arith) (made_node-grown _ _ _ w))

@@ -1,12 +1,10 @@
 -- How many numbers a copy of a range's contents takes: at most twice the nodes in use, and two.
-use Rattle.std.proofs.Common.{◌≡◌, ℕ, ◌+◌, ◌*◌, ◌-◌, ◌<◌, ◌≤◌, Bool, true, false, List, [], ◌∷◌, reverse, Option, Some, None, refl, ap, sym, ◌∙◌, subst, arith, ⊎_elim}
+use Rattle.std.proofs.Common.{◌≡◌, ℕ, ◌+◌, ◌*◌, ◌-◌, ◌<◌, ◌≤◌, Bool, true, false, List, [], ◌∷◌, reverse, Option, Some, None, refl, ap, sym, ◌∙◌, arith, ⊎_elim}
 use Rattle.std.specs.Prelude.{filter, cond, unwrap_or}
 use Rattle.std.proofs.lemmas.Bool.{cases_lt, false≢true}
-use Rattle.dom_model.specs.declared.Kind.{Kind}
 use Rattle.dom_model.specs.declared.Kind.TheVariants.{DocumentFragment}
-use Rattle.dom_model.specs.Kinds.{may_stand_under}
 use Rattle.dom_model.specs.Lists.{hits, among, head_of}
-use Rattle.dom_model.specs.Forest.{Node, Forest, empty, node, occurs, one_at, size, beside, tree_at, children_of, ancestors, KindsFit}
+use Rattle.dom_model.specs.Forest.{Forest, empty, node, occurs, one_at, size, tree_at, children_of, ancestors, KindsFit}
 use Rattle.dom_model.specs.World.{Content, Range, World, no_content}
 use Rattle.dom_model.specs.Making.{named}
 use Rattle.dom_model.specs.Checks.{up_to}
@@ -22,6 +20,7 @@ use Rattle.dom_model.proofs.Entries.{occurs-HasNode}
 use Rattle.dom_model.proofs.Indices.{child-listed}
 use Rattle.dom_model.proofs.Chains.{IsWay}
 use Rattle.dom_model.proofs.PathsApart.{along}
+use Rattle.dom_model.proofs.NewRoots.{root-once, root-kinds}
 use Rattle.dom_model.proofs.ForestsBeside.{AreUnder, IsBelow, absent-from, ancestors-older, entry-older}
 use Rattle.dom_model.proofs.CopiesBeside.{StandsBeside, made-beside}
 use Rattle.dom_model.proofs.CopiesCounted.{tree_sizes, tail_cost, head_cost, IsCopied, copied-then, kids-same, kids-under, children-copied, tail-copied, head-copied}
@@ -102,25 +101,6 @@ module _ (f : Forest Content) (o : IsOnce f) (n m a : ℕ) (hn : 0 < occurs n f)
       let out2 = above_second u on in
       let ne : t ≡ u → ⊥ = λ d. false≢true (sym (off t (hits-first t first)) ∙ ap (λ z. among z (ancestors m f)) d ∙ hits-among u (ancestors m f) on) in
       omega (arith, kids-size, tail-within f o x a t n first v, head-within f o y a u m second w, two_out (λ z. size (tree_at z f)) q (children_of f a) t u ne (child-listed f o t a v.0 v.1) (child-listed f o u a w.0 w.1) out out2)
-
--- A new node, a root of its own.
-
-module _ {X : Type 0} (f : Forest X) (x : Node X) where
-  abbrev with_root : Forest X
-  with_root = beside f (node x empty empty)
-
-  root-once : IsOnce f → occurs x.number f ≡ 0 → IsOnce with_root
-  root-once o z n =
-      let k = o n in
-      let t = total-beside (one_at n) f (node x empty empty) in
-      elim (same_or x.number n) [
-        | same e v ↦ (let i = subst (λ m. occurs m f ≡ 0) e z in let j = rw v at t in omega arith)
-        | apart ne v ↦ (let j = rw v at t in omega arith)
-      ]
-
-root-kinds : {X : Type 0} (q : Option Kind) (f : Forest X) (x : Node X) → may_stand_under q x.label.kind ≡ true → KindsFit q f → KindsFit q (beside f (node x empty empty))
-root-kinds q empty x h k = (h, tt, tt)
-root-kinds q (node y kids rest) x h k = (k.0, k.1, root-kinds q rest x h k.2)
 
 module _ (w : World) (in_order : IsInOrder w) (r : Range) (ends : HasEnds w.forest r) where
   abbrev low : ℕ

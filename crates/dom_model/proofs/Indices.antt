@@ -93,7 +93,7 @@ module _ {X : Type 0} where
   pub child-parent : (f : Forest X) → ((m : ℕ) → occurs m f ≤ 1) → (n q : ℕ) → 0 < hits n (children_of f q) → parent_of f n ≡ Some q
   child-parent f o n q h = listed-back (entry_in f) None n q f (Lies-entry_in f o) (children-there f n q h) h
 
-  parent-there : (f : Forest X) (n q : ℕ) → parent_of f n ≡ Some q → 0 < occurs n f
+  pub parent-there : (f : Forest X) (n q : ℕ) → parent_of f n ≡ Some q → 0 < occurs n f
   parent-there f n q h =
       elim (seen (entry_in f n)) [
         | nothing e ↦ absurd (let k : None ≡ Some q = rw e at h in cc k)

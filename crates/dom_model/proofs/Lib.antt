@@ -65,6 +65,7 @@ pub mod GapsInOrder
 pub mod HostileLines
 pub mod IndexedTrees
 pub mod Indices
+pub mod InsertAllowed
 pub mod IteratorFallsBack
 pub mod IteratorGivesWay
 pub mod IteratorsStay
@@ -79,6 +80,7 @@ pub mod MergeOrder
 pub mod MergedWorlds
 pub mod Mirrored
 pub mod NestedAlike
+pub mod NewRoots
 pub mod NextSibling
 pub mod NoInput
 pub mod NodeBeforeItself
@@ -108,11 +110,13 @@ pub mod ReplyLines
 pub mod Rising
 pub mod RoomAfterDiscarding
 pub mod RootsKept
+pub mod SameShape
 pub mod Shown
 pub mod SpliceOrder
 pub mod SplitInPlace
 pub mod SplitOrder
 pub mod SplitPastTheEnd
+pub mod SplitsLike
 pub mod Standing
 pub mod StaticRangesStay
 pub mod StepsCounted

@@ -3,7 +3,7 @@ use Rattle.std.proofs.Common.{◌≡◌, true}
 use Rattle.dom_model.specs.World.{World}
 use Rattle.dom_model.specs.Reply.{is_refusal}
 use Rattle.dom_model.specs.Command.{Command}
-use Rattle.dom_model.specs.Counts.{counts_of, plus, of_each, asked, AreAtMost, IsInOrder}
+use Rattle.dom_model.specs.Counts.{counts_of, plus, of_each, asked, AreAtMost, Needed}
 use Rattle.dom_model.specs.Answer.{Bounds, answer}
 use Rattle.dom_model.proofs.StepsCounted.{counted-leaves, counted-never_fall, counted-at_most, counted-within}
 use Rattle.dom_model.proofs.CommandsCounted.{command-counted}
@@ -16,10 +16,10 @@ refused-leaves b w c h = counted-leaves (command-counted b w c) h
 pub counts-never_fall : (b : Bounds) (w : World) (c : Command) → AreAtMost (counts_of w) (counts_of (answer b w c).world)
 counts-never_fall b w c = counted-never_fall (command-counted b w c)
 
--- no more numbers are given out than the command asks for
-pub counts-as_asked : (b : Bounds) (w : World) (c : Command) → IsInOrder w → AreAtMost (counts_of (answer b w c).world) (plus (counts_of w) (asked w c))
+-- no more numbers are given out than the command asks for; only a copy of contents needs the world in order
+pub counts-as_asked : (b : Bounds) (w : World) (c : Command) → Needed w c → AreAtMost (counts_of (answer b w c).world) (plus (counts_of w) (asked w c))
 counts-as_asked b w c o = counted-at_most (command-counted b w c) o
 
 -- from a world whose counts are within the limit the next one's are
-pub numbers-kept : (b : Bounds) (w : World) (c : Command) → IsInOrder w → AreAtMost (counts_of w) (of_each b.numbers) → AreAtMost (counts_of (answer b w c).world) (of_each b.numbers)
+pub numbers-kept : (b : Bounds) (w : World) (c : Command) → Needed w c → AreAtMost (counts_of w) (of_each b.numbers) → AreAtMost (counts_of (answer b w c).world) (of_each b.numbers)
 numbers-kept b w c o h = counted-within (command-counted b w c) o h

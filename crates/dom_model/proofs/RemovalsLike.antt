@@ -1,25 +1,24 @@
 -- A node that is removed first may come in where it was allowed to: before the child, or before its own next sibling. DOM Standard, "Mutation algorithms".
-use Rattle.std.proofs.Common.{◌≡◌, ℕ, ◌+◌, ◌<◌, ◌≤◌, ◌==◌, Bool, true, false, not, ◌||◌, if◌then◌else◌, List, [], ◌∷◌, Option, Some, None, refl, ap, sym, ◌∙◌, subst, arith, ⊎_elim}
-use Rattle.std.specs.Prelude.{option_map}
-use Rattle.std.proofs.lemmas.Bool.{cases_lt, false≢true}
+use Rattle.std.proofs.Common.{◌≡◌, ℕ, ◌<◌, ◌≤◌, ◌==◌, Bool, false, not, if◌then◌else◌, List, [], ◌∷◌, Option, Some, None, refl, ap, sym, ◌∙◌, subst, arith, ⊎_elim}
+use Rattle.std.proofs.lemmas.Bool.{cases_lt}
 use Rattle.dom_model.specs.declared.Kind.{Kind}
-use Rattle.dom_model.specs.declared.Kind.TheVariants.{Element, Text, DocumentType}
+use Rattle.dom_model.specs.declared.Kind.TheVariants.{Element, DocumentType}
 use Rattle.dom_model.specs.Lists.{hits, among, is_number, after, left_out}
 use Rattle.dom_model.specs.Arena.{Entry, list_under}
 use Rattle.dom_model.specs.Kinds.{is_kind}
-use Rattle.dom_model.specs.Forest.{Node, Forest, occurs, cut, entry_in, parent_of, children_of, next_of, ancestors}
+use Rattle.dom_model.specs.Forest.{Node, Forest, cut, entry_in, parent_of, children_of, next_of, ancestors}
 use Rattle.dom_model.specs.World.{Content}
 use Rattle.dom_model.specs.PreRemoval.{past}
 use Rattle.dom_model.specs.Checks.{up_to, if_given, entry_has, kind_passes, is_of_kind, has_kind, doctype_from, doctype_refused}
 use Rattle.dom_model.proofs.Numbers.{same_or, same, apart}
-use Rattle.dom_model.proofs.Changes.{seen, nothing, just, cut_at}
+use Rattle.dom_model.proofs.Changes.{cut_at}
 use Rattle.dom_model.proofs.Totals.{IsOnce}
 use Rattle.dom_model.proofs.Lying.{left_out-absent}
 use Rattle.dom_model.proofs.PutBack.{hits-head_of, hits-after}
 use Rattle.dom_model.proofs.Entries.{entry-cut, parent-cut, children-cut}
-use Rattle.dom_model.proofs.Indices.{child-once, child-parent, child-there}
+use Rattle.dom_model.proofs.Indices.{child-once, child-parent}
 use Rattle.dom_model.proofs.Paths.{outside-cut}
-use Rattle.dom_model.proofs.ChecksKept.{NoneOf, none-of, any-none, IsLike, number-parent, or_first, or_second, or_both}
+use Rattle.dom_model.proofs.ChecksKept.{none-of, any-none, IsLike, number-parent, or_first, or_second, or_both}
 
 -- What is left of a list is of the list.
 

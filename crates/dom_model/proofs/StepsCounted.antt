@@ -5,7 +5,7 @@ use Rattle.std.proofs.lemmas.Bool.{false≢true, ltb-false}
 use Rattle.dom_model.specs.declared.DomError.{DomError}
 use Rattle.dom_model.specs.World.{Point, Range, World}
 use Rattle.dom_model.specs.Reply.{Answer, Reply, Done, is_refusal}
-use Rattle.dom_model.specs.Counts.{Counts, counts_of, no_numbers, node_numbers, plus, of_each, AreAtMost, IsInOrder}
+use Rattle.dom_model.specs.Counts.{Counts, counts_of, no_numbers, node_numbers, plus, of_each, AreAtMost}
 use Rattle.dom_model.specs.Guards.{Bounds, Step, refused, guarded, checked}
 use Rattle.dom_model.specs.Wrapping.{Outcome}
 use Rattle.dom_model.specs.AnswerRanges.{on_range, at_point, at_ends, done_or_refused}
@@ -17,11 +17,11 @@ use Rattle.dom_model.proofs.CountsOfExtraction.{IsGrownTo}
 abbrev pub HasRoom : Bounds → Counts → World → Type 0
 HasRoom b asked w = AreAtMost (counts_of w) (of_each b.numbers) → AreAtMost (plus (counts_of w) asked) (of_each b.numbers)
 
-pub data IsCounted (b : Bounds) (asked : Counts) (w : World) (s : Step) : Type 0 where
-  leaves : s.world ≡ w → IsCounted b asked w s
-  takes : is_refusal s.reply ≡ false → HasRoom b asked w → AreAtMost (counts_of w) (counts_of s.world) → (IsInOrder w → AreAtMost (counts_of s.world) (plus (counts_of w) asked)) → IsCounted b asked w s
+pub data IsCounted (b : Bounds) (asked : Counts) (needs : Type 0) (w : World) (s : Step) : Type 0 where
+  leaves : s.world ≡ w → IsCounted b asked needs w s
+  takes : is_refusal s.reply ≡ false → HasRoom b asked w → AreAtMost (counts_of w) (counts_of s.world) → (needs → AreAtMost (counts_of s.world) (plus (counts_of w) asked)) → IsCounted b asked needs w s
 
-pub counted-leaves : {b : Bounds} {asked : Counts} {w : World} {s : Step} → IsCounted b asked w s → is_refusal s.reply ≡ true → s.world ≡ w
+pub counted-leaves : {b : Bounds} {asked : Counts} {needs : Type 0} {w : World} {s : Step} → IsCounted b asked needs w s → is_refusal s.reply ≡ true → s.world ≡ w
 counted-leaves (leaves e) h = e
 counted-leaves (takes n room more most) h = absurd (false≢true (sym n ∙ h))
 
@@ -39,18 +39,18 @@ at_most-plus : (x y : Counts) → AreAtMost x (plus x y)
 at_most-plus x y = record { nodes = omega arith; ranges = omega arith; iterators = omega arith; walkers = omega arith; observers = omega arith; static_ranges = omega arith }
 
 -- the counts never fall
-pub counted-never_fall : {b : Bounds} {asked : Counts} {w : World} {s : Step} → IsCounted b asked w s → AreAtMost (counts_of w) (counts_of s.world)
-counted-never_fall {b} {asked} {w} {s} (leaves e) = rw e (record { nodes = omega arith; ranges = omega arith; iterators = omega arith; walkers = omega arith; observers = omega arith; static_ranges = omega arith })
+pub counted-never_fall : {b : Bounds} {asked : Counts} {needs : Type 0} {w : World} {s : Step} → IsCounted b asked needs w s → AreAtMost (counts_of w) (counts_of s.world)
+counted-never_fall {b} {asked} {needs} {w} {s} (leaves e) = rw e (record { nodes = omega arith; ranges = omega arith; iterators = omega arith; walkers = omega arith; observers = omega arith; static_ranges = omega arith })
 counted-never_fall (takes n room more most) = more
 
 -- they grow by at most what is asked for
-pub counted-at_most : {b : Bounds} {asked : Counts} {w : World} {s : Step} → IsCounted b asked w s → IsInOrder w → AreAtMost (counts_of s.world) (plus (counts_of w) asked)
-counted-at_most {b} {asked} {w} {s} (leaves e) o = rw e (at_most-plus (counts_of w) asked)
+pub counted-at_most : {b : Bounds} {asked : Counts} {needs : Type 0} {w : World} {s : Step} → IsCounted b asked needs w s → needs → AreAtMost (counts_of s.world) (plus (counts_of w) asked)
+counted-at_most {b} {asked} {needs} {w} {s} (leaves e) o = rw e (at_most-plus (counts_of w) asked)
 counted-at_most (takes n room more most) o = most o
 
 -- and stay within the limit
-pub counted-within : {b : Bounds} {asked : Counts} {w : World} {s : Step} → IsCounted b asked w s → IsInOrder w → AreAtMost (counts_of w) (of_each b.numbers) → AreAtMost (counts_of s.world) (of_each b.numbers)
-counted-within {b} {asked} {w} {s} (leaves e) o h = rw e h
+pub counted-within : {b : Bounds} {asked : Counts} {needs : Type 0} {w : World} {s : Step} → IsCounted b asked needs w s → needs → AreAtMost (counts_of w) (of_each b.numbers) → AreAtMost (counts_of s.world) (of_each b.numbers)
+counted-within {b} {asked} {needs} {w} {s} (leaves e) o h = rw e h
 counted-within (takes n room more most) o h = at_most-then (most o) (room h)
 
 -- How steps are made up.
@@ -60,31 +60,31 @@ abbrev pub NoneHolds : List (Bool × Reply) → Type 0
 NoneHolds [] = Unit {0}
 NoneHolds (c ∷ cs) = (c.0 ≡ false) × NoneHolds cs
 
-pub guarded-counted : (b : Bounds) (asked : Counts) (cs : List (Bool × Reply)) (w : World) (s : Step) → (NoneHolds cs → IsCounted b asked w s) → IsCounted b asked w (guarded cs w s)
+pub guarded-counted : {needs : Type 0} (b : Bounds) (asked : Counts) (cs : List (Bool × Reply)) (w : World) (s : Step) → (NoneHolds cs → IsCounted b asked needs w s) → IsCounted b asked needs w (guarded cs w s)
 guarded-counted b asked [] w s h = h tt
-guarded-counted b asked (c ∷ cs) w s h = go c.0 refl (λ e. guarded-counted b asked cs w s (λ k. h (e, k)))
+guarded-counted {needs} b asked (c ∷ cs) w s h = go c.0 refl (λ e. guarded-counted b asked cs w s (λ k. h (e, k)))
   where
-    go : (v : Bool) → c.0 ≡ v → (c.0 ≡ false → IsCounted b asked w (guarded cs w s)) → IsCounted b asked w (if v then refused c.1 w else guarded cs w s)
+    go : (v : Bool) → c.0 ≡ v → (c.0 ≡ false → IsCounted b asked needs w (guarded cs w s)) → IsCounted b asked needs w (if v then refused c.1 w else guarded cs w s)
     go true e later = leaves refl
     go false e later = later e
 
-pub checked-counted : (b : Bounds) (asked : Counts) (c : Option DomError) (w : World) (s : Step) → IsCounted b asked w s → IsCounted b asked w (checked c w s)
+pub checked-counted : {needs : Type 0} (b : Bounds) (asked : Counts) (c : Option DomError) (w : World) (s : Step) → IsCounted b asked needs w s → IsCounted b asked needs w (checked c w s)
 checked-counted b asked None w s h = h
 checked-counted b asked (Some e) w s h = leaves refl
 
-pub on_range-counted : (b : Bounds) (asked : Counts) (o : Option Range) (w : World) (step : Range → Step) → ((x : Range) → IsCounted b asked w (step x)) → IsCounted b asked w (on_range o w step)
+pub on_range-counted : {needs : Type 0} (b : Bounds) (asked : Counts) (o : Option Range) (w : World) (step : Range → Step) → ((x : Range) → IsCounted b asked needs w (step x)) → IsCounted b asked needs w (on_range o w step)
 on_range-counted b asked None w step h = leaves refl
 on_range-counted b asked (Some x) w step h = h x
 
-pub at_point-counted : (b : Bounds) (asked : Counts) (o : Option Point) (w : World) (step : Point → Step) → ((x : Point) → IsCounted b asked w (step x)) → IsCounted b asked w (at_point o w step)
+pub at_point-counted : {needs : Type 0} (b : Bounds) (asked : Counts) (o : Option Point) (w : World) (step : Point → Step) → ((x : Point) → IsCounted b asked needs w (step x)) → IsCounted b asked needs w (at_point o w step)
 at_point-counted b asked None w step h = leaves refl
 at_point-counted b asked (Some x) w step h = h x
 
-pub at_ends-counted : (b : Bounds) (asked : Counts) (o : Option Range) (w : World) (step : Range → Step) → ((x : Range) → IsCounted b asked w (step x)) → IsCounted b asked w (at_ends o w step)
+pub at_ends-counted : {needs : Type 0} (b : Bounds) (asked : Counts) (o : Option Range) (w : World) (step : Range → Step) → ((x : Range) → IsCounted b asked needs w (step x)) → IsCounted b asked needs w (at_ends o w step)
 at_ends-counted b asked None w step h = leaves refl
 at_ends-counted b asked (Some x) w step h = h x
 
-pub object-counted : {A : Type 0} (b : Bounds) (asked : Counts) (o : Option A) (w : World) (step : A → Step) → ((x : A) → IsCounted b asked w (step x)) → IsCounted b asked w (with_object o w step)
+pub object-counted : {A needs : Type 0} (b : Bounds) (asked : Counts) (o : Option A) (w : World) (step : A → Step) → ((x : A) → IsCounted b asked needs w (step x)) → IsCounted b asked needs w (with_object o w step)
 object-counted b asked None w step h = leaves refl
 object-counted b asked (Some x) w step h = h x
 
@@ -121,17 +121,17 @@ has-room b asked w e h = record {
 }
 
 -- no number
-pub keeps : (b : Bounds) (w v : World) (a : Answer) → IsGrown 0 w v → IsCounted b no_numbers w (record { reply = Done a; world = v })
+pub keeps : {needs : Type 0} (b : Bounds) (w v : World) (a : Answer) → IsGrown 0 w v → IsCounted b no_numbers needs w (record { reply = Done a; world = v })
 keeps b w v a g = takes refl (λ h. at_most-then (record { nodes = omega arith; ranges = omega arith; iterators = omega arith; walkers = omega arith; observers = omega arith; static_ranges = omega arith }) h) (never-fall 0 w v g) (λ o. grow-at_most 0 0 w v (omega arith) g)
 
 -- numbers of nodes
-pub grows : (b : Bounds) (asked more : ℕ) (w v : World) (a : Answer) → nat_lt b.numbers (w.made + asked) ≡ false → more ≤ asked → IsGrown more w v → IsCounted b (node_numbers asked) w (record { reply = Done a; world = v })
+pub grows : {needs : Type 0} (b : Bounds) (asked more : ℕ) (w v : World) (a : Answer) → nat_lt b.numbers (w.made + asked) ≡ false → more ≤ asked → IsGrown more w v → IsCounted b (node_numbers asked) needs w (record { reply = Done a; world = v })
 grows b asked more w v a room l g = takes refl (has-room b asked w room) (never-fall more w v g) (λ o. grow-at_most more asked w v l g)
 
--- the same, where a world in order is wanted to tell how many
-pub grows-in_order : (b : Bounds) (asked most more : ℕ) (w v : World) (a : Answer) → nat_lt b.numbers (w.made + asked) ≡ false → IsGrown most w v → more ≤ asked → (IsInOrder w → IsGrown more w v) → IsCounted b (node_numbers asked) w (record { reply = Done a; world = v })
+-- the same, where something is needed to tell how many
+pub grows-in_order : {needs : Type 0} (b : Bounds) (asked most more : ℕ) (w v : World) (a : Answer) → nat_lt b.numbers (w.made + asked) ≡ false → IsGrown most w v → more ≤ asked → (needs → IsGrown more w v) → IsCounted b (node_numbers asked) needs w (record { reply = Done a; world = v })
 grows-in_order b asked most more w v a room g l h = takes refl (has-room b asked w room) (never-fall most w v g) (λ o. grow-at_most more asked w v l (h o))
 
-pub outcome-counted : (b : Bounds) (asked more : ℕ) (w : World) (o : Outcome) → nat_lt b.numbers (w.made + asked) ≡ false → more ≤ asked → IsGrownTo more w o → IsCounted b (node_numbers asked) w (done_or_refused o w)
+pub outcome-counted : {needs : Type 0} (b : Bounds) (asked more : ℕ) (w : World) (o : Outcome) → nat_lt b.numbers (w.made + asked) ≡ false → more ≤ asked → IsGrownTo more w o → IsCounted b (node_numbers asked) needs w (done_or_refused o w)
 outcome-counted b asked more w (Ok v) room l g = grows b asked more w v _ room l g
 outcome-counted b asked more w (Err e) room l g = leaves refl

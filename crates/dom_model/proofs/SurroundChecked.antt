@@ -1,5 +1,5 @@
 -- Surround contents is all or nothing by its check: the check passes exactly where every step does. DOM Standard, "Interface Range".
-use Rattle.std.proofs.Common.{◌≡◌, ℕ, Option, Some, None, refl, ap}
+use Rattle.std.proofs.Common.{◌≡◌, ℕ, Some, None, refl, ap}
 use Rattle.std.specs.Prelude.{Ok, Err}
 use Rattle.dom_model.specs.declared.DomError.{DomError}
 use Rattle.dom_model.specs.World.{World}

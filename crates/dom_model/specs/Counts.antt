@@ -103,3 +103,8 @@ pub record HasEnds (f : Forest Content) (r : Range) : Type 0 where
 pub record IsInOrder (w : World) : Type 0 where
   pub forest : IsForest (record { forest = w.forest; made = w.made })
   pub ends : (r : ℕ) (range : Range) → range_at w r ≡ Some range → HasEnds w.forest range
+
+-- what a command needs to take no more numbers than it asks for: a copy of contents wants the world in order, any other nothing
+abbrev pub Needed : World → Command → Type 0
+Needed w (CloneContents r) = IsInOrder w
+Needed w _ = Unit {0}
