@@ -1,16 +1,16 @@
 -- A node below another: its tree in the other's, and its ancestors there.
-use Rattle.std.proofs.Common.{◌≡◌, ℕ, ◌+◌, ◌*◌, ◌<◌, ◌≤◌, ◌==◌, true, false, List, [], ◌∷◌, ◌++◌, drop, Option, Some, refl, ap, sym, ◌∙◌, subst, arith, append_assoc, ⊎_elim}
+use Rattle.std.proofs.Common.{◌≡◌, ℕ, ◌+◌, ◌<◌, ◌≤◌, ◌==◌, true, false, List, [], ◌∷◌, ◌++◌, Some, refl, ap, sym, ◌∙◌, subst, arith, append_assoc, ⊎_elim}
 use Rattle.std.proofs.lemmas.Bool.{cases_lt}
-use Rattle.dom_model.specs.Lists.{hits, among, or_list, last_of}
-use Rattle.dom_model.specs.Forest.{Node, Forest, empty, node, total, occurs, size, one_at, path_through, beside, tree_at, ancestors, root_of}
+use Rattle.dom_model.specs.Lists.{hits, last_of}
+use Rattle.dom_model.specs.Forest.{Node, Forest, empty, node, occurs, size, one_at, tree_at, ancestors, root_of}
 use Rattle.dom_model.specs.World.{Filter}
 use Rattle.dom_model.specs.WalkSteps.{size_under}
 use Rattle.dom_model.proofs.Numbers.{same_or, same, apart}
 use Rattle.dom_model.proofs.Totals.{IsOnce, total-tree_at, total-beside, tree_at-absent, beside-empty}
 use Rattle.dom_model.proofs.Climbing.{hits-append, hits-first, hits-ancestors}
 use Rattle.dom_model.proofs.IteratorsStay.{tree_at-inside}
-use Rattle.dom_model.proofs.Standing.{Whereabouts, top, inside, beyond, whereabouts, last_of-push, Tree, tree_of}
-use Rattle.dom_model.proofs.Shown.{is_in, above, hits-above, ancestors-above}
+use Rattle.dom_model.proofs.Standing.{top, inside, beyond, whereabouts, last_of-push, Tree, tree_of}
+use Rattle.dom_model.proofs.Shown.{above, hits-above, ancestors-above}
 
 pub at_itself : (n : ℕ) → (n == n) ≡ true
 at_itself n = elim (same_or n n) [ same e t ↦ t | apart ne t ↦ absurd (ne refl) ]
@@ -126,7 +126,7 @@ module _ {X : Type 0} where
         | apart ne t ↦ rw (t, ancestors-above n b.whole.kids b.once, b.whole.is_top) refl
       ])
 
-  tree-beyond : (c : ℕ) (x : Node X) (kids rest : Forest X) → IsOnce (node x kids rest) → 0 < occurs c rest → tree_at c (node x kids rest) ≡ tree_at c rest
+  pub tree-beyond : (c : ℕ) (x : Node X) (kids rest : Forest X) → IsOnce (node x kids rest) → 0 < occurs c rest → tree_at c (node x kids rest) ≡ tree_at c rest
   tree-beyond c x kids rest o h =
       let i = o c in
       elim (same_or x.number c) [
@@ -134,7 +134,7 @@ module _ {X : Type 0} where
         | apart ne t ↦ (let z : occurs c kids ≡ 0 = omega arith in rw (t, tree_at-absent c kids z) refl)
       ]
 
-  tree-top : (c : ℕ) (x : Node X) (kids rest : Forest X) → IsOnce (node x kids rest) → x.number ≡ c → tree_at c (node x kids rest) ≡ node x kids empty
+  pub tree-top : (c : ℕ) (x : Node X) (kids rest : Forest X) → IsOnce (node x kids rest) → x.number ≡ c → tree_at c (node x kids rest) ≡ node x kids empty
   tree-top c x kids rest o e =
       let i = o c in
       elim (same_or x.number c) [
@@ -142,7 +142,7 @@ module _ {X : Type 0} where
         | apart ne t ↦ absurd (ne e)
       ]
 
-  tree-inside : (c : ℕ) (x : Node X) (kids rest : Forest X) → IsOnce (node x kids rest) → 0 < occurs c kids → tree_at c (node x kids rest) ≡ tree_at c kids
+  pub tree-inside : (c : ℕ) (x : Node X) (kids rest : Forest X) → IsOnce (node x kids rest) → 0 < occurs c kids → tree_at c (node x kids rest) ≡ tree_at c kids
   tree-inside c x kids rest o h =
       let i = o c in
       elim (same_or x.number c) [

@@ -31,6 +31,7 @@ pub mod Documents
 pub mod DocumentsOfCopies
 pub mod EachNode
 pub mod EmptyEndsExtracted
+pub mod EndingWalks
 pub mod EndsAfterInsertion
 pub mod EndsAfterNormalizing
 pub mod EndsAfterReplacedData
@@ -73,6 +74,7 @@ pub mod Indices
 pub mod InsertAllowed
 pub mod IteratorFallsBack
 pub mod IteratorGivesWay
+pub mod IteratorSteps
 pub mod IteratorsStay
 pub mod LinesLimited
 pub mod ListsOfWalks
@@ -97,6 +99,7 @@ pub mod MergedTexts
 pub mod MergedTrees
 pub mod MergedWorlds
 pub mod Mirrored
+pub mod MovesEnough
 pub mod NestedAlike
 pub mod NewRoots
 pub mod NextSibling
@@ -119,6 +122,7 @@ pub mod Paths
 pub mod PathsApart
 pub mod Places
 pub mod PointOrder
+pub mod PreviousInOrder
 pub mod PutBack
 pub mod Queues
 pub mod RangesCompared

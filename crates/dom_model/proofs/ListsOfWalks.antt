@@ -1,19 +1,19 @@
 -- The lists of a tree walker's moves, told along the trees of its root and its current node.
-use Rattle.std.proofs.Common.{◌≡◌, ℕ, suc, ◌+◌, ◌<◌, ◌≤◌, ◌==◌, Bool, true, false, not, ◌&&◌, if◌then◌else◌, List, [], ◌∷◌, ◌++◌, drop, reverse, Option, Some, None, refl, ap, sym, ◌∙◌, subst, arith, append_assoc, append-nil}
+use Rattle.std.proofs.Common.{◌≡◌, ℕ, suc, ◌+◌, ◌<◌, ◌≤◌, ◌==◌, Bool, true, false, not, ◌&&◌, if◌then◌else◌, List, [], ◌∷◌, ◌++◌, drop, reverse, Some, None, refl, ap, sym, ◌∙◌, subst, arith, append_assoc, append-nil}
 use Rattle.std.specs.Prelude.{filter}
 use Rattle.std.proofs.lemmas.List.Elements.{filter-append}
 use Rattle.dom_model.specs.Lists.{hits, among}
-use Rattle.dom_model.specs.Forest.{Node, Forest, empty, node, Row, occurs, one_at, rows, numbers, beside, tree_at, ancestors, inclusive_descendants}
+use Rattle.dom_model.specs.Forest.{Node, Forest, empty, node, Row, occurs, rows, tree_at, ancestors, inclusive_descendants}
 use Rattle.dom_model.specs.World.{Filter}
 use Rattle.dom_model.specs.Filters.{rejects}
 use Rattle.dom_model.specs.Walks.{rows_past, rows_up_to, unhidden, without_under, outside, following_list, preceding_list, ancestor_list, child_list, sibling_list_under}
 use Rattle.dom_model.proofs.Numbers.{same_or, same, apart}
-use Rattle.dom_model.proofs.Totals.{IsOnce, total-tree_at, tree_at-absent, beside-empty}
+use Rattle.dom_model.proofs.Totals.{IsOnce, tree_at-absent, beside-empty}
 use Rattle.dom_model.proofs.Flattened.{hits-numbers}
-use Rattle.dom_model.proofs.Climbing.{hits-first, among-hits, hits-not_among, hits-among, not_among-hits, hits-ancestors}
-use Rattle.dom_model.proofs.Below.{Below, path_below, path_in_tree, occurs-tree, tree-kids}
-use Rattle.dom_model.proofs.Standing.{Whereabouts, top, inside, beyond, whereabouts, Tree, tree_of}
-use Rattle.dom_model.proofs.Shown.{is_in, shown, shown_after, shown_before, above, rows_after, rows_before, depth_in, IsLow, IsLow-after, unhidden-rows, unhidden-after, unhidden-before, shown_before-same, hits-above, ancestors-above}
+use Rattle.dom_model.proofs.Climbing.{hits-first, hits-not_among, hits-among, hits-ancestors}
+use Rattle.dom_model.proofs.Below.{Below, path_below, path_in_tree}
+use Rattle.dom_model.proofs.Standing.{top, inside, beyond, whereabouts, Tree}
+use Rattle.dom_model.proofs.Shown.{shown, shown_after, shown_before, above, rows_after, rows_before, depth_in, IsLow, IsLow-after, unhidden-rows, unhidden-after, unhidden-before, shown_before-same, hits-above}
 
 and-not_true : (v w : Bool) → w ≡ true → (v && not w) ≡ false
 and-not_true true w e = ap not e

@@ -1,35 +1,33 @@
 -- A forest with all children lists reversed: its entries have their children reversed, so next and previous siblings change places,
 -- and parents and ancestors stay.
-use Rattle.std.proofs.Common.{◌≡◌, ℕ, suc, ◌+◌, ◌<◌, ◌≤◌, ◌==◌, true, false, if◌then◌else◌, List, [], ◌∷◌, ◌++◌, reverse, Option, Some, None, option_map, refl, ap, sym, ◌∙◌, subst, arith, ⊎_elim, append_assoc}
-use Rattle.std.specs.Option.{option_or}
+use Rattle.std.proofs.Common.{◌≡◌, ℕ, ◌<◌, ◌≤◌, ◌==◌, false, List, [], ◌∷◌, ◌++◌, reverse, Option, Some, None, option_map, refl, ap, sym, ◌∙◌, arith, ⊎_elim, append_assoc}
 use Rattle.std.proofs.lemmas.Bool.{cases_lt}
 use Rattle.std.proofs.lemmas.List.{reverse-append, reverse-reverse}
 use Rattle.dom_model.specs.Lists.{hits, head_of, last_of, after, before, before_from, or_list}
 use Rattle.dom_model.specs.Arena.{Entry, held, parent_in, children_in, list_under, siblings_in}
-use Rattle.dom_model.specs.Forest.{Node, Forest, empty, node, total, occurs, one_at, size, tops, beside, tree_at, path_through, entry_in, parent_of, children_of, next_of, previous_of, ancestors, root_of}
+use Rattle.dom_model.specs.Forest.{Node, Forest, empty, node, total, occurs, one_at, tops, beside, tree_at, path_through, entry_in, parent_of, children_of, next_of, previous_of, ancestors}
 use Rattle.dom_model.specs.World.{Filter}
-use Rattle.dom_model.specs.Filters.{judged_entry, is_accept, verdict_on, accepts}
+use Rattle.dom_model.specs.Filters.{judged_entry, verdict_on}
 use Rattle.dom_model.specs.Walks.{mirrored}
 use Rattle.dom_model.specs.Lies.{Lies}
 use Rattle.dom_model.proofs.Numbers.{same_or, same, apart}
 use Rattle.dom_model.proofs.Totals.{IsOnce, total-beside, beside-empty}
 use Rattle.dom_model.proofs.Tops.{tops-beside}
 use Rattle.dom_model.proofs.Lying.{Lies-beside}
-use Rattle.dom_model.proofs.Climbing.{hits-append, hits-first, ancestors-absent}
-use Rattle.dom_model.proofs.Changes.{Seen, seen, nothing, just}
+use Rattle.dom_model.proofs.Climbing.{hits-append, ancestors-absent}
 use Rattle.dom_model.proofs.Entries.{Lies-entry_in, entry_in-Lies, occurs-held}
 use Rattle.dom_model.proofs.Indices.{child-once}
 use Rattle.dom_model.proofs.Undone.{beside-assoc, tree_at-beside}
-use Rattle.dom_model.proofs.Standing.{Whereabouts, top, inside, beyond, whereabouts, or_none, last_of-push, after-ahead, before-ahead}
+use Rattle.dom_model.proofs.Standing.{or_none, last_of-push, after-ahead, before-ahead}
 
-reverse-first : (n : ℕ) (ns : List ℕ) → reverse (n ∷ ns) ≡ reverse ns ++ n ∷ []
+pub reverse-first : (n : ℕ) (ns : List ℕ) → reverse (n ∷ ns) ≡ reverse ns ++ n ∷ []
 reverse-first n ns = reverse-append (n ∷ []) ns
 
-hits-reverse : (n : ℕ) (ns : List ℕ) → hits n (reverse ns) ≡ hits n ns
+pub hits-reverse : (n : ℕ) (ns : List ℕ) → hits n (reverse ns) ≡ hits n ns
 hits-reverse n [] = refl
 hits-reverse n (m ∷ ns) = ap (hits n) (reverse-first m ns) ∙ (let i = hits-append n (reverse ns) (m ∷ []) in let j = hits-reverse n ns in omega arith)
 
-last_of-reverse : (ns : List ℕ) → last_of (reverse ns) ≡ head_of ns
+pub last_of-reverse : (ns : List ℕ) → last_of (reverse ns) ≡ head_of ns
 last_of-reverse [] = refl
 last_of-reverse (n ∷ ns) = ap last_of (reverse-first n ns) ∙ last_of-push (reverse ns) n
 
@@ -37,18 +35,18 @@ pub head_of-reverse : (ns : List ℕ) → head_of (reverse ns) ≡ last_of ns
 head_of-reverse ns = sym (last_of-reverse (reverse ns)) ∙ ap last_of (reverse-reverse ns)
 
 -- a list round a number that stands in it once
-record Round (n : ℕ) (ns : List ℕ) : Type 0 where
-  ahead : List ℕ
-  behind : List ℕ
-  is : ns ≡ ahead ++ n ∷ behind
-  none_ahead : hits n ahead ≡ 0
-  none_behind : hits n behind ≡ 0
+pub record Round (n : ℕ) (ns : List ℕ) : Type 0 where
+  pub ahead : List ℕ
+  pub behind : List ℕ
+  pub is : ns ≡ ahead ++ n ∷ behind
+  pub none_ahead : hits n ahead ≡ 0
+  pub none_behind : hits n behind ≡ 0
 
 further : (n m : ℕ) (ns : List ℕ) → (m == n) ≡ false → Round n ns → Round n (m ∷ ns)
 further n m ns t r =
     record { ahead = m ∷ r.ahead; behind = r.behind; is = ap (λ ls. m ∷ ls) r.is; none_ahead = rw t (let z = r.none_ahead in omega arith); none_behind = r.none_behind }
 
-round : (n : ℕ) (ns : List ℕ) → hits n ns ≡ 1 → Round n ns
+pub round : (n : ℕ) (ns : List ℕ) → hits n ns ≡ 1 → Round n ns
 round n [] h = absurd (omega arith)
 round n (m ∷ ns) h =
     elim (same_or m n) [

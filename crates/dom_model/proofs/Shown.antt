@@ -1,13 +1,13 @@
 -- The lists of a tree walker, told along the trees: what a list of trees shows, and what of it comes after a node, before it and above it.
-use Rattle.std.proofs.Common.{◌≡◌, ℕ, suc, ◌+◌, ◌<◌, ◌≤◌, ◌==◌, nat_lt, Bool, true, false, if◌then◌else◌, List, [], ◌∷◌, ◌++◌, Option, Some, None, refl, ap, sym, ◌∙◌, subst, arith, append_assoc}
+use Rattle.std.proofs.Common.{◌≡◌, ℕ, suc, ◌<◌, ◌≤◌, ◌==◌, nat_lt, Bool, true, false, if◌then◌else◌, List, [], ◌∷◌, ◌++◌, Option, Some, None, refl, ap, sym, ◌∙◌, subst, arith, append_assoc}
 use Rattle.std.proofs.lemmas.Bool.{lt-ltb, le-ltb, ltb-false}
 use Rattle.dom_model.specs.Lists.{hits}
-use Rattle.dom_model.specs.Forest.{Node, Forest, empty, node, Row, occurs, rows, ancestors}
+use Rattle.dom_model.specs.Forest.{Forest, empty, node, Row, occurs, rows, ancestors}
 use Rattle.dom_model.specs.Walks.{is_hidden, unhidden}
 use Rattle.dom_model.proofs.Numbers.{same_or, same, apart}
 use Rattle.dom_model.proofs.Totals.{IsOnce}
 use Rattle.dom_model.proofs.Climbing.{hits-append, hits-first, ancestors-absent}
-use Rattle.dom_model.proofs.Standing.{Whereabouts, top, inside, beyond, whereabouts}
+use Rattle.dom_model.proofs.Standing.{top, inside, beyond, whereabouts}
 
 module _ {X : Type 0} where
   -- whether the number stands in the trees

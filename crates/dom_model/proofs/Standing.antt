@@ -1,10 +1,10 @@
 -- Where a node stands: at the top of a list of trees, inside the first or beyond it; and what the entries say of a list of siblings.
-use Rattle.std.proofs.Common.{◌≡◌, ℕ, ◌+◌, ◌<◌, ◌≤◌, ◌==◌, true, false, List, [], ◌∷◌, ◌++◌, Option, Some, None, refl, ap, sym, ◌∙◌, subst, arith, ⊎_elim, append_assoc}
+use Rattle.std.proofs.Common.{◌≡◌, ℕ, ◌<◌, ◌≤◌, ◌==◌, true, false, List, [], ◌∷◌, ◌++◌, Option, Some, None, refl, ap, sym, ◌∙◌, subst, arith, ⊎_elim, append_assoc}
 use Rattle.std.proofs.lemmas.Bool.{cases_lt}
 use Rattle.std.specs.Option.{option_or}
 use Rattle.dom_model.specs.Lists.{hits, head_of, last_of, after, before_from, before}
 use Rattle.dom_model.specs.Arena.{Entry, parent_in, children_in, list_under, siblings_in, next_in, previous_in}
-use Rattle.dom_model.specs.Forest.{Node, Forest, empty, node, occurs, one_at, tops, beside, tree_at, entry_in}
+use Rattle.dom_model.specs.Forest.{Node, Forest, empty, node, occurs, one_at, tops, tree_at, entry_in}
 use Rattle.dom_model.specs.Lies.{Lies}
 use Rattle.dom_model.proofs.Numbers.{same_or, same, apart}
 use Rattle.dom_model.proofs.Totals.{IsOnce, total-tree_at, tree_at-absent, beside-empty}
@@ -80,12 +80,13 @@ module _ {X : Type 0} where
 
   Stands-Lies : (at : (ℕ → Option (Entry (Node X)))) (p : ℕ) (ahead : List ℕ) (g : Forest X) → Lies at (Some p) g → children_in (at p) ≡ ahead ++ tops g → ((n : ℕ) → hits n (ahead ++ tops g) ≤ 1) → IsOnce g → Stands at p (last_of ahead) g
   Stands-Lies at p ahead empty l e u o = tt
-  Stands-Lies at p ahead (node x kids rest) l e u o =
-      (l.0,
-        ap (after x.number) siblings ∙ after-ahead x.number ahead (tops rest) new,
-        ap (before x.number) siblings ∙ before-ahead None x.number ahead (tops rest) new ∙ or_none (last_of ahead),
-        Stands-Lies at x.number [] kids l.1 (ap children_in l.0) (λ n. let i = o n in let j = hits-tops n kids in omega arith) (λ n. let i = o n in omega arith),
-        subst (λ passed. Stands at p passed rest) (last_of-push ahead x.number) (Stands-Lies at p (ahead ++ x.number ∷ []) rest l.2 (e ∙ sym moved) (λ n. rw moved (u n)) (λ n. let i = o n in omega arith)))
+  Stands-Lies at p ahead (node x kids rest) l e u o = (
+    l.0,
+    ap (after x.number) siblings ∙ after-ahead x.number ahead (tops rest) new,
+    ap (before x.number) siblings ∙ before-ahead None x.number ahead (tops rest) new ∙ or_none (last_of ahead),
+    Stands-Lies at x.number [] kids l.1 (ap children_in l.0) (λ n. let i = o n in let j = hits-tops n kids in omega arith) (λ n. let i = o n in omega arith),
+    subst (λ passed. Stands at p passed rest) (last_of-push ahead x.number) (Stands-Lies at p (ahead ++ x.number ∷ []) rest l.2 (e ∙ sym moved) (λ n. rw moved (u n)) (λ n. let i = o n in omega arith)),
+  )
     where
       siblings : siblings_in at x.number ≡ ahead ++ x.number ∷ tops rest
       siblings = ap (λ (i : Option (Entry (Node X))). list_under at (parent_in i)) l.0 ∙ e

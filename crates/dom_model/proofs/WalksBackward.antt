@@ -1,6 +1,6 @@
 -- Steps backwards: through a list of trees from its end, and back from a node inside them, until the walk comes up to the node above.
 -- To the previous node: the steps find the first accepted node of the list.
-use Rattle.std.proofs.Common.{◌≡◌, ℕ, zero, suc, ◌+◌, ◌*◌, ◌<◌, ◌≤◌, ◌==◌, Bool, true, false, if◌then◌else◌, List, [], ◌∷◌, ◌++◌, reverse, Option, Some, None, refl, ap, sym, ◌∙◌, subst, arith}
+use Rattle.std.proofs.Common.{◌≡◌, ℕ, suc, ◌+◌, ◌*◌, ◌==◌, Bool, true, false, if◌then◌else◌, List, [], ◌∷◌, ◌++◌, reverse, Option, Some, None, refl, ap, sym, ◌∙◌, subst, arith}
 use Rattle.std.specs.Prelude.{find}
 use Rattle.std.specs.Option.{option_or}
 use Rattle.std.proofs.lemmas.List.{reverse-append}
@@ -11,19 +11,19 @@ use Rattle.dom_model.specs.Arena.{Entry, parent_in, children_in, previous_in}
 use Rattle.dom_model.specs.Forest.{Node, Forest, empty, node, occurs, size, tops, ancestors, entry_in}
 use Rattle.dom_model.specs.World.{Filter}
 use Rattle.dom_model.specs.Filters.{is_accept, is_reject, verdict_on, accepts, rejects}
-use Rattle.dom_model.specs.WalkSteps.{Stand, at, leaving, ended, at_or, come_back_to, up_to_parent, walked, moves_allowed, previous_step, previous_by_steps}
+use Rattle.dom_model.specs.WalkSteps.{Stand, at, leaving, ended, at_or, come_back_to, up_to_parent, moves_allowed, previous_step, previous_by_steps}
 use Rattle.dom_model.specs.Walks.{preceding_list}
 use Rattle.dom_model.proofs.Numbers.{same_or, same, apart}
 use Rattle.dom_model.proofs.Totals.{IsOnce}
 use Rattle.dom_model.proofs.Climbing.{hits-first}
-use Rattle.dom_model.proofs.Standing.{Whereabouts, top, inside, beyond, whereabouts, Stands, or_none}
+use Rattle.dom_model.proofs.Standing.{top, inside, beyond, whereabouts, Stands, or_none}
 use Rattle.dom_model.proofs.Shown.{shown, shown_before}
-use Rattle.dom_model.proofs.Below.{Below, is_apart_from, at_itself}
+use Rattle.dom_model.proofs.Below.{is_apart_from, at_itself}
 use Rattle.dom_model.proofs.ListsOfWalks.{preceding_list-root, preceding_list-below}
-use Rattle.dom_model.proofs.WalksForward.{Finds, Finds-ended, Finds-more, Finds-at, Finds-leaving, Finds-same, Finds-found, joined, Told, told, accepted, skipped, rejected}
+use Rattle.dom_model.proofs.WalksForward.{Finds, Finds-ended, Finds-more, Finds-at, Finds-leaving, Finds-same, Finds-found, joined, told, accepted, skipped, rejected}
 use Rattle.dom_model.proofs.WalksFound.{allowed, root_tree, from_root}
 
-last_again : (n : ℕ) (ns : List ℕ) (other : Stand) → at_or (last_of (n ∷ ns)) other ≡ at_or (last_of ns) (at n)
+pub last_again : (n : ℕ) (ns : List ℕ) (other : Stand) → at_or (last_of (n ∷ ns)) other ≡ at_or (last_of ns) (at n)
 last_again n [] other = refl
 last_again n (m ∷ ns) other = same_last m ns
   where

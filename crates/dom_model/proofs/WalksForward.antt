@@ -1,6 +1,6 @@
 -- Steps forwards: through a list of trees in tree order, and on from a node inside them, until the walk comes up to the node above.
 -- The lemmas are of any steps that go into a node, on to its next sibling and up to its parent.
-use Rattle.std.proofs.Common.{◌≡◌, ℕ, zero, suc, ◌+◌, ◌*◌, ◌<◌, ◌≤◌, ◌==◌, Bool, true, false, if◌then◌else◌, List, [], ◌∷◌, ◌++◌, Option, Some, None, refl, ap, sym, ◌∙◌, subst, arith}
+use Rattle.std.proofs.Common.{◌≡◌, ℕ, zero, suc, ◌+◌, ◌*◌, ◌<◌, ◌≤◌, Bool, List, [], ◌∷◌, ◌++◌, Option, Some, None, refl, ap, sym, ◌∙◌, subst, arith}
 use Rattle.std.specs.Prelude.{find}
 use Rattle.std.specs.Option.{option_or}
 use Rattle.std.proofs.lemmas.List.Folds.{find-append}
@@ -12,7 +12,7 @@ use Rattle.dom_model.specs.Forest.{Node, Forest, empty, node, occurs, size, tops
 use Rattle.dom_model.specs.Filters.{is_accept, is_reject}
 use Rattle.dom_model.specs.WalkSteps.{Stand, at, leaving, ended, at_or, come_to, up_to_parent, walked}
 use Rattle.dom_model.proofs.Climbing.{hits-append, hits-first}
-use Rattle.dom_model.proofs.Standing.{Whereabouts, top, inside, beyond, whereabouts, Stands}
+use Rattle.dom_model.proofs.Standing.{top, inside, beyond, whereabouts, Stands}
 use Rattle.dom_model.proofs.Shown.{shown, shown_after, above}
 
 -- a walk from where it stands finds `found`, with any number of moves from `moves` on
@@ -38,6 +38,16 @@ Finds-leaving {step = step} {n = n} {moves = moves} {found = found} e i = record
     go : (m : ℕ) → suc moves ≤ m → walked step m (leaving n) ≡ found
     go zero h = absurd (omega arith)
     go (suc m) h = ap (walked step m) e ∙ i.by m (omega arith)
+
+-- a walk that goes on finds the same, and what it ends with
+pub Finds-on : {step : Stand → Stand} {n : ℕ} {moves : ℕ} {found : Option ℕ} → Finds step (at n) moves found → Finds step (step (at n)) moves found
+Finds-on i = record { by = λ m h. i.by (suc m) (omega arith) }
+
+pub Finds-left : {step : Stand → Stand} {n : ℕ} {moves : ℕ} {found : Option ℕ} → Finds step (leaving n) moves found → Finds step (step (leaving n)) moves found
+Finds-left i = record { by = λ m h. i.by (suc m) (omega arith) }
+
+pub Finds-end : {step : Stand → Stand} {moves : ℕ} {end found : Option ℕ} → Finds step (ended end) moves found → end ≡ found
+Finds-end {moves = moves} i = i.by moves (omega arith)
 
 pub Finds-same : {step : Stand → Stand} {stand other : Stand} {moves : ℕ} {found : Option ℕ} → other ≡ stand → Finds step stand moves found → Finds step other moves found
 Finds-same {step = step} {moves = moves} {found = found} e i = subst (λ s. Finds step s moves found) (sym e) i

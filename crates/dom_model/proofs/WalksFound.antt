@@ -1,24 +1,23 @@
 -- The steps of a tree walker find the first accepted node of their move's list, where its root is an inclusive ancestor of its current node:
 -- to the parent, to the first child and to the next node. The moves that are allowed are enough.
-use Rattle.std.proofs.Common.{◌≡◌, ℕ, zero, suc, ◌+◌, ◌*◌, ◌<◌, ◌≤◌, ◌==◌, Bool, true, false, if◌then◌else◌, List, [], ◌∷◌, ◌++◌, Option, Some, None, refl, ap, sym, ◌∙◌, subst, arith}
+use Rattle.std.proofs.Common.{◌≡◌, ℕ, suc, ◌+◌, ◌*◌, ◌<◌, ◌≤◌, ◌==◌, true, false, if◌then◌else◌, [], ◌∷◌, ◌++◌, Option, Some, None, refl, ap, sym, ◌∙◌, subst, arith}
 use Rattle.std.specs.Prelude.{find}
 use Rattle.std.specs.Option.{option_or}
-use Rattle.std.proofs.lemmas.List.Folds.{find-append}
-use Rattle.dom_model.specs.Lists.{hits, among, head_of}
+use Rattle.dom_model.specs.Lists.{among, head_of}
 use Rattle.dom_model.specs.Arena.{Entry, parent_in, children_in}
-use Rattle.dom_model.specs.Forest.{Node, Forest, empty, node, occurs, one_at, size, tops, tree_at, ancestors, entry_in, children_of, parent_of, root_of}
+use Rattle.dom_model.specs.Forest.{Node, Forest, empty, node, occurs, size, tops, tree_at, ancestors, entry_in}
 use Rattle.dom_model.specs.World.{Filter}
 use Rattle.dom_model.specs.Filters.{verdict_on, accepts, rejects}
-use Rattle.dom_model.specs.WalkSteps.{Stand, at, leaving, ended, at_or, up_to_parent, walked, moves_allowed, parent_arrived, parent_step, parent_by_steps, first_child_arrived, past_child, first_child_step, first_child_by_steps, past_node, next_step, next_by_steps}
+use Rattle.dom_model.specs.WalkSteps.{leaving, ended, at_or, up_to_parent, walked, moves_allowed, parent_arrived, parent_step, parent_by_steps, first_child_arrived, past_child, first_child_step, first_child_by_steps, past_node, next_step, next_by_steps}
 use Rattle.dom_model.specs.Walks.{child_list, following_list, ancestor_list}
 use Rattle.dom_model.proofs.Numbers.{same_or, same, apart}
 use Rattle.dom_model.proofs.Totals.{IsOnce}
 use Rattle.dom_model.proofs.Climbing.{among-hits, hits-first, hits-ancestors}
-use Rattle.dom_model.proofs.Standing.{Whereabouts, top, inside, beyond, whereabouts, Stands, Tree, tree_of, or_none}
+use Rattle.dom_model.proofs.Standing.{top, inside, beyond, whereabouts, Stands, Tree, tree_of, or_none}
 use Rattle.dom_model.proofs.Shown.{shown, shown_after, above}
-use Rattle.dom_model.proofs.Below.{Below, below, occurs-tree, size-tree, tree-there, size-ancestor, no_top, part_absent, part_size, is_apart_from, at_itself}
+use Rattle.dom_model.proofs.Below.{Below, below, occurs-tree, tree-there, size-ancestor, no_top, part_absent, part_size, is_apart_from, at_itself}
 use Rattle.dom_model.proofs.ListsOfWalks.{child_list-tree, following_list-root, following_list-below, ancestor_list-root, ancestor_list-below}
-use Rattle.dom_model.proofs.WalksForward.{Finds, Finds-ended, Finds-more, Finds-leaving, Finds-same, Finds-found, joined, IsForward, Passes, through, on_from}
+use Rattle.dom_model.proofs.WalksForward.{Finds, Finds-ended, Finds-more, Finds-leaving, Finds-found, joined, IsForward, Passes, through, on_from}
 
 module _ {X : Type 0} (f : Forest X) (o : IsOnce f) (filter : Filter) (root current : ℕ) (within : among root (ancestors current f) ≡ true) where
   -- the current node is in the tree of the root

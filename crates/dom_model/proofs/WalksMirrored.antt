@@ -1,11 +1,11 @@
 -- Walks backwards: the steps in the mirrored forest are steps to last children and previous siblings in the forest itself.
-use Rattle.std.proofs.Common.{◌≡◌, ℕ, zero, suc, ◌+◌, ◌*◌, ◌<◌, ◌≤◌, ◌==◌, Bool, true, false, ◌||◌, if◌then◌else◌, List, [], ◌∷◌, Option, Some, None, refl, ap, sym, ◌∙◌}
+use Rattle.std.proofs.Common.{◌≡◌, ℕ, zero, suc, ◌*◌, ◌==◌, Bool, true, false, ◌||◌, if◌then◌else◌, List, [], ◌∷◌, Option, Some, None, refl, ap, sym, ◌∙◌}
 use Rattle.std.specs.Prelude.{find}
 use Rattle.dom_model.specs.declared.Verdict.{Verdict}
 use Rattle.dom_model.specs.declared.Move.{Move}
 use Rattle.dom_model.specs.declared.Move.TheVariants.{ParentNode, FirstChild, LastChild, PreviousSibling, NextSibling, PreviousNode, NextNode}
 use Rattle.dom_model.specs.Lists.{among, head_of, last_of}
-use Rattle.dom_model.specs.Forest.{Forest, size, tree_at, parent_of, children_of, next_of, previous_of, ancestors, root_of}
+use Rattle.dom_model.specs.Forest.{Forest, size, tree_at, parent_of, children_of, previous_of, ancestors, root_of}
 use Rattle.dom_model.specs.World.{Filter, Walker}
 use Rattle.dom_model.specs.Filters.{is_accept, verdict_on, accepts}
 use Rattle.dom_model.specs.WalkSteps.{Stand, at, leaving, ended, at_or, come_to, up_to_parent, walked, size_under, moves_allowed, last_child, first_child_arrived, past_child, first_child_step, first_child_by_steps, next_sibling_arrived, past_sibling, next_sibling_step, next_sibling_by_steps}
@@ -20,7 +20,7 @@ find-agree : (p q : ℕ → Bool) → ((n : ℕ) → p n ≡ q n) → (ns : List
 find-agree p q e [] = refl
 find-agree p q e (n ∷ ns) = rw (e n, find-agree p q e ns) refl
 
-walked-agree : (s t : Stand → Stand) → ((stand : Stand) → s stand ≡ t stand) → (moves : ℕ) (stand : Stand) → walked s moves stand ≡ walked t moves stand
+pub walked-agree : (s t : Stand → Stand) → ((stand : Stand) → s stand ≡ t stand) → (moves : ℕ) (stand : Stand) → walked s moves stand ≡ walked t moves stand
 walked-agree s t e moves (ended found) = refl
 walked-agree s t e zero (at n) = refl
 walked-agree s t e zero (leaving n) = refl
@@ -60,11 +60,11 @@ module _ {X : Type 0} (f : Forest X) (o : IsOnce f) (filter : Filter) where
   pub accepts-mirrored : (n : ℕ) → accepts (mirrored f) filter n ≡ accepts f filter n
   accepts-mirrored n = ap is_accept (verdict-mirrored f o filter n)
 
-  first-mirrored : (n : ℕ) → head_of (children_of (mirrored f) n) ≡ last_of (children_of f n)
+  pub first-mirrored : (n : ℕ) → head_of (children_of (mirrored f) n) ≡ last_of (children_of f n)
   first-mirrored n = ap head_of (children-mirrored f o n) ∙ head_of-reverse (children_of f n)
 
   module _ (root current : ℕ) where
-    moves-mirrored : moves_allowed (mirrored f) filter root current ≡ moves_allowed f filter root current
+    pub moves-mirrored : moves_allowed (mirrored f) filter root current ≡ moves_allowed f filter root current
     moves-mirrored = ap (λ ns. 4 * size_under (mirrored f) filter root current (last_of ns)) (ancestors-mirrored current f o) ∙ ap (λ n. 4 * n) (same_size (root_of f current))
       where
         same_size : (r : Option ℕ) → size_under (mirrored f) filter root current r ≡ size_under f filter root current r
@@ -76,7 +76,7 @@ module _ {X : Type 0} (f : Forest X) (o : IsOnce f) (filter : Filter) where
         ap (λ (m : Option ℕ). at_or m (up_to_parent (first_child_arrived f filter root current) (parent_of (mirrored f) n))) (next-mirrored f o n)
         ∙ ap (λ (p : Option ℕ). at_or (previous_of f n) (up_to_parent (first_child_arrived f filter root current) p)) (parent-mirrored f o n)
 
-    child_step-mirrored : (stand : Stand) → first_child_step (mirrored f) filter root current stand ≡ last_child_step f filter root current stand
+    pub child_step-mirrored : (stand : Stand) → first_child_step (mirrored f) filter root current stand ≡ last_child_step f filter root current stand
     child_step-mirrored (at n) =
         ap (λ (v : Verdict). come_to v n (head_of (children_of (mirrored f) n)) (past_child (mirrored f) filter root current n)) (verdict-mirrored f o filter n)
         ∙ ap (λ (m : Option ℕ). come_to (verdict_on f filter n) n m (past_child (mirrored f) filter root current n)) (first-mirrored n)
@@ -100,7 +100,7 @@ module _ {X : Type 0} (f : Forest X) (o : IsOnce f) (filter : Filter) where
         ∙ ap (λ (p : Option ℕ). at_or (previous_of f n) (up_to_parent (next_sibling_arrived (mirrored f) filter root current) p)) (parent-mirrored f o n)
         ∙ ap (at_or (previous_of f n)) (up-agree (next_sibling_arrived (mirrored f) filter root current) (next_sibling_arrived f filter root current) arrived-mirrored (parent_of f n))
 
-    sibling_step-mirrored : (stand : Stand) → next_sibling_step (mirrored f) filter root current stand ≡ previous_sibling_step f filter root current stand
+    pub sibling_step-mirrored : (stand : Stand) → next_sibling_step (mirrored f) filter root current stand ≡ previous_sibling_step f filter root current stand
     sibling_step-mirrored (at n) =
         ap (λ (v : Verdict). come_to v n (head_of (children_of (mirrored f) n)) (past_sibling (mirrored f) filter root current n)) (verdict-mirrored f o filter n)
         ∙ ap (λ (m : Option ℕ). come_to (verdict_on f filter n) n m (past_sibling (mirrored f) filter root current n)) (first-mirrored n)

@@ -1,25 +1,25 @@
 -- The steps of a tree walker to the next sibling find the first accepted node of the move's list, where its root is an inclusive ancestor of its current node.
-use Rattle.std.proofs.Common.{◌≡◌, ℕ, zero, suc, ◌+◌, ◌*◌, ◌<◌, ◌≤◌, ◌==◌, Bool, true, false, ◌||◌, if◌then◌else◌, List, [], ◌∷◌, ◌++◌, Option, Some, None, refl, ap, sym, ◌∙◌, subst, arith, ⊎_elim}
+use Rattle.std.proofs.Common.{◌≡◌, ℕ, ◌+◌, ◌*◌, ◌<◌, ◌≤◌, ◌==◌, Bool, true, false, ◌||◌, if◌then◌else◌, List, [], ◌∷◌, ◌++◌, Option, Some, None, refl, ap, sym, ◌∙◌, subst, arith, ⊎_elim}
 use Rattle.std.specs.Prelude.{find}
 use Rattle.std.specs.Option.{option_or}
 use Rattle.std.proofs.lemmas.Bool.{false≢true, cases_Bool}
 use Rattle.std.proofs.lemmas.List.Folds.{find-append}
 use Rattle.dom_model.specs.Lists.{hits, among}
-use Rattle.dom_model.specs.Forest.{Node, Forest, empty, node, occurs, size, beside, tree_at, ancestors, entry_in}
+use Rattle.dom_model.specs.Forest.{Forest, empty, node, occurs, size, tree_at, ancestors, entry_in}
 use Rattle.dom_model.specs.World.{Filter}
 use Rattle.dom_model.specs.Filters.{verdict_on, accepts, rejects}
-use Rattle.dom_model.specs.WalkSteps.{Stand, leaving, ended, walked, moves_allowed, next_sibling_arrived, past_sibling, next_sibling_step, next_sibling_by_steps}
+use Rattle.dom_model.specs.WalkSteps.{leaving, ended, walked, moves_allowed, next_sibling_arrived, past_sibling, next_sibling_step, next_sibling_by_steps}
 use Rattle.dom_model.specs.Walks.{ancestor_list, sibling_list, sibling_list_under}
 use Rattle.dom_model.proofs.Numbers.{same_or, same, apart}
 use Rattle.dom_model.proofs.Totals.{IsOnce, beside-empty}
-use Rattle.dom_model.proofs.Changes.{Seen, seen, nothing, just}
-use Rattle.dom_model.proofs.Climbing.{among-hits, hits-append, hits-first, hits-ancestors}
+use Rattle.dom_model.proofs.Changes.{seen, nothing, just}
+use Rattle.dom_model.proofs.Climbing.{hits-append, hits-first, hits-ancestors}
 use Rattle.dom_model.proofs.IteratorsStay.{tree_at-inside}
-use Rattle.dom_model.proofs.Standing.{Tree, or_none}
-use Rattle.dom_model.proofs.Shown.{is_in, shown_after, above, hits-above, ancestors-above}
-use Rattle.dom_model.proofs.Below.{Below, below, occurs-tree, size-tree, path_below, path_through_tree, kids_total, is_apart_from, at_itself}
+use Rattle.dom_model.proofs.Standing.{or_none}
+use Rattle.dom_model.proofs.Shown.{shown_after, above, hits-above, ancestors-above}
+use Rattle.dom_model.proofs.Below.{Below, below, occurs-tree, size-tree, path_through_tree, kids_total, is_apart_from, at_itself}
 use Rattle.dom_model.proofs.ListsOfWalks.{top_apart, ancestor_list-root, ancestor_list-below, sibling_list-below}
-use Rattle.dom_model.proofs.WalksForward.{Finds, Finds-ended, Finds-more, Finds-same, IsForward, Passes, on_from}
+use Rattle.dom_model.proofs.WalksForward.{Finds, Finds-ended, Finds-same, IsForward, Passes, on_from}
 use Rattle.dom_model.proofs.WalksFound.{allowed, root_tree, from_root}
 
 -- what is found passes the test and stands in the list

@@ -1,5 +1,6 @@
--- The walks of a tree walker whose root is no inclusive ancestor of its current node, step by step.
--- DOM Standard, "Interface TreeWalker". Such a walker was set outside its root, or the tree was moved around it.
+-- The walks of a tree walker, step by step. DOM Standard, "Interface TreeWalker".
+-- Walks takes them where the root is no inclusive ancestor of the current node: such a walker was set outside its root,
+-- or the tree was moved around it. Elsewhere they find what the lists of Walks say.
 -- Ours: a walk makes at most four moves for each node of the current node's tree, which is always enough,
 -- and a walk to the next node that runs out of nodes finds none.
 use Rattle.std.specs.Prelude.{ℕ, zero, suc, ◌*◌, ◌==◌, ◌||◌, if◌then◌else◌, Option, Some, None}
@@ -124,13 +125,13 @@ module _ {X : Type 0} (f : Forest X) (filter : Filter) (root current : ℕ) wher
   abbrev pub first_child_by_steps : Option ℕ
   first_child_by_steps = walked first_child_step moves_allowed (at_or (first_child current) (ended None))
 
-  -- to traverse siblings: "if node is root, then return null"
+  -- to traverse siblings begins so: "if node is root, then return null"
   abbrev pub next_sibling_by_steps : Option ℕ
   next_sibling_by_steps = if current == root then None else walked next_sibling_step moves_allowed (leaving current)
 
   abbrev pub next_by_steps : Option ℕ
   next_by_steps = walked next_step moves_allowed (at_or (first_child current) (leaving current))
 
-  -- to the previous node: "while node is not root"
+  -- previousNode goes on "while node is not root", so from the root itself it finds nothing
   abbrev pub previous_by_steps : Option ℕ
   previous_by_steps = if current == root then None else walked previous_step moves_allowed (leaving current)
