@@ -9,7 +9,8 @@ use Rattle.dom_model.proofs.Numbers.{same_or, same, apart}
 use Rattle.dom_model.proofs.Totals.{IsOnce, total-tree_at, total-beside, tree_at-absent, beside-empty}
 use Rattle.dom_model.proofs.Climbing.{hits-append, hits-first, hits-ancestors}
 use Rattle.dom_model.proofs.IteratorsStay.{tree_at-inside}
-use Rattle.dom_model.proofs.Standing.{top, inside, beyond, whereabouts, last_of-push, Tree, tree_of}
+use Rattle.dom_model.proofs.RootsKept.{last_of-behind}
+use Rattle.dom_model.proofs.Standing.{top, inside, beyond, whereabouts, Tree, tree_of}
 use Rattle.dom_model.proofs.Shown.{above, hits-above, ancestors-above}
 
 pub at_itself : (n : ℕ) → (n == n) ≡ true
@@ -210,7 +211,7 @@ module _ {X : Type 0} where
         | inside ne t ok zr ↦
             let a : above n (node x kids rest) ≡ above n kids ++ x.number ∷ [] = rw (t, ok) refl in
             let k = rw a at i2 in
-            let last : root_of (node x kids rest) n ≡ Some x.number = ap last_of (path ∙ ap (λ ns. n ∷ ns) a) ∙ last_of-push (n ∷ above n kids) x.number in
+            let last : root_of (node x kids rest) n ≡ Some x.number = ap last_of (path ∙ ap (λ ns. n ∷ ns) a) ∙ last_of-behind (n ∷ above n kids) x.number [] in
             let path_kids : (x.number == c) ≡ false → 0 < hits c (n ∷ above n kids) = λ v. (let w = hits-append c (above n kids) (x.number ∷ []) in let u = rw v at w in omega arith) in
             rw (last, tree-top x.number x kids rest o refl) (elim (same_or x.number c) [
               | same e v ↦ rw (tree-top c x kids rest o e) (omega arith)

@@ -1,5 +1,6 @@
 -- Ancestors, step by step.
-use Rattle.std.proofs.Common.{◌≡◌, ℕ, ◌+◌, ◌<◌, ◌≤◌, ◌==◌, true, false, List, [], ◌∷◌, ◌++◌, Option, Some, None, refl, ap, sym, ◌∙◌, subst, arith, ⊎_elim}
+use Rattle.std.proofs.Common.{◌≡◌, ℕ, ◌+◌, ◌<◌, ◌≤◌, ◌==◌, true, false, List, [], ◌∷◌, ◌++◌, reverse, Option, Some, None, refl, ap, sym, ◌∙◌, subst, arith, ⊎_elim}
+use Rattle.std.proofs.lemmas.List.{reverse-append}
 use Rattle.std.proofs.lemmas.Bool.{cases_lt, false≢true}
 use Rattle.std.proofs.lemmas.Bool.Decides.{nat_tests}
 use Rattle.dom_model.specs.Lists.{hits, among}
@@ -17,6 +18,14 @@ pub data Climb {X : Type 0} (above : Option ℕ) (parent : Option ℕ) (n : ℕ)
 pub hits-append : (n : ℕ) (xs ys : List ℕ) → hits n (xs ++ ys) ≡ hits n xs + hits n ys
 hits-append n [] ys = omega arith
 hits-append n (x ∷ xs) ys = omega (arith, hits-append n xs ys)
+
+pub hits-reverse : (n : ℕ) (xs : List ℕ) → hits n (reverse xs) ≡ hits n xs
+hits-reverse n [] = refl
+hits-reverse n (x ∷ xs) =
+    let i = ap (hits n) (reverse-append (x ∷ []) xs) in
+    let j = hits-append n (reverse xs) (x ∷ []) in
+    let k = hits-reverse n xs in
+    omega arith
 
 pub hits-first : (n : ℕ) (ns : List ℕ) → 0 < hits n (n ∷ ns)
 hits-first n ns = elim (same_or n n) [ same e t ↦ rw t (omega arith) | apart ne t ↦ absurd (ne refl) ]

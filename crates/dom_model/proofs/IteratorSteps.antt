@@ -11,11 +11,11 @@ use Rattle.dom_model.specs.Filters.{accepts}
 use Rattle.dom_model.specs.Iterators.{next_found, previous_found}
 use Rattle.dom_model.proofs.Numbers.{same_or, same, apart}
 use Rattle.dom_model.proofs.Totals.{IsOnce}
-use Rattle.dom_model.proofs.Climbing.{hits-first, among-hits, hits-among, hits-ancestors}
+use Rattle.dom_model.proofs.Climbing.{hits-reverse, hits-first, among-hits, hits-among, hits-ancestors}
 use Rattle.dom_model.proofs.PutBack.{hits-after}
 use Rattle.dom_model.proofs.Flattened.{hits-numbers}
 use Rattle.dom_model.proofs.Below.{occurs-tree, at_itself}
-use Rattle.dom_model.proofs.Mirrored.{reverse-first, hits-reverse, after-reverse, Round, round}
+use Rattle.dom_model.proofs.Mirrored.{reverse-first, after-reverse, Round, round}
 
 -- nothing comes past what nothing comes after
 pub past-end : (n : ℕ) (ns : List ℕ) → after n ns ≡ None → past n ns ≡ []

@@ -14,22 +14,19 @@ use Rattle.dom_model.proofs.Numbers.{same_or, same, apart}
 use Rattle.dom_model.proofs.Totals.{IsOnce, total-beside, beside-empty}
 use Rattle.dom_model.proofs.Tops.{tops-beside}
 use Rattle.dom_model.proofs.Lying.{Lies-beside}
-use Rattle.dom_model.proofs.Climbing.{hits-append, ancestors-absent}
+use Rattle.dom_model.proofs.Climbing.{hits-reverse, ancestors-absent}
 use Rattle.dom_model.proofs.Entries.{Lies-entry_in, entry_in-Lies, occurs-held}
 use Rattle.dom_model.proofs.Indices.{child-once}
 use Rattle.dom_model.proofs.Undone.{beside-assoc, tree_at-beside}
-use Rattle.dom_model.proofs.Standing.{or_none, last_of-push, after-ahead, before-ahead}
+use Rattle.dom_model.proofs.RootsKept.{last_of-behind}
+use Rattle.dom_model.proofs.Standing.{or_none, after-ahead, before-ahead}
 
 pub reverse-first : (n : ℕ) (ns : List ℕ) → reverse (n ∷ ns) ≡ reverse ns ++ n ∷ []
 reverse-first n ns = reverse-append (n ∷ []) ns
 
-pub hits-reverse : (n : ℕ) (ns : List ℕ) → hits n (reverse ns) ≡ hits n ns
-hits-reverse n [] = refl
-hits-reverse n (m ∷ ns) = ap (hits n) (reverse-first m ns) ∙ (let i = hits-append n (reverse ns) (m ∷ []) in let j = hits-reverse n ns in omega arith)
-
 pub last_of-reverse : (ns : List ℕ) → last_of (reverse ns) ≡ head_of ns
 last_of-reverse [] = refl
-last_of-reverse (n ∷ ns) = ap last_of (reverse-first n ns) ∙ last_of-push (reverse ns) n
+last_of-reverse (n ∷ ns) = ap last_of (reverse-first n ns) ∙ last_of-behind (reverse ns) n []
 
 pub head_of-reverse : (ns : List ℕ) → head_of (reverse ns) ≡ last_of ns
 head_of-reverse ns = sym (last_of-reverse (reverse ns)) ∙ ap last_of (reverse-reverse ns)

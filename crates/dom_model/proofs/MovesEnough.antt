@@ -14,7 +14,8 @@ use Rattle.dom_model.proofs.Numbers.{same_or, same, apart}
 use Rattle.dom_model.proofs.Totals.{IsOnce}
 use Rattle.dom_model.proofs.Entries.{Lies-entry_in}
 use Rattle.dom_model.proofs.IteratorsStay.{tree_at-inside}
-use Rattle.dom_model.proofs.Standing.{top, inside, beyond, whereabouts, last_of-push, Tree, tree_of}
+use Rattle.dom_model.proofs.RootsKept.{last_of-behind}
+use Rattle.dom_model.proofs.Standing.{top, inside, beyond, whereabouts, Tree, tree_of}
 use Rattle.dom_model.proofs.Shown.{above, ancestors-above}
 use Rattle.dom_model.proofs.Below.{Below, below, size-tree, tree-there, tree-top, tree-beyond}
 use Rattle.dom_model.proofs.WalksForward.{Finds, Finds-found}
@@ -65,7 +66,7 @@ module _ {X : Type 0} where
         | inside ne t ok zr ↦
             record {
               root = x.number;
-              is = ap last_of (path (above n kids ++ x.number ∷ []) (rw (t, ok) refl)) ∙ last_of-push (n ∷ above n kids) x.number;
+              is = ap last_of (path (above n kids ++ x.number ∷ []) (rw (t, ok) refl)) ∙ last_of-behind (n ∷ above n kids) x.number [];
               parent = ap parent_in l.0;
               in_tree = rw (tree-top x.number x kids rest o refl) (omega arith);
             }

@@ -2,7 +2,6 @@
 use Rattle.std.proofs.Common.{◌≡◌, ℕ, ◌<◌, ◌≤◌, ◌==◌, nat_lt, Bool, true, false, ◌&&◌, if◌then◌else◌, List, [], ◌∷◌, ◌++◌, reverse, Option, Some, None, refl, ap, sym, ◌∙◌, subst, arith, append-nil}
 use Rattle.std.specs.Prelude.{find}
 use Rattle.std.proofs.lemmas.Bool.{false≢true}
-use Rattle.std.proofs.lemmas.List.{reverse-append}
 use Rattle.dom_model.specs.Lists.{hits, among, last_of}
 use Rattle.dom_model.specs.Forest.{Forest, occurs, one_at, tree_at, inclusive_descendants, cut, put, parent_of, index_of, ancestors, root_of}
 use Rattle.dom_model.specs.World.{Iterator}
@@ -13,7 +12,7 @@ use Rattle.dom_model.specs.Iterators.{from_reference, back_from_reference, itera
 use Rattle.dom_model.specs.Filters.{accepts}
 use Rattle.dom_model.proofs.Numbers.{same_or, same, apart}
 use Rattle.dom_model.proofs.Totals.{total-put, total-tree_at}
-use Rattle.dom_model.proofs.Climbing.{among-hits, not_among-hits, hits-append, hits-ancestors, ancestors-there, hits-first}
+use Rattle.dom_model.proofs.Climbing.{among-hits, not_among-hits, hits-append, hits-reverse, hits-ancestors, ancestors-there, hits-first}
 use Rattle.dom_model.proofs.Paths.{parent-path, root-path, ancestors-cut, ancestors-put}
 use Rattle.dom_model.proofs.Flattened.{hits-numbers}
 use Rattle.dom_model.proofs.RemovalOrder.{ancestors-split, up_with-clear, no_cycle}
@@ -31,10 +30,6 @@ hits-up_to x n (y ∷ xs) =
       | same e t ↦ rw t (omega arith)
       | apart ne t ↦ rw t (let i = hits-up_to x n xs in omega arith)
     ]
-
-hits-reverse : (x : ℕ) (xs : List ℕ) → hits x (reverse xs) ≡ hits x xs
-hits-reverse x [] = refl
-hits-reverse x (y ∷ xs) = ap (hits x) (reverse-append (y ∷ []) xs) ∙ hits-append x (reverse xs) (y ∷ []) ∙ (let i = hits-reverse x xs in omega arith)
 
 hits-found : (p : ℕ → Bool) (xs : List ℕ) (x : ℕ) → find p xs ≡ Some x → 0 < hits x xs
 hits-found p [] x e = absurd (cc e)

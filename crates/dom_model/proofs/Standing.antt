@@ -10,6 +10,7 @@ use Rattle.dom_model.proofs.Numbers.{same_or, same, apart}
 use Rattle.dom_model.proofs.Totals.{IsOnce, total-tree_at, tree_at-absent, beside-empty}
 use Rattle.dom_model.proofs.Tops.{hits-tops}
 use Rattle.dom_model.proofs.Climbing.{hits-append, hits-first}
+use Rattle.dom_model.proofs.RootsKept.{last_of-behind}
 use Rattle.dom_model.proofs.Entries.{Lies-entry_in}
 
 -- where a number stands that a list of trees has once
@@ -33,11 +34,6 @@ whereabouts n x kids rest h =
 pub or_none : (o : Option ℕ) → option_or o None ≡ o
 or_none None = refl
 or_none (Some n) = refl
-
-pub last_of-push : (xs : List ℕ) (n : ℕ) → last_of (xs ++ n ∷ []) ≡ Some n
-last_of-push [] n = refl
-last_of-push (x ∷ []) n = refl
-last_of-push (x ∷ y ∷ ys) n = last_of-push (y ∷ ys) n
 
 pub after-ahead : (n : ℕ) (ahead behind : List ℕ) → hits n ahead ≡ 0 → after n (ahead ++ n ∷ behind) ≡ head_of behind
 after-ahead n [] behind h = elim (same_or n n) [ same e t ↦ rw t refl | apart ne t ↦ absurd (ne refl) ]
@@ -85,7 +81,7 @@ module _ {X : Type 0} where
     ap (after x.number) siblings ∙ after-ahead x.number ahead (tops rest) new,
     ap (before x.number) siblings ∙ before-ahead None x.number ahead (tops rest) new ∙ or_none (last_of ahead),
     Stands-Lies at x.number [] kids l.1 (ap children_in l.0) (λ n. let i = o n in let j = hits-tops n kids in omega arith) (λ n. let i = o n in omega arith),
-    subst (λ passed. Stands at p passed rest) (last_of-push ahead x.number) (Stands-Lies at p (ahead ++ x.number ∷ []) rest l.2 (e ∙ sym moved) (λ n. rw moved (u n)) (λ n. let i = o n in omega arith)),
+    subst (λ passed. Stands at p passed rest) (last_of-behind ahead x.number []) (Stands-Lies at p (ahead ++ x.number ∷ []) rest l.2 (e ∙ sym moved) (λ n. rw moved (u n)) (λ n. let i = o n in omega arith)),
   )
     where
       siblings : siblings_in at x.number ≡ ahead ++ x.number ∷ tops rest

@@ -12,19 +12,11 @@ use Rattle.dom_model.specs.Contents.{path_below}
 use Rattle.dom_model.proofs.Numbers.{same_or, same, apart}
 use Rattle.dom_model.proofs.Changes.{seen, nothing, just}
 use Rattle.dom_model.proofs.Totals.{IsOnce, tree_at-absent}
-use Rattle.dom_model.proofs.Climbing.{hits-append, hits-first, hits-among, among-hits, hits-ancestors, hits-self, ancestors-there}
+use Rattle.dom_model.proofs.Climbing.{hits-append, hits-reverse, hits-first, hits-among, among-hits, hits-ancestors, hits-self, ancestors-there}
 use Rattle.dom_model.proofs.Paths.{parent-path, root-path}
 use Rattle.dom_model.proofs.Chains.{IsWay, way-last, way}
 use Rattle.dom_model.proofs.RemovalOrder.{ancestors-split}
 use Rattle.dom_model.proofs.IteratorsStay.{filter-passes}
-
-hits-reverse : (n : ℕ) (xs : List ℕ) → hits n (reverse xs) ≡ hits n xs
-hits-reverse n [] = refl
-hits-reverse n (x ∷ xs) =
-    let e = ap (hits n) (reverse-append (x ∷ []) xs) in
-    let a = hits-append n (reverse xs) (x ∷ []) in
-    let b = hits-reverse n xs in
-    omega arith
 
 pub last-hits : (c : ℕ) (ns : List ℕ) → last_of ns ≡ Some c → 0 < hits c ns
 last-hits c [] e = absurd (cc e)
