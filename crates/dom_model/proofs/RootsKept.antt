@@ -23,7 +23,7 @@ last_of-behind [] y ys = refl
 last_of-behind (x ∷ []) y ys = refl
 last_of-behind (x ∷ z ∷ xs) y ys = last_of-behind (z ∷ xs) y ys
 
-hits-up_to : (x n : ℕ) (xs : List ℕ) → hits x (up_to n xs) ≤ hits x xs
+pub hits-up_to : (x n : ℕ) (xs : List ℕ) → hits x (up_to n xs) ≤ hits x xs
 hits-up_to x n [] = omega arith
 hits-up_to x n (y ∷ xs) =
     elim (same_or y n) [
@@ -31,7 +31,7 @@ hits-up_to x n (y ∷ xs) =
       | apart ne t ↦ rw t (let i = hits-up_to x n xs in omega arith)
     ]
 
-hits-found : (p : ℕ → Bool) (xs : List ℕ) (x : ℕ) → find p xs ≡ Some x → 0 < hits x xs
+pub hits-found : (p : ℕ → Bool) (xs : List ℕ) (x : ℕ) → find p xs ≡ Some x → 0 < hits x xs
 hits-found p [] x e = absurd (cc e)
 hits-found p (y ∷ xs) x e = go (p y) refl (hits-found p xs x)
   where
@@ -88,13 +88,13 @@ module _ {X : Type 0} where
         go false = ap last_of (append-nil (ancestors n f))
 
     -- a node is in the tree that is put where its root is put
-    root-among : (n : ℕ) → 0 < occurs n f → among c (ancestors n f) ≡ true → root_of f n ≡ Some c
+    pub root-among : (n : ℕ) → 0 < occurs n f → among c (ancestors n f) ≡ true → root_of f n ≡ Some c
     root-among n h e =
         let i = ancestors-split f o c n h (among-hits c (ancestors n f) e) in
         let a = root-path f o c hc r in
         ap last_of (i.1 ∙ ap (λ ns. i.0 ++ ns) a) ∙ last_of-behind i.0 c []
 
-    last-among : (c : ℕ) (ns : List ℕ) → last_of ns ≡ Some c → among c ns ≡ true
+    pub last-among : (c : ℕ) (ns : List ℕ) → last_of ns ≡ Some c → among c ns ≡ true
     last-among c [] e = absurd (cc e)
     last-among c (x ∷ []) e = elim (same_or x c) [ same d t ↦ rw t refl | apart ne t ↦ absurd (ne (let u : Some x ≡ Some c = e in cc u)) ]
     last-among c (x ∷ y ∷ ns) e = elim (same_or x c) [ same d t ↦ rw t refl | apart ne t ↦ rw t (last-among c (y ∷ ns) e) ]

@@ -12,7 +12,7 @@ use Rattle.dom_model.proofs.Climbing.{hits-ancestors, ancestors-there}
 use Rattle.dom_model.proofs.Entries.{parent-put, children-put}
 use Rattle.dom_model.proofs.Paths.{parent-path, root-path, put-once, put-there}
 use Rattle.dom_model.proofs.Places.{place_before, place-entered}
-use Rattle.dom_model.proofs.Indices.{child-listed, index-child, index-put, child-parent}
+use Rattle.dom_model.proofs.Indices.{child-listed, child-parent, index-child, index-put}
 use Rattle.dom_model.proofs.PointOrder.{gap-node}
 use Rattle.dom_model.proofs.GapOrder.{gap-order_kept}
 use Rattle.dom_model.proofs.RootsKept.{one_root-put}
@@ -135,7 +135,7 @@ module _ {X : Type 0} where
         go : (if c == c then Some p else parent_of f c) ≡ Some p
         go = elim (same_or c c) [ same e t ↦ rw t refl | apart ne t ↦ absurd (ne refl) ]
 
-    index-new : index_of (put p c (next_of f at) f) c ≡ index_of (put p c (next_of f at) f) at + 1
+    pub index-new : index_of (put p c (next_of f at) f) c ≡ index_of (put p c (next_of f at) f) at + 1
     index-new =
         index-child (put p c (next_of f at) f) c p parent-new
         ∙ ap (place_in c) (children-put f o p c (next_of f at) hp hc root z p hp ∙ itself)

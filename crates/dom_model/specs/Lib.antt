@@ -9,6 +9,7 @@ pub mod AnswerTraversal
 pub mod AnswerTree
 pub mod Arena
 pub mod Attributes
+pub mod Between
 pub mod Checks
 pub mod Clones
 pub mod Command
@@ -44,6 +45,7 @@ pub mod Ranges
 pub mod Records
 pub mod Refusal
 pub mod Reply
+pub mod Sound
 pub mod StaticRanges
 pub mod Table
 pub mod Texts
@@ -52,4 +54,3 @@ pub mod WalkSteps
 pub mod Walks
 pub mod World
 pub mod Wrapping
-pub mod Between

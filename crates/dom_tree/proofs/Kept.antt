@@ -12,7 +12,7 @@ use Rattle.dom_model.proofs.Changes.{seen, nothing, just, cut_at, link_at}
 use Rattle.dom_model.proofs.Lying.{Lies-without_root}
 use Rattle.dom_tree.proofs.Growing.{forest_of-Spells, entry_in-Spells}
 use Rattle.dom_tree.proofs.Spelling.{once_in, Spells-cut, Spells-put}
-use Rattle.dom_tree.proofs.KindsFitting.{KindsFit-cut, KindsFit-without, KindsFit-under, KindsFit-placed_under}
+use Rattle.dom_model.proofs.KindsFitting.{KindsFit-cut, KindsFit-without, KindsFit-under, KindsFit-placed_under}
 use Rattle.dom_model.proofs.Climbing.{hits-ancestors, climbs, hits-self, not_among-hits}
 use Rattle.dom_tree.proofs.Stores.{linked-at, unlinked-at}
 use Rattle.dom_tree.proofs.Numbering.{parent-held, slot-there, by_number-slot, parent_in-map, children_in-map, next_in-map, previous_in-map}

@@ -3,7 +3,6 @@ pub mod Ending
 pub mod Forests
 pub mod Growing
 pub mod Kept
-pub mod KindsFitting
 pub mod Making
 pub mod Numbering
 pub mod Ordering

@@ -11,7 +11,7 @@ use Rattle.dom_model.proofs.Totals.{total-beside}
 use Rattle.dom_model.proofs.Changes.{change_at}
 use Rattle.dom_model.proofs.Lying.{total-with_node}
 use Rattle.dom_tree.proofs.Spelling.{Spells-pushed, Spells-with_node}
-use Rattle.dom_tree.proofs.KindsFitting.{KindsFit-beside, KindsFit-with_node}
+use Rattle.dom_model.proofs.KindsFitting.{KindsFit-beside, KindsFit-with_node}
 use Rattle.dom_tree.proofs.Stores.{altered-at, added-new, added-old}
 use Rattle.dom_tree.proofs.Renumbering.{IsTabled-added, by_number-added, changed_at, IsTabled-changed, by_number-changed}
 use Rattle.dom_tree.proofs.Kept.{Keeps, keeps}
