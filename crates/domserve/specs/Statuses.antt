@@ -1,5 +1,5 @@
 -- The program's limits, its statuses, and what it says of faults.
-use Rattle.std.specs.Prelude.{◌≡◌, ℕ, ◌≤◌, List, Option, codes}
+use Rattle.std.specs.Prelude.{ℕ, ◌≤◌, List, Option, codes}
 use Rattle.std.specs.Io.KnownBytes.{Appends}
 use Rattle.dom_model.specs.Answer.{Bounds}
 use Rattle.dom_model.specs.Table.{served_table}

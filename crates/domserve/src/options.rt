@@ -1,7 +1,9 @@
 //! The command line: `domserve [--line BYTES] [--numbers N]`.
 
-ghost use Rattle.std.specs.Prelude.{◌≤◌, IfOk};
+ghost use Rattle.std.specs.Prelude.{◌≡◌, ◌≤◌, [], IfErr, IfOk, map};
+ghost use Rattle.clap.specs.Words.{app_of, found_of, kind_of, rows_of};
 ghost use Rattle.dom_session.specs.Bounding.{bounds_of};
+ghost use Rattle.domserve.specs.CommandLine.{IsRefusalOf, TellsOf, bounds_asked, bounds_at, faults_in, program_app, value_within};
 ghost use Rattle.domserve.specs.Statuses.{IsInRange};
 
 use clap::error::ErrorKind;
@@ -27,7 +29,9 @@ pub enum Refusal {
     Mistake(String),
 }
 
-fn command<'a>(alloc: Global) -> Result<Command<'a>, AllocError> {
+fn command<'a>(alloc: Global) -> Result<Command<'a>, AllocError>
+    ensures { IfOk result (λ command. app_of command ≡ program_app) }
+{
     let line = Arg::new(alloc, "line")
         .long("line")
         .value_name("BYTES")
@@ -49,6 +53,7 @@ fn command<'a>(alloc: Global) -> Result<Command<'a>, AllocError> {
 fn within(value: Option<u64>, most: u64, otherwise: u64) -> u64
     requires least { 1 ≤ otherwise }
     requires most { otherwise ≤ most }
+    ensures value { result ≡ value_within most otherwise value }
     ensures least { 1 ≤ result }
     ensures most { result ≤ most }
 {
@@ -59,7 +64,8 @@ fn within(value: Option<u64>, most: u64, otherwise: u64) -> u64
 }
 
 fn limits_of(matches: &ArgMatches<'_>) -> Limits
-    ensures { IsInRange (bounds_of result) }
+    ensures range { IsInRange (bounds_of result) }
+    ensures value { bounds_of result ≡ bounds_at (rows_of (found_of matches.now)) }
 {
     let line = within(matches.get_one::<u64>("line"), LONGEST_LINE, LINE);
     let numbers = within(matches.get_one::<u64>("numbers"), NUMBERS, NUMBERS);
@@ -69,7 +75,9 @@ fn limits_of(matches: &ArgMatches<'_>) -> Limits
     }
 }
 
-fn refusal_of(alloc: Global, error: &Error) -> Refusal {
+fn refusal_of(alloc: Global, error: &Error) -> Refusal
+    ensures { IsRefusalOf (kind_of error.now) result }
+{
     if let ErrorKind::OutOfMemory = error.kind() {
         return Refusal::Memory;
     }
@@ -87,7 +95,12 @@ fn refusal_of(alloc: Global, error: &Error) -> Refusal {
 
 /// The limits that the words ask for, the program's name first.
 pub fn limits_from<S: AsStr>(alloc: Global, words: &[S]) -> Result<Limits, Refusal>
-    ensures { IfOk result (λ limits. IsInRange (bounds_of limits)) }
+    ensures range { IfOk result (λ limits. IsInRange (bounds_of limits)) }
+    ensures asked { IfOk result (λ limits. bounds_of limits ≡ bounds_asked (map S.text words.now)) }
+
+    // Limits are given only for words in which clap finds no fault; help and mistakes come of faults.
+    ensures taken { IfOk result (λ _. faults_in (map S.text words.now) ≡ []) }
+    ensures told { IfErr result (TellsOf (faults_in (map S.text words.now))) }
 {
     let command = match command(alloc) {
         Ok(command) => command,

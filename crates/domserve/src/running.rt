@@ -1,8 +1,9 @@
 //! Serving as the words ask, and the status.
 
-ghost use Rattle.std.specs.Prelude.{◌≡◌, ◌≤◌, ℕ, true, false, ◌⊎◌, IfSome};
-ghost use Rattle.dom_model.specs.Answer.{Bounds};
+ghost use Rattle.std.specs.Prelude.{◌≡◌, ◌≤◌, ℕ, List, [], true, false, ◌⊎◌, IfSome, map};
+ghost use Rattle.std.specs.Io.KnownBytes.{Appends};
 ghost use Rattle.dom_session.specs.Bounding.{bounds_of};
+ghost use Rattle.domserve.specs.CommandLine.{asks_for_help, bounds_asked, faults_in, has_mistake};
 ghost use Rattle.domserve.specs.Statuses.{IsInRange, text_of, status_of, IsServed};
 
 use crate::options::{Refusal, limits_from};
@@ -78,6 +79,7 @@ fn served<R: Source, W: Sink, E: Write>(
 fn helped<W: Sink, E: Write>(text: &str, writer: &mut W, errors: &mut E) -> u8
     requires writes { W.has_failed writer.old ≡ false }
     ensures range { (result ≡ 0) ⊎ (result ≡ 3) }
+    ensures helped { result ≡ 0 → Appends (W.taken writer.old) (W.taken writer.new) text.now }
     ensures writer { W.has_failed writer.new ≡ true → result ≡ 3 }
 {
     match write_line(writer, text.as_bytes()) {
@@ -100,10 +102,16 @@ pub fn run<S: AsStr, R: Source, W: Sink, E: Write>(
     requires writes { W.has_failed writer.old ≡ false }
     ensures range { result ≤ 3 }
 
-    // At status 0 help was given, or the output for all bytes of the reader was written.
-    ensures served { result ≡ 0 → (reader.new ≡ reader.old)
-        ⊎ ((b : Bounds) × IsInRange b × IfSome (R.left reader.old) (IsServed b (W.taken writer.old) (W.taken writer.new))) }
-    ensures refused { result ≡ 2 → (reader.new ≡ reader.old) × (writer.new ≡ writer.old) }
+    // At status 0 clap finds no fault in the words, and the output for all bytes of the reader was written at the limits that
+    // the words ask for; or the words ask for help, and one text was written.
+    ensures served { result ≡ 0 → ((faults_in (map S.text words.now) ≡ []) × IsInRange (bounds_asked (map S.text words.now))
+        × IfSome (R.left reader.old) (IsServed (bounds_asked (map S.text words.now)) (W.taken writer.old) (W.taken writer.new)))
+        ⊎ ((asks_for_help (faults_in (map S.text words.now)) ≡ true) × (reader.new ≡ reader.old)
+        × ((text : List ℕ) × Appends (W.taken writer.old) (W.taken writer.new) text)) }
+
+    // At status 2 clap finds a mistake in the words, and nothing was read or written.
+    ensures refused { result ≡ 2 → (has_mistake (faults_in (map S.text words.now)) ≡ true)
+        × (reader.new ≡ reader.old) × (writer.new ≡ writer.old) }
 
     // After a failed read, write or flush the status is 3.
     ensures reader { R.has_failed reader.new ≡ true → result ≡ 3 }
