@@ -1,9 +1,11 @@
 pub mod Agreement
 pub mod Apart
+pub mod Appended
 pub mod AttributesInOrder
 pub mod Below
 pub mod BlankLine
 pub mod Chains
+pub mod ChangedNodes
 pub mod Changes
 pub mod ChecksKept
 pub mod ChildrenOfADocument
@@ -20,6 +22,7 @@ pub mod CopiesCounted
 pub mod CopiesGrow
 pub mod CopiesLimited
 pub mod CopiesOfContents
+pub mod CopiesPlaced
 pub mod CountsKept
 pub mod CountsOfContents
 pub mod CountsOfData
@@ -29,7 +32,20 @@ pub mod DiscardedTrees
 pub mod DiscardsFelt
 pub mod Documents
 pub mod DocumentsOfCopies
+pub mod Drawing
+pub mod DrawnPaths
+pub mod DrawnPieces
 pub mod EachNode
+pub mod EditsLeave
+pub mod EditsOfDeletedContents
+pub mod EditsOfDrawnContents
+pub mod EditsOfInsertedNodes
+pub mod EditsOfInsertions
+pub mod EditsOfNormalizing
+pub mod EditsOfSplitting
+pub mod EditsOfSteps
+pub mod EditsOfTextContent
+pub mod EditsOfTrees
 pub mod EmptyEndsExtracted
 pub mod EndingWalks
 pub mod EndsAfterInsertion
@@ -81,6 +97,7 @@ pub mod KindsFitting
 pub mod LinesLimited
 pub mod Listed
 pub mod ListsOfWalks
+pub mod LiveRangesKept
 pub mod Loosened
 pub mod Lots
 pub mod Lying
@@ -127,6 +144,7 @@ pub mod PartedWorlds
 pub mod Parts
 pub mod Paths
 pub mod PathsApart
+pub mod PathsDown
 pub mod Places
 pub mod PointOrder
 pub mod PreviousInOrder

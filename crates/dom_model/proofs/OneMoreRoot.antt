@@ -25,7 +25,7 @@ module _ {X : Type 0} where
             entry-elsewhere q n x kids (beside rest t) ne z ∙ entry-beside q n rest t (omega (arith, occurs-kids n x kids rest ne)) ∙ sym (entry-elsewhere q n x kids rest ne z)
       ]
 
-  entry-behind : (q : Option ℕ) (n : ℕ) (f t : Forest X) → occurs n f ≡ 0 → entry_under q n (beside f t) ≡ entry_under q n t
+  pub entry-behind : (q : Option ℕ) (n : ℕ) (f t : Forest X) → occurs n f ≡ 0 → entry_under q n (beside f t) ≡ entry_under q n t
   entry-behind q n empty t z = refl
   entry-behind q n (node x kids rest) t z =
       elim (lot n x kids) [
@@ -70,7 +70,7 @@ module _ {X : Type 0} where
     pub entry-more : (n : ℕ) → 0 < occurs n f → entry_in more n ≡ entry_in f n
     entry-more n h = entry-beside None n f (node x empty empty) h
 
-    entry-new : entry_in more x.number ≡ Some (record { value = x; parent = None; children = [] })
+    pub entry-new : entry_in more x.number ≡ Some (record { value = x; parent = None; children = [] })
     entry-new = entry-behind None x.number f (node x empty empty) new ∙ entry-top None x.number x empty empty refl
 
     pub parent-new : parent_of more x.number ≡ None

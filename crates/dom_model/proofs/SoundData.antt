@@ -43,10 +43,10 @@ length-data f n h = go (entry_in f n) h
 -- Nodes of one number change, but not their numbers and labels.
 
 module _ (change : Node Content → Node Content) (keeps : (x : Node Content) → bare_node (change x) ≡ bare_node x) (n : ℕ) (w : World) (s : IsSound w) where
-  abbrev changed : Forest Content
+  abbrev pub changed : Forest Content
   changed = with_node n change w.forest
 
-  alike : IsAlike w.forest changed
+  pub alike : IsAlike w.forest changed
   alike = with_node-alike change keeps n w.forest
 
   number : (x : Node Content) → (change x).number ≡ x.number
@@ -55,14 +55,14 @@ module _ (change : Node Content → Node Content) (keeps : (x : Node Content) �
   kind : (x : Node Content) → (change x).label.kind ≡ x.label.kind
   kind x = ap (λ (y : Node Content). y.label.kind) (keeps x)
 
-  length-other : (m : ℕ) → (m == n) ≡ false → node_length unit_count changed m ≡ node_length unit_count w.forest m
+  pub length-other : (m : ℕ) → (m == n) ≡ false → node_length unit_count changed m ≡ node_length unit_count w.forest m
   length-other m far = ap (length_in unit_count) (entry-with_node change number n m None w.forest) ∙ go (entry_in w.forest m)
     where
       go : (o : Option (Entry (Node Content))) → length_in unit_count (change_at change n m o) ≡ length_in unit_count o
       go None = refl
       go (Some e) = rw far refl
 
-  sound-changed : (ranges : List (Option Range)) → All (IsLive changed) ranges → IsSound (record w { forest = changed; ranges = ranges })
+  pub sound-changed : (ranges : List (Option Range)) → All (IsLive changed) ranges → IsSound (record w { forest = changed; ranges = ranges })
   sound-changed ranges h =
       record {
         forest = IsWood-alike s.forest alike;

@@ -155,9 +155,13 @@ insertable w s parent n child h c =
       before_other = r.other;
     }
 
+-- a node that passes the check may come in before the reference child
+pub may_come_before : (w : World) → IsSound w → (parent n : ℕ) (child : Option ℕ) → 0 < occurs n w.forest → check_insert w.forest parent n child ≡ None → IsInsertable w.forest n parent (reference_child w n child)
+may_come_before w s parent n child h c =
+    insertable w s parent n child h (checks w.forest parent n child ((kind_refuses (λ k. document_refuses k w.forest parent n child) w.forest parent n, HierarchyRequestError) ∷ []) c)
+
 pub sound-pre_insert : (n parent : ℕ) (child : Option ℕ) (w : World) → IsSound w → 0 < occurs n w.forest → check_insert w.forest parent n child ≡ None → IsSound (pre_insert n parent child w)
-sound-pre_insert n parent child w s h c =
-    sound-insert false n parent (reference_child w n child) w s (insertable w s parent n child h (checks w.forest parent n child ((kind_refuses (λ k. document_refuses k w.forest parent n child) w.forest parent n, HierarchyRequestError) ∷ []) c))
+sound-pre_insert n parent child w s h c = sound-insert false n parent (reference_child w n child) w s (may_come_before w s parent n child h c)
 
 -- what may be inserted last may be so where cuts were made
 pub insertable-loosened : (f g : Forest Content) (n parent : ℕ) → IsLoosened f g → IsInsertable f n parent None → IsInsertable g n parent None
@@ -201,52 +205,53 @@ replacing f o parent n child e = go (next_of f child) refl
           | apart ne t ↦ rw t (record { child_of = i.child; other = ne }, λ same_node. let x = ap (λ m. place_in m (children_of f parent)) same_node in let y = i.place in omega arith)
         ]
 
-pub sound-replace : (child n parent : ℕ) (w : World) → IsSound w → 0 < occurs n w.forest → check_replace w.forest parent n child ≡ None → IsSound (replace child n parent w)
-sound-replace child n parent w s h c =
-    sound-tree_record parent _ (child ∷ []) _ _ (insert true n parent (reference_child w n (next_of w.forest child)) v) (sound-insert true n parent (reference_child w n (next_of w.forest child)) v (sound-remove true child w s) k)
-  where
-    v : World
-    v = remove true child w
+-- a node that passes the check of a replacement may come in once the child is removed
+module _ (child n parent : ℕ) (w : World) (s : IsSound w) (h : 0 < occurs n w.forest) (c : check_replace w.forest parent n child ≡ None) where
+  abbrev removed : World
+  removed = remove true child w
 
-    told : IsChecked w.forest parent n (Some child)
-    told = checks w.forest parent n (Some child) ((kind_refuses (λ k. document_refuses_instead k w.forest parent n child) w.forest parent n, HierarchyRequestError) ∷ []) c
+  told : IsChecked w.forest parent n (Some child)
+  told = checks w.forest parent n (Some child) ((kind_refuses (λ k. document_refuses_instead k w.forest parent n child) w.forest parent n, HierarchyRequestError) ∷ []) c
 
-    hc : 0 < occurs child w.forest
-    hc = child_there w.forest child parent told.child_of
+  child_stands : 0 < occurs child w.forest
+  child_stands = child_there w.forest child parent told.child_of
 
-    a : IsLoosened w.forest v.forest
-    a = loosened-remove true child w s hc
+  cuts : IsLoosened w.forest removed.forest
+  cuts = loosened-remove true child w s child_stands
 
-    last : IsInsertable v.forest n parent None
-    last =
-        insertable-loosened w.forest v.forest n parent a (record {
-          there = h;
-          parent_there = holder_there w.forest parent told.may_hold;
-          outside = told.outside;
-          may_hold = told.may_hold;
-          no_document = told.no_document;
-          doctype_fits = told.doctype_fits;
-          before_child = tt;
-          before_other = tt;
-        })
+  last : IsInsertable removed.forest n parent None
+  last =
+      insertable-loosened w.forest removed.forest n parent cuts (record {
+        there = h;
+        parent_there = holder_there w.forest parent told.may_hold;
+        outside = told.outside;
+        may_hold = told.may_hold;
+        no_document = told.no_document;
+        doctype_fits = told.doctype_fits;
+        before_child = tt;
+        before_other = tt;
+      })
 
-    kept : (b : Option ℕ) → IsChildOf w.forest parent b → IfSome b (λ d. d ≡ child → ⊥) → IsChildOf v.forest parent b
-    kept None i ne = tt
-    kept (Some d) i ne = parent-remove true child w s hc d ∙ (elim (same_or d child) [ same e t ↦ absurd (ne e) | apart _ t ↦ rw t i ])
+  kept : (b : Option ℕ) → IsChildOf w.forest parent b → IfSome b (λ d. d ≡ child → ⊥) → IsChildOf removed.forest parent b
+  kept None i ne = tt
+  kept (Some d) i ne = parent-remove true child w s child_stands d ∙ (elim (same_or d child) [ same e t ↦ absurd (ne e) | apart _ t ↦ rw t i ])
 
-    k : IsInsertable v.forest n parent (reference_child w n (next_of w.forest child))
-    k =
-        let r = replacing w.forest s.forest.once parent n child told.child_of in
-        record {
-          there = last.there;
-          parent_there = last.parent_there;
-          outside = last.outside;
-          may_hold = last.may_hold;
-          no_document = last.no_document;
-          doctype_fits = last.doctype_fits;
-          before_child = kept (reference_child w n (next_of w.forest child)) r.0.child_of r.1;
-          before_other = r.0.other;
-        }
+  pub may_come_instead : IsInsertable removed.forest n parent (reference_child w n (next_of w.forest child))
+  may_come_instead =
+      let r = replacing w.forest s.forest.once parent n child told.child_of in
+      record {
+        there = last.there;
+        parent_there = last.parent_there;
+        outside = last.outside;
+        may_hold = last.may_hold;
+        no_document = last.no_document;
+        doctype_fits = last.doctype_fits;
+        before_child = kept (reference_child w n (next_of w.forest child)) r.0.child_of r.1;
+        before_other = r.0.other;
+      }
+
+  pub sound-replace : IsSound (replace child n parent w)
+  sound-replace = sound-tree_record parent _ (child ∷ []) _ _ (insert true n parent (reference_child w n (next_of w.forest child)) removed) (sound-insert true n parent (reference_child w n (next_of w.forest child)) removed (sound-remove true child w s) may_come_instead)
 
 -- Replace all.
 
@@ -277,7 +282,7 @@ sound-replace_all n parent w s k =
     go (Some m) i = sound-insert true m parent None v sv (insertable-loosened w.forest v.forest m parent a i)
 
 pub may_come_in : (w : World) → IsSound w → (parent n : ℕ) → 0 < occurs n w.forest → check_insert w.forest parent n None ≡ None → IsInsertable w.forest n parent None
-may_come_in w s parent n h c = insertable w s parent n None h (checks w.forest parent n None ((kind_refuses (λ k. document_refuses k w.forest parent n None) w.forest parent n, HierarchyRequestError) ∷ []) c)
+may_come_in w s parent n h c = may_come_before w s parent n None h c
 
 -- Adopt.
 

@@ -82,16 +82,16 @@ module _ (v : World) (t p base first : ℕ) (ts : List ℕ) (j : AreJoinable v t
   child : (m : ℕ) → 0 < hits m (t ∷ first ∷ (ts ++ j.behind)) → 0 < hits m (children_of v.forest p)
   child m h = let a = ap (hits m) j.listed in let b = hits-append m j.ahead (t ∷ first ∷ (ts ++ j.behind)) in omega arith
 
-  is_child : (m : ℕ) → 0 < hits m (t ∷ first ∷ (ts ++ j.behind)) → parent_of v.forest m ≡ Some p
+  pub is_child : (m : ℕ) → 0 < hits m (t ∷ first ∷ (ts ++ j.behind)) → parent_of v.forest m ≡ Some p
   is_child m h = child-parent v.forest j.sound.forest.once m p (child m h)
 
-  is_there : (m : ℕ) → 0 < hits m (t ∷ first ∷ (ts ++ j.behind)) → 0 < occurs m v.forest
+  pub is_there : (m : ℕ) → 0 < hits m (t ∷ first ∷ (ts ++ j.behind)) → 0 < occurs m v.forest
   is_there m h = child-there v.forest j.sound.forest.once m p (child m h)
 
   t_in : 0 < hits t (t ∷ first ∷ (ts ++ j.behind))
   t_in = hits-first t (first ∷ (ts ++ j.behind))
 
-  first_in : 0 < hits first (t ∷ first ∷ (ts ++ j.behind))
+  pub first_in : 0 < hits first (t ∷ first ∷ (ts ++ j.behind))
   first_in = let i = hits-first first (ts ++ j.behind) in let k = hits-append first (t ∷ []) (first ∷ (ts ++ j.behind)) in omega arith
 
   later_in : (m : ℕ) → 0 < hits m ts → 0 < hits m (ts ++ j.behind)
@@ -100,7 +100,7 @@ module _ (v : World) (t p base first : ℕ) (ts : List ℕ) (j : AreJoinable v t
   later_all : (m : ℕ) → 0 < hits m ts → 0 < hits m (t ∷ first ∷ (ts ++ j.behind))
   later_all m h = let i = later_in m h in let k = hits-append m (t ∷ first ∷ []) (ts ++ j.behind) in omega arith
 
-  t_apart : t ≡ first → ⊥
+  pub t_apart : t ≡ first → ⊥
   t_apart e =
       let i = once first in
       let k = hits-itself first (ts ++ j.behind) in
@@ -176,13 +176,13 @@ module _ (v : World) (t p base first : ℕ) (ts : List ℕ) (j : AreJoinable v t
   abbrev merged : World
   merged = merged_ends first t base (parent_of v.forest first) v
 
-  abbrev joins : Point → Point
+  abbrev pub joins : Point → Point
   joins q = after_merge first t base p (index_of v.forest first) q
 
-  merged_is : merged ≡ record v { ranges = map_ranges joins v.ranges }
+  pub merged_is : merged ≡ record v { ranges = map_ranges joins v.ranges }
   merged_is = ap (λ o. merged_ends first t base o v) (is_child first first_in)
 
-  sound-merged_ranges : IsSound (record v { ranges = map_ranges joins v.ranges })
+  pub sound-merged_ranges : IsSound (record v { ranges = map_ranges joins v.ranges })
   sound-merged_ranges =
       record {
         forest = j.sound.forest;
@@ -203,7 +203,7 @@ module _ (v : World) (t p base first : ℕ) (ts : List ℕ) (j : AreJoinable v t
       past : (q : Point) → IsPast first p (index_of v.forest first) (joins q)
       past q = point-past j.sound.forest p t first base (is_there t t_in) (is_there first first_in) (is_child t t_in) (is_child first first_in) index_first (bare_of t j.text) (bare_of first text_first) (text_is_no_doctype v.forest t j.text) room_first q
 
-  abbrev further : ℕ
+  abbrev pub further : ℕ
   further = base + length (data_of v first)
 
   up_to_ranges : Lives (AreUpTo t further) (map_ranges joins v.ranges)
@@ -219,19 +219,19 @@ module _ (v : World) (t p base first : ℕ) (ts : List ℕ) (j : AreJoinable v t
 
   -- Then it leaves.
 
-  abbrev moved : World
+  abbrev pub moved : World
   moved = record v { ranges = map_ranges joins v.ranges }
 
-  abbrev left : World
+  abbrev pub left : World
   left = remove false first moved
 
   sound-left : IsSound left
   sound-left = sound-remove false first moved sound-merged_ranges
 
-  forest_left : left.forest ≡ cut first v.forest
+  pub forest_left : left.forest ≡ cut first v.forest
   forest_left = forest-remove false first moved sound-merged_ranges (is_there first first_in)
 
-  content_left : (m : ℕ) → data_of left m ≡ data_of v m
+  pub content_left : (m : ℕ) → data_of left m ≡ data_of v m
   content_left m =
       ap (λ (g : Forest Content). (content_in (entry_in g m)).text) forest_left
       ∙ ap (λ o. (content_in o).text) (entry-cut v.forest j.sound.forest.once first m)
@@ -274,7 +274,7 @@ module _ (v : World) (t p base first : ℕ) (ts : List ℕ) (j : AreJoinable v t
           go false true d = (let k = u d in omega arith)
           go false false d = u d
 
-  joinable_left : AreJoinable left t p further ts
+  pub joinable_left : AreJoinable left t p further ts
   joinable_left =
       record {
         sound = sound-left;
@@ -294,7 +294,7 @@ module _ (v : World) (t p base first : ℕ) (ts : List ℕ) (j : AreJoinable v t
         up_to = up_to_left;
       }
 
-  in_either_order : remove false first (merge_ends t further ts moved) ≡ merge_ends t further ts left
+  pub in_either_order : remove false first (merge_ends t further ts moved) ≡ merge_ends t further ts left
   in_either_order =
       worlds_in_turn moved first p t further ts (is_child first first_in) outside t_apart (far t (bare_of t j.text) t_in)
       later (λ m h. far m (bare_of m (j.texts m (let i = hits-append m (first ∷ []) ts in omega arith))) (later_all m h)) past_ranges

@@ -35,7 +35,7 @@ use Rattle.dom_model.proofs.SoundJoining.{AreUpTo, AreJoinable, sound-joined}
 
 -- Kinds stay.
 
-abbrev SameKinds : Forest Content → Forest Content → Type 0
+abbrev pub SameKinds : Forest Content → Forest Content → Type 0
 SameKinds f g = (test : Kind → Bool) (n : ℕ) → kind_passes test g n ≡ kind_passes test f n
 
 removed_kinds : (n : ℕ) (w : World) → ((m : ℕ) → occurs m w.forest ≤ 1) → SameKinds w.forest (remove false n w).forest × ((m : ℕ) → occurs m (remove false n w).forest ≤ 1)
@@ -62,28 +62,28 @@ merged-forest into base (t ∷ ts) w = merged-forest into (base + length (data_o
 -- A Text takes in those that follow it.
 
 module _ (t p : ℕ) (w : World) (s : IsSound w) (text : is_of_kind Text w.forest t ≡ true) (ht : 0 < occurs t w.forest) (par : parent_of w.forest t ≡ Some p) where
-  abbrev ts : List ℕ
+  abbrev pub ts : List ℕ
   ts = following_texts w t
 
-  abbrev base : ℕ
+  abbrev pub base : ℕ
   base = length (data_of w t)
 
-  abbrev added : List ℕ
+  abbrev pub added : List ℕ
   added = joined_data w ts
 
-  abbrev count : ℕ
+  abbrev pub count : ℕ
   count = cut_count base base 0
 
   abbrev change : Node Content → Node Content
   change = with_data (spliced base count added (data_of w t))
 
-  abbrev joint : World
+  abbrev pub joint : World
   joint = replace_data t base 0 added w
 
   alike : IsAlike w.forest joint.forest
   alike = with_node-alike change (λ x. refl) t w.forest
 
-  no_count : count ≡ 0
+  pub no_count : count ≡ 0
   no_count = let i = cut_fits base base 0 (omega arith) in omega arith
 
   siblings_are : siblings_in (entry_in w.forest) t ≡ children_of w.forest p
@@ -98,7 +98,7 @@ module _ (t p : ℕ) (w : World) (s : IsSound w) (text : is_of_kind Text w.fores
       (front (is_of_kind Text w.forest) (past t (children_of w.forest p)))
 
   -- none of them is the Text itself
-  others : (m : ℕ) → 0 < hits m ts → m ≡ t → ⊥
+  pub others : (m : ℕ) → 0 < hits m ts → m ≡ t → ⊥
   others m h e =
       let a = child-once w.forest s.forest.once t p in
       let b = ap (hits t) listed in
@@ -119,7 +119,7 @@ module _ (t p : ℕ) (w : World) (s : IsSound w) (text : is_of_kind Text w.fores
       go None = refl
       go (Some e) = rw far refl
 
-  joined-same : (ns : List ℕ) → ((m : ℕ) → 0 < hits m ns → m ≡ t → ⊥) → joined_data joint ns ≡ joined_data w ns
+  pub joined-same : (ns : List ℕ) → ((m : ℕ) → 0 < hits m ns → m ≡ t → ⊥) → joined_data joint ns ≡ joined_data w ns
   joined-same [] far = refl
   joined-same (m ∷ ns) far =
       let here = data-other m (far m (hits-first m ns)) in
@@ -151,7 +151,7 @@ module _ (t p : ℕ) (w : World) (s : IsSound w) (text : is_of_kind Text w.fores
             | apart ne u ↦ rw u (λ d. absurd (ne d))
           ]
 
-  joinable : AreJoinable joint t p base ts
+  pub joinable : AreJoinable joint t p base ts
   joinable =
       record {
         sound = sound-replace_data t base 0 added w s (text_has_data w t text) (omega arith);
@@ -185,7 +185,7 @@ numbers-first n (node x kids rest) e = ap (λ m. m ∷ (numbers kids ++ numbers 
     same_top : x.number ∷ tops rest ≡ n ∷ [] → x.number ≡ n
     same_top e = let k : Some x.number ≡ Some n = ap head_of e in cc k
 
-below_parent : (f : Forest Content) → ((m : ℕ) → occurs m f ≤ 1) → (n t : ℕ) → among t (drop 1 (inclusive_descendants f n)) ≡ true → (0 < occurs t f) × (p : ℕ) × (parent_of f t ≡ Some p)
+pub below_parent : (f : Forest Content) → ((m : ℕ) → occurs m f ≤ 1) → (n t : ℕ) → among t (drop 1 (inclusive_descendants f n)) ≡ true → (0 < occurs t f) × (p : ℕ) × (parent_of f t ≡ Some p)
 below_parent f o n t h =
     elim (seen (parent_of f t)) [
       | just p e ↦ (there, p, e)
@@ -233,9 +233,9 @@ below_parent f o n t h =
 -- One Text after another.
 
 -- a sound world in which the kinds are as they were
-record IsKept (w v : World) : Type 0 where
-  sound : IsSound v
-  kinds : SameKinds w.forest v.forest
+pub record IsKept (w v : World) : Type 0 where
+  pub sound : IsSound v
+  pub kinds : SameKinds w.forest v.forest
 
 kept-text : (n t : ℕ) (w : World) → IsSound w → is_of_kind Text w.forest t ≡ true → is_descendant w n t ≡ true → IsKept w (normalize_text t w)
 kept-text n t w s text below = go (length (data_of w t) == 0)
@@ -246,7 +246,7 @@ kept-text n t w s text below = go (length (data_of w t) == 0)
         let i = below_parent w.forest s.forest.once n t below in
         record { sound = sound-join_following t i.1 w s text i.0 i.2; kinds = join_kinds t i.1 w s text i.0 i.2 }
 
-kept-one : (n t : ℕ) (w : World) → IsSound w → is_of_kind Text w.forest t ≡ true → IsKept w (if is_descendant w n t then normalize_text t w else w)
+pub kept-one : (n t : ℕ) (w : World) → IsSound w → is_of_kind Text w.forest t ≡ true → IsKept w (if is_descendant w n t then normalize_text t w else w)
 kept-one n t w s text = go (is_descendant w n t) refl
   where
     go : (v : Bool) → is_descendant w n t ≡ v → IsKept w (if v then normalize_text t w else w)

@@ -69,7 +69,7 @@ map_ranges-after g h k e (r ∷ rs) = rw (map_ranges-after g h k e rs) (ap (λ x
     each None = refl
     each (Some r) = rw (e r.start, e r.end) refl
 
-map_ranges-same : (g : Point → Point) → ((p : Point) → g p ≡ p) → (rs : List (Option Range)) → map_ranges g rs ≡ rs
+pub map_ranges-same : (g : Point → Point) → ((p : Point) → g p ≡ p) → (rs : List (Option Range)) → map_ranges g rs ≡ rs
 map_ranges-same g e [] = refl
 map_ranges-same g e (r ∷ rs) = rw (map_ranges-same g e rs) (ap (λ x. x ∷ rs) (each r))
   where
@@ -87,7 +87,7 @@ gap-none parent index p = go ((p.node == parent) && nat_lt index p.offset)
     go true = ap (λ x. record p { offset = x }) same_offset
     go false = refl
 
-gap_before-none : (parent : ℕ) (child : Option ℕ) (w : World) → gap_before parent child 0 w ≡ w
+pub gap_before-none : (parent : ℕ) (child : Option ℕ) (w : World) → gap_before parent child 0 w ≡ w
 gap_before-none parent None w = refl
 gap_before-none parent (Some c) w = ap (λ rs. record w { ranges = rs }) (map_ranges-same (after_gap parent (index_of w.forest c) 0) (gap-none parent (index_of w.forest c)) w.ranges)
 
@@ -171,7 +171,7 @@ module _ (parent n : ℕ) (child : Option ℕ) (w : World) (s : IsSound w) (hp :
   pub kind_placed : (test : Kind → Bool) (m : ℕ) → kind_passes test after_adoption m ≡ kind_passes test w.forest m
   kind_placed test m = kind-alike renamed test m ∙ kind-put w.forest s.forest.once parent n child hp k.there k.root apart_from test m
 
-  index_placed : (c : ℕ) → parent_of w.forest c ≡ Some parent → child ≡ Some c → index_of after_adoption c ≡ index_of w.forest c + 1
+  pub index_placed : (c : ℕ) → parent_of w.forest c ≡ Some parent → child ≡ Some c → index_of after_adoption c ≡ index_of w.forest c + 1
   index_placed c e d =
       let j = index-child w.forest c parent e in
       index-alike renamed c
@@ -192,7 +192,7 @@ module _ (parent n : ℕ) (child : Option ℕ) (w : World) (s : IsSound w) (hp :
         fits = fits-kept w.forest after_adoption kind_placed parent m ∙ h.fits;
       }
 
-  all_placeable : (ns : List ℕ) → hits n ns ≡ 0 → ArePlaceable w.forest parent ns → ArePlaceable after_adoption parent ns
+  pub all_placeable : (ns : List ℕ) → hits n ns ≡ 0 → ArePlaceable w.forest parent ns → ArePlaceable after_adoption parent ns
   all_placeable [] z h = tt
   all_placeable (m ∷ ns) z h =
       elim (same_or m n) [
@@ -200,7 +200,7 @@ module _ (parent n : ℕ) (child : Option ℕ) (w : World) (s : IsSound w) (hp :
         | apart ne t ↦ (let i = rw t at z in (still_placeable m (λ e. ne (sym e)) h.0, h.1, all_placeable ns (omega arith) h.2))
       ]
 
-  child_placed : (b : Option ℕ) → IsChildOf w.forest parent b → IsChildOf after_adoption parent b
+  pub child_placed : (b : Option ℕ) → IsChildOf w.forest parent b → IsChildOf after_adoption parent b
   child_placed None c = tt
   child_placed (Some d) c = parent_placed d (child_there w.forest d parent c) ∙ go (d == n) refl
     where
@@ -215,7 +215,7 @@ sound-put_one parent n (Some d) w s hp k c =
 
 -- The gap for several is the gaps for one after another.
 
-gap-apart : (parent n : ℕ) (child : Option ℕ) (more : ℕ) (w : World) → IsSound w → 0 < occurs parent w.forest → IsPlaceable w.forest parent n → IsChildOf w.forest parent child → put_in parent child n (gap_before parent child (1 + more) w) ≡ gap_before parent child more (put_in parent child n (gap_before parent child 1 w))
+pub gap-apart : (parent n : ℕ) (child : Option ℕ) (more : ℕ) (w : World) → IsSound w → 0 < occurs parent w.forest → IsPlaceable w.forest parent n → IsChildOf w.forest parent child → put_in parent child n (gap_before parent child (1 + more) w) ≡ gap_before parent child more (put_in parent child n (gap_before parent child 1 w))
 gap-apart parent n None more w s hp k c = refl
 gap-apart parent n (Some d) more w s hp k c =
     let i = index_placed parent n (Some d) w s hp k d c refl in

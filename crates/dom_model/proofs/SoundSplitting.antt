@@ -69,18 +69,18 @@ text_has_data w n h = go (entry_in w.forest n) h
     go (Some e) k = text_data e.value.label.kind k
 
 -- the Text that gets what is beyond the offset
-abbrev new_text : ℕ → ℕ → World → Node Content
+abbrev pub new_text : ℕ → ℕ → World → Node Content
 new_text n offset w = record { number = w.made; document = node_document w n; label = named Text []; body = with_text (tail_of w n offset) }
 
 -- A Text with a parent is split.
 module _ (n parent offset : ℕ) (w : World) (s : IsSound w) (hn : 0 < occurs n w.forest) (text : is_of_kind Text w.forest n ≡ true) (par : parent_of w.forest n ≡ Some parent) (within : offset ≤ length (data_of w n)) where
-  abbrev new_node : Node Content
+  abbrev pub new_node : Node Content
   new_node = new_text n offset w
 
-  abbrev made : World
+  abbrev pub made : World
   made = made_node (node_document w n) (named Text []) (with_text (tail_of w n offset)) w
 
-  sm : IsSound made
+  pub sm : IsSound made
   sm = sound-made_node (node_document w n) (named Text []) (with_text (tail_of w n offset)) w s
 
   absent : occurs w.made w.forest ≡ 0
@@ -98,13 +98,13 @@ module _ (n parent offset : ℕ) (w : World) (s : IsSound w) (hn : 0 < occurs n 
   apart-new : (m : ℕ) → 0 < occurs m w.forest → m ≡ w.made → ⊥
   apart-new m h e = let z : occurs m w.forest ≡ 0 = ap (λ k. occurs k w.forest) e ∙ absent in omega arith
 
-  there-old : (m : ℕ) → 0 < occurs m w.forest → 0 < occurs m made.forest
+  pub there-old : (m : ℕ) → 0 < occurs m w.forest → 0 < occurs m made.forest
   there-old m h = let t = total-beside (one_at m) w.forest (node new_node empty empty) in omega arith
 
-  hp : 0 < occurs parent w.forest
+  pub hp : 0 < occurs parent w.forest
   hp = (parent-path w.forest s.forest.once n parent hn par).0
 
-  par-made : parent_of made.forest n ≡ Some parent
+  pub par-made : parent_of made.forest n ≡ Some parent
   par-made = parent-beside w.forest (node new_node empty empty) n hn ∙ par
 
   text-made : (test : Kind → Bool) → kind_passes test made.forest n ≡ kind_passes test w.forest n
@@ -122,7 +122,7 @@ module _ (n parent offset : ℕ) (w : World) (s : IsSound w) (hn : 0 < occurs n 
   root-new : parent_of made.forest w.made ≡ None
   root-new = ap parent_in entry-new
 
-  placeable : IsPlaceable made.forest parent w.made
+  pub placeable : IsPlaceable made.forest parent w.made
   placeable =
       record {
         there = there-new;
@@ -131,26 +131,26 @@ module _ (n parent offset : ℕ) (w : World) (s : IsSound w) (hn : 0 < occurs n 
         fits = (let p = parent-passes sm.forest n parent par-made (there-old n hn) in let e = entry_there made.forest parent (there-old parent hp) in let q = rw e.1 at p in rw (e.1, entry-new) q);
       }
 
-  before_child : IsChildOf made.forest parent (next_of made.forest n)
+  pub before_child : IsChildOf made.forest parent (next_of made.forest n)
   before_child = go (next_of made.forest n) refl
     where
       go : (b : Option ℕ) → next_of made.forest n ≡ b → IsChildOf made.forest parent b
       go None e = tt
       go (Some d) e = (next_child made.forest sm.forest.once parent n d par-made e).child
 
-  abbrev placed : World
+  abbrev pub placed : World
   placed = put_in parent (next_of made.forest n) w.made (gap_before parent (next_of made.forest n) 1 made)
 
   sp : IsSound placed
   sp = sound-put_one parent w.made (next_of made.forest n) made sm (there-old parent hp) placeable before_child
 
-  abbrev parted : Forest Content
+  abbrev pub parted : Forest Content
   parted = after_adoption parent w.made (next_of made.forest n) made sm (there-old parent hp) placeable
 
-  forest_is : placed.forest ≡ parted
+  pub forest_is : placed.forest ≡ parted
   forest_is = placed-forest parent w.made (next_of made.forest n) made sm (there-old parent hp) placeable
 
-  there-parted : (m : ℕ) → 0 < occurs m made.forest → 0 < occurs m parted
+  pub there-parted : (m : ℕ) → 0 < occurs m made.forest → 0 < occurs m parted
   there-parted m h = subst (λ x. 0 < x) (sym (occurs_placed parent w.made (next_of made.forest n) made sm (there-old parent hp) placeable m)) h
 
   kind-parted : (test : Kind → Bool) (m : ℕ) → kind_passes test parted m ≡ kind_passes test made.forest m
@@ -169,7 +169,7 @@ module _ (n parent offset : ℕ) (w : World) (s : IsSound w) (hn : 0 < occurs n 
   alike : IsAlike (after_put parent w.made (next_of made.forest n) made sm (there-old parent hp) placeable) parted
   alike = renamed parent w.made (next_of made.forest n) made sm (there-old parent hp) placeable
 
-  index-kept : index_of parted n ≡ index_of made.forest n
+  pub index-kept : index_of parted n ≡ index_of made.forest n
   index-kept = index-alike alike n ∙ index-split made.forest sm.forest.once parent n w.made offset (there-old n hn) there-new par-made root-new bare bare-new
 
   index-after : index_of parted w.made ≡ index_of parted n + 1
@@ -252,7 +252,7 @@ module _ (n parent offset : ℕ) (w : World) (s : IsSound w) (hn : 0 < occurs n 
       (each-moved (λ r. IsRange parted (moved_range divided r)) (IsRange parted) divided (λ r k. k) placed.ranges
       (gap_each (IsRange w.forest) (λ r. IsRange parted (moved_range divided r)) parent (next_of made.forest n) made before_child (parent-passes sm.forest n parent par-made (there-old n hn)) range_of_made range-divided s.ranges))
 
-  abbrev after_parting : World
+  abbrev pub after_parting : World
   after_parting =
       let told = tree_record parent (w.made ∷ []) [] (previous_to made.forest parent (next_of made.forest n)) (next_of made.forest n) placed in
       record told { ranges = map_ranges (after_split n offset w.made parent (index_of told.forest n)) told.ranges }
@@ -260,7 +260,7 @@ module _ (n parent offset : ℕ) (w : World) (s : IsSound w) (hn : 0 < occurs n 
   sound-after_parting : IsSound after_parting
   sound-after_parting = record { forest = sp.forest; ranges = ranges-divided; iterators = sp.iterators; walkers = sp.walkers; registrations = sp.registrations }
 
-  split_off_is : split_off n offset w.made (Some parent) made ≡ after_parting
+  pub split_off_is : split_off n offset w.made (Some parent) made ≡ after_parting
   split_off_is =
       ap (λ (v : World). record v { ranges = map_ranges (after_split n offset w.made parent (index_of v.forest n)) v.ranges })
       (insert-root w.made parent (next_of made.forest n) made (ap (entry_has (is_kind DocumentFragment)) entry-new) root-new)
@@ -268,7 +268,7 @@ module _ (n parent offset : ℕ) (w : World) (s : IsSound w) (hn : 0 < occurs n 
   data_after : kind_passes is_character_data after_parting.forest n ≡ true
   data_after = ap (λ (g : Forest Content). kind_passes is_character_data g n) forest_is ∙ kind-parted is_character_data n ∙ text-made is_character_data ∙ has_data
 
-  length_after : length (data_of after_parting n) ≡ length (data_of w n)
+  pub length_after : length (data_of after_parting n) ≡ length (data_of w n)
   length_after = sym (length-data after_parting.forest n data_after) ∙ ap (λ (g : Forest Content). node_length unit_count g n) forest_is ∙ length-text
 
   sound-parted : IsSound (replace_data n offset (length (tail_of w n offset)) [] (split_off n offset w.made (Some parent) made))

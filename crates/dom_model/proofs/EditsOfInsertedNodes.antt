@@ -1,0 +1,133 @@
+-- The edits of inserting a node into a live range leave what that leaves. DOM Standard, "Interface Range": insertNode.
+use Rattle.std.proofs.Common.{◌≡◌, ℕ, ◌+◌, ◌<◌, ◌≤◌, ◌==◌, Bool, true, false, ◌&&◌, if◌then◌else◌, List, [], ◌∷◌, length, Option, Some, None, is_some, Ok, Err, refl, ap, sym, ◌∙◌, subst, arith}
+use Rattle.dom_model.specs.declared.DomError.{DomError}
+use Rattle.dom_model.specs.declared.Kind.TheVariants.{Text}
+use Rattle.dom_model.specs.Kinds.{is_character_data}
+use Rattle.dom_model.specs.Forest.{Node, Forest, empty, node, occurs, one_at, with_node, parent_of}
+use Rattle.dom_model.specs.World.{Content, Point, Range, World}
+use Rattle.dom_model.specs.Checks.{check_insert, is_of_kind}
+use Rattle.dom_model.specs.Editing.{remove, pre_insert, reference_child, node_document}
+use Rattle.dom_model.specs.Making.{made_node, named, with_text}
+use Rattle.dom_model.specs.Ranges.{is_collapsed, range_at, with_range}
+use Rattle.dom_model.specs.Data.{data_of, tail_of, replace_data, split_off, split, with_data, cut_count}
+use Rattle.dom_model.specs.Texts.{spliced}
+use Rattle.dom_model.specs.Contents.{for_range}
+use Rattle.dom_model.specs.Wrapping.{Outcome, and_then, unless, try_pre_insert, is_text, reference_at, parent_at, check_start, split_at, reference_after, offset_past, end_if_collapsed, placed_at, inserted_at, insert_node}
+use Rattle.dom_model.specs.Tokens.{Edit}
+use Rattle.dom_model.specs.Edits.{Trace, begun, remove_edits, split_edits, pre_insert_edits, doing, doing_remove, doing_ends, doing_split_at, doing_pre_insert, doing_end_if_collapsed, doing_placed, doing_insert_at, doing_insert_node, insert_node_edits}
+use Rattle.dom_model.specs.Sound.{IsBoundary, IsRange, IsSound}
+use Rattle.dom_model.proofs.Totals.{total-beside}
+use Rattle.dom_model.proofs.Entries.{occurs-HasNode}
+use Rattle.dom_model.proofs.SameShape.{IsAlike, with_node-alike, occurs-alike}
+use Rattle.dom_model.proofs.Loosened.{loosened-remove}
+use Rattle.dom_model.proofs.SoundWorlds.{sound-remove}
+use Rattle.dom_model.proofs.SoundData.{length-data}
+use Rattle.dom_model.proofs.SoundSplitting.{text_has_data, new_text, there-old, there-parted, parted, forest_is, after_parting, split_off_is, sound-split}
+use Rattle.dom_model.proofs.EditsLeave.{Leave, leave-none, Comes, Follows, follows-none, follows-then, follows-doing}
+use Rattle.dom_model.proofs.EditsOfSteps.{leave-remove}
+use Rattle.dom_model.proofs.EditsOfTrees.{leave-pre_insert}
+use Rattle.dom_model.proofs.EditsOfSplitting.{leave-split}
+use Rattle.dom_model.proofs.EditsOfDeletedContents.{follows-ends}
+use Rattle.dom_model.proofs.EditsOfDrawnContents.{sound-range}
+
+-- Nodes are there once a Text is split.
+
+there-with_data : (n : ℕ) (text : List ℕ) (m : ℕ) (f : Forest Content) → 0 < occurs m f → 0 < occurs m (with_node n (with_data text) f)
+there-with_data n text m f h = subst (λ x. 0 < x) (sym (occurs-alike (with_node-alike (with_data text) (λ x. refl) n f) m)) h
+
+there-split : (n offset : ℕ) (w : World) → IsSound w → 0 < occurs n w.forest → is_of_kind Text w.forest n ≡ true → offset ≤ length (data_of w n) → (m : ℕ) → 0 < occurs m w.forest → 0 < occurs m (split n offset w).forest
+there-split n offset w s hn text within m h = go (parent_of w.forest n) refl
+  where
+    fresh : World
+    fresh = made_node (node_document w n) (named Text []) (with_text (tail_of w n offset)) w
+
+    go : (p : Option ℕ) → parent_of w.forest n ≡ p → 0 < occurs m (replace_data n offset (length (tail_of w n offset)) [] (split_off n offset w.made p fresh)).forest
+    go None e = there-with_data n _ m fresh.forest (let t = total-beside (one_at m) w.forest (node (new_text n offset w) empty empty) in omega arith)
+    go (Some parent) e =
+        let v = after_parting n parent offset w s hn text e within in
+        let k = there-parted n parent offset w s hn text e within m (there-old n parent offset w s hn text e within m h) in
+        let k2 : 0 < occurs m v.forest = subst (λ (g : Forest Content). 0 < occurs m g) (sym (forest_is n parent offset w s hn text e within)) k in
+        subst (λ (u : World). 0 < occurs m (replace_data n offset (length (tail_of w n offset)) [] u).forest) (sym (split_off_is n parent offset w s hn text e within))
+        (there-with_data n (spliced offset (cut_count (length (data_of v n)) offset (length (tail_of w n offset))) [] (data_of v n)) m v.forest k2)
+
+-- A Text is split at the start of a range, or the world stays as it is.
+
+abbrev split_if : Bool → Point → World → World
+split_if v p w = if v then split p.node p.offset w else w
+
+record IsApart (v : Bool) (w : World) (p : Point) : Type 0 where
+  sound : IsSound (split_if v p w)
+  there : (m : ℕ) → 0 < occurs m w.forest → 0 < occurs m (split_if v p w).forest
+  follows : Follows (λ t. if v then doing (split p.node p.offset) (split_edits p.node p.offset) t else t) w (split_if v p w)
+
+apart-if : (v : Bool) (w : World) (p : Point) → IsSound w → IsBoundary w.forest p → is_text w p.node ≡ v → IsApart v w p
+apart-if true w p s b t =
+    let h = occurs-HasNode w.forest p.node b.there in
+    let whole = length-data w.forest p.node (text_has_data w p.node t) in
+    let i = b.within in
+    let within : p.offset ≤ length (data_of w p.node) = omega arith in
+    record {
+      sound = sound-split p.node p.offset w s h t within;
+      there = there-split p.node p.offset w s h t within;
+      follows = follows-doing w (split p.node p.offset) (split_edits p.node p.offset) (leave-split p.node p.offset w s h t within);
+    }
+apart-if false w p s b t = record { sound = s; there = λ m h. h; follows = follows-none w }
+
+-- An outcome that is not refused went through each step.
+
+abbrev IsDone : Outcome → World → Type 0
+IsDone o v = o ≡ Ok v
+
+unrefused : (c : Option DomError) (w v : World) (step : World → Outcome) → IsDone (and_then (unless c w) step) v → (c ≡ None) × IsDone (step w) v
+unrefused None w v step h = (refl, h)
+unrefused (Some e) w v step h = absurd (cc h)
+
+-- The node leaves its parent and comes in, and the range goes around it where it is collapsed.
+
+follows-end : (r : ℕ) (p : Point) (v : World) → Follows (doing_end_if_collapsed r p) v (end_if_collapsed r p v)
+follows-end r p v = go (range_at v r) refl
+  where
+    part : (range : Range) → range_at v r ≡ Some range → (b : Bool) → Follows (λ t. if b then doing_ends r (record range { end = p }) t else t) v (if b then with_range r (record range { end = p }) v else v)
+    part range e true = follows-ends r (record range { end = p }) v (ap is_some e)
+    part range e false = follows-none v
+
+    go : (o : Option Range) → range_at v r ≡ o → Follows (λ t. for_range o t (λ range. if is_collapsed range then doing_ends r (record range { end = p }) t else t)) v (for_range o v (λ range. if is_collapsed range then with_range r (record range { end = p }) v else v))
+    go None e = follows-none v
+    go (Some range) e = part range e (is_collapsed range)
+
+done-same : (u v : World) → IsDone (Ok u) v → u ≡ v
+done-same u v h = ok_of h
+  where
+    value : Outcome → World
+    value (Ok x) = x
+    value (Err e) = u
+
+    ok_of : IsDone (Ok u) v → u ≡ v
+    ok_of k = ap value k
+
+-- a node of the forest is placed, where the check of the insertion refuses nothing
+module _ (r n parent : ℕ) (reference : Option ℕ) (w : World) (s : IsSound w) (hn : 0 < occurs n w.forest) where
+  abbrev out : World
+  out = remove false n w
+
+  abbrev past_it : Point
+  past_it = record { node = parent; offset = offset_past out parent reference n }
+
+  follows-placed : (v : World) → IsDone (placed_at r n parent reference w) v → Follows (doing_placed r n parent reference) w v
+  follows-placed v h =
+      let c = checked_step v h in
+      let k = loosened-remove false n w s hn in
+      let there : 0 < occurs n out.forest = subst (λ x. 0 < x) (sym (k.numbers n)) hn in
+      let u = pre_insert n parent reference out in
+      let first : Follows (doing_remove n) w out = follows-doing w (remove false n) (remove_edits n) (leave-remove false n w) in
+      let second : Follows (doing_pre_insert n parent reference) out u = follows-doing out (pre_insert n parent reference) (pre_insert_edits n parent reference) (leave-pre_insert n parent reference out (sound-remove false n w s) there c.0) in
+      subst (λ x. Follows (doing_placed r n parent reference) w x) c.1
+      (λ a es l. follows-then w u (end_if_collapsed r past_it u) (λ t. doing_pre_insert n parent reference (doing_remove n t)) (doing_end_if_collapsed r past_it)
+      (follows-then w out u (doing_remove n) (doing_pre_insert n parent reference) first second) (follows-end r past_it u) a es l)
+    where
+      checked_step : (v : World) → IsDone (placed_at r n parent reference w) v → (check_insert out.forest parent n reference ≡ None) × (end_if_collapsed r past_it (pre_insert n parent reference out) ≡ v)
+      checked_step v h = go (check_insert out.forest parent n reference) refl h
+        where
+          go : (c : Option DomError) → check_insert out.forest parent n reference ≡ c → IsDone (and_then (and_then (unless c out) (λ x. Ok (pre_insert n parent reference x))) (λ x. Ok (end_if_collapsed r past_it x))) v → (check_insert out.forest parent n reference ≡ None) × (end_if_collapsed r past_it (pre_insert n parent reference out) ≡ v)
+          go None e i = (e, done-same (end_if_collapsed r past_it (pre_insert n parent reference out)) v i)
+          go (Some x) e i = absurd (cc i)
