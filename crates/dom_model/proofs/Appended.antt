@@ -1,6 +1,6 @@
 -- What a node that is appended leaves of the forest: all numbers and kinds; each node has the parent that it had, or the new one, or none.
 -- DOM Standard, "Mutation algorithms": append.
-use Rattle.std.proofs.Common.{◌≡◌, ℕ, ◌<◌, ◌≤◌, ◌==◌, Bool, true, false, if◌then◌else◌, List, [], ◌∷◌, Option, Some, None, refl, ap, sym, ◌∙◌, subst, arith, ◌⊎◌, inl, inr, ⊎_elim}
+use Rattle.std.proofs.Common.{◌≡◌, ℕ, ◌<◌, ◌≤◌, ◌==◌, Bool, true, false, if◌then◌else◌, List, [], ◌∷◌, Some, None, refl, sym, ◌∙◌, subst, arith, ◌⊎◌, inl, inr, ⊎_elim}
 use Rattle.std.proofs.lemmas.Bool.{cases_lt}
 use Rattle.dom_model.specs.declared.Kind.{Kind}
 use Rattle.dom_model.specs.Lists.{hits}
@@ -11,7 +11,7 @@ use Rattle.dom_model.specs.Editing.{remove, remove_all, is_fragment, nodes_of, e
 use Rattle.dom_model.specs.Sound.{IsSound}
 use Rattle.dom_model.proofs.Numbers.{same_or, same, apart}
 use Rattle.dom_model.proofs.Indices.{child-there}
-use Rattle.dom_model.proofs.Loosened.{IsLoosened, loosened-same, loosened-then, loosened-remove, parent-remove, loosened-remove_all, parent-remove_all, root-remove_all, made-remove}
+use Rattle.dom_model.proofs.Loosened.{IsLoosened, loosened-remove, parent-remove, loosened-remove_all, parent-remove_all, root-remove_all, made-remove}
 use Rattle.dom_model.proofs.SoundWorlds.{child_there}
 use Rattle.dom_model.proofs.SoundPlacing.{ArePlaceable, occurs_placed, parent_placed, kind_placed, all_placeable, sound-put_one}
 use Rattle.dom_model.proofs.SoundInserting.{IsInsertable, IsReady, freed_ready}
@@ -38,10 +38,10 @@ freed-children n w s =
     record {
       loosened = loosened-remove_all (children_of w.forest n) w s there;
       fewer = λ m q e.
-      ⊎_elim
-      (λ (lt : 0 < hits m (children_of w.forest n)). absurd (let k : None ≡ Some q = sym (root-remove_all (children_of w.forest n) w s there m lt) ∙ e in cc k))
-      (λ (le : hits m (children_of w.forest n) ≤ 0). sym (parent-remove_all (children_of w.forest n) w s there m (omega arith)) ∙ e)
-      (cases_lt 0 (hits m (children_of w.forest n)));
+          ⊎_elim
+          (λ (lt : 0 < hits m (children_of w.forest n)). absurd (let k : None ≡ Some q = sym (root-remove_all (children_of w.forest n) w s there m lt) ∙ e in cc k))
+          (λ (le : hits m (children_of w.forest n) ≤ 0). sym (parent-remove_all (children_of w.forest n) w s there m (omega arith)) ∙ e)
+          (cases_lt 0 (hits m (children_of w.forest n)));
     }
 
 freed-nodes : (n : ℕ) (w : World) → IsSound w → 0 < occurs n w.forest → IsFreed w.forest (freed n (nodes_of w n) w).forest

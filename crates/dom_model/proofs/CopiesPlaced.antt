@@ -1,18 +1,16 @@
 -- Where copies stand: each under a copy with a smaller number; the first has the kind of what it is a copy of.
-use Rattle.std.proofs.Common.{◌≡◌, ℕ, ◌+◌, ◌<◌, ◌≤◌, ◌==◌, Bool, true, false, if◌then◌else◌, Option, Some, None, refl, ap, sym, ◌∙◌, arith, ◌⊎◌, inl, inr, ⊎_elim}
+use Rattle.std.proofs.Common.{◌≡◌, ℕ, ◌+◌, ◌<◌, ◌≤◌, Bool, true, false, Option, Some, None, refl, ap, sym, ◌∙◌, arith, ◌⊎◌, inl, inr, ⊎_elim}
 use Rattle.std.proofs.lemmas.Bool.{cases_lt}
 use Rattle.dom_model.specs.declared.Kind.{Kind}
 use Rattle.dom_model.specs.Lists.{or_else}
 use Rattle.dom_model.specs.Arena.{Entry, parent_in}
-use Rattle.dom_model.specs.Forest.{Node, Forest, empty, node, occurs, size, tops, beside, tree_at, map_nodes, entry_under, entry_in, parent_of}
+use Rattle.dom_model.specs.Forest.{Node, Forest, empty, node, occurs, size, beside, tree_at, map_nodes, entry_under, parent_of}
 use Rattle.dom_model.specs.World.{Content}
 use Rattle.dom_model.specs.Checks.{entry_has, kind_passes}
 use Rattle.dom_model.specs.Clones.{renumbered, alone_of, original}
 use Rattle.dom_model.proofs.Numbers.{same_or, same, apart}
-use Rattle.dom_model.proofs.Changes.{Seen, seen, nothing, just}
 use Rattle.dom_model.proofs.Totals.{tree_at-absent, beside-empty}
 use Rattle.dom_model.proofs.Entries.{entry_under-absent}
-use Rattle.dom_model.proofs.Lots.{lot, on_top, beneath, elsewhere, entry-top, entry-beneath, entry-elsewhere}
 use Rattle.dom_model.proofs.OneMoreRoot.{entry-behind}
 use Rattle.dom_model.proofs.Measured.{parent-beside}
 

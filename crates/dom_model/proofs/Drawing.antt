@@ -1,20 +1,20 @@
 -- Worlds on the way of extracting or cloning contents: what is new stands under what is new, with rising numbers, so that each node that is
 -- appended there may be. DOM Standard, "Interface Range": extract, clone the contents.
-use Rattle.std.proofs.Common.{◌≡◌, ℕ, zero, suc, ◌+◌, ◌-◌, ◌<◌, ◌≤◌, ◌==◌, nat_lt, Bool, true, false, not, ◌&&◌, if◌then◌else◌, List, [], ◌∷◌, ◌++◌, length, take, drop, Option, Some, None, refl, ap, sym, ◌∙◌, subst, arith, ◌⊎◌, inl, inr, ⊎_elim}
+use Rattle.std.proofs.Common.{◌≡◌, ℕ, zero, suc, ◌<◌, ◌≤◌, Bool, true, false, if◌then◌else◌, List, [], ◌∷◌, Option, Some, None, refl, sym, ◌∙◌, subst, arith, ◌⊎◌, inl, inr, ⊎_elim}
 use Rattle.std.proofs.lemmas.Bool.{cases_lt, false≢true}
 use Rattle.dom_model.specs.declared.Kind.{Kind}
-use Rattle.dom_model.specs.declared.Kind.TheVariants.{Element, Text, ProcessingInstruction, Comment, Document, DocumentType, DocumentFragment}
+use Rattle.dom_model.specs.declared.Kind.TheVariants.{Document, DocumentType}
 use Rattle.dom_model.specs.Lists.{hits}
-use Rattle.dom_model.specs.Kinds.{is_kind, is_character_data, may_be_parent}
+use Rattle.dom_model.specs.Kinds.{may_be_parent}
 use Rattle.dom_model.specs.Arena.{Entry}
-use Rattle.dom_model.specs.Forest.{Node, Forest, empty, node, occurs, one_at, size, beside, parent_of, children_of, ancestors, entry_in}
+use Rattle.dom_model.specs.Forest.{Node, Forest, occurs, one_at, parent_of, children_of, ancestors, entry_in}
 use Rattle.dom_model.specs.World.{Content, World}
 use Rattle.dom_model.specs.Checks.{entry_has, kind_passes, is_of_kind}
 use Rattle.dom_model.specs.Editing.{is_fragment, nodes_of, append}
 use Rattle.dom_model.specs.Clones.{renumbered, with_copies}
 use Rattle.dom_model.specs.Sound.{IsSound}
 use Rattle.dom_model.specs.Tokens.{Edit}
-use Rattle.dom_model.specs.Edits.{Trace, doing_append, append_edits, copies_edits}
+use Rattle.dom_model.specs.Edits.{Trace, doing_append, append_edits}
 use Rattle.dom_model.proofs.Numbers.{same_or, same, apart}
 use Rattle.dom_model.proofs.Changes.{seen, nothing, just}
 use Rattle.dom_model.proofs.Totals.{total-beside}

@@ -1,12 +1,11 @@
 -- What stands beside a path goes into a fragment, and copies of the nodes on the path with it. DOM Standard, "Interface Range": extract.
-use Rattle.std.proofs.Common.{◌≡◌, ℕ, zero, suc, ◌+◌, ◌-◌, ◌<◌, ◌≤◌, ◌==◌, Bool, true, false, if◌then◌else◌, List, [], ◌∷◌, length, take, drop, filter, Option, Some, None, refl, ap, sym, ◌∙◌, subst, arith, inr, ⊎_elim}
+use Rattle.std.proofs.Common.{◌≡◌, ℕ, zero, suc, ◌-◌, ◌<◌, ◌≤◌, ◌==◌, Bool, true, false, if◌then◌else◌, List, [], ◌∷◌, length, take, drop, filter, Some, refl, ap, sym, ◌∙◌, subst, arith, inr, ⊎_elim}
 use Rattle.std.proofs.lemmas.Bool.{cases_lt, false≢true}
 use Rattle.dom_model.specs.declared.Kind.{Kind}
 use Rattle.dom_model.specs.declared.Kind.TheVariants.{Element, Text, ProcessingInstruction, Comment, Document, DocumentType, DocumentFragment}
 use Rattle.dom_model.specs.Lists.{hits}
 use Rattle.dom_model.specs.Kinds.{is_kind, is_character_data, may_be_parent, may_stand_in}
-use Rattle.dom_model.specs.Arena.{Entry}
-use Rattle.dom_model.specs.Forest.{Node, Forest, occurs, parent_of, children_of, entry_in}
+use Rattle.dom_model.specs.Forest.{Forest, occurs, parent_of, children_of}
 use Rattle.dom_model.specs.World.{Content, World, no_content}
 use Rattle.dom_model.specs.PreRemoval.{past}
 use Rattle.dom_model.specs.Checks.{up_to, entry_has, kind_passes, is_of_kind}
@@ -16,7 +15,6 @@ use Rattle.dom_model.specs.Data.{data_of}
 use Rattle.dom_model.specs.Clones.{document_of_clone, clone_node}
 use Rattle.dom_model.specs.Contents.{new_fragment, units_into, children_into, copy_into, tail_into, head_into}
 use Rattle.dom_model.specs.Edits.{Trace, doing_append, doing_clone, doing_fragment, doing_units, doing_children, doing_copy, doing_tail, doing_head}
-use Rattle.dom_model.proofs.Numbers.{same_or, same, apart}
 use Rattle.dom_model.proofs.Indices.{child-parent, child-there}
 use Rattle.dom_model.proofs.Paths.{parent-path}
 use Rattle.dom_model.proofs.OneMoreRoot.{entry-new}
@@ -113,10 +111,10 @@ child-drawable low v d n c h k =
     let kn = rw en.1 at h.kind in
     record {
       old =
-      ⊎_elim
-      (λ (lt : c < low). lt)
-      (λ (le : low ≤ c). absurd (let r = d.rising c n le p in let x = r.0 in let y = h.old in omega arith))
-      (cases_lt c low);
+          ⊎_elim
+          (λ (lt : c < low). lt)
+          (λ (le : low ≤ c). absurd (let r = d.rising c n le p in let x = r.0 in let y = h.old in omega arith))
+          (cases_lt c low);
       kind = rw ec.1 (stands-drawn en.0.value.label.kind ec.0.value.label.kind fit (under-drawn en.0.value.label.kind ec.0.value.label.kind kn fit));
     }
 

@@ -1,6 +1,6 @@
 -- Pieces of contents as they go into a fragment: some units of a node, a child, a copy that is filled, and what stands beside a path.
 -- DOM Standard, "Interface Range": extract, clone the contents.
-use Rattle.std.proofs.Common.{◌≡◌, ℕ, zero, suc, ◌+◌, ◌-◌, ◌<◌, ◌≤◌, ◌==◌, nat_lt, nat_le, Bool, true, false, not, ◌&&◌, if◌then◌else◌, List, [], ◌∷◌, ◌++◌, length, take, drop, Option, Some, None, refl, ap, sym, ◌∙◌, subst, arith, ◌⊎◌, inl, inr, ⊎_elim, All, length-append, length-drop}
+use Rattle.std.proofs.Common.{◌≡◌, ℕ, ◌+◌, ◌<◌, ◌≤◌, Bool, true, false, List, [], ◌∷◌, ◌++◌, length, take, drop, Option, Some, None, refl, ap, sym, ◌∙◌, subst, arith, ◌⊎◌, inl, inr, ⊎_elim, All, length-append, length-drop}
 use Rattle.std.proofs.lemmas.Bool.{cases_lt, false≢true, le-ltb}
 use Rattle.std.proofs.lemmas.List.{length-take}
 use Rattle.dom_model.specs.declared.Kind.{Kind}
@@ -8,24 +8,22 @@ use Rattle.dom_model.specs.declared.Kind.TheVariants.{Element, Text, ProcessingI
 use Rattle.dom_model.specs.Lists.{hits}
 use Rattle.dom_model.specs.Kinds.{is_kind, is_character_data, may_be_parent}
 use Rattle.dom_model.specs.Arena.{Entry}
-use Rattle.dom_model.specs.Forest.{Node, Forest, empty, node, occurs, beside, parent_of, children_of, entry_in, with_node, map_nodes, KindsFit}
-use Rattle.dom_model.specs.World.{Content, Point, Range, World, no_content}
+use Rattle.dom_model.specs.Forest.{Node, Forest, empty, node, occurs, entry_in, with_node, map_nodes, KindsFit}
+use Rattle.dom_model.specs.World.{Content, Point, World, no_content}
 use Rattle.dom_model.specs.Points.{after_splice, map_ranges}
 use Rattle.dom_model.specs.Texts.{substring, spliced}
-use Rattle.dom_model.specs.PreRemoval.{past}
-use Rattle.dom_model.specs.Checks.{up_to, entry_has, kind_passes, is_of_kind}
+use Rattle.dom_model.specs.Checks.{entry_has, kind_passes}
 use Rattle.dom_model.specs.Editing.{is_fragment, node_document, append}
 use Rattle.dom_model.specs.Making.{named}
 use Rattle.dom_model.specs.Lengths.{unit_count, length_in, node_length}
 use Rattle.dom_model.specs.Data.{data_of, with_data, cut_count, replace_units, replace_data, data_record}
-use Rattle.dom_model.specs.Clones.{renumbered, original, with_copies, document_of_clone, clone_node}
-use Rattle.dom_model.specs.Contents.{new_fragment, clone_with, cut_if, units_into, child_into, children_into, copy_into, tail_into, head_into}
+use Rattle.dom_model.specs.Clones.{original, document_of_clone, clone_node}
+use Rattle.dom_model.specs.Contents.{new_fragment, clone_with, cut_if, units_into, child_into, children_into}
 use Rattle.dom_model.specs.Sound.{IsBoundary, IsSound}
-use Rattle.dom_model.specs.Edits.{Trace, making, copies_edits, clone_edits, replace_data_edits, doing_append, doing_replace_data, doing_clone, doing_clone_with, doing_fragment, doing_cut_if, doing_units, doing_child, doing_children, doing_copy, doing_tail, doing_head}
+use Rattle.dom_model.specs.Edits.{making, copies_edits, clone_edits, replace_data_edits, doing_append, doing_replace_data, doing_clone, doing_clone_with, doing_fragment, doing_cut_if, doing_units, doing_child, doing_children}
 use Rattle.dom_model.proofs.Numbers.{same_or, same, apart}
 use Rattle.dom_model.proofs.Changes.{change_at}
 use Rattle.dom_model.proofs.SameShape.{IsAlike, bare_node, occurs-alike, parent-alike, kind-alike, map-alike, with_node-alike, fits-alike}
-use Rattle.dom_model.proofs.SoundForests.{child-fits}
 use Rattle.dom_model.proofs.Measured.{data_kind, entry-with_node}
 use Rattle.dom_model.proofs.RangesSpliced.{range-alike}
 use Rattle.dom_model.proofs.SoundWorlds.{IsLive, ranges-kept}
@@ -36,7 +34,7 @@ use Rattle.dom_model.proofs.CopiesPlaced.{kind-clone, kind-copy}
 use Rattle.dom_model.proofs.EditsLeave.{follows-doing}
 use Rattle.dom_model.proofs.EditsOfSteps.{leave-making, leave-copies, leave-replace_data}
 use Rattle.dom_model.proofs.EditsOfInsertions.{ranges-stay}
-use Rattle.dom_model.proofs.Drawing.{IsDrawing, Extends, extends-same, extends-then, Draws, draws-none, draws-then, draws-as, draws-if, passes_there, passes_too, extends-copies, drawing-copies, IsHolder, holder-extends, IsComing, draws-append}
+use Rattle.dom_model.proofs.Drawing.{IsDrawing, Extends, extends-then, Draws, draws-none, draws-then, draws-as, passes_there, passes_too, extends-copies, drawing-copies, IsHolder, holder-extends, IsComing, draws-append}
 
 -- Units are cut.
 

@@ -1,8 +1,8 @@
 -- What primitive edits leave of a world: its trees, its live ranges and the next node number. The edits leave another world where they
 -- leave these as they are there. Iterators, walkers, observers and static ranges are not told by edits.
 use Rattle.std.proofs.Common.{◌≡◌, ℕ, List, [], ◌∷◌, ◌++◌, Option, Some, None, refl, ap, sym, ◌∙◌, subst}
-use Rattle.dom_model.specs.Forest.{Forest, parent_of}
-use Rattle.dom_model.specs.World.{Content, Point, Range, World, first_world}
+use Rattle.dom_model.specs.Forest.{parent_of}
+use Rattle.dom_model.specs.World.{Point, World, first_world}
 use Rattle.dom_model.specs.Tokens.{Edit, Removal, Insertion, Splice, Parting, Merge, EndSet, Making, RangeMaking, Release, Discard}
 use Rattle.dom_model.specs.Edits.{removal_from, parting_from, merge_from, on_world, all_on_world, Trace, begun, doing}
 

@@ -1,15 +1,14 @@
 -- The edits of deleting the contents of a live range leave what deleting leaves. DOM Standard, "Interface Range": deleteContents.
-use Rattle.std.proofs.Common.{◌≡◌, ℕ, ◌-◌, Bool, true, false, if◌then◌else◌, List, [], ◌∷◌, length, Option, Some, None, is_some, refl, ap, sym, ◌∙◌}
+use Rattle.std.proofs.Common.{◌≡◌, ℕ, ◌-◌, Bool, true, false, if◌then◌else◌, List, [], ◌∷◌, length, Option, Some, None, is_some, refl, ap, ◌∙◌}
 use Rattle.dom_model.specs.Kinds.{is_character_data}
-use Rattle.dom_model.specs.World.{Point, Range, World}
+use Rattle.dom_model.specs.World.{Range, World}
 use Rattle.dom_model.specs.Checks.{kind_passes}
 use Rattle.dom_model.specs.Editing.{remove}
 use Rattle.dom_model.specs.Ranges.{is_collapsed, collapsed_at, range_at, with_range}
 use Rattle.dom_model.specs.Data.{data_of, replace_data, remove_each}
 use Rattle.dom_model.specs.Contents.{for_range, is_in_one_data, cut_from, cut_up_to, contained_tops, new_place, deleted_between, deleted, delete_contents}
-use Rattle.dom_model.specs.Tokens.{Edit}
 use Rattle.dom_model.specs.Edits.{Trace, begun, remove_edits, ends_edits_at, replace_data_edits, doing_ends, doing_remove, doing_remove_each, doing_replace_data, doing_cut_from, doing_cut_up_to, deleted_between_trace, deleted_edits, delete_contents_edits}
-use Rattle.dom_model.proofs.EditsLeave.{laid, Leave, leave-none, leave-then, Comes, Follows, comes-begun, comes-then, follows-none, follows-then, follows-doing}
+use Rattle.dom_model.proofs.EditsLeave.{Leave, leave-none, Comes, Follows, comes-begun, comes-then, follows-none, follows-then, follows-doing}
 use Rattle.dom_model.proofs.EditsOfSteps.{leave-remove, leave-replace_data, leave-ends}
 use Rattle.dom_model.proofs.LiveRangesKept.{is_live, live-there, remove_each-live, replace_data-live}
 

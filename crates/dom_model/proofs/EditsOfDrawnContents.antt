@@ -1,41 +1,38 @@
 -- The edits of extracting and of cloning the contents of a live range leave what these leave, and the contents that are drawn leave a sound
 -- world. DOM Standard, "Interface Range": extractContents, cloneContents.
-use Rattle.std.proofs.Common.{◌≡◌, ℕ, zero, suc, ◌+◌, ◌-◌, ◌<◌, ◌≤◌, ◌==◌, Bool, true, false, not, ◌&&◌, ◌||◌, if◌then◌else◌, List, [], ◌∷◌, filter, Option, Some, None, All, is_some, unwrap_or, slice_index_or, refl, ap, sym, ◌∙◌, subst, arith, ◌⊎◌, inl, inr, ⊎_elim}
+use Rattle.std.proofs.Common.{◌≡◌, ℕ, zero, suc, ◌+◌, ◌-◌, ◌<◌, ◌≤◌, ◌==◌, Bool, true, false, ◌&&◌, ◌||◌, if◌then◌else◌, List, [], ◌∷◌, filter, Option, Some, None, All, is_some, unwrap_or, slice_index_or, refl, ap, sym, ◌∙◌, subst, arith, ◌⊎◌, inl, inr, ⊎_elim}
 use Rattle.std.proofs.lemmas.Bool.{cases_lt, false≢true}
 use Rattle.std.proofs.lemmas.List.Elements.{All-head, All-tail}
 use Rattle.std.specs.List.{list_any}
-use Rattle.dom_model.specs.declared.DomError.{DomError}
 use Rattle.dom_model.specs.declared.DomError.TheVariants.{HierarchyRequestError}
 use Rattle.dom_model.specs.declared.Kind.{Kind}
 use Rattle.dom_model.specs.declared.Kind.TheVariants.{DocumentType, DocumentFragment}
 use Rattle.dom_model.specs.Lists.{hits, among, head_of}
 use Rattle.dom_model.specs.Kinds.{is_kind, is_character_data, may_be_parent}
-use Rattle.dom_model.specs.Forest.{Node, Forest, empty, node, occurs, beside, entry_in, parent_of, children_of, ancestors, root_of}
-use Rattle.dom_model.specs.World.{Content, Point, Range, World, no_content}
+use Rattle.dom_model.specs.Forest.{Node, Forest, empty, node, occurs, entry_in, parent_of, children_of, ancestors, root_of}
+use Rattle.dom_model.specs.World.{Content, Range, World, no_content}
 use Rattle.dom_model.specs.Points.{order_of}
 use Rattle.dom_model.specs.Checks.{first_refusal, entry_has, kind_passes, is_of_kind, is_same, has_kind}
 use Rattle.dom_model.specs.Editing.{node_document}
 use Rattle.dom_model.specs.Lengths.{unit_count, node_length}
 use Rattle.dom_model.specs.Making.{named}
-use Rattle.dom_model.specs.Ranges.{is_collapsed, is_less, common_ancestor, range_at, collapsed_at, with_range}
-use Rattle.dom_model.specs.Contents.{for_range, is_in_one_data, new_place, new_fragment, common_of, path_below, contained_in, contained_children, units_into, children_into, tail_into, head_into, parts_into, contents_drawn, check_draw, check_extract, extracted, extract, clone_contents}
-use Rattle.dom_model.specs.Tokens.{Edit, point}
-use Rattle.dom_model.specs.Edits.{Trace, begun, doing_fragment, doing_units, doing_children, doing_tail, doing_head, doing_parts, doing_ends, drawn_trace, extracted_trace, extract_edits, clone_contents_edits}
-use Rattle.dom_model.specs.Sound.{IsBoundary, IsRange, IsSound}
+use Rattle.dom_model.specs.Ranges.{is_collapsed, is_less, range_at, collapsed_at, with_range}
+use Rattle.dom_model.specs.Contents.{for_range, is_in_one_data, new_place, new_fragment, common_of, path_below, contained_in, contained_children, units_into, children_into, tail_into, parts_into, contents_drawn, check_draw, check_extract, extracted, extract, clone_contents}
+use Rattle.dom_model.specs.Tokens.{point}
+use Rattle.dom_model.specs.Edits.{Trace, doing_fragment, doing_units, doing_children, doing_tail, doing_head, doing_parts, doing_ends, drawn_trace, extracted_trace, extract_edits, clone_contents_edits}
+use Rattle.dom_model.specs.Sound.{IsRange, IsSound}
 use Rattle.dom_model.proofs.Numbers.{same_or, same, apart}
 use Rattle.dom_model.proofs.Entries.{occurs-HasNode}
 use Rattle.dom_model.proofs.Indices.{child-parent, child-there}
-use Rattle.dom_model.proofs.Paths.{parent-path}
 use Rattle.dom_model.proofs.OneMoreRoot.{more-once, entry-more, entry-new, children-more, root-more, order-more}
-use Rattle.dom_model.proofs.Measured.{length-beside, kind-beside}
+use Rattle.dom_model.proofs.Measured.{length-beside}
 use Rattle.dom_model.proofs.Parts.{ancestors-part, path-there}
-use Rattle.dom_model.proofs.SoundForests.{entry_there, child-fits}
 use Rattle.dom_model.proofs.SoundWorlds.{IsLive, child_there}
 use Rattle.dom_model.proofs.CopiesPlaced.{parent-copies}
 use Rattle.dom_model.proofs.LiveRangesKept.{is_live}
-use Rattle.dom_model.proofs.EditsLeave.{Leave, leave-none, Comes, Follows, comes-begun, comes-then}
+use Rattle.dom_model.proofs.EditsLeave.{Leave, leave-none, Comes, comes-then}
 use Rattle.dom_model.proofs.EditsOfDeletedContents.{follows-ends}
-use Rattle.dom_model.proofs.Drawing.{IsDrawing, Extends, extends-then, Draws, draws-none, draws-then, draws-as, passes_there, IsHolder, holder-extends}
+use Rattle.dom_model.proofs.Drawing.{IsDrawing, extends-then, Draws, draws-none, draws-then, draws-as, IsHolder, holder-extends}
 use Rattle.dom_model.proofs.DrawnPieces.{is_drawn, IsDrawable, drawable-extends, draws-fragment, draws-units, draws-children}
 use Rattle.dom_model.proofs.DrawnPaths.{ArePath, path-extends, kind-drawn, hits-filter, draws-tail, draws-head}
 use Rattle.dom_model.proofs.PathsDown.{common-above, path-down}

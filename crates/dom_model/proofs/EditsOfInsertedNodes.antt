@@ -1,34 +1,31 @@
 -- The edits of inserting a node into a live range leave what that leaves. DOM Standard, "Interface Range": insertNode.
-use Rattle.std.proofs.Common.{◌≡◌, ℕ, ◌+◌, ◌<◌, ◌≤◌, ◌==◌, Bool, true, false, ◌&&◌, if◌then◌else◌, List, [], ◌∷◌, length, Option, Some, None, is_some, Ok, Err, refl, ap, sym, ◌∙◌, subst, arith}
+use Rattle.std.proofs.Common.{◌≡◌, ℕ, ◌<◌, ◌≤◌, Bool, true, false, if◌then◌else◌, List, [], length, Option, Some, None, is_some, Ok, Err, refl, ap, sym, subst, arith}
 use Rattle.dom_model.specs.declared.DomError.{DomError}
 use Rattle.dom_model.specs.declared.Kind.TheVariants.{Text}
-use Rattle.dom_model.specs.Kinds.{is_character_data}
-use Rattle.dom_model.specs.Forest.{Node, Forest, empty, node, occurs, one_at, with_node, parent_of}
+use Rattle.dom_model.specs.Forest.{Forest, empty, node, occurs, one_at, with_node, parent_of}
 use Rattle.dom_model.specs.World.{Content, Point, Range, World}
 use Rattle.dom_model.specs.Checks.{check_insert, is_of_kind}
-use Rattle.dom_model.specs.Editing.{remove, pre_insert, reference_child, node_document}
+use Rattle.dom_model.specs.Editing.{remove, pre_insert, node_document}
 use Rattle.dom_model.specs.Making.{made_node, named, with_text}
 use Rattle.dom_model.specs.Ranges.{is_collapsed, range_at, with_range}
 use Rattle.dom_model.specs.Data.{data_of, tail_of, replace_data, split_off, split, with_data, cut_count}
 use Rattle.dom_model.specs.Texts.{spliced}
 use Rattle.dom_model.specs.Contents.{for_range}
-use Rattle.dom_model.specs.Wrapping.{Outcome, and_then, unless, try_pre_insert, is_text, reference_at, parent_at, check_start, split_at, reference_after, offset_past, end_if_collapsed, placed_at, inserted_at, insert_node}
-use Rattle.dom_model.specs.Tokens.{Edit}
-use Rattle.dom_model.specs.Edits.{Trace, begun, remove_edits, split_edits, pre_insert_edits, doing, doing_remove, doing_ends, doing_split_at, doing_pre_insert, doing_end_if_collapsed, doing_placed, doing_insert_at, doing_insert_node, insert_node_edits}
-use Rattle.dom_model.specs.Sound.{IsBoundary, IsRange, IsSound}
+use Rattle.dom_model.specs.Wrapping.{Outcome, and_then, unless, is_text, offset_past, end_if_collapsed, placed_at}
+use Rattle.dom_model.specs.Edits.{remove_edits, split_edits, pre_insert_edits, doing, doing_remove, doing_ends, doing_pre_insert, doing_end_if_collapsed, doing_placed}
+use Rattle.dom_model.specs.Sound.{IsBoundary, IsSound}
 use Rattle.dom_model.proofs.Totals.{total-beside}
 use Rattle.dom_model.proofs.Entries.{occurs-HasNode}
-use Rattle.dom_model.proofs.SameShape.{IsAlike, with_node-alike, occurs-alike}
+use Rattle.dom_model.proofs.SameShape.{with_node-alike, occurs-alike}
 use Rattle.dom_model.proofs.Loosened.{loosened-remove}
 use Rattle.dom_model.proofs.SoundWorlds.{sound-remove}
 use Rattle.dom_model.proofs.SoundData.{length-data}
-use Rattle.dom_model.proofs.SoundSplitting.{text_has_data, new_text, there-old, there-parted, parted, forest_is, after_parting, split_off_is, sound-split}
-use Rattle.dom_model.proofs.EditsLeave.{Leave, leave-none, Comes, Follows, follows-none, follows-then, follows-doing}
+use Rattle.dom_model.proofs.SoundSplitting.{text_has_data, new_text, there-old, there-parted, forest_is, after_parting, split_off_is, sound-split}
+use Rattle.dom_model.proofs.EditsLeave.{Follows, follows-none, follows-then, follows-doing}
 use Rattle.dom_model.proofs.EditsOfSteps.{leave-remove}
 use Rattle.dom_model.proofs.EditsOfTrees.{leave-pre_insert}
 use Rattle.dom_model.proofs.EditsOfSplitting.{leave-split}
 use Rattle.dom_model.proofs.EditsOfDeletedContents.{follows-ends}
-use Rattle.dom_model.proofs.EditsOfDrawnContents.{sound-range}
 
 -- Nodes are there once a Text is split.
 

@@ -1,18 +1,18 @@
 -- The edits of an insertion leave what the insertion leaves: each node comes into a gap of its own, where the standard makes one for all.
 -- DOM Standard, "Mutation algorithms": insert, pre-insert, append.
-use Rattle.std.proofs.Common.{◌≡◌, ℕ, suc, ◌+◌, ◌<◌, ◌≤◌, ◌==◌, nat_lt, Bool, true, false, ◌&&◌, if◌then◌else◌, List, [], ◌∷◌, ◌++◌, length, Option, Some, None, All, IfSome, option_map, slice_get, refl, ap, sym, ◌∙◌, subst, arith}
+use Rattle.std.proofs.Common.{◌≡◌, ℕ, suc, ◌+◌, ◌<◌, ◌≤◌, true, List, [], ◌∷◌, length, Option, Some, None, All, slice_get, refl, ap, sym, ◌∙◌, subst, arith}
 use Rattle.std.proofs.lemmas.Bool.{le-ltb}
 use Rattle.std.proofs.lemmas.Option.{slice_get_past}
 use Rattle.std.proofs.lemmas.List.Elements.{All-head, All-tail}
 use Rattle.dom_model.specs.Lists.{hits, place_in, entered}
 use Rattle.dom_model.specs.Kinds.{may_be_parent}
-use Rattle.dom_model.specs.Forest.{Forest, occurs, parent_of, children_of, index_of, put}
+use Rattle.dom_model.specs.Forest.{Forest, occurs, children_of, index_of, put}
 use Rattle.dom_model.specs.World.{Content, Point, Range, World}
-use Rattle.dom_model.specs.Points.{after_gap, moved_range, map_ranges}
+use Rattle.dom_model.specs.Points.{after_gap, map_ranges}
 use Rattle.dom_model.specs.Checks.{kind_passes}
 use Rattle.dom_model.specs.Lengths.{unit_count, node_length}
 use Rattle.dom_model.specs.Editing.{put_in, put_all, gap_before}
-use Rattle.dom_model.specs.Tokens.{point, Edit, Insertion}
+use Rattle.dom_model.specs.Tokens.{point, Insertion}
 use Rattle.dom_model.specs.Edits.{index_before, insertions, on_world}
 use Rattle.dom_model.specs.Sound.{IsBoundary, IsRange, IsSound}
 use Rattle.dom_model.proofs.Numbers.{same_or, same, apart}
@@ -21,8 +21,8 @@ use Rattle.dom_model.proofs.Indices.{child-listed, index-child}
 use Rattle.dom_model.proofs.Measured.{length-parent, length-entered}
 use Rattle.dom_model.proofs.SameShape.{children-alike}
 use Rattle.dom_model.proofs.SoundWorlds.{IsLive, child_there}
-use Rattle.dom_model.proofs.SoundPlacing.{IsPlaceable, ArePlaceable, IsChildOf, gap_before-none, gap-apart, placed-forest, apart_from, passes, renamed, after_put, after_adoption, occurs_placed, index_placed, all_placeable, child_placed, sound-put_one}
-use Rattle.dom_model.proofs.EditsLeave.{laid, Leave, leave-none, leave-edit, leave-then, leave-alike}
+use Rattle.dom_model.proofs.SoundPlacing.{IsPlaceable, ArePlaceable, IsChildOf, gap_before-none, gap-apart, placed-forest, apart_from, passes, renamed, after_adoption, occurs_placed, index_placed, all_placeable, child_placed, sound-put_one}
+use Rattle.dom_model.proofs.EditsLeave.{laid, Leave, leave-none, leave-edit, leave-then}
 
 -- the child of an index
 pub get-place : (n : ℕ) (ns : List ℕ) → 0 < hits n ns → slice_get ns (place_in n ns) ≡ Some n

@@ -1,34 +1,29 @@
 -- The edits of normalize leave what normalize leaves: each Text that follows is merged by itself, where the standard joins all data, then moves
 -- all ends, then removes all Texts. DOM Standard, "Interface Node": normalize.
-use Rattle.std.proofs.Common.{◌≡◌, ℕ, ◌+◌, ◌-◌, ◌<◌, ◌≤◌, ◌==◌, nat_lt, nat_le, Bool, true, false, ◌&&◌, if◌then◌else◌, List, [], ◌∷◌, ◌++◌, take, drop, length, Option, Some, None, All, IfSome, option_map, refl, ap, sym, ◌∙◌, subst, arith, append_assoc, append-nil, length-append, ⊎_elim}
-use Rattle.std.proofs.lemmas.Bool.{cases_lt, false≢true, le-ltb}
+use Rattle.std.proofs.Common.{◌≡◌, ℕ, ◌+◌, ◌<◌, ◌≤◌, ◌==◌, false, List, [], ◌∷◌, ◌++◌, take, drop, length, Option, Some, None, IfSome, option_map, refl, ap, sym, ◌∙◌, arith, append-nil}
+use Rattle.std.proofs.lemmas.Bool.{le-ltb}
 use Rattle.std.proofs.lemmas.List.{take_all, drop_all}
 use Rattle.std.proofs.lemmas.List.Elements.{All-head, All-tail}
-use Rattle.dom_model.specs.declared.Kind.TheVariants.{Text}
-use Rattle.dom_model.specs.Lists.{hits}
 use Rattle.dom_model.specs.Arena.{Entry}
 use Rattle.dom_model.specs.Forest.{Node, Forest, occurs, cut, with_node, entry_in, parent_of, index_of, inclusive_descendants}
 use Rattle.dom_model.specs.Texts.{spliced}
 use Rattle.dom_model.specs.World.{Content, Point, Range, World}
 use Rattle.dom_model.specs.Points.{after_splice, after_merge, after_removal, moved_range, map_ranges}
-use Rattle.dom_model.specs.Checks.{is_of_kind}
-use Rattle.dom_model.specs.Editing.{removed_from, remove}
-use Rattle.dom_model.specs.Data.{content_in, data_of, with_data, replace_units, following_texts, joined_data, merge_ends, remove_each, join_following, normalize_text, is_descendant, text_descendants, normalize_each, normalize}
-use Rattle.dom_model.specs.Tokens.{Edit, Merge}
-use Rattle.dom_model.specs.Edits.{removal_from, merge_from, on_world, remove_edits, merges, normalize_text_edits, normalize_each_edits, normalize_edits}
-use Rattle.dom_model.specs.Sound.{IsSound}
+use Rattle.dom_model.specs.Editing.{removed_from}
+use Rattle.dom_model.specs.Data.{content_in, data_of, with_data}
+use Rattle.dom_model.specs.Tokens.{Merge}
+use Rattle.dom_model.specs.Edits.{merge_from, on_world}
 use Rattle.dom_model.proofs.Numbers.{same_or, same, apart}
-use Rattle.dom_model.proofs.Climbing.{hits-append, hits-first}
+use Rattle.dom_model.proofs.Climbing.{hits-first}
 use Rattle.dom_model.proofs.Changes.{change_at}
-use Rattle.dom_model.proofs.ChangedNodes.{cut-with_node, data-twice, data-same}
+use Rattle.dom_model.proofs.ChangedNodes.{cut-with_node, data-twice}
 use Rattle.dom_model.proofs.SameShape.{with_node-alike, parent-alike, index-alike, inside-alike}
 use Rattle.dom_model.proofs.Measured.{entry-with_node}
 use Rattle.dom_model.proofs.SoundForests.{entry_there}
 use Rattle.dom_model.proofs.SoundWorlds.{Lives}
-use Rattle.dom_model.proofs.SoundJoining.{AreUpTo, AreJoinable, first_in, t_apart, is_child, is_there, merged_is, forest_left, content_left, joinable_left, in_either_order, further, moved, left}
-use Rattle.dom_model.proofs.SoundNormalizing.{IsKept, kept-one, below_parent, base, joint, joinable, no_count, others, joined-same, filter-passed}
-use Rattle.dom_model.proofs.EditsLeave.{laid, Leave, leave-none, leave-edit, leave-then, leave-alike}
-use Rattle.dom_model.proofs.EditsOfSteps.{leave-remove}
+use Rattle.dom_model.proofs.SoundJoining.{AreUpTo, AreJoinable, first_in, t_apart, is_child, is_there, moved, left}
+use Rattle.dom_model.proofs.SoundNormalizing.{base}
+use Rattle.dom_model.proofs.EditsLeave.{laid, Leave, leave-edit}
 
 -- units that are put at the end
 spliced-end : (units more : List ℕ) → spliced (length units) 0 more units ≡ units ++ more

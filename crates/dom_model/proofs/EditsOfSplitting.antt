@@ -1,17 +1,17 @@
 -- The edits of a split leave what the split leaves: with a parent one parting, without one a new Text and a splice.
 -- DOM Standard, "Interface Text": split.
-use Rattle.std.proofs.Common.{◌≡◌, ℕ, ◌+◌, ◌-◌, ◌<◌, ◌≤◌, nat_lt, Bool, true, false, if◌then◌else◌, List, [], ◌∷◌, ◌++◌, length, Option, Some, None, refl, ap, sym, ◌∙◌, subst, arith, length-drop}
+use Rattle.std.proofs.Common.{◌≡◌, ℕ, ◌+◌, ◌-◌, ◌<◌, ◌≤◌, true, [], ◌∷◌, ◌++◌, length, Option, Some, None, refl, ap, sym, ◌∙◌, subst, arith, length-drop}
 use Rattle.std.proofs.lemmas.Bool.Decides.{nat_tests}
 use Rattle.dom_model.specs.declared.Kind.TheVariants.{Text}
 use Rattle.dom_model.specs.Forest.{Forest, empty, node, occurs, parent_of, children_of, next_of, index_of}
 use Rattle.dom_model.specs.World.{Content, World}
 use Rattle.dom_model.specs.Points.{map_ranges, after_split}
 use Rattle.dom_model.specs.Checks.{is_of_kind}
-use Rattle.dom_model.specs.Editing.{node_document, put_in, gap_before}
+use Rattle.dom_model.specs.Editing.{node_document}
 use Rattle.dom_model.specs.Making.{made_node, named, with_text}
 use Rattle.dom_model.specs.Data.{content_in, data_of, cut_count, replace_units, replace_data, tail_of, split_off, split}
-use Rattle.dom_model.specs.Tokens.{point, Edit, Splice, Parting}
-use Rattle.dom_model.specs.Edits.{index_before, insertion_at, parting_from, on_world, making, replace_data_edits, split_edits_by, split_edits}
+use Rattle.dom_model.specs.Tokens.{point, Splice, Parting}
+use Rattle.dom_model.specs.Edits.{index_before, insertion_at, parting_from, making, replace_data_edits, split_edits_by, split_edits}
 use Rattle.dom_model.specs.Sound.{IsSound}
 use Rattle.dom_model.proofs.NextSibling.{place-next}
 use Rattle.dom_model.proofs.Places.{place_before}
@@ -20,9 +20,9 @@ use Rattle.dom_model.proofs.OneMoreRoot.{index-more}
 use Rattle.dom_model.proofs.Measured.{entry-beside}
 use Rattle.dom_model.proofs.SoundPlacing.{IsChildOf}
 use Rattle.dom_model.proofs.SoundSplitting.{new_text, made, sm, there-old, hp, par-made, placeable, before_child, placed, after_parting, forest_is, index-kept, split_off_is, length_after}
-use Rattle.dom_model.proofs.EditsLeave.{laid, Leave, leave-edit, leave-then, leave-alike}
+use Rattle.dom_model.proofs.EditsLeave.{laid, Leave, leave-edit, leave-then}
 use Rattle.dom_model.proofs.EditsOfSteps.{leave-making, leave-replace_data}
-use Rattle.dom_model.proofs.EditsOfInsertions.{come_in, come_in-edit}
+use Rattle.dom_model.proofs.EditsOfInsertions.{come_in-edit}
 
 -- all units from an offset on are the tail
 pub cut-tail : (w : World) (n offset whole : ℕ) → whole ≡ length (data_of w n) → cut_count whole offset (length (tail_of w n offset)) ≡ length (tail_of w n offset)

@@ -1,18 +1,18 @@
 -- The edits of the steps that are one edit, or one for each of a list: new nodes and copies, removals, data, range ends.
-use Rattle.std.proofs.Common.{◌≡◌, ℕ, ◌+◌, ◌<◌, ◌≤◌, ◌==◌, Bool, true, false, ◌&&◌, if◌then◌else◌, List, [], ◌∷◌, ◌++◌, length, Option, Some, None, option_map, slice_set, refl, ap, sym, ◌∙◌, arith, ⊎_elim}
+use Rattle.std.proofs.Common.{◌≡◌, ℕ, ◌+◌, ◌<◌, ◌≤◌, Bool, true, false, if◌then◌else◌, List, [], ◌∷◌, length, Option, Some, None, option_map, slice_set, refl, ap, sym, ◌∙◌, ⊎_elim}
 use Rattle.std.proofs.lemmas.Bool.{cases_lt, false≢true}
 use Rattle.std.proofs.lemmas.List.{set-set, set-get_or, get_or-set_same, get_or_past}
 use Rattle.dom_model.specs.Kinds.{Label}
-use Rattle.dom_model.specs.Forest.{Forest, empty, node, size, parent_of, inclusive_descendants, index_of, cut}
+use Rattle.dom_model.specs.Forest.{Forest, empty, node, size, parent_of}
 use Rattle.dom_model.specs.World.{Content, Point, Range, World}
 use Rattle.dom_model.specs.Editing.{removed_from, remove, remove_all, tree_record_unless}
 use Rattle.dom_model.specs.Making.{made_node}
 use Rattle.dom_model.specs.Ranges.{end_of, range_at, with_range, made_range, released}
-use Rattle.dom_model.specs.Data.{replace_data, set_data, remove_each}
-use Rattle.dom_model.specs.Clones.{renumbered, with_copies, clone_node, import_node}
+use Rattle.dom_model.specs.Data.{replace_data, remove_each}
+use Rattle.dom_model.specs.Clones.{renumbered, with_copies}
 use Rattle.dom_model.specs.Discarding.{discarded}
-use Rattle.dom_model.specs.Tokens.{same_point, Edit, Removal, EndSet, RangeMaking, Release, Discard}
-use Rattle.dom_model.specs.Edits.{set_side, removal_from, removal_if, remove_edits, removals, making, copies_edits, clone_edits, import_edits, replace_data_edits, set_data_edits, end_edit, ends_edits, on_world, all_on_world}
+use Rattle.dom_model.specs.Tokens.{same_point, Removal, EndSet, RangeMaking, Release, Discard}
+use Rattle.dom_model.specs.Edits.{set_side, removal_from, removal_if, remove_edits, removals, making, copies_edits, replace_data_edits, end_edit, ends_edits}
 use Rattle.dom_model.proofs.Numbers.{same_or, same, apart}
 use Rattle.dom_model.proofs.EditsLeave.{laid, Leave, leave-none, leave-edit, leave-then, leave-alike}
 

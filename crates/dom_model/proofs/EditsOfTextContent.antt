@@ -1,17 +1,16 @@
 -- The edits of setting text content leave what that leaves. DOM Standard, "Interface Node": textContent, string replace all.
-use Rattle.std.proofs.Common.{◌≡◌, ℕ, ◌<◌, ◌≤◌, ◌==◌, Bool, true, false, not, ◌&&◌, List, [], ◌∷◌, ◌++◌, Option, Some, None, refl, ap, sym, ◌∙◌, subst, arith}
+use Rattle.std.proofs.Common.{◌≡◌, ℕ, ◌<◌, true, List, [], ◌∷◌, ◌++◌, Option, Some, None, refl, ap, ◌∙◌, arith}
 use Rattle.dom_model.specs.declared.Kind.{Kind}
 use Rattle.dom_model.specs.declared.Kind.TheVariants.{Element, Text, ProcessingInstruction, Comment, Document, DocumentType, DocumentFragment}
 use Rattle.dom_model.specs.Kinds.{is_kind, may_be_parent}
 use Rattle.dom_model.specs.Arena.{Entry}
-use Rattle.dom_model.specs.Forest.{Node, Forest, occurs, entry_in}
+use Rattle.dom_model.specs.Forest.{Node, occurs, entry_in}
 use Rattle.dom_model.specs.World.{Content, World}
 use Rattle.dom_model.specs.Checks.{entry_has, kind_passes}
 use Rattle.dom_model.specs.Editing.{node_document, replace_all}
 use Rattle.dom_model.specs.Making.{made_node, named, with_text}
-use Rattle.dom_model.specs.Data.{by_kind, string_replace_all, set_text_content_by, set_text_content, replace_data, data_of}
+use Rattle.dom_model.specs.Data.{by_kind, string_replace_all, set_text_content_by, set_text_content}
 use Rattle.dom_model.specs.Edits.{making, replace_all_edits, string_replace_all_edits, set_text_content_edits_by, set_text_content_edits}
-use Rattle.dom_model.specs.Tokens.{Edit}
 use Rattle.dom_model.specs.Sound.{IsSound}
 use Rattle.dom_model.proofs.Climbing.{hits-ancestors}
 use Rattle.dom_model.proofs.OneMoreRoot.{more-there, new-there, children-new, entry-new}
@@ -20,7 +19,7 @@ use Rattle.dom_model.proofs.Measured.{kind-beside}
 use Rattle.dom_model.proofs.SoundMaking.{sound-made_node}
 use Rattle.dom_model.proofs.SoundInserting.{IsInsertable}
 use Rattle.dom_model.proofs.EditsLeave.{Leave, leave-none, leave-then}
-use Rattle.dom_model.proofs.EditsOfSteps.{leave-making, leave-replace_data}
+use Rattle.dom_model.proofs.EditsOfSteps.{leave-making}
 use Rattle.dom_model.proofs.EditsOfTrees.{leave-replace_all}
 
 -- a new Text may come in wherever there may be children

@@ -1,18 +1,17 @@
 -- The edits of insert, pre-insert, append, replace, replace all and adopt leave what these leave; adopting leaves node documents too, which
 -- the edits do not tell. DOM Standard, "Mutation algorithms".
-use Rattle.std.proofs.Common.{◌≡◌, ℕ, ◌<◌, Bool, true, false, if◌then◌else◌, List, [], ◌∷◌, ◌++◌, length, Option, Some, None, IfSome, refl, ap, sym, ◌∙◌, subst}
-use Rattle.dom_model.specs.Forest.{Forest, occurs, parent_of, children_of, next_of, adopted}
-use Rattle.dom_model.specs.World.{Content, World}
+use Rattle.std.proofs.Common.{◌≡◌, ℕ, ◌<◌, Bool, true, false, if◌then◌else◌, List, [], ◌∷◌, length, Option, Some, None, refl, ap, sym, ◌∙◌}
+use Rattle.dom_model.specs.Forest.{occurs, children_of, next_of}
+use Rattle.dom_model.specs.World.{World}
 use Rattle.dom_model.specs.Checks.{check_insert, check_replace}
-use Rattle.dom_model.specs.Editing.{remove, remove_all, is_fragment, nodes_of, emptied_fragment, freed, put_all, gap_before, insert_all, insert_nodes, insert, reference_child, pre_insert, append, replace, added_by, insert_if_any, replaced_record, replace_all, tree_record_unless, previous_to}
-use Rattle.dom_model.specs.Tokens.{Edit}
+use Rattle.dom_model.specs.Editing.{remove, remove_all, is_fragment, nodes_of, emptied_fragment, freed, put_all, gap_before, insert_nodes, insert, reference_child, pre_insert, append, replace, added_by, insert_if_any, replaced_record, replace_all, previous_to}
 use Rattle.dom_model.specs.Edits.{removals, remove_edits, freed_edits, index_before, insertions, insert_edits, pre_insert_edits, append_edits, replace_edits, insert_edits_if_any, replace_all_edits}
 use Rattle.dom_model.specs.Sound.{IsSound}
 use Rattle.dom_model.proofs.Indices.{child-there}
 use Rattle.dom_model.proofs.Loosened.{loosened-remove_all}
 use Rattle.dom_model.proofs.SoundWorlds.{sound-remove, sound-remove_all}
 use Rattle.dom_model.proofs.SoundPlacing.{gap_before-none}
-use Rattle.dom_model.proofs.SoundInserting.{IsInsertable, IsReady, freed_ready}
+use Rattle.dom_model.proofs.SoundInserting.{IsInsertable, freed_ready}
 use Rattle.dom_model.proofs.SoundEditing.{MayComeIn, insertable-loosened, may_come_before, may_come_instead}
 use Rattle.dom_model.proofs.EditsLeave.{laid, Leave, leave-none, leave-then, leave-alike}
 use Rattle.dom_model.proofs.EditsOfSteps.{record-laid, leave-remove, leave-remove_all}

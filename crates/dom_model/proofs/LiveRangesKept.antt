@@ -1,11 +1,11 @@
 -- A live range stays one through every step that is not its release.
-use Rattle.std.proofs.Common.{◌≡◌, ℕ, zero, suc, Bool, true, false, if◌then◌else◌, List, [], ◌∷◌, length, Option, Some, None, is_some, option_map, slice_index_or, refl, ap, sym, ◌∙◌}
+use Rattle.std.proofs.Common.{◌≡◌, ℕ, zero, suc, Bool, true, false, if◌then◌else◌, List, [], ◌∷◌, length, Option, Some, None, is_some, slice_index_or, refl, ap, ◌∙◌}
 use Rattle.std.proofs.lemmas.Bool.{false≢true}
 use Rattle.dom_model.specs.declared.Kind.TheVariants.{Text}
-use Rattle.dom_model.specs.Forest.{Forest, parent_of, children_of, next_of, index_of}
-use Rattle.dom_model.specs.World.{Content, Point, Range, World}
-use Rattle.dom_model.specs.Points.{map_ranges, moved_range, after_split}
-use Rattle.dom_model.specs.Editing.{tree_record_unless, removed_from, remove, remove_all, is_fragment, nodes_of, emptied_fragment, freed, put_all, gap_before, insert_all, insert_nodes, insert, reference_child, pre_insert, append, insert_if_any, replaced_record, replace_all, added_by, node_document}
+use Rattle.dom_model.specs.Forest.{parent_of, children_of, next_of}
+use Rattle.dom_model.specs.World.{Point, Range, World}
+use Rattle.dom_model.specs.Points.{map_ranges}
+use Rattle.dom_model.specs.Editing.{tree_record_unless, removed_from, remove, remove_all, is_fragment, nodes_of, emptied_fragment, freed, put_all, gap_before, insert_nodes, insert, reference_child, pre_insert, append, insert_if_any, replaced_record, replace_all, added_by, node_document}
 use Rattle.dom_model.specs.Making.{made_node, named, with_text}
 use Rattle.dom_model.specs.Ranges.{range_at, with_range}
 use Rattle.dom_model.specs.Data.{replace_data, split, split_off, tail_of, remove_each}

@@ -1,5 +1,5 @@
 -- The path from a child of an ancestor down to a node: all but its last may have children, and none is a Document, doctype or fragment.
-use Rattle.std.proofs.Common.{◌≡◌, ℕ, ◌<◌, ◌≤◌, ◌==◌, Bool, true, false, if◌then◌else◌, List, [], ◌∷◌, ◌++◌, filter, reverse, Option, Some, None, unwrap_or, refl, ap, sym, ◌∙◌, subst, arith}
+use Rattle.std.proofs.Common.{◌≡◌, ℕ, ◌<◌, Bool, true, false, if◌then◌else◌, List, [], ◌∷◌, ◌++◌, filter, reverse, Option, Some, None, unwrap_or, refl, ap, sym, ◌∙◌, subst, arith}
 use Rattle.std.proofs.lemmas.Bool.{false≢true}
 use Rattle.std.proofs.lemmas.List.{reverse-append}
 use Rattle.dom_model.specs.declared.Kind.TheVariants.{DocumentType}
@@ -15,9 +15,9 @@ use Rattle.dom_model.proofs.Numbers.{same_or, same, apart}
 use Rattle.dom_model.proofs.Changes.{seen, nothing, just}
 use Rattle.dom_model.proofs.Climbing.{ancestors-there, among-hits, hits-among}
 use Rattle.dom_model.proofs.Paths.{parent-path, root-path}
-use Rattle.dom_model.proofs.SoundForests.{entry_there, child-fits, parent-passes, parent_no_data, parent_no_doctype}
+use Rattle.dom_model.proofs.SoundForests.{parent-passes, parent_no_data, parent_no_doctype}
 use Rattle.dom_model.proofs.Drawing.{passes_too}
-use Rattle.dom_model.proofs.DrawnPieces.{is_drawn, IsDrawable}
+use Rattle.dom_model.proofs.DrawnPieces.{IsDrawable}
 use Rattle.dom_model.proofs.DrawnPaths.{ArePath, kind-drawn}
 
 -- The common ancestor of two nodes of one root is an ancestor of both.

@@ -1,12 +1,10 @@
 -- Forests of one shape: the same numbers and labels stand in the same places. Data and node documents may differ.
-use Rattle.std.proofs.Common.{◌≡◌, ℕ, ◌+◌, ◌*◌, ◌==◌, Bool, true, false, if◌then◌else◌, List, [], ◌∷◌, ◌++◌, map, drop, reverse, Option, Some, None, option_map, refl, ap, sym, ◌∙◌, subst}
+use Rattle.std.proofs.Common.{◌≡◌, ℕ, ◌+◌, ◌*◌, ◌==◌, Bool, true, false, if◌then◌else◌, [], ◌∷◌, ◌++◌, map, drop, reverse, Option, Some, None, option_map, refl, ap, sym, ◌∙◌, subst}
 use Rattle.std.proofs.Math.Path.{fun_ext}
-use Rattle.std.specs.Ordering.{nat_cmp}
-use Rattle.std.specs.Cmp.Lexicographic.{slice_cmp}
 use Rattle.dom_model.specs.declared.Kind.{Kind}
-use Rattle.dom_model.specs.Lists.{or_list, or_else, place_in}
+use Rattle.dom_model.specs.Lists.{or_else, place_in}
 use Rattle.dom_model.specs.Arena.{Entry, parent_in, children_in, list_under}
-use Rattle.dom_model.specs.Forest.{Node, Forest, empty, node, total, occurs, one_at, tops, numbers, beside, tree_at, map_nodes, with_node, with_tree, path_through, entry_under, entry_in, parent_of, children_of, index_of, ancestors, root_of, inclusive_descendants, KindsFit}
+use Rattle.dom_model.specs.Forest.{Node, Forest, empty, node, total, occurs, one_at, tops, numbers, beside, tree_at, map_nodes, with_node, with_tree, entry_under, entry_in, parent_of, children_of, index_of, ancestors, root_of, inclusive_descendants, KindsFit}
 use Rattle.dom_model.specs.World.{Content, Point, no_content}
 use Rattle.dom_model.specs.Points.{place_of, order_of}
 use Rattle.dom_model.specs.Checks.{entry_has, kind_passes}

@@ -1,6 +1,5 @@
 -- Each node that a walk comes to step by step is a node of the forest. DOM Standard, "Interface TreeWalker".
-use Rattle.std.proofs.Common.{◌≡◌, ℕ, zero, suc, ◌+◌, ◌<◌, ◌≤◌, ◌==◌, Bool, true, false, ◌||◌, if◌then◌else◌, List, [], ◌∷◌, Option, Some, None, IfSome, refl, ap, sym, ◌∙◌, subst, arith, ⊎_elim}
-use Rattle.std.proofs.lemmas.Bool.{cases_lt}
+use Rattle.std.proofs.Common.{◌≡◌, ℕ, zero, suc, ◌<◌, ◌≤◌, ◌==◌, Bool, true, false, ◌||◌, if◌then◌else◌, List, [], ◌∷◌, Option, Some, None, IfSome, refl, sym, subst, arith}
 use Rattle.dom_model.specs.declared.Move.{Move}
 use Rattle.dom_model.specs.declared.Move.TheVariants.{ParentNode, FirstChild, LastChild, PreviousSibling, NextSibling, PreviousNode, NextNode}
 use Rattle.dom_model.specs.declared.Verdict.{Verdict}
@@ -11,7 +10,7 @@ use Rattle.dom_model.specs.Forest.{Forest, occurs, one_at, entry_in, parent_of, 
 use Rattle.dom_model.specs.World.{Content, Filter}
 use Rattle.dom_model.specs.Filters.{verdict_on, accepts}
 use Rattle.dom_model.specs.Walks.{mirrored, found_by_steps}
-use Rattle.dom_model.specs.WalkSteps.{Stand, at, leaving, ended, at_or, come_to, come_back_to, up_to_parent, walked, first_child, last_child, parent_arrived, parent_step, first_child_arrived, past_child, first_child_step, next_sibling_arrived, past_sibling, next_sibling_step, past_node, next_step, previous_arrived, up_unless_root, back_past_node, previous_step, moves_allowed, next_sibling_by_steps, previous_by_steps}
+use Rattle.dom_model.specs.WalkSteps.{Stand, at, leaving, ended, at_or, come_to, come_back_to, up_to_parent, walked, parent_arrived, parent_step, first_child_arrived, past_child, first_child_step, next_sibling_arrived, past_sibling, next_sibling_step, past_node, next_step, previous_arrived, back_past_node, previous_step, moves_allowed, next_sibling_by_steps, previous_by_steps}
 use Rattle.dom_model.proofs.Numbers.{same_or, same, apart}
 use Rattle.dom_model.proofs.PutBack.{hits-head_of, hits-after}
 use Rattle.dom_model.proofs.Indices.{child-there}

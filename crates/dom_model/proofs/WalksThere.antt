@@ -1,13 +1,13 @@
 -- Each node that a walk lists is a node of the forest. DOM Standard, "Interface TreeWalker".
-use Rattle.std.proofs.Common.{◌≡◌, ℕ, suc, ◌+◌, ◌<◌, ◌≤◌, ◌==◌, nat_lt, Bool, true, false, not, ◌&&◌, ◌||◌, if◌then◌else◌, List, [], ◌∷◌, ◌++◌, map, filter, find, drop, reverse, Option, Some, None, refl, ap, sym, ◌∙◌, subst, arith}
+use Rattle.std.proofs.Common.{◌≡◌, ℕ, suc, ◌<◌, ◌≤◌, ◌==◌, Bool, true, false, not, ◌&&◌, ◌||◌, if◌then◌else◌, List, [], ◌∷◌, map, filter, find, drop, Option, Some, None, refl, ap, arith}
 use Rattle.std.proofs.lemmas.List.{map-append}
 use Rattle.dom_model.specs.declared.Move.{Move}
 use Rattle.dom_model.specs.declared.Move.TheVariants.{ParentNode, FirstChild, LastChild, PreviousSibling, NextSibling, PreviousNode, NextNode}
 use Rattle.dom_model.specs.Lists.{hits, among}
-use Rattle.dom_model.specs.Forest.{Node, Forest, empty, node, total, occurs, one_at, Row, rows, beside, tree_at, ancestors, inclusive_descendants}
-use Rattle.dom_model.specs.World.{Content, Filter, Walker}
+use Rattle.dom_model.specs.Forest.{Forest, empty, node, total, occurs, one_at, Row, rows, tree_at, ancestors, inclusive_descendants}
+use Rattle.dom_model.specs.World.{Content, Filter}
 use Rattle.dom_model.specs.Filters.{accepts, rejects}
-use Rattle.dom_model.specs.Walks.{is_hidden, mirrored, rows_past, rows_up_to, unhidden, without_under, outside, following_list, preceding_list, ancestor_list, child_list, sibling_list_under, sibling_list, walk_list}
+use Rattle.dom_model.specs.Walks.{is_hidden, mirrored, rows_past, rows_up_to, unhidden, without_under, outside, following_list, preceding_list, ancestor_list, child_list, sibling_list_under, walk_list}
 use Rattle.dom_model.proofs.Numbers.{same_or, same, apart}
 use Rattle.dom_model.proofs.Totals.{total-beside, total-tree_at}
 use Rattle.dom_model.proofs.Climbing.{hits-append}

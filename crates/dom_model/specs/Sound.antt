@@ -1,6 +1,6 @@
 -- What holds of every world that commands reach: all that it names stands in its forest, and every live range, iterator and registration is in order.
 -- DOM Standard, "Trees", "Boundary points", "Live ranges", "Interface NodeIterator", "Interface TreeWalker", "Mutation observers".
-use Rattle.std.specs.Prelude.{◌≡◌, ℕ, ◌<◌, ◌≤◌, Bool, false, Option, All, IfSome}
+use Rattle.std.specs.Prelude.{◌≡◌, ◌<◌, ◌≤◌, false, Option, All, IfSome}
 use Rattle.std.specs.declared.cmp.Ordering.TheVariants.{Greater}
 use Rattle.dom_model.specs.declared.Kind.TheVariants.{DocumentType}
 use Rattle.dom_model.specs.Lists.{hits}

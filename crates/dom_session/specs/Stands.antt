@@ -1,5 +1,5 @@
 -- What a session holds, and the worlds that it stands for.
-use Rattle.std.specs.Prelude.{◌≡◌, ℕ, ◌+◌, nat_lt, Bool, true, false, not, List, [], ◌∷◌, Option, is_none}
+use Rattle.std.specs.Prelude.{◌≡◌, ℕ, ◌+◌, nat_lt, Bool, false, not, List, [], ◌∷◌, Option, is_none}
 use Rattle.dom_model.specs.declared.Kind.TheVariants.{Document, DocumentFragment}
 use Rattle.dom_model.specs.declared.DomError.TheVariants.{TypeError}
 use Rattle.dom_model.specs.declared.OwnError.TheVariants.{NoSuchObject, Limit}
