@@ -1,15 +1,14 @@
 -- The edits of extracting and of cloning the contents of a live range leave what these leave, and the contents that are drawn leave a sound
 -- world. DOM Standard, "Interface Range": extractContents, cloneContents.
-use Rattle.std.proofs.Common.{◌≡◌, ℕ, zero, suc, ◌+◌, ◌-◌, ◌<◌, ◌≤◌, ◌==◌, Bool, true, false, ◌&&◌, ◌||◌, if◌then◌else◌, List, [], ◌∷◌, filter, Option, Some, None, All, is_some, unwrap_or, slice_index_or, refl, ap, sym, ◌∙◌, subst, arith, ◌⊎◌, inl, inr, ⊎_elim}
+use Rattle.std.proofs.Common.{◌≡◌, ℕ, ◌+◌, ◌-◌, ◌<◌, ◌≤◌, ◌==◌, Bool, true, false, ◌&&◌, ◌||◌, if◌then◌else◌, List, [], ◌∷◌, filter, Option, Some, None, is_some, unwrap_or, refl, ap, sym, ◌∙◌, subst, arith, ◌⊎◌, inl, inr, ⊎_elim}
 use Rattle.std.proofs.lemmas.Bool.{cases_lt, false≢true}
-use Rattle.std.proofs.lemmas.List.Elements.{All-head, All-tail}
 use Rattle.std.specs.List.{list_any}
 use Rattle.dom_model.specs.declared.DomError.TheVariants.{HierarchyRequestError}
 use Rattle.dom_model.specs.declared.Kind.{Kind}
 use Rattle.dom_model.specs.declared.Kind.TheVariants.{DocumentType, DocumentFragment}
 use Rattle.dom_model.specs.Lists.{hits, among, head_of}
 use Rattle.dom_model.specs.Kinds.{is_kind, is_character_data, may_be_parent}
-use Rattle.dom_model.specs.Forest.{Node, Forest, empty, node, occurs, entry_in, parent_of, children_of, ancestors, root_of}
+use Rattle.dom_model.specs.Forest.{Node, empty, node, occurs, entry_in, parent_of, children_of, ancestors, root_of}
 use Rattle.dom_model.specs.World.{Content, Range, World, no_content}
 use Rattle.dom_model.specs.Points.{order_of}
 use Rattle.dom_model.specs.Checks.{first_refusal, entry_has, kind_passes, is_of_kind, is_same, has_kind}
@@ -28,6 +27,7 @@ use Rattle.dom_model.proofs.OneMoreRoot.{more-once, entry-more, entry-new, child
 use Rattle.dom_model.proofs.Measured.{length-beside}
 use Rattle.dom_model.proofs.Parts.{ancestors-part, path-there}
 use Rattle.dom_model.proofs.SoundWorlds.{IsLive, child_there}
+use Rattle.dom_model.proofs.SoundRangeSteps.{live_range}
 use Rattle.dom_model.proofs.CopiesPlaced.{parent-copies}
 use Rattle.dom_model.proofs.LiveRangesKept.{is_live}
 use Rattle.dom_model.proofs.EditsLeave.{Leave, leave-none, Comes, comes-then}
@@ -39,13 +39,8 @@ use Rattle.dom_model.proofs.PathsDown.{common-above, path-down}
 
 -- A live range of a sound world is in order.
 
-live-range : (f : Forest Content) (rs : List (Option Range)) (r : ℕ) (range : Range) → All (IsLive f) rs → slice_index_or rs r None ≡ Some range → IsRange f range
-live-range f [] r range h e = absurd (cc e)
-live-range f (x ∷ rs) zero range h e = let k : IsLive f x = All-head (IsLive f) x rs h in subst (λ o. IsLive f o) e k
-live-range f (x ∷ rs) (suc r) range h e = live-range f rs r range (All-tail (IsLive f) x rs h) e
-
 pub sound-range : (w : World) (r : ℕ) (range : Range) → IsSound w → range_at w r ≡ Some range → IsRange w.forest range
-sound-range w r range s e = live-range w.forest w.ranges r range s.ranges e
+sound-range w r range s e = subst (IsLive w.forest) e (live_range w s r)
 
 -- Lists and tests.
 

@@ -5,14 +5,14 @@ use Rattle.dom_model.specs.declared.Kind.TheVariants.{Text}
 use Rattle.dom_model.specs.Forest.{Forest, empty, node, occurs, one_at, with_node, parent_of}
 use Rattle.dom_model.specs.World.{Content, Point, Range, World}
 use Rattle.dom_model.specs.Checks.{check_insert, is_of_kind}
-use Rattle.dom_model.specs.Editing.{remove, pre_insert, node_document}
+use Rattle.dom_model.specs.Editing.{remove, pre_insert, reference_child, node_document}
 use Rattle.dom_model.specs.Making.{made_node, named, with_text}
 use Rattle.dom_model.specs.Ranges.{is_collapsed, range_at, with_range}
 use Rattle.dom_model.specs.Data.{data_of, tail_of, replace_data, split_off, split, with_data, cut_count}
 use Rattle.dom_model.specs.Texts.{spliced}
 use Rattle.dom_model.specs.Contents.{for_range}
-use Rattle.dom_model.specs.Wrapping.{Outcome, and_then, unless, is_text, offset_past, end_if_collapsed, placed_at}
-use Rattle.dom_model.specs.Edits.{remove_edits, split_edits, pre_insert_edits, doing, doing_remove, doing_ends, doing_pre_insert, doing_end_if_collapsed, doing_placed}
+use Rattle.dom_model.specs.Wrapping.{Outcome, and_then, unless, is_text, reference_at, parent_at, check_start, split_at, reference_after, offset_past, end_if_collapsed, placed_at, inserted_at, insert_node}
+use Rattle.dom_model.specs.Edits.{Trace, remove_edits, split_edits, pre_insert_edits, doing, doing_remove, doing_ends, doing_split_at, doing_pre_insert, doing_end_if_collapsed, doing_placed, doing_insert_at, doing_insert_node, insert_node_edits}
 use Rattle.dom_model.specs.Sound.{IsBoundary, IsSound}
 use Rattle.dom_model.proofs.Totals.{total-beside}
 use Rattle.dom_model.proofs.Entries.{occurs-HasNode}
@@ -21,11 +21,12 @@ use Rattle.dom_model.proofs.Loosened.{loosened-remove}
 use Rattle.dom_model.proofs.SoundWorlds.{sound-remove}
 use Rattle.dom_model.proofs.SoundData.{length-data}
 use Rattle.dom_model.proofs.SoundSplitting.{text_has_data, new_text, there-old, there-parted, forest_is, after_parting, split_off_is, sound-split}
-use Rattle.dom_model.proofs.EditsLeave.{Follows, follows-none, follows-then, follows-doing}
+use Rattle.dom_model.proofs.EditsLeave.{Leave, leave-none, Comes, comes-then, Follows, follows-none, follows-then, follows-doing}
 use Rattle.dom_model.proofs.EditsOfSteps.{leave-remove}
 use Rattle.dom_model.proofs.EditsOfTrees.{leave-pre_insert}
 use Rattle.dom_model.proofs.EditsOfSplitting.{leave-split}
 use Rattle.dom_model.proofs.EditsOfDeletedContents.{follows-ends}
+use Rattle.dom_model.proofs.EditsOfDrawnContents.{sound-range}
 
 -- Nodes are there once a Text is split.
 
@@ -72,10 +73,10 @@ apart-if false w p s b t = record { sound = s; there = λ m h. h; follows = foll
 
 -- An outcome that is not refused went through each step.
 
-abbrev IsDone : Outcome → World → Type 0
+abbrev pub IsDone : Outcome → World → Type 0
 IsDone o v = o ≡ Ok v
 
-unrefused : (c : Option DomError) (w v : World) (step : World → Outcome) → IsDone (and_then (unless c w) step) v → (c ≡ None) × IsDone (step w) v
+pub unrefused : (c : Option DomError) (w v : World) (step : World → Outcome) → IsDone (and_then (unless c w) step) v → (c ≡ None) × IsDone (step w) v
 unrefused None w v step h = (refl, h)
 unrefused (Some e) w v step h = absurd (cc h)
 
@@ -92,7 +93,7 @@ follows-end r p v = go (range_at v r) refl
     go None e = follows-none v
     go (Some range) e = part range e (is_collapsed range)
 
-done-same : (u v : World) → IsDone (Ok u) v → u ≡ v
+pub done-same : (u v : World) → IsDone (Ok u) v → u ≡ v
 done-same u v h = ok_of h
   where
     value : Outcome → World
@@ -128,3 +129,27 @@ module _ (r n parent : ℕ) (reference : Option ℕ) (w : World) (s : IsSound w)
           go : (c : Option DomError) → check_insert out.forest parent n reference ≡ c → IsDone (and_then (and_then (unless c out) (λ x. Ok (pre_insert n parent reference x))) (λ x. Ok (end_if_collapsed r past_it x))) v → (check_insert out.forest parent n reference ≡ None) × (end_if_collapsed r past_it (pre_insert n parent reference out) ≡ v)
           go None e i = (e, done-same (end_if_collapsed r past_it (pre_insert n parent reference out)) v i)
           go (Some x) e i = absurd (cc i)
+
+-- Insert node.
+
+follows-inserted : (r n : ℕ) (p : Point) (w v : World) → IsSound w → IsBoundary w.forest p → 0 < occurs n w.forest → IsDone (inserted_at r n p w) v → Follows (doing_insert_at r n p) w v
+follows-inserted r n p w v s b hn h a es l =
+    let first = unrefused (check_start w p n) w v (λ x. and_then (unless (check_insert x.forest (parent_at x p) n (reference_at x p)) x) (λ y. placed_at r n (parent_at y p) (reference_child (split_at p y) n (reference_after y p)) (split_at p y))) h in
+    let second = unrefused (check_insert w.forest (parent_at w p) n (reference_at w p)) w v (λ y. placed_at r n (parent_at y p) (reference_child (split_at p y) n (reference_after y p)) (split_at p y)) first.1 in
+    let u = split_at p w in
+    let k = apart-if (is_text w p.node) w p s b refl in
+    let t : Trace = record { world = w; edits = es } in
+    let c = k.follows a es l in
+    let reference = reference_child u n (reference_after w p) in
+    let placed = comes-then a (doing_split_at p t) u v (doing_placed r n (parent_at w p) reference) (follows-placed r n (parent_at w p) reference u k.sound (k.there n hn) v second.1) c in
+    subst (λ (x : World). Comes a (doing_placed r n (parent_at w p) (reference_child x n (reference_after w p)) (doing_split_at p t)) v) (sym c.there) placed
+
+pub follows-insert_node : (r n : ℕ) (w v : World) → IsSound w → 0 < occurs n w.forest → IsDone (insert_node r n w) v → Follows (doing_insert_node r n) w v
+follows-insert_node r n w v s hn h = go (range_at w r) refl h
+  where
+    go : (o : Option Range) → range_at w r ≡ o → IsDone (for_range o (Ok w) (λ range. inserted_at r n range.start w)) v → Follows (λ t. for_range o t (λ range. doing_insert_at r n range.start t)) w v
+    go None e i = subst (λ x. Follows (λ t. t) w x) (done-same w v i) (follows-none w)
+    go (Some range) e i = let k = sound-range w r range s e in follows-inserted r n range.start w v s k.starts hn i
+
+pub leave-insert_node : (r n : ℕ) (w v : World) → IsSound w → 0 < occurs n w.forest → IsDone (insert_node r n w) v → Leave (insert_node_edits r n w) w v
+leave-insert_node r n w v s hn h = let k = follows-insert_node r n w v s hn h w [] (leave-none w w refl) in k.left

@@ -1,29 +1,38 @@
 -- The edits of normalize leave what normalize leaves: each Text that follows is merged by itself, where the standard joins all data, then moves
 -- all ends, then removes all Texts. DOM Standard, "Interface Node": normalize.
-use Rattle.std.proofs.Common.{◌≡◌, ℕ, ◌+◌, ◌<◌, ◌≤◌, ◌==◌, false, List, [], ◌∷◌, ◌++◌, take, drop, length, Option, Some, None, IfSome, option_map, refl, ap, sym, ◌∙◌, arith, append-nil}
+use Rattle.std.proofs.Common.{◌≡◌, ℕ, ◌+◌, ◌<◌, ◌≤◌, ◌==◌, Bool, true, false, if◌then◌else◌, List, [], ◌∷◌, ◌++◌, take, drop, length, Option, Some, None, IfSome, option_map, refl, ap, sym, ◌∙◌, subst, arith, append_assoc, append-nil, length-append}
 use Rattle.std.proofs.lemmas.Bool.{le-ltb}
 use Rattle.std.proofs.lemmas.List.{take_all, drop_all}
 use Rattle.std.proofs.lemmas.List.Elements.{All-head, All-tail}
+use Rattle.dom_model.specs.declared.Kind.TheVariants.{Text}
+use Rattle.dom_model.specs.Lists.{hits}
 use Rattle.dom_model.specs.Arena.{Entry}
+use Rattle.dom_model.specs.Kinds.{is_kind}
 use Rattle.dom_model.specs.Forest.{Node, Forest, occurs, cut, with_node, entry_in, parent_of, index_of, inclusive_descendants}
 use Rattle.dom_model.specs.Texts.{spliced}
 use Rattle.dom_model.specs.World.{Content, Point, Range, World}
 use Rattle.dom_model.specs.Points.{after_splice, after_merge, after_removal, moved_range, map_ranges}
-use Rattle.dom_model.specs.Editing.{removed_from}
-use Rattle.dom_model.specs.Data.{content_in, data_of, with_data}
+use Rattle.dom_model.specs.Checks.{is_of_kind}
+use Rattle.dom_model.specs.Lengths.{unit_count, node_length}
+use Rattle.dom_model.specs.Editing.{removed_from, remove}
+use Rattle.dom_model.specs.Data.{content_in, data_of, with_data, following_texts, joined_data, merge_ends, remove_each, join_following, normalize_text, is_descendant, text_descendants, normalize_each, normalize}
 use Rattle.dom_model.specs.Tokens.{Merge}
-use Rattle.dom_model.specs.Edits.{merge_from, on_world}
+use Rattle.dom_model.specs.Edits.{merge_from, on_world, remove_edits, merges, normalize_text_edits, normalize_each_edits, normalize_edits}
+use Rattle.dom_model.specs.Sound.{IsRange, IsSound}
 use Rattle.dom_model.proofs.Numbers.{same_or, same, apart}
-use Rattle.dom_model.proofs.Climbing.{hits-first}
+use Rattle.dom_model.proofs.Climbing.{hits-append, hits-first}
 use Rattle.dom_model.proofs.Changes.{change_at}
-use Rattle.dom_model.proofs.ChangedNodes.{cut-with_node, data-twice}
+use Rattle.dom_model.proofs.ChangedNodes.{cut-with_node, data-twice, data-same}
 use Rattle.dom_model.proofs.SameShape.{with_node-alike, parent-alike, index-alike, inside-alike}
 use Rattle.dom_model.proofs.Measured.{entry-with_node}
 use Rattle.dom_model.proofs.SoundForests.{entry_there}
-use Rattle.dom_model.proofs.SoundWorlds.{Lives}
-use Rattle.dom_model.proofs.SoundJoining.{AreUpTo, AreJoinable, first_in, t_apart, is_child, is_there, moved, left}
-use Rattle.dom_model.proofs.SoundNormalizing.{base}
-use Rattle.dom_model.proofs.EditsLeave.{laid, Leave, leave-edit}
+use Rattle.dom_model.proofs.SoundWorlds.{Lives, each-kept}
+use Rattle.dom_model.proofs.SoundData.{length-data}
+use Rattle.dom_model.proofs.SoundSplitting.{text_has_data}
+use Rattle.dom_model.proofs.SoundJoining.{AreUpTo, AreJoinable, first_in, t_apart, is_child, is_there, merged_is, content_left, joinable_left, in_either_order, further, moved, left}
+use Rattle.dom_model.proofs.SoundNormalizing.{kept-one, below_parent, base, count, joint, joinable, no_count, others, joined-same, filter-passed}
+use Rattle.dom_model.proofs.EditsLeave.{laid, Leave, leave-none, leave-edit, leave-then, leave-alike}
+use Rattle.dom_model.proofs.EditsOfSteps.{leave-remove}
 
 -- units that are put at the end
 spliced-end : (units more : List ℕ) → spliced (length units) 0 more units ≡ units ++ more
@@ -132,3 +141,111 @@ module _ (v : World) (t p first : ℕ) (ts units : List ℕ) (j : AreJoinable v 
 
   leave-merge : Leave (Merge t first ∷ []) before (with_text_of t (units ++ more) after)
   leave-merge = leave-edit (Merge t first) before (with_text_of t (units ++ more) after) (edit-left ∙ step-left)
+
+  data_after : (ns : List ℕ) → joined_data after ns ≡ joined_data v ns
+  data_after [] = refl
+  data_after (n ∷ ns) = ap (λ xs. xs ++ joined_data after ns) (content_left v t p (length units) first ts j n) ∙ ap (λ xs. data_of v n ++ xs) (data_after ns)
+
+  whole_after : data_of v t ≡ units ++ joined_data v (first ∷ ts) → data_of after t ≡ (units ++ more) ++ joined_data after ts
+  whole_after h =
+      content_left v t p (length units) first ts j t ∙ h
+      ∙ sym (append_assoc units more (joined_data v ts))
+      ∙ ap (λ xs. (units ++ more) ++ xs) (sym (data_after ts))
+
+  count_after : length (units ++ more) ≡ further v t p (length units) first ts j
+  count_after = length-append units more
+
+  joinable_after : AreJoinable after t p (length (units ++ more)) ts
+  joinable_after = subst (λ k. AreJoinable after t p k ts) (sym count_after) (joinable_left v t p (length units) first ts j)
+
+  -- the rest goes on from there
+  rest-same : remove_each ts (merge_ends t (length (units ++ more)) ts after) ≡ remove_each (first ∷ ts) (merge_ends t (length units) (first ∷ ts) v)
+  rest-same =
+      let k = further v t p (length units) first ts j in
+      ap (λ b. remove_each ts (merge_ends t b ts after)) count_after
+      ∙ ap (λ x. remove_each ts x) (sym (in_either_order v t p (length units) first ts j))
+      ∙ ap (λ x. remove_each ts (remove false first (merge_ends t k ts x))) (sym (merged_is v t p (length units) first ts j))
+
+-- All of them. The Text has the data of the rest already; the edits begin where it has its own alone.
+pub leave-merges : (t p : ℕ) (ts : List ℕ) (v : World) (units : List ℕ) → AreJoinable v t p (length units) ts → data_of v t ≡ units ++ joined_data v ts → Leave (merges t ts) (with_text_of t units v) (remove_each ts (merge_ends t (length units) ts v))
+leave-merges t p [] v units j h =
+    let same_data : data_of v t ≡ units = h ∙ append-nil units in
+    leave-none (with_text_of t units v) v (ap (λ f. laid (record v { forest = f })) (data-same t units v.forest j.sound.forest.once same_data))
+leave-merges t p (first ∷ ts) v units j h =
+    let u = after v t p first ts units j in
+    let grown = units ++ more v t p first ts units j in
+    let next = leave-merges t p ts u grown (joinable_after v t p first ts units j) (whole_after v t p first ts units j h) in
+    subst (λ x. Leave (merges t (first ∷ ts)) (with_text_of t units v) x) (rest-same v t p first ts units j)
+    (leave-then (Merge t first ∷ []) (merges t ts) (with_text_of t units v) (with_text_of t grown u) (remove_each ts (merge_ends t (length grown) ts u)) (leave-merge v t p first ts units j) next)
+
+-- A Text takes in those that follow it.
+
+leave-join : (t p : ℕ) (w : World) → IsSound w → is_of_kind Text w.forest t ≡ true → 0 < occurs t w.forest → parent_of w.forest t ≡ Some p → Leave (merges t (following_texts w t)) w (join_following t (following_texts w t) w)
+leave-join t p w s text h e =
+    leave-alike (merges t ts) (with_text_of t units v) w (join_following t ts w) (join_following t ts w) same_start refl
+    (leave-merges t p ts v units (joinable t p w s text h e) whole)
+  where
+    ts : List ℕ
+    ts = following_texts w t
+
+    units : List ℕ
+    units = data_of w t
+
+    v : World
+    v = joint t p w s text h e
+
+    none : count t p w s text h e ≡ 0
+    none = no_count t p w s text h e
+
+    same_joined : joined_data v ts ≡ joined_data w ts
+    same_joined = joined-same t p w s text h e ts (others t p w s text h e)
+
+    whole : data_of v t ≡ units ++ joined_data v ts
+    whole =
+        data-itself t (spliced (length units) (count t p w s text h e) (joined_data w ts) units) w h
+        ∙ ap (λ k. spliced (length units) k (joined_data w ts) units) none
+        ∙ spliced-end units (joined_data w ts)
+        ∙ ap (λ xs. units ++ xs) (sym same_joined)
+
+    within : (q : Point) → q.offset ≤ node_length unit_count w.forest q.node → q.node ≡ t → q.offset ≤ length units
+    within q k d =
+        let l = length-data w.forest t (text_has_data w t text) in
+        let m : q.offset ≤ node_length unit_count w.forest t = subst (λ n. q.offset ≤ node_length unit_count w.forest n) d k in
+        omega arith
+
+    ends : Lives (AreUpTo t (length units)) w.ranges
+    ends = each-kept (IsRange w.forest) (AreUpTo t (length units)) (λ r k. (within r.start k.starts.within, within r.end k.ends.within)) w.ranges s.ranges
+
+    same_start : laid (with_text_of t units v) ≡ laid w
+    same_start =
+        ap (λ f. laid (record v { forest = f })) (data-twice t units (spliced (length units) (count t p w s text h e) (joined_data w ts) units) w.forest ∙ data-same t units w.forest s.forest.once refl)
+        ∙ ap (λ k. laid (record w { ranges = map_ranges (after_splice t (length units) k (length (joined_data w ts))) w.ranges })) none
+        ∙ ap (λ rs. laid (record w { ranges = rs })) (up_to-stays t (length units) (length (joined_data w ts)) w.ranges ends)
+
+-- Normalize.
+
+leave-normalize_text : (n t : ℕ) (w : World) → IsSound w → is_of_kind Text w.forest t ≡ true → is_descendant w n t ≡ true → Leave (normalize_text_edits t w) w (normalize_text t w)
+leave-normalize_text n t w s text below = go (length (data_of w t) == 0)
+  where
+    go : (v : Bool) → Leave (if v then remove_edits t w else merges t (following_texts w t)) w (if v then remove false t w else join_following t (following_texts w t) w)
+    go true = leave-remove false t w
+    go false = let i = below_parent w.forest s.forest.once n t below in leave-join t i.1 w s text i.0 i.2
+
+leave-normalize_one : (n t : ℕ) (w : World) → IsSound w → is_of_kind Text w.forest t ≡ true → Leave (if is_descendant w n t then normalize_text_edits t w else []) w (if is_descendant w n t then normalize_text t w else w)
+leave-normalize_one n t w s text = go (is_descendant w n t) refl
+  where
+    go : (v : Bool) → is_descendant w n t ≡ v → Leave (if v then normalize_text_edits t w else []) w (if v then normalize_text t w else w)
+    go true e = leave-normalize_text n t w s text e
+    go false e = leave-none w w refl
+
+leave-normalize_each : (n : ℕ) (ts : List ℕ) (w : World) → IsSound w → ((t : ℕ) → 0 < hits t ts → is_of_kind Text w.forest t ≡ true) → Leave (normalize_each_edits n ts w) w (normalize_each n ts w)
+leave-normalize_each n [] w s texts = leave-none w w refl
+leave-normalize_each n (t ∷ ts) w s texts =
+    let v = if is_descendant w n t then normalize_text t w else w in
+    let k = kept-one n t w s (texts t (hits-first t ts)) in
+    leave-then (if is_descendant w n t then normalize_text_edits t w else []) (normalize_each_edits n ts v) w v (normalize_each n ts v)
+    (leave-normalize_one n t w s (texts t (hits-first t ts)))
+    (leave-normalize_each n ts v k.sound (λ m h. k.kinds (is_kind Text) m ∙ texts m (let i = hits-append m (t ∷ []) ts in omega arith)))
+
+pub leave-normalize : (n : ℕ) (w : World) → IsSound w → Leave (normalize_edits n w) w (normalize n w)
+leave-normalize n w s = leave-normalize_each n (text_descendants w n) w s (λ t h. (filter-passed (is_of_kind Text w.forest) (drop 1 (inclusive_descendants w.forest n)) t h).0)

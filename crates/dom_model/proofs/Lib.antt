@@ -37,6 +37,7 @@ pub mod DrawnPaths
 pub mod DrawnPieces
 pub mod EachNode
 pub mod EditsLeave
+pub mod EditsOfAnswers
 pub mod EditsOfDeletedContents
 pub mod EditsOfDrawnContents
 pub mod EditsOfInsertedNodes

@@ -95,7 +95,7 @@ module _ (b : Bounds) (w : World) (s : IsSound w) where
 
   -- Data and attributes.
 
-  offset_within : (x offset : ℕ) → kind_passes is_character_data w.forest x ≡ true → check_offset w x offset ≡ None → offset ≤ length (data_of w x)
+  pub offset_within : (x offset : ℕ) → kind_passes is_character_data w.forest x ≡ true → check_offset w x offset ≡ None → offset ≤ length (data_of w x)
   offset_within x offset k h =
       let c = clear ((nat_lt (length_at w x) offset, IndexSizeError) ∷ []) h in
       within (length_at w x) offset (length (data_of w x)) c.0 (length-data w.forest x k)
