@@ -66,7 +66,7 @@ leave-alike es w w' v v' d e h = record { left = ap (all_on_world es) (sym d) �
 -- What it says of the world after the edits.
 
 module _ (es : List Edit) (w v : World) (h : Leave es w v) where
-  leave-laid : laid (all_on_world es w) ≡ laid v
+  pub leave-laid : laid (all_on_world es w) ≡ laid v
   leave-laid = sym (edits-laid es w) ∙ h.left
 
   pub leave-forest : (all_on_world es w).forest ≡ v.forest

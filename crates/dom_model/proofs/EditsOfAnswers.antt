@@ -1,12 +1,12 @@
 -- The edits of a step that is answered leave the step's world: none where the step is refused.
 use Rattle.std.proofs.Common.{◌≡◌, ℕ, Bool, true, false, if◌then◌else◌, List, [], ◌∷◌, Option, Some, None, Ok, Err, refl, sym, subst}
 use Rattle.dom_model.specs.declared.DomError.{DomError}
-use Rattle.dom_model.specs.World.{Point, Range, World}
+use Rattle.dom_model.specs.World.{Range, World}
 use Rattle.dom_model.specs.Reply.{Answer, Reply, Done, Dom, Own}
 use Rattle.dom_model.specs.Contents.{for_range}
 use Rattle.dom_model.specs.Wrapping.{Outcome}
 use Rattle.dom_model.specs.Guards.{Step, refused, guarded, checked, no_node_given}
-use Rattle.dom_model.specs.AnswerRanges.{on_range, at_point, at_ends, done_or_refused}
+use Rattle.dom_model.specs.AnswerRanges.{on_range, done_or_refused}
 use Rattle.dom_model.specs.Tokens.{Edit}
 use Rattle.dom_model.specs.CommandEdits.{unless_refused}
 use Rattle.dom_model.proofs.SoundEditing.{AreClear}
@@ -34,31 +34,27 @@ leaves-refused es r w k = record { left = subst (λ fs. Leave fs w w) (sym (k es
 pub leaves-done : (es : List Edit) (a : Answer) (w v : World) → Leave es w v → StepLeaves es w (record { reply = Done a; world = v })
 leaves-done es a w v h = record { left = h }
 
-pub leaves-guarded : (es : List Edit) (cs : List (Bool × Reply)) (w : World) (step : Step) → AreRefusals cs → (AreClear cs → StepLeaves es w step) → StepLeaves es w (guarded cs w step)
-leaves-guarded es [] w step r k = k tt
-leaves-guarded es (c ∷ cs) w step r k = go c.0 refl (leaves-guarded es cs w step r.1)
+-- what holds of refusals, and of the step where no test holds, holds of the guarded step
+pub holds-guarded : (P : Step → Type 0) (cs : List (Bool × Reply)) (w : World) (step : Step) → ((r : Reply) → IsRefusal r → P (refused r w)) → AreRefusals cs → (AreClear cs → P step) → P (guarded cs w step)
+holds-guarded P [] w step refusing r k = k tt
+holds-guarded P (c ∷ cs) w step refusing r k = go c.0 refl (holds-guarded P cs w step refusing r.1)
   where
-    go : (v : Bool) → c.0 ≡ v → ((AreClear cs → StepLeaves es w step) → StepLeaves es w (guarded cs w step)) → StepLeaves es w (if v then refused c.1 w else guarded cs w step)
-    go true e more = leaves-refused es c.1 w r.0
+    go : (v : Bool) → c.0 ≡ v → ((AreClear cs → P step) → P (guarded cs w step)) → P (if v then refused c.1 w else guarded cs w step)
+    go true e more = refusing c.1 r.0
     go false e more = more (λ h. k (e, h))
+
+pub leaves-guarded : (es : List Edit) (cs : List (Bool × Reply)) (w : World) (step : Step) → AreRefusals cs → (AreClear cs → StepLeaves es w step) → StepLeaves es w (guarded cs w step)
+leaves-guarded es cs w step r k = holds-guarded (λ x. StepLeaves es w x) cs w step (λ q i. leaves-refused es q w i) r k
 
 pub leaves-checked : (es : List Edit) (o : Option DomError) (w : World) (step : Step) → (o ≡ None → StepLeaves es w step) → StepLeaves es w (checked o w step)
 leaves-checked es None w step k = k refl
 leaves-checked es (Some e) w step k = leaves-refused es (Dom e) w (λ fs. refl)
 
--- A step on a live range, and one to a point or ends that need not be there.
+-- A step on a live range, and one of which the outcome may be a refusal.
 
 pub leaves-on_range : (o : Option Range) (es : Range → List Edit) (w : World) (step : Range → Step) → ((range : Range) → o ≡ Some range → StepLeaves (es range) w (step range)) → StepLeaves (for_range o [] es) w (on_range o w step)
 leaves-on_range None es w step k = leaves-refused [] _ w (λ fs. refl)
 leaves-on_range (Some range) es w step k = k range refl
-
-pub leaves-at_point : (es : List Edit) (o : Option Point) (w : World) (step : Point → Step) → ((p : Point) → o ≡ Some p → StepLeaves es w (step p)) → StepLeaves es w (at_point o w step)
-leaves-at_point es None w step k = leaves-refused es _ w (λ fs. refl)
-leaves-at_point es (Some p) w step k = k p refl
-
-pub leaves-at_ends : (es : List Edit) (o : Option Range) (w : World) (step : Range → Step) → ((ends : Range) → o ≡ Some ends → StepLeaves es w (step ends)) → StepLeaves es w (at_ends o w step)
-leaves-at_ends es None w step k = leaves-refused es _ w (λ fs. refl)
-leaves-at_ends es (Some ends) w step k = k ends refl
 
 pub leaves-outcome : (es : List Edit) (o : Outcome) (w : World) → ((v : World) → o ≡ Ok v → Leave es w v) → StepLeaves es w (done_or_refused o w)
 leaves-outcome es (Ok v) w k = record { left = k v refl }

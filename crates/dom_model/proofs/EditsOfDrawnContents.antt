@@ -32,7 +32,7 @@ use Rattle.dom_model.proofs.CopiesPlaced.{parent-copies}
 use Rattle.dom_model.proofs.LiveRangesKept.{is_live}
 use Rattle.dom_model.proofs.EditsLeave.{Leave, leave-none, Comes, comes-then}
 use Rattle.dom_model.proofs.EditsOfDeletedContents.{follows-ends}
-use Rattle.dom_model.proofs.Drawing.{IsDrawing, extends-then, Draws, draws-none, draws-then, draws-as, IsHolder, holder-extends}
+use Rattle.dom_model.proofs.Drawing.{IsDrawing, extends-then, Draws, draws-none, draws-then, draws-as, passes_there, IsHolder, holder-extends}
 use Rattle.dom_model.proofs.DrawnPieces.{is_drawn, IsDrawable, drawable-extends, draws-fragment, draws-units, draws-children}
 use Rattle.dom_model.proofs.DrawnPaths.{ArePath, path-extends, kind-drawn, hits-filter, draws-tail, draws-head}
 use Rattle.dom_model.proofs.PathsDown.{common-above, path-down}
@@ -230,9 +230,18 @@ module _ (w : World) (s : IsSound w) (range : Range) (h : IsRange w.forest range
     pub live-contents_drawn : (moves : Bool) (r : ℕ) → is_live r (contents_drawn moves range w) ≡ is_live r w
     live-contents_drawn moves r = let a = draws-contents moves in a.extends.live r
 
+    pub there-contents_drawn : (moves : Bool) (m : ℕ) → 0 < occurs m w.forest → 0 < occurs m (contents_drawn moves range w).forest
+    there-contents_drawn moves m k = let a = draws-contents moves in a.extends.there m k
+
+    -- the fragment is there too
+    pub fragment-contents_drawn : (moves : Bool) → 0 < occurs w.made (contents_drawn moves range w).forest
+    fragment-contents_drawn moves =
+        let a = draws-rest moves (is_collapsed range) (is_in_one_data w range) refl in
+        a.extends.there w.made (passes_there may_be_parent grown.forest w.made holds.kind)
+
 -- Extract, and clone the contents.
 
-check-range : (w : World) (r : ℕ) (range : Range) → range_at w r ≡ Some range → check_extract r w ≡ None → check_draw w range ≡ None
+pub check-range : (w : World) (r : ℕ) (range : Range) → range_at w r ≡ Some range → check_extract r w ≡ None → check_draw w range ≡ None
 check-range w r range e c = ap (λ o. for_range o None (λ range. check_draw w range)) (sym e) ∙ c
 
 pub leave-extract : (r : ℕ) (w : World) → IsSound w → check_extract r w ≡ None → Leave (extract_edits r w) w (extract r w)

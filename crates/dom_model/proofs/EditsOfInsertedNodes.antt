@@ -1,5 +1,5 @@
 -- The edits of inserting a node into a live range leave what that leaves. DOM Standard, "Interface Range": insertNode.
-use Rattle.std.proofs.Common.{◌≡◌, ℕ, ◌<◌, ◌≤◌, Bool, true, false, if◌then◌else◌, List, [], length, Option, Some, None, is_some, Ok, Err, refl, ap, sym, subst, arith}
+use Rattle.std.proofs.Common.{◌≡◌, ℕ, ◌<◌, ◌≤◌, Bool, true, false, if◌then◌else◌, List, [], length, Option, Some, None, is_some, Ok, Err, refl, ap, sym, ◌∙◌, subst, arith}
 use Rattle.dom_model.specs.declared.DomError.{DomError}
 use Rattle.dom_model.specs.declared.Kind.TheVariants.{Text}
 use Rattle.dom_model.specs.Forest.{Forest, empty, node, occurs, one_at, with_node, parent_of}
@@ -17,6 +17,9 @@ use Rattle.dom_model.specs.Sound.{IsBoundary, IsSound}
 use Rattle.dom_model.proofs.Totals.{total-beside}
 use Rattle.dom_model.proofs.Entries.{occurs-HasNode}
 use Rattle.dom_model.proofs.SameShape.{with_node-alike, occurs-alike}
+use Rattle.dom_model.proofs.Extending.{put_by_insert}
+use Rattle.dom_model.proofs.SoundEditing.{may_come_before}
+use Rattle.dom_model.proofs.LiveRangesKept.{is_live, remove-live, pre_insert-live, split-live, with_range-live}
 use Rattle.dom_model.proofs.Loosened.{loosened-remove}
 use Rattle.dom_model.proofs.SoundWorlds.{sound-remove}
 use Rattle.dom_model.proofs.SoundData.{length-data}
@@ -54,6 +57,7 @@ abbrev split_if : Bool → Point → World → World
 split_if v p w = if v then split p.node p.offset w else w
 
 record IsApart (v : Bool) (w : World) (p : Point) : Type 0 where
+  live : (r : ℕ) → is_live r (split_if v p w) ≡ is_live r w
   sound : IsSound (split_if v p w)
   there : (m : ℕ) → 0 < occurs m w.forest → 0 < occurs m (split_if v p w).forest
   follows : Follows (λ t. if v then doing (split p.node p.offset) (split_edits p.node p.offset) t else t) w (split_if v p w)
@@ -65,11 +69,12 @@ apart-if true w p s b t =
     let i = b.within in
     let within : p.offset ≤ length (data_of w p.node) = omega arith in
     record {
+      live = λ r. split-live r p.node p.offset w;
       sound = sound-split p.node p.offset w s h t within;
       there = there-split p.node p.offset w s h t within;
       follows = follows-doing w (split p.node p.offset) (split_edits p.node p.offset) (leave-split p.node p.offset w s h t within);
     }
-apart-if false w p s b t = record { sound = s; there = λ m h. h; follows = follows-none w }
+apart-if false w p s b t = record { live = λ r. refl; sound = s; there = λ m h. h; follows = follows-none w }
 
 -- An outcome that is not refused went through each step.
 
@@ -93,6 +98,28 @@ follows-end r p v = go (range_at v r) refl
     go None e = follows-none v
     go (Some range) e = part range e (is_collapsed range)
 
+end-forest : (r : ℕ) (p : Point) (v : World) → (end_if_collapsed r p v).forest ≡ v.forest
+end-forest r p v = go (range_at v r)
+  where
+    part : (range : Range) (b : Bool) → (if b then with_range r (record range { end = p }) v else v).forest ≡ v.forest
+    part range true = refl
+    part range false = refl
+
+    go : (o : Option Range) → (for_range o v (λ range. if is_collapsed range then with_range r (record range { end = p }) v else v)).forest ≡ v.forest
+    go None = refl
+    go (Some range) = part range (is_collapsed range)
+
+end-live : (r : ℕ) (p : Point) (v : World) → is_live r v ≡ true → is_live r (end_if_collapsed r p v) ≡ true
+end-live r p v h = go (range_at v r)
+  where
+    part : (range : Range) (b : Bool) → is_live r (if b then with_range r (record range { end = p }) v else v) ≡ true
+    part range true = with_range-live r (record range { end = p }) v h
+    part range false = h
+
+    go : (o : Option Range) → is_live r (for_range o v (λ range. if is_collapsed range then with_range r (record range { end = p }) v else v)) ≡ true
+    go None = h
+    go (Some range) = part range (is_collapsed range)
+
 pub done-same : (u v : World) → IsDone (Ok u) v → u ≡ v
 done-same u v h = ok_of h
   where
@@ -111,38 +138,86 @@ module _ (r n parent : ℕ) (reference : Option ℕ) (w : World) (s : IsSound w)
   abbrev past_it : Point
   past_it = record { node = parent; offset = offset_past out parent reference n }
 
+  checked-placed : (v : World) → IsDone (placed_at r n parent reference w) v → (check_insert out.forest parent n reference ≡ None) × (end_if_collapsed r past_it (pre_insert n parent reference out) ≡ v)
+  checked-placed v h = go (check_insert out.forest parent n reference) refl h
+    where
+      go : (c : Option DomError) → check_insert out.forest parent n reference ≡ c → IsDone (and_then (and_then (unless c out) (λ x. Ok (pre_insert n parent reference x))) (λ x. Ok (end_if_collapsed r past_it x))) v → (check_insert out.forest parent n reference ≡ None) × (end_if_collapsed r past_it (pre_insert n parent reference out) ≡ v)
+      go None e i = (e, done-same (end_if_collapsed r past_it (pre_insert n parent reference out)) v i)
+      go (Some x) e i = absurd (cc i)
+
+  there-out : (m : ℕ) → 0 < occurs m w.forest → 0 < occurs m out.forest
+  there-out m h = let k = loosened-remove false n w s hn in subst (λ x. 0 < x) (sym (k.numbers m)) h
+
   follows-placed : (v : World) → IsDone (placed_at r n parent reference w) v → Follows (doing_placed r n parent reference) w v
   follows-placed v h =
-      let c = checked_step v h in
-      let k = loosened-remove false n w s hn in
-      let there : 0 < occurs n out.forest = subst (λ x. 0 < x) (sym (k.numbers n)) hn in
+      let c = checked-placed v h in
       let u = pre_insert n parent reference out in
       let first : Follows (doing_remove n) w out = follows-doing w (remove false n) (remove_edits n) (leave-remove false n w) in
-      let second : Follows (doing_pre_insert n parent reference) out u = follows-doing out (pre_insert n parent reference) (pre_insert_edits n parent reference) (leave-pre_insert n parent reference out (sound-remove false n w s) there c.0) in
+      let second : Follows (doing_pre_insert n parent reference) out u = follows-doing out (pre_insert n parent reference) (pre_insert_edits n parent reference) (leave-pre_insert n parent reference out (sound-remove false n w s) (there-out n hn) c.0) in
       subst (λ x. Follows (doing_placed r n parent reference) w x) c.1
       (λ a es l. follows-then w u (end_if_collapsed r past_it u) (λ t. doing_pre_insert n parent reference (doing_remove n t)) (doing_end_if_collapsed r past_it)
       (follows-then w out u (doing_remove n) (doing_pre_insert n parent reference) first second) (follows-end r past_it u) a es l)
-    where
-      checked_step : (v : World) → IsDone (placed_at r n parent reference w) v → (check_insert out.forest parent n reference ≡ None) × (end_if_collapsed r past_it (pre_insert n parent reference out) ≡ v)
-      checked_step v h = go (check_insert out.forest parent n reference) refl h
-        where
-          go : (c : Option DomError) → check_insert out.forest parent n reference ≡ c → IsDone (and_then (and_then (unless c out) (λ x. Ok (pre_insert n parent reference x))) (λ x. Ok (end_if_collapsed r past_it x))) v → (check_insert out.forest parent n reference ≡ None) × (end_if_collapsed r past_it (pre_insert n parent reference out) ≡ v)
-          go None e i = (e, done-same (end_if_collapsed r past_it (pre_insert n parent reference out)) v i)
-          go (Some x) e i = absurd (cc i)
+
+  -- what is there, and what is a live range, stays
+  there-placed : (v : World) → IsDone (placed_at r n parent reference w) v → (m : ℕ) → 0 < occurs m w.forest → 0 < occurs m v.forest
+  there-placed v h m k =
+      let c = checked-placed v h in
+      let u = pre_insert n parent reference out in
+      let i = put_by_insert false n parent (reference_child out n reference) out (sound-remove false n w s) (may_come_before out (sound-remove false n w s) parent n reference (there-out n hn) c.0) in
+      let there : 0 < occurs m u.forest = i.extends.there m (there-out m k) in
+      let same_forest : (end_if_collapsed r past_it u).forest ≡ u.forest = end-forest r past_it u in
+      subst (λ (x : World). 0 < occurs m x.forest) c.1 (subst (λ (g : Forest Content). 0 < occurs m g) (sym same_forest) there)
+
+  live-placed : (v : World) → IsDone (placed_at r n parent reference w) v → is_live r w ≡ true → is_live r v ≡ true
+  live-placed v h k =
+      let c = checked-placed v h in
+      let u = pre_insert n parent reference out in
+      subst (λ (x : World). is_live r x ≡ true) c.1 (end-live r past_it u (pre_insert-live r n parent reference out ∙ remove-live r false n w ∙ k))
 
 -- Insert node.
 
-follows-inserted : (r n : ℕ) (p : Point) (w v : World) → IsSound w → IsBoundary w.forest p → 0 < occurs n w.forest → IsDone (inserted_at r n p w) v → Follows (doing_insert_at r n p) w v
-follows-inserted r n p w v s b hn h a es l =
-    let first = unrefused (check_start w p n) w v (λ x. and_then (unless (check_insert x.forest (parent_at x p) n (reference_at x p)) x) (λ y. placed_at r n (parent_at y p) (reference_child (split_at p y) n (reference_after y p)) (split_at p y))) h in
-    let second = unrefused (check_insert w.forest (parent_at w p) n (reference_at w p)) w v (λ y. placed_at r n (parent_at y p) (reference_child (split_at p y) n (reference_after y p)) (split_at p y)) first.1 in
-    let u = split_at p w in
-    let k = apart-if (is_text w p.node) w p s b refl in
-    let t : Trace = record { world = w; edits = es } in
-    let c = k.follows a es l in
-    let reference = reference_child u n (reference_after w p) in
-    let placed = comes-then a (doing_split_at p t) u v (doing_placed r n (parent_at w p) reference) (follows-placed r n (parent_at w p) reference u k.sound (k.there n hn) v second.1) c in
-    subst (λ (x : World). Comes a (doing_placed r n (parent_at w p) (reference_child x n (reference_after w p)) (doing_split_at p t)) v) (sym c.there) placed
+module _ (r n : ℕ) (p : Point) (w v : World) (s : IsSound w) (b : IsBoundary w.forest p) (hn : 0 < occurs n w.forest) (h : IsDone (inserted_at r n p w) v) where
+  abbrev apart_world : World
+  apart_world = split_at p w
+
+  abbrev reference : Option ℕ
+  reference = reference_child apart_world n (reference_after w p)
+
+  done-placed : IsDone (placed_at r n (parent_at w p) reference apart_world) v
+  done-placed =
+      let first = unrefused (check_start w p n) w v (λ x. and_then (unless (check_insert x.forest (parent_at x p) n (reference_at x p)) x) (λ y. placed_at r n (parent_at y p) (reference_child (split_at p y) n (reference_after y p)) (split_at p y))) h in
+      (unrefused (check_insert w.forest (parent_at w p) n (reference_at w p)) w v (λ y. placed_at r n (parent_at y p) (reference_child (split_at p y) n (reference_after y p)) (split_at p y)) first.1).1
+
+  is_apart : IsApart (is_text w p.node) w p
+  is_apart = apart-if (is_text w p.node) w p s b refl
+
+  follows-inserted : Follows (doing_insert_at r n p) w v
+  follows-inserted a es l =
+      let t : Trace = record { world = w; edits = es } in
+      let k = is_apart in
+      let c = k.follows a es l in
+      let placed = comes-then a (doing_split_at p t) apart_world v (doing_placed r n (parent_at w p) reference) (follows-placed r n (parent_at w p) reference apart_world k.sound (k.there n hn) v done-placed) c in
+      subst (λ (x : World). Comes a (doing_placed r n (parent_at w p) (reference_child x n (reference_after w p)) (doing_split_at p t)) v) (sym c.there) placed
+
+  there-inserted : (m : ℕ) → 0 < occurs m w.forest → 0 < occurs m v.forest
+  there-inserted m i = let k = is_apart in there-placed r n (parent_at w p) reference apart_world k.sound (k.there n hn) v done-placed m (k.there m i)
+
+  live-inserted : is_live r w ≡ true → is_live r v ≡ true
+  live-inserted i = let k = is_apart in live-placed r n (parent_at w p) reference apart_world k.sound (k.there n hn) v done-placed (k.live r ∙ i)
+
+-- what is there, and what is a live range, stays
+pub record AreKept (r : ℕ) (w v : World) : Type 0 where
+  pub there : (m : ℕ) → 0 < occurs m w.forest → 0 < occurs m v.forest
+  pub live : is_live r w ≡ true → is_live r v ≡ true
+
+pub kept-insert_node : (r n : ℕ) (w v : World) → IsSound w → 0 < occurs n w.forest → IsDone (insert_node r n w) v → AreKept r w v
+kept-insert_node r n w v s hn h = go (range_at w r) refl h
+  where
+    go : (o : Option Range) → range_at w r ≡ o → IsDone (for_range o (Ok w) (λ range. inserted_at r n range.start w)) v → AreKept r w v
+    go None e i = subst (λ x. AreKept r w x) (done-same w v i) (record { there = λ m k. k; live = λ k. k })
+    go (Some range) e i =
+        let k = sound-range w r range s e in
+        record { there = there-inserted r n range.start w v s k.starts hn i; live = live-inserted r n range.start w v s k.starts hn i }
 
 pub follows-insert_node : (r n : ℕ) (w v : World) → IsSound w → 0 < occurs n w.forest → IsDone (insert_node r n w) v → Follows (doing_insert_node r n) w v
 follows-insert_node r n w v s hn h = go (range_at w r) refl h

@@ -38,14 +38,19 @@ pub mod DrawnPieces
 pub mod EachNode
 pub mod EditsLeave
 pub mod EditsOfAnswers
+pub mod EditsOfCommands
 pub mod EditsOfDeletedContents
 pub mod EditsOfDrawnContents
 pub mod EditsOfInsertedNodes
 pub mod EditsOfInsertions
 pub mod EditsOfNormalizing
+pub mod EditsOfOtherCommands
+pub mod EditsOfRangeCommands
 pub mod EditsOfSplitting
 pub mod EditsOfSteps
+pub mod EditsOfSurrounding
 pub mod EditsOfTextContent
+pub mod EditsOfTreeCommands
 pub mod EditsOfTrees
 pub mod EmptyEndsExtracted
 pub mod EndingWalks
@@ -68,6 +73,7 @@ pub mod ErasedWatcherAnswers
 pub mod ErasedWatchers
 pub mod ErasedWorlds
 pub mod ErasedWrapping
+pub mod Extending
 pub mod ExtractAcrossParagraphs
 pub mod FiltersByKindAndName
 pub mod FirstDialogue
@@ -170,8 +176,11 @@ pub mod RootTexts
 pub mod RootsKept
 pub mod SameShape
 pub mod Shown
+pub mod SoundAppending
+pub mod SoundCopies
 pub mod SoundData
 pub mod SoundDiscarding
+pub mod SoundDrawing
 pub mod SoundEditing
 pub mod SoundForests
 pub mod SoundGuards
@@ -180,7 +189,9 @@ pub mod SoundJoining
 pub mod SoundMaking
 pub mod SoundNormalizing
 pub mod SoundObserverSteps
+pub mod SoundPaths
 pub mod SoundPlacing
+pub mod SoundQuestions
 pub mod SoundRangeSteps
 pub mod SoundSplitting
 pub mod SoundTextContent
@@ -234,3 +245,4 @@ pub mod WalksToSiblings
 pub mod WatchersLimited
 pub mod WaysBelow
 pub mod WaysKept
+pub mod WhatEditsDoNotTell

@@ -1,5 +1,6 @@
 -- What a removal leaves of the forest: the node is a root, and nothing else of kinds, parents and paths is new.
-use Rattle.std.proofs.Common.{◌≡◌, ℕ, ◌<◌, ◌≤◌, ◌==◌, Bool, true, false, if◌then◌else◌, List, [], ◌∷◌, Option, Some, None, refl, ap, sym, ◌∙◌, subst, arith}
+use Rattle.std.proofs.Common.{◌≡◌, ℕ, ◌+◌, ◌<◌, ◌≤◌, ◌==◌, Bool, true, false, if◌then◌else◌, List, [], ◌∷◌, Option, Some, None, IfSome, refl, ap, sym, ◌∙◌, subst, arith, ⊎_elim}
+use Rattle.std.proofs.lemmas.Bool.{cases_lt}
 use Rattle.dom_model.specs.declared.Kind.{Kind}
 use Rattle.dom_model.specs.Lists.{hits}
 use Rattle.dom_model.specs.Arena.{Entry, parent_in}
@@ -15,6 +16,7 @@ use Rattle.dom_model.proofs.Lying.{absent_under}
 use Rattle.dom_model.proofs.Entries.{Lies-entry_in, parent-cut}
 use Rattle.dom_model.proofs.Paths.{up_with, ancestors-cut}
 use Rattle.dom_model.proofs.PutBack.{cut-root}
+use Rattle.dom_model.proofs.SoundForests.{IsWood, IsWood-cut}
 use Rattle.dom_model.proofs.Measured.{kind-cut}
 use Rattle.dom_model.proofs.SoundWorlds.{sound-remove}
 
@@ -33,11 +35,11 @@ root-top at q n (node x kids rest) l e h =
 pub root-listed : (f : Forest Content) → ((m : ℕ) → occurs m f ≤ 1) → (n : ℕ) → parent_of f n ≡ None → 0 < occurs n f → 0 < hits n (tops f)
 root-listed f o n e h = root-top (entry_in f) None n f (Lies-entry_in f o) e h
 
-unless-forest : (suppressed : Bool) (target : ℕ) (added removed : List ℕ) (previous next : Option ℕ) (w : World) → (tree_record_unless suppressed target added removed previous next w).forest ≡ w.forest
+pub unless-forest : (suppressed : Bool) (target : ℕ) (added removed : List ℕ) (previous next : Option ℕ) (w : World) → (tree_record_unless suppressed target added removed previous next w).forest ≡ w.forest
 unless-forest true target added removed previous next w = refl
 unless-forest false target added removed previous next w = refl
 
-unless-made : (suppressed : Bool) (target : ℕ) (added removed : List ℕ) (previous next : Option ℕ) (w : World) → (tree_record_unless suppressed target added removed previous next w).made ≡ w.made
+pub unless-made : (suppressed : Bool) (target : ℕ) (added removed : List ℕ) (previous next : Option ℕ) (w : World) → (tree_record_unless suppressed target added removed previous next w).made ≡ w.made
 unless-made true target added removed previous next w = refl
 unless-made false target added removed previous next w = refl
 

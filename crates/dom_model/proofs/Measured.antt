@@ -1,19 +1,19 @@
 -- The kinds and lengths of nodes as trees are cut and put, as data is changed, and as trees come in last.
-use Rattle.std.proofs.Common.{◌≡◌, ℕ, ◌+◌, ◌<◌, ◌≤◌, ◌==◌, Bool, true, false, if◌then◌else◌, List, [], ◌∷◌, length, Option, Some, None, is_some, option_map, refl, ap, sym, ◌∙◌, arith}
-use Rattle.std.proofs.lemmas.Bool.{false≢true}
-use Rattle.dom_model.specs.Lists.{hits, is_number, or_else, entered, left_out}
+use Rattle.std.proofs.Common.{◌≡◌, ℕ, ◌+◌, ◌<◌, ◌≤◌, ◌==◌, Bool, true, false, if◌then◌else◌, List, [], ◌∷◌, ◌++◌, length, Option, Some, None, is_some, option_map, refl, ap, sym, ◌∙◌, subst, arith, ⊎_elim}
+use Rattle.std.proofs.lemmas.Bool.{cases_lt, false≢true}
+use Rattle.dom_model.specs.Lists.{hits, is_number, or_else, or_list, last_of, entered, left_out}
 use Rattle.dom_model.specs.Arena.{Entry, parent_in, children_in}
 use Rattle.dom_model.specs.declared.Kind.{Kind}
 use Rattle.dom_model.specs.declared.Kind.TheVariants.{Element, Text, ProcessingInstruction, Comment, Document, DocumentType, DocumentFragment}
 use Rattle.dom_model.specs.Kinds.{is_kind, is_character_data, may_be_parent}
-use Rattle.dom_model.specs.Forest.{Node, Forest, empty, node, occurs, tops, beside, tree_at, cut, put, map_nodes, with_node, in_document, adopted, entry_under, entry_in, parent_of, children_of}
+use Rattle.dom_model.specs.Forest.{Node, Forest, empty, node, occurs, tops, beside, tree_at, cut, put, map_nodes, with_node, in_document, adopted, entry_under, entry_in, parent_of, children_of, ancestors, root_of}
 use Rattle.dom_model.specs.World.{Content}
 use Rattle.dom_model.specs.Checks.{entry_has, kind_passes}
 use Rattle.dom_model.specs.Lengths.{length_of, length_in, node_length, unit_count}
 use Rattle.dom_model.proofs.Numbers.{same_or, same, apart}
 use Rattle.dom_model.proofs.Changes.{cut_at, link_at, change_at}
 use Rattle.dom_model.proofs.Lying.{left_out-absent, tops-with_node}
-use Rattle.dom_model.proofs.Entries.{entry-cut, entry-put, entry_under-there, children-cut, children-put}
+use Rattle.dom_model.proofs.Entries.{entry-cut, entry-put, entry_under-there, entry_under-absent, children-cut, children-put}
 use Rattle.dom_model.proofs.SoundForests.{parent_no_data}
 
 pub length-left_out : (c : ℕ) (ns : List ℕ) → length (left_out c ns) + hits c ns ≡ length ns
@@ -176,17 +176,17 @@ module _ (change : Node Content → Node Content) (number : (x : Node Content) �
 
 -- Another node document changes no length.
 
-abbrev unplaced : Node Content → Node Content
+abbrev pub unplaced : Node Content → Node Content
 unplaced x = record x { document = 0 }
 
-abbrev unplaced_entry : Option (Entry (Node Content)) → Option (Entry (Node Content))
+abbrev pub unplaced_entry : Option (Entry (Node Content)) → Option (Entry (Node Content))
 unplaced_entry o = option_map (λ (e : Entry (Node Content)). record { value = unplaced e.value; parent = e.parent; children = e.children }) o
 
 tops-unplaced : (f : Forest Content) → tops (map_nodes unplaced f) ≡ tops f
 tops-unplaced empty = refl
 tops-unplaced (node x kids rest) = ap (λ ns. x.number ∷ ns) (tops-unplaced rest)
 
-entry-unplaced : (q : Option ℕ) (n : ℕ) (f : Forest Content) → entry_under q n (map_nodes unplaced f) ≡ unplaced_entry (entry_under q n f)
+pub entry-unplaced : (q : Option ℕ) (n : ℕ) (f : Forest Content) → entry_under q n (map_nodes unplaced f) ≡ unplaced_entry (entry_under q n f)
 entry-unplaced q n empty = refl
 entry-unplaced q n (node x kids rest) =
     elim (same_or x.number n) [
@@ -202,7 +202,7 @@ set-unplaced : (d : ℕ) (f : Forest Content) → map_nodes unplaced (map_nodes 
 set-unplaced d empty = refl
 set-unplaced d (node x kids rest) = rw (set-unplaced d kids, set-unplaced d rest) refl
 
-adopted-unplaced : (n d : ℕ) (f : Forest Content) → map_nodes unplaced (adopted n d f) ≡ map_nodes unplaced f
+pub adopted-unplaced : (n d : ℕ) (f : Forest Content) → map_nodes unplaced (adopted n d f) ≡ map_nodes unplaced f
 adopted-unplaced n d empty = refl
 adopted-unplaced n d (node x kids rest) =
     elim (same_or x.number n) [
