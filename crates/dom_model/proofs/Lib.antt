@@ -129,8 +129,10 @@ pub mod MergedTrees
 pub mod MergedWorlds
 pub mod MergesInTurn
 pub mod Mirrored
+pub mod MovedPoints
 pub mod MovesEnough
 pub mod NestedAlike
+pub mod NewPlaces
 pub mod NewRoots
 pub mod NextSibling
 pub mod NoInput
@@ -152,7 +154,9 @@ pub mod Parts
 pub mod Paths
 pub mod PathsApart
 pub mod PathsDown
+pub mod PathsToEnds
 pub mod Places
+pub mod PlacesLeft
 pub mod PointOrder
 pub mod PreviousInOrder
 pub mod PutBack
@@ -177,11 +181,14 @@ pub mod RootsKept
 pub mod SameShape
 pub mod Shown
 pub mod SoundAppending
+pub mod SoundContents
 pub mod SoundCopies
 pub mod SoundData
+pub mod SoundDeleting
 pub mod SoundDiscarding
 pub mod SoundDrawing
 pub mod SoundEditing
+pub mod SoundExtracting
 pub mod SoundForests
 pub mod SoundGuards
 pub mod SoundInserting

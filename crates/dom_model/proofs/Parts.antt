@@ -2,14 +2,16 @@
 use Rattle.std.proofs.Common.{◌≡◌, ℕ, zero, suc, ◌+◌, ◌*◌, ◌<◌, ◌≤◌, List, [], ◌∷◌, ◌++◌, map, drop, reverse, length, Option, Some, None, IsSome, refl, ap, sym, ◌∙◌, subst, arith, ⊎_elim}
 use Rattle.std.proofs.lemmas.Bool.{cases_lt}
 use Rattle.std.proofs.lemmas.List.{reverse-append}
+use Rattle.std.specs.Ordering.{nat_cmp}
+use Rattle.std.specs.Cmp.Lexicographic.{slice_cmp}
 use Rattle.dom_model.specs.declared.Kind.TheVariants.{DocumentType}
 use Rattle.dom_model.specs.Lists.{hits, last_of, place_in}
-use Rattle.dom_model.specs.Arena.{parent_in, children_in, list_under}
+use Rattle.dom_model.specs.Arena.{Entry, parent_in, children_in, list_under}
 use Rattle.dom_model.specs.Kinds.{is_kind}
-use Rattle.dom_model.specs.Forest.{Forest, occurs, tree_at, entry_in, parent_of, index_of, ancestors, root_of, inclusive_descendants}
+use Rattle.dom_model.specs.Forest.{Node, Forest, occurs, tree_at, entry_in, HasNode, parent_of, children_of, index_of, ancestors, root_of, inclusive_descendants}
 use Rattle.dom_model.specs.World.{Content, Point, Range, Iterator}
 use Rattle.dom_model.specs.Points.{place_of, order_of}
-use Rattle.dom_model.specs.Checks.{entry_has, is_of_kind}
+use Rattle.dom_model.specs.Checks.{entry_has, kind_passes, is_of_kind}
 use Rattle.dom_model.specs.Lengths.{unit_count, length_in, node_length}
 use Rattle.dom_model.specs.Sound.{IsBoundary, IsRange, IsIterator}
 use Rattle.dom_model.proofs.Numbers.{same_or, same, apart}
@@ -81,13 +83,13 @@ module _ (f g : Forest Content) (of : (m : ℕ) → occurs m f ≤ 1) (og : (m :
       (map_agree (λ m. 2 * index_of g m + 1) (λ m. 2 * index_of f m + 1) (drop 1 (reverse (ancestors p.node f)))
       (λ m k. ap (λ i. 2 * i + 1) (index-part m (path-there f of p.node m (let a = hits-dropped m (reverse (ancestors p.node f)) in let b = hits-turned m (ancestors p.node f) in omega arith)))))
 
-  order-part : (p q : Point) → 0 < occurs p.node f → 0 < occurs q.node f → order_of g p q ≡ order_of f p q
+  pub order-part : (p q : Point) → 0 < occurs p.node f → 0 < occurs q.node f → order_of g p q ≡ order_of f p q
   order-part p q hp hq = rw (place-part p hp, place-part q hq) refl
 
   kind-part : (n : ℕ) → 0 < occurs n f → is_of_kind DocumentType g n ≡ is_of_kind DocumentType f n
   kind-part n h = ap (entry_has (is_kind DocumentType)) (same_entry n h)
 
-  length-part : (n : ℕ) → 0 < occurs n f → node_length unit_count g n ≡ node_length unit_count f n
+  pub length-part : (n : ℕ) → 0 < occurs n f → node_length unit_count g n ≡ node_length unit_count f n
   length-part n h = ap (length_in unit_count) (same_entry n h)
 
   boundary-from_part : (p : Point) → IsBoundary f p → IsBoundary g p

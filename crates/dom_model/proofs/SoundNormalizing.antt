@@ -45,7 +45,7 @@ removed_kinds n w o = go (parent_of w.forest n)
     go None = (λ test m. refl, o)
     go (Some p) = (λ test m. kind-cut w.forest o n test m, IsOnce-cut n w.forest o)
 
-each_kinds : (ns : List ℕ) (w : World) → ((m : ℕ) → occurs m w.forest ≤ 1) → SameKinds w.forest (remove_each ns w).forest
+pub each_kinds : (ns : List ℕ) (w : World) → ((m : ℕ) → occurs m w.forest ≤ 1) → SameKinds w.forest (remove_each ns w).forest
 each_kinds [] w o = λ test m. refl
 each_kinds (n ∷ ns) w o =
     let i = removed_kinds n w o in

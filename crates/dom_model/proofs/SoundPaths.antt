@@ -11,6 +11,8 @@ use Rattle.dom_model.specs.Forest.{Node, Forest, occurs, entry_in, parent_of, ch
 use Rattle.dom_model.specs.World.{Content, World}
 use Rattle.dom_model.specs.PreRemoval.{past}
 use Rattle.dom_model.specs.Checks.{up_to, entry_has, kind_passes, is_of_kind}
+use Rattle.dom_model.specs.Editing.{append}
+use Rattle.dom_model.specs.Clones.{clone_node}
 use Rattle.dom_model.specs.Data.{data_of}
 use Rattle.dom_model.specs.Contents.{units_into, children_into, copy_into, tail_into, head_into}
 use Rattle.dom_model.specs.Sound.{IsSound}
@@ -21,7 +23,7 @@ use Rattle.dom_model.proofs.IteratorsStay.{hits-past}
 use Rattle.dom_model.proofs.RootsKept.{hits-up_to}
 use Rattle.dom_model.proofs.Listed.{hits-other}
 use Rattle.dom_model.proofs.SoundForests.{IsWood, entry_there, child-fits}
-use Rattle.dom_model.proofs.SoundAppending.{IsHolder, IsPlain, IsDrawn, plain_stays}
+use Rattle.dom_model.proofs.SoundAppending.{IsHolder, IsPlain, IsDrawn, holder_stays, plain_stays}
 use Rattle.dom_model.proofs.SoundDrawing.{drawn_children, new_apart, IsFilled, filled-then, filled-of, filled_by_moves, holder_filled, plain_filled}
 use Rattle.dom_model.proofs.SoundCopies.{filled_units, opened, drawn_opened, holder_inner, inner_new, filled_copy}
 
@@ -55,7 +57,7 @@ plain_child w s n c d e hc hn =
     let k = child_kinds en.0.value.label.kind ec.0.value.label.kind d2 f in
     record { there = hc; no_document = rw ec.1 k.0; no_doctype = rw ec.1 k.1; no_fragment = rw ec.1 k.2 }
 
-other_kinds : (k : Kind) → is_character_data k ≡ false → is_kind DocumentType k ≡ false → may_be_parent k ≡ true
+pub other_kinds : (k : Kind) → is_character_data k ≡ false → is_kind DocumentType k ≡ false → may_be_parent k ≡ true
 other_kinds Element c d = refl
 other_kinds Text c d = absurd (false≢true (sym c))
 other_kinds ProcessingInstruction c d = absurd (false≢true (sym c))
@@ -149,3 +151,95 @@ module _ (moves : Bool) (w v : World) (s : IsSound w) (sv : IsSound v) (n inner 
 
   drawn_some : IsDrawn v (children_into moves inner ns v) ns
   drawn_some = drawn_children moves inner ns v sv holder listed_plain inner_unlisted
+
+-- what some children leave that are drawn out after a path was
+filled_more : (f v u : World) (n : ℕ) (ns path : List ℕ) → IsFilled f v path → IsDrawn v u ns → ((m : ℕ) → 0 < hits m ns → 0 < occurs m f.forest → parent_of f.forest m ≡ Some n) → IsFilled f u (n ∷ path)
+filled_more f v u n ns path a b moved =
+    record {
+      sound = b.sound;
+      there = λ m h. b.extends.there m (a.there m h);
+      kinds = λ test m h. b.extends.kinds test m (a.there m h) ∙ a.kinds test m h;
+      parents = λ m h far.
+      let e = a.parents m h (λ x k. let z = far x k in let i = hits-append x (n ∷ []) path in omega arith) in
+      b.extends.parents m (a.there m h)
+      (⊎_elim
+      (λ (lt : 0 < hits m ns). absurd (let z = far n (moved m lt h) in let i = hits-first n path in omega arith))
+      (λ (le : hits m ns ≤ 0). omega arith)
+      (cases_lt 0 (hits m ns)))
+      ∙ e;
+      made = (let i = a.made in let j = b.made in omega arith);
+    }
+
+filled_same : (w : World) → IsSound w → (path : List ℕ) → IsFilled w w path
+filled_same w s path = record { sound = s; there = λ m h. h; kinds = λ test m h. refl; parents = λ m h far. refl; made = omega arith }
+
+-- some children of a node go into the fragment that goes into its copy
+filled_children : (moves : Bool) (into n : ℕ) (w : World) (s : IsSound w) (h : IsHolder w into) (p : IsPlain w n) (may : kind_passes may_be_parent w.forest n ≡ true) → (ns : List ℕ) → ((m : ℕ) → hits m ns ≤ hits m (children_of w.forest n)) → hits into (n ∷ []) ≡ 0 →
+    IsFilled w (copy_into into n (λ inner v. children_into moves inner ns v) w) (n ∷ [])
+filled_children moves into n w s h p may ns children off_path =
+    let o = drawn_opened into n w s h p may in
+    let inner = (append w.made into (clone_node false n w)).made in
+    let v = opened into n w s h p may in
+    let d = drawn_some moves w v s o.sound n inner o.extends.there o.extends.kinds p (inner_new into n w s h p may) (holder_inner into n w s h p may) ns children in
+    filled_copy into n w s h p may (children_into moves inner ns v) (n ∷ []) off_path
+    (filled_by_moves v (children_into moves inner ns v) ns (n ∷ []) d
+    (λ m k t.
+    let e = child_parent moves w v s o.sound n inner o.extends.there o.extends.kinds p (inner_new into n w s h p may) (holder_inner into n w s h p may) ns children m k in
+    let hm = listed_there moves w v s o.sound n inner o.extends.there o.extends.kinds p (inner_new into n w s h p may) (holder_inner into n w s h p may) ns children m k in
+    (n, o.extends.parents m hm refl ∙ e, hits-first n [])))
+
+pub tail_filled : (moves : Bool) (into offset : ℕ) (path : List ℕ) (w : World) → IsSound w → IsHolder w into → hits into path ≡ 0 → IsTail w offset path → IsFilled w (tail_into moves into offset path w) path
+tail_filled moves into offset [] w s h off_path t = filled_same w s []
+tail_filled moves into offset (n ∷ []) w s h off_path t = go (kind_passes is_character_data w.forest n) refl
+  where
+    go : (v : Bool) → kind_passes is_character_data w.forest n ≡ v → IsFilled w (if v then units_into moves into n offset (length (data_of w n) - offset) w else copy_into into n (λ inner x. children_into moves inner (drop offset (children_of w.forest n)) x) w) (n ∷ [])
+    go true e = filled-of w _ [] (n ∷ []) (λ u z. refl) (filled_units moves into n offset (length (data_of w n) - offset) w s h t.0.there e (t.1 e))
+    go false e = filled_children moves into n w s h t.0 (may_hold_other w n t.0.there e t.0.no_doctype) (drop offset (children_of w.forest n)) (λ m. hits-dropped m offset (children_of w.forest n)) off_path
+tail_filled moves into offset (n ∷ m ∷ path) w s h off_path t =
+    let o = drawn_opened into n w s h t.0 t.1 in
+    let inner = (append w.made into (clone_node false n w)).made in
+    let f = opened into n w s h t.0 t.1 in
+    let held_new = inner_new into n w s h t.0 t.1 in
+    let deep = tail_filled moves inner offset (m ∷ path) f o.sound (holder_inner into n w s h t.0 t.1) (tail_old w s offset inner held_new (m ∷ path) t.2) (tail_stays w f offset (m ∷ path) o t.2) in
+    let v = tail_into moves inner offset (m ∷ path) f in
+    let ns = past m (children_of w.forest n) in
+    let children = λ (x : ℕ). hits-past x m (children_of w.forest n) in
+    let there = λ (x : ℕ) (k : 0 < occurs x w.forest). deep.there x (o.extends.there x k) in
+    let kinds = λ (test : Kind → Bool) (x : ℕ) (k : 0 < occurs x w.forest). deep.kinds test x (o.extends.there x k) ∙ o.extends.kinds test x k in
+    let holder = holder_filled f v (m ∷ path) inner deep (holder_inner into n w s h t.0 t.1) in
+    let d = drawn_some moves w v s deep.sound n inner there kinds t.0 held_new holder ns children in
+    filled_copy into n w s h t.0 t.1 (children_into moves inner ns v) (n ∷ m ∷ path) off_path
+    (filled_more f v (children_into moves inner ns v) n ns (m ∷ path) deep d
+    (λ x k i.
+    let e = child_parent moves w v s deep.sound n inner there kinds t.0 held_new holder ns children x k in
+    let hx = listed_there moves w v s deep.sound n inner there kinds t.0 held_new holder ns children x k in
+    o.extends.parents x hx refl ∙ e))
+
+pub head_filled : (moves : Bool) (into offset : ℕ) (path : List ℕ) (w : World) → IsSound w → IsHolder w into → hits into path ≡ 0 → IsHead w path → IsFilled w (head_into moves into offset path w) path
+head_filled moves into offset [] w s h off_path t = filled_same w s []
+head_filled moves into offset (n ∷ []) w s h off_path t = go (kind_passes is_character_data w.forest n) refl
+  where
+    go : (v : Bool) → kind_passes is_character_data w.forest n ≡ v → IsFilled w (if v then units_into moves into n 0 offset w else copy_into into n (λ inner x. children_into moves inner (take offset (children_of w.forest n)) x) w) (n ∷ [])
+    go true e = filled-of w _ [] (n ∷ []) (λ u z. refl) (filled_units moves into n 0 offset w s h t.there e (omega arith))
+    go false e = filled_children moves into n w s h t (may_hold_other w n t.there e t.no_doctype) (take offset (children_of w.forest n)) (λ m. hits-taken m offset (children_of w.forest n)) off_path
+head_filled moves into offset (n ∷ m ∷ path) w s h off_path t =
+    let o = drawn_opened into n w s h t.0 t.1 in
+    let inner = (append w.made into (clone_node false n w)).made in
+    let f = opened into n w s h t.0 t.1 in
+    let held_new = inner_new into n w s h t.0 t.1 in
+    let ns = up_to m (children_of w.forest n) in
+    let children = λ (x : ℕ). hits-up_to x m (children_of w.forest n) in
+    let holder = holder_inner into n w s h t.0 t.1 in
+    let d = drawn_some moves w f s o.sound n inner o.extends.there o.extends.kinds t.0 held_new holder ns children in
+    let v = children_into moves inner ns f in
+    let unlisted = inner_unlisted moves w f s o.sound n inner o.extends.there o.extends.kinds t.0 held_new holder ns children in
+    let below = head_drawn_stays f v ns (m ∷ path) d (head_drawn_stays w f [] (m ∷ path) o t.2) in
+    let deep = head_filled moves inner offset (m ∷ path) v d.sound (holder_stays f v ns inner d.extends unlisted holder) (head_old w s inner held_new (m ∷ path) t.2) below in
+    filled_copy into n w s h t.0 t.1 (head_into moves inner offset (m ∷ path) v) (n ∷ m ∷ path) off_path
+    (filled-then f v (head_into moves inner offset (m ∷ path) v) (n ∷ []) (m ∷ path)
+    (filled_by_moves f v ns (n ∷ []) d
+    (λ x k i.
+    let e = child_parent moves w f s o.sound n inner o.extends.there o.extends.kinds t.0 held_new holder ns children x k in
+    let hx = listed_there moves w f s o.sound n inner o.extends.there o.extends.kinds t.0 held_new holder ns children x k in
+    (n, o.extends.parents x hx refl ∙ e, hits-first n [])))
+    deep)

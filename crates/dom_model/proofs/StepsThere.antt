@@ -18,7 +18,7 @@ use Rattle.dom_model.proofs.Paths.{parent-path}
 use Rattle.dom_model.proofs.SoundWorlds.{child_there}
 use Rattle.dom_model.proofs.WalksThere.{total-mirrored}
 
-hits-last : (ns : List ℕ) (b : ℕ) → last_of ns ≡ Some b → 0 < hits b ns
+pub hits-last : (ns : List ℕ) (b : ℕ) → last_of ns ≡ Some b → 0 < hits b ns
 hits-last [] b e = absurd (cc e)
 hits-last (n ∷ []) b e = elim (same_or n b) [ same d t ↦ rw t (omega arith) | apart ne t ↦ absurd (ne (let u : Some n ≡ Some b = e in cc u)) ]
 hits-last (n ∷ m ∷ ns) b e = let i = hits-last (m ∷ ns) b e in omega arith
