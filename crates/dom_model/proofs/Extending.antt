@@ -1,12 +1,12 @@
 -- What an insertion keeps of the nodes that were there: their kinds, their data, and the parents of those that do not move.
-use Rattle.std.proofs.Common.{◌≡◌, ℕ, suc, ◌+◌, ◌<◌, ◌≤◌, ◌==◌, Bool, true, false, if◌then◌else◌, List, [], ◌∷◌, ◌++◌, length, Option, Some, None, refl, ap, sym, ◌∙◌, subst, arith}
+use Rattle.std.proofs.Common.{◌≡◌, ℕ, suc, ◌+◌, ◌<◌, ◌≤◌, Bool, true, false, if◌then◌else◌, List, [], ◌∷◌, ◌++◌, length, Option, Some, None, refl, ap, sym, ◌∙◌, subst, arith}
 use Rattle.dom_model.specs.declared.Kind.{Kind}
 use Rattle.dom_model.specs.Lists.{hits}
 use Rattle.dom_model.specs.Arena.{Entry, parent_in}
-use Rattle.dom_model.specs.Forest.{Node, Forest, empty, node, occurs, one_at, total, beside, cut, put, map_nodes, in_document, adopted, entry_in, parent_of, children_of}
+use Rattle.dom_model.specs.Forest.{Node, Forest, occurs, one_at, beside, cut, map_nodes, adopted, entry_in, parent_of, children_of}
 use Rattle.dom_model.specs.World.{Content, World}
 use Rattle.dom_model.specs.Checks.{entry_has, kind_passes}
-use Rattle.dom_model.specs.Editing.{node_document, remove, remove_all, is_fragment, nodes_of, emptied_fragment, freed, put_in, put_all, gap_before, previous_to, insert_all, insert_nodes, insert}
+use Rattle.dom_model.specs.Editing.{node_document, remove, remove_all, is_fragment, nodes_of, emptied_fragment, freed, put_in, put_all, gap_before, previous_to, insert_nodes, insert}
 use Rattle.dom_model.specs.Data.{content_in}
 use Rattle.dom_model.specs.Sound.{IsSound}
 use Rattle.dom_model.proofs.Numbers.{same_or, same, apart}

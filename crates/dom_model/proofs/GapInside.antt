@@ -1,15 +1,15 @@
 -- The points inside a tree that is put keep their order: the way to each of them gets one and the same beginning.
-use Rattle.std.proofs.Common.{◌≡◌, ℕ, ◌+◌, ◌*◌, ◌<◌, ◌≤◌, ◌==◌, Bool, true, false, if◌then◌else◌, List, [], ◌∷◌, ◌++◌, map, reverse, drop, length, Option, Some, None, refl, ap, sym, ◌∙◌, subst, arith, append_assoc}
+use Rattle.std.proofs.Common.{◌≡◌, ℕ, ◌+◌, ◌*◌, ◌<◌, ◌≤◌, ◌==◌, true, false, List, [], ◌∷◌, ◌++◌, map, reverse, drop, length, Option, Some, None, refl, ap, sym, ◌∙◌, subst, arith, append_assoc}
 use Rattle.std.proofs.lemmas.List.{reverse-append, drop-append-le, length-reverse, map-append}
 use Rattle.std.specs.Ordering.{nat_cmp}
 use Rattle.std.specs.Cmp.Lexicographic.{slice_cmp}
 use Rattle.dom_model.specs.Lists.{hits, among}
-use Rattle.dom_model.specs.Forest.{Forest, occurs, one_at, tree_at, put, parent_of, index_of, ancestors, root_of}
+use Rattle.dom_model.specs.Forest.{Forest, occurs, one_at, tree_at, put, parent_of, index_of, ancestors}
 use Rattle.dom_model.specs.Points.{place_of, order_of}
 use Rattle.dom_model.proofs.Numbers.{same_or, same, apart}
 use Rattle.dom_model.proofs.Totals.{total-tree_at, occurs-without}
 use Rattle.dom_model.proofs.Climbing.{hits-among, hits-ancestors, ancestors-there}
-use Rattle.dom_model.proofs.Paths.{parent-path, root-path, ancestors-put, then_above}
+use Rattle.dom_model.proofs.Paths.{parent-path, root-path, ancestors-put}
 use Rattle.dom_model.proofs.Indices.{index-put}
 use Rattle.dom_model.proofs.PointOrder.{slice_cmp-ahead}
 use Rattle.dom_model.proofs.Chains.{way_to, IsWay, way}

@@ -1,11 +1,10 @@
 -- Places in a list of children that is told by what stands ahead of a child and behind it.
-use Rattle.std.proofs.Common.{◌≡◌, ℕ, suc, ◌+◌, ◌<◌, ◌≤◌, ◌==◌, Bool, true, false, if◌then◌else◌, List, [], ◌∷◌, ◌++◌, length, take, take_while, refl, ap, sym, ◌∙◌, subst, arith}
+use Rattle.std.proofs.Common.{◌≡◌, ℕ, suc, ◌+◌, ◌<◌, Bool, true, false, List, [], ◌∷◌, ◌++◌, length, take, take_while, refl, ap, sym, ◌∙◌, subst, arith}
 use Rattle.std.specs.List.{prefix_len}
 use Rattle.dom_model.specs.Lists.{hits, place_in, left_out}
 use Rattle.dom_model.specs.PreRemoval.{past}
 use Rattle.dom_model.specs.Checks.{up_to}
 use Rattle.dom_model.proofs.Numbers.{same_or, same, apart}
-use Rattle.dom_model.proofs.Climbing.{hits-append, hits-first}
 use Rattle.dom_model.proofs.Lying.{left_out-absent}
 
 pub hits-other : (x y : ℕ) (ns : List ℕ) → (y ≡ x → ⊥) → hits x (y ∷ ns) ≡ hits x ns

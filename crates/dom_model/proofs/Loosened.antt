@@ -1,6 +1,5 @@
 -- What a removal leaves of the forest: the node is a root, and nothing else of kinds, parents and paths is new.
-use Rattle.std.proofs.Common.{◌≡◌, ℕ, ◌+◌, ◌<◌, ◌≤◌, ◌==◌, Bool, true, false, if◌then◌else◌, List, [], ◌∷◌, Option, Some, None, IfSome, refl, ap, sym, ◌∙◌, subst, arith, ⊎_elim}
-use Rattle.std.proofs.lemmas.Bool.{cases_lt}
+use Rattle.std.proofs.Common.{◌≡◌, ℕ, ◌<◌, ◌≤◌, ◌==◌, Bool, true, false, if◌then◌else◌, List, [], ◌∷◌, Option, Some, None, refl, ap, sym, ◌∙◌, subst, arith}
 use Rattle.dom_model.specs.declared.Kind.{Kind}
 use Rattle.dom_model.specs.Lists.{hits}
 use Rattle.dom_model.specs.Arena.{Entry, parent_in}
@@ -16,7 +15,6 @@ use Rattle.dom_model.proofs.Lying.{absent_under}
 use Rattle.dom_model.proofs.Entries.{Lies-entry_in, parent-cut}
 use Rattle.dom_model.proofs.Paths.{up_with, ancestors-cut}
 use Rattle.dom_model.proofs.PutBack.{cut-root}
-use Rattle.dom_model.proofs.SoundForests.{IsWood, IsWood-cut}
 use Rattle.dom_model.proofs.Measured.{kind-cut}
 use Rattle.dom_model.proofs.SoundWorlds.{sound-remove}
 

@@ -1,19 +1,19 @@
 -- The kinds and lengths of nodes as trees are cut and put, as data is changed, and as trees come in last.
-use Rattle.std.proofs.Common.{◌≡◌, ℕ, ◌+◌, ◌<◌, ◌≤◌, ◌==◌, Bool, true, false, if◌then◌else◌, List, [], ◌∷◌, ◌++◌, length, Option, Some, None, is_some, option_map, refl, ap, sym, ◌∙◌, subst, arith, ⊎_elim}
-use Rattle.std.proofs.lemmas.Bool.{cases_lt, false≢true}
-use Rattle.dom_model.specs.Lists.{hits, is_number, or_else, or_list, last_of, entered, left_out}
+use Rattle.std.proofs.Common.{◌≡◌, ℕ, ◌+◌, ◌<◌, ◌≤◌, ◌==◌, Bool, true, false, if◌then◌else◌, List, [], ◌∷◌, length, Option, Some, None, is_some, option_map, refl, ap, sym, ◌∙◌, arith}
+use Rattle.std.proofs.lemmas.Bool.{false≢true}
+use Rattle.dom_model.specs.Lists.{hits, is_number, or_else, entered, left_out}
 use Rattle.dom_model.specs.Arena.{Entry, parent_in, children_in}
 use Rattle.dom_model.specs.declared.Kind.{Kind}
 use Rattle.dom_model.specs.declared.Kind.TheVariants.{Element, Text, ProcessingInstruction, Comment, Document, DocumentType, DocumentFragment}
 use Rattle.dom_model.specs.Kinds.{is_kind, is_character_data, may_be_parent}
-use Rattle.dom_model.specs.Forest.{Node, Forest, empty, node, occurs, tops, beside, tree_at, cut, put, map_nodes, with_node, in_document, adopted, entry_under, entry_in, parent_of, children_of, ancestors, root_of}
+use Rattle.dom_model.specs.Forest.{Node, Forest, empty, node, occurs, tops, beside, tree_at, cut, put, map_nodes, with_node, in_document, adopted, entry_under, entry_in, parent_of, children_of}
 use Rattle.dom_model.specs.World.{Content}
 use Rattle.dom_model.specs.Checks.{entry_has, kind_passes}
 use Rattle.dom_model.specs.Lengths.{length_of, length_in, node_length, unit_count}
 use Rattle.dom_model.proofs.Numbers.{same_or, same, apart}
 use Rattle.dom_model.proofs.Changes.{cut_at, link_at, change_at}
 use Rattle.dom_model.proofs.Lying.{left_out-absent, tops-with_node}
-use Rattle.dom_model.proofs.Entries.{entry-cut, entry-put, entry_under-there, entry_under-absent, children-cut, children-put}
+use Rattle.dom_model.proofs.Entries.{entry-cut, entry-put, entry_under-there, children-cut, children-put}
 use Rattle.dom_model.proofs.SoundForests.{parent_no_data}
 
 pub length-left_out : (c : ℕ) (ns : List ℕ) → length (left_out c ns) + hits c ns ≡ length ns

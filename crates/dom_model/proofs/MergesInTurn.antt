@@ -1,16 +1,14 @@
 -- Texts that are joined to a Text before them: the ends may all move first, or each Text may leave before the ends in the next one move.
 -- DOM Standard, "Interface Node": normalize.
-use Rattle.std.proofs.Common.{◌≡◌, ℕ, ◌+◌, ◌-◌, ◌<◌, ◌≤◌, ◌==◌, nat_lt, Bool, true, false, ◌&&◌, if◌then◌else◌, List, [], ◌∷◌, length, Option, Some, None, IfSome, option_map, refl, ap, sym, ◌∙◌, subst, arith, ⊎_elim}
+use Rattle.std.proofs.Common.{◌≡◌, ℕ, ◌+◌, ◌-◌, ◌<◌, ◌≤◌, ◌==◌, nat_lt, Bool, true, false, ◌&&◌, if◌then◌else◌, List, [], ◌∷◌, length, Option, Some, None, IfSome, option_map, refl, ap, sym, ◌∙◌, arith, ⊎_elim}
 use Rattle.std.proofs.lemmas.Bool.{cases_lt, false≢true, lt-ltb, le-ltb}
 use Rattle.std.proofs.lemmas.List.Elements.{All-head, All-tail}
 use Rattle.dom_model.specs.Lists.{hits, among}
-use Rattle.dom_model.specs.Arena.{Entry}
-use Rattle.dom_model.specs.Forest.{Node, Forest, occurs, cut, entry_in, parent_of, children_of, index_of, inclusive_descendants}
-use Rattle.dom_model.specs.World.{Content, Point, Range, World}
+use Rattle.dom_model.specs.Forest.{parent_of, index_of, inclusive_descendants}
+use Rattle.dom_model.specs.World.{Point, Range, World}
 use Rattle.dom_model.specs.Points.{after_merge, after_removal, moved_range, map_ranges}
 use Rattle.dom_model.specs.Editing.{removed_from, remove}
-use Rattle.dom_model.specs.Data.{content_in, data_of, merged_ends, merge_ends}
-use Rattle.dom_model.specs.Sound.{IsSound}
+use Rattle.dom_model.specs.Data.{data_of, merged_ends, merge_ends}
 use Rattle.dom_model.proofs.Numbers.{same_or, same, apart}
 use Rattle.dom_model.proofs.Climbing.{hits-first}
 use Rattle.dom_model.proofs.PointOrder.{map_ranges-twice}

@@ -1,21 +1,19 @@
 -- A step moves the ends of live ranges by a map of points that does not depend on the ranges.
-use Rattle.std.proofs.Common.{◌≡◌, ℕ, ◌+◌, ◌<◌, ◌≤◌, ◌==◌, nat_lt, Bool, true, false, ◌&&◌, if◌then◌else◌, List, [], ◌∷◌, map, length, Option, Some, None, IfSome, option_map, slice_index_or, refl, ap, sym, ◌∙◌, subst, arith, ⊎_elim}
-use Rattle.std.proofs.lemmas.Bool.{cases_lt, false≢true, le-ltb}
+use Rattle.std.proofs.Common.{◌≡◌, ℕ, ◌<◌, ◌≤◌, ◌==◌, nat_lt, Bool, true, false, ◌&&◌, List, [], ◌∷◌, length, Option, Some, None, IfSome, option_map, refl, ap, sym, ◌∙◌, subst, arith}
 use Rattle.std.proofs.Math.ListN.{get_or-map}
 use Rattle.std.proofs.lemmas.List.Elements.{All-nil, All-cons, All-head}
 use Rattle.dom_model.specs.Lists.{hits, among}
-use Rattle.dom_model.specs.Forest.{Forest, occurs, tree_at, parent_of, children_of, ancestors, inclusive_descendants, index_of, previous_of, next_of}
-use Rattle.dom_model.specs.World.{Content, Point, Range, World}
+use Rattle.dom_model.specs.Forest.{occurs, tree_at, parent_of, ancestors, inclusive_descendants, index_of, previous_of, next_of}
+use Rattle.dom_model.specs.World.{Point, Range, World}
 use Rattle.dom_model.specs.Points.{moved_range, map_ranges, after_gap, after_removal}
-use Rattle.dom_model.specs.Editing.{tree_record, tree_record_unless, taken_out, transients_made, removed_from, remove, remove_all, is_fragment, nodes_of, emptied_fragment, freed, put_in, put_all, gap_before, previous_to, insert_all, insert_nodes, insert}
+use Rattle.dom_model.specs.Editing.{tree_record_unless, taken_out, transients_made, removed_from, remove, remove_all, put_in, put_all, gap_before, previous_to, insert_all}
 use Rattle.dom_model.specs.Ranges.{range_at}
 use Rattle.dom_model.specs.Sound.{IsRange, IsSound}
 use Rattle.dom_model.proofs.Numbers.{same_or, same, apart}
 use Rattle.dom_model.proofs.Climbing.{hits-append, hits-first, hits-ancestors, hits-not_among}
 use Rattle.dom_model.proofs.Flattened.{hits-numbers}
 use Rattle.dom_model.proofs.PointOrder.{map_ranges-twice}
-use Rattle.dom_model.proofs.Listed.{hits-other}
-use Rattle.dom_model.proofs.SoundWorlds.{IsLive, Lives, sound-remove}
+use Rattle.dom_model.proofs.SoundWorlds.{IsLive, sound-remove}
 use Rattle.dom_model.proofs.Loosened.{loosened-remove, parent-remove}
 
 pub record MovesBy (step : World → World) (w : World) : Type 0 where
@@ -33,8 +31,8 @@ moves-then first second w a b =
     record {
       moves = λ q. b.moves (a.moves q);
       acts = λ rs.
-      ap second (a.acts rs) ∙ b.acts (map_ranges a.moves rs)
-      ∙ ap (λ xs. record (second (first w)) { ranges = xs }) (map_ranges-twice b.moves a.moves rs);
+          ap second (a.acts rs) ∙ b.acts (map_ranges a.moves rs)
+          ∙ ap (λ xs. record (second (first w)) { ranges = xs }) (map_ranges-twice b.moves a.moves rs);
     }
 
 -- where a live range goes
@@ -100,26 +98,26 @@ leaves-remove suppressed n w q = refl
 
 -- Insertion.
 
-keeps_gap : (parent : ℕ) (child : Option ℕ) (count : ℕ) (w : World) (q : Point) → IfSome child (λ c. q.offset ≤ index_of w.forest c) → KeepsPoint (gap_before parent child count) w q
+-- a point that is not in the parent past the child
+abbrev pub IsAheadOf : World → ℕ → Option ℕ → Point → Type 0
+IsAheadOf w parent child q = IfSome child (λ c. ((q.node == parent) && nat_lt (index_of w.forest c) q.offset) ≡ false)
+
+pub keeps_gap : (parent : ℕ) (child : Option ℕ) (count : ℕ) (w : World) (q : Point) → IsAheadOf w parent child q → KeepsPoint (gap_before parent child count) w q
 keeps_gap parent None count w q h = record { by = record { moves = λ x. x; acts = λ rs. ap (λ xs. record w { ranges = xs }) (sym (map_ranges-none rs)) }; kept = refl }
 keeps_gap parent (Some c) count w q h =
     record {
       by = record { moves = after_gap parent (index_of w.forest c) count; acts = λ rs. refl };
-      kept = rw (le-ltb (index_of w.forest c) q.offset h) (both (q.node == parent));
+      kept = rw h refl;
     }
-  where
-    both : (v : Bool) → (if v && false then record q { offset = q.offset + count } else q) ≡ q
-    both true = refl
-    both false = refl
 
 moves_put_all : (parent : ℕ) (child : Option ℕ) (ns : List ℕ) (w : World) (rs : List (Option Range)) → put_all parent child ns (record w { ranges = rs }) ≡ record (put_all parent child ns w) { ranges = rs }
 moves_put_all parent child [] w rs = refl
 moves_put_all parent child (n ∷ ns) w rs = moves_put_all parent child ns (put_in parent child n w) rs
 
-keeps_put_all : (parent : ℕ) (child : Option ℕ) (ns : List ℕ) (w : World) (q : Point) → KeepsPoint (put_all parent child ns) w q
+pub keeps_put_all : (parent : ℕ) (child : Option ℕ) (ns : List ℕ) (w : World) (q : Point) → KeepsPoint (put_all parent child ns) w q
 keeps_put_all parent child ns w q = record { by = record { moves = λ x. x; acts = λ rs. moves_put_all parent child ns w rs ∙ ap (λ xs. record (put_all parent child ns w) { ranges = xs }) (sym (map_ranges-none rs)) }; kept = refl }
 
-keeps_record : (v : Bool) (p : ℕ) (a b : List ℕ) (x y : Option ℕ) (w : World) (q : Point) → KeepsPoint (tree_record_unless v p a b x y) w q
+pub keeps_record : (v : Bool) (p : ℕ) (a b : List ℕ) (x y : Option ℕ) (w : World) (q : Point) → KeepsPoint (tree_record_unless v p a b x y) w q
 keeps_record v p a b x y w q = record { by = record { moves = λ z. z; acts = λ rs. unless v p a b x y w rs ∙ ap (λ xs. record (tree_record_unless v p a b x y w) { ranges = xs }) (sym (map_ranges-none rs)) }; kept = refl }
 
 -- a step that depends on the forest alone may be told by what it is there
@@ -133,7 +131,7 @@ keeps-same step other w q same_step k =
       kept = k.kept;
     }
 
-keeps_insert_all : (suppressed : Bool) (parent : ℕ) (child : Option ℕ) (nodes : List ℕ) (w : World) (q : Point) → IfSome child (λ c. q.offset ≤ index_of w.forest c) → KeepsPoint (insert_all suppressed parent child nodes) w q
+pub keeps_insert_all : (suppressed : Bool) (parent : ℕ) (child : Option ℕ) (nodes : List ℕ) (w : World) (q : Point) → IsAheadOf w parent child q → KeepsPoint (insert_all suppressed parent child nodes) w q
 keeps_insert_all suppressed parent child nodes w q h =
     let a = keeps_gap parent child (length nodes) w q h in
     let b = keeps-then (gap_before parent child (length nodes)) (put_all parent child nodes) w q a (keeps_put_all parent child nodes (gap_before parent child (length nodes) w) q) in

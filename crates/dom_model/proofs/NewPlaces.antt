@@ -1,32 +1,24 @@
 -- Where both ends of a live range stand once its contents are gone: under the deepest common ancestor, with no contained child ahead.
 -- DOM Standard, "Interface Range": delete the contents, extract.
-use Rattle.std.proofs.Common.{◌≡◌, ℕ, zero, suc, ◌+◌, ◌*◌, ◌<◌, ◌≤◌, ◌==◌, nat_lt, Bool, true, false, not, ◌&&◌, if◌then◌else◌, List, [], ◌∷◌, ◌++◌, map, filter, find, drop, reverse, length, Option, Some, None, unwrap_or, option_and_then, refl, ap, sym, ◌∙◌, subst, arith, append_assoc, ⊎_elim}
+use Rattle.std.proofs.Common.{◌≡◌, ℕ, zero, suc, ◌+◌, ◌*◌, ◌<◌, ◌≤◌, Bool, true, false, List, [], ◌∷◌, ◌++◌, map, filter, find, drop, reverse, length, Some, refl, ap, sym, ◌∙◌, subst, arith, append_assoc, ⊎_elim}
 use Rattle.std.proofs.lemmas.Bool.{cases_lt, false≢true, lt-ltb}
 use Rattle.std.proofs.lemmas.List.{reverse-append, drop-append-le, length-reverse, map-append}
 use Rattle.std.specs.Ordering.{nat_cmp}
-use Rattle.std.specs.declared.cmp.Ordering.{Ordering}
-use Rattle.std.specs.declared.cmp.Ordering.TheVariants.{Less, Equal, Greater}
 use Rattle.std.specs.Cmp.Lexicographic.{slice_cmp}
 use Rattle.dom_model.specs.Lists.{hits, among, head_of, last_of}
-use Rattle.dom_model.specs.Kinds.{is_character_data, may_be_parent}
-use Rattle.dom_model.specs.Forest.{Forest, occurs, parent_of, children_of, index_of, ancestors, root_of}
-use Rattle.dom_model.specs.World.{Content, Point, Range, World}
-use Rattle.dom_model.specs.Points.{path_places, place_of, order_of}
-use Rattle.dom_model.specs.Checks.{if_given, kind_passes, is_of_kind}
-use Rattle.dom_model.specs.Ranges.{is_less, is_before, point_after, common_ancestor}
-use Rattle.dom_model.specs.Contents.{new_place}
-use Rattle.dom_model.specs.Sound.{IsRange}
-use Rattle.dom_model.proofs.Numbers.{same_or, same, apart}
+use Rattle.dom_model.specs.Forest.{Forest, occurs, parent_of, index_of, ancestors, root_of}
+use Rattle.dom_model.specs.World.{Content}
+use Rattle.dom_model.specs.Points.{path_places, place_of}
+use Rattle.dom_model.specs.Checks.{if_given}
+use Rattle.dom_model.specs.Ranges.{is_less, is_before}
 use Rattle.dom_model.proofs.Changes.{seen, nothing, just}
-use Rattle.dom_model.proofs.Climbing.{hits-append, hits-first, among-hits, hits-among, not_among-hits, ancestors-there}
-use Rattle.dom_model.proofs.Entries.{occurs-HasNode}
+use Rattle.dom_model.proofs.Climbing.{hits-append, hits-first, ancestors-there}
 use Rattle.dom_model.proofs.Paths.{parent-path, root-path}
 use Rattle.dom_model.proofs.Indices.{path-child}
-use Rattle.dom_model.proofs.PointOrder.{nat_cmp-same, nat_cmp-less, nat_cmp-greater, slice_cmp-ahead, order-above}
+use Rattle.dom_model.proofs.PointOrder.{nat_cmp-same, nat_cmp-greater, slice_cmp-ahead, order-above}
 use Rattle.dom_model.proofs.Chains.{root-child}
 use Rattle.dom_model.proofs.Parts.{path-there}
 use Rattle.dom_model.proofs.RemovalOrder.{ancestors-split}
-use Rattle.dom_model.proofs.SoundForests.{IsWood, parent-passes}
 use Rattle.dom_model.proofs.SoundWorlds.{child_there}
 
 -- What stands ahead.

@@ -2,16 +2,14 @@
 use Rattle.std.proofs.Common.{◌≡◌, ℕ, zero, suc, ◌+◌, ◌*◌, ◌<◌, ◌≤◌, List, [], ◌∷◌, ◌++◌, map, drop, reverse, length, Option, Some, None, IsSome, refl, ap, sym, ◌∙◌, subst, arith, ⊎_elim}
 use Rattle.std.proofs.lemmas.Bool.{cases_lt}
 use Rattle.std.proofs.lemmas.List.{reverse-append}
-use Rattle.std.specs.Ordering.{nat_cmp}
-use Rattle.std.specs.Cmp.Lexicographic.{slice_cmp}
 use Rattle.dom_model.specs.declared.Kind.TheVariants.{DocumentType}
 use Rattle.dom_model.specs.Lists.{hits, last_of, place_in}
-use Rattle.dom_model.specs.Arena.{Entry, parent_in, children_in, list_under}
+use Rattle.dom_model.specs.Arena.{parent_in, children_in, list_under}
 use Rattle.dom_model.specs.Kinds.{is_kind}
-use Rattle.dom_model.specs.Forest.{Node, Forest, occurs, tree_at, entry_in, HasNode, parent_of, children_of, index_of, ancestors, root_of, inclusive_descendants}
+use Rattle.dom_model.specs.Forest.{Forest, occurs, tree_at, entry_in, parent_of, index_of, ancestors, root_of, inclusive_descendants}
 use Rattle.dom_model.specs.World.{Content, Point, Range, Iterator}
 use Rattle.dom_model.specs.Points.{place_of, order_of}
-use Rattle.dom_model.specs.Checks.{entry_has, kind_passes, is_of_kind}
+use Rattle.dom_model.specs.Checks.{entry_has, is_of_kind}
 use Rattle.dom_model.specs.Lengths.{unit_count, length_in, node_length}
 use Rattle.dom_model.specs.Sound.{IsBoundary, IsRange, IsIterator}
 use Rattle.dom_model.proofs.Numbers.{same_or, same, apart}

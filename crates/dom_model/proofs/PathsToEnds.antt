@@ -1,5 +1,5 @@
 -- The path from an ancestor down to a node: what it is made of. DOM Standard, "Trees", "Interface Range".
-use Rattle.std.proofs.Common.{◌≡◌, ℕ, zero, suc, ◌+◌, ◌<◌, ◌≤◌, ◌==◌, Bool, true, false, if◌then◌else◌, List, [], ◌∷◌, ◌++◌, reverse, length, Option, Some, None, refl, ap, sym, ◌∙◌, subst, arith}
+use Rattle.std.proofs.Common.{◌≡◌, ℕ, zero, suc, ◌<◌, ◌≤◌, true, false, List, [], ◌∷◌, ◌++◌, reverse, length, Some, refl, ap, sym, ◌∙◌, subst, arith}
 use Rattle.std.proofs.lemmas.Bool.{false≢true}
 use Rattle.std.proofs.lemmas.List.{reverse-append}
 use Rattle.dom_model.specs.declared.Kind.{Kind}
@@ -18,7 +18,7 @@ use Rattle.dom_model.proofs.Climbing.{hits-append, hits-first, ancestors-there}
 use Rattle.dom_model.proofs.Paths.{parent-path, root-path}
 use Rattle.dom_model.proofs.RootsKept.{hits-up_to}
 use Rattle.dom_model.proofs.Climbing.{hits-reverse}
-use Rattle.dom_model.proofs.Listed.{hits-other, hits-itself}
+use Rattle.dom_model.proofs.Listed.{hits-other}
 use Rattle.dom_model.proofs.RangesCut.{no_doctype}
 use Rattle.dom_model.proofs.SoundForests.{IsWood, entry_there, child-fits, parent-passes}
 use Rattle.dom_model.proofs.SoundWorlds.{child_there}

@@ -1,12 +1,12 @@
 -- The new place of a live range is a boundary point of each forest that keeps the children ahead of it.
-use Rattle.std.proofs.Common.{◌≡◌, ℕ, zero, suc, ◌+◌, ◌<◌, ◌≤◌, ◌==◌, Bool, true, false, ◌&&◌, if◌then◌else◌, List, [], ◌∷◌, ◌++◌, filter, find, take, length, Option, Some, None, unwrap_or, option_and_then, option_map, refl, ap, sym, ◌∙◌, subst, arith}
+use Rattle.std.proofs.Common.{◌≡◌, ℕ, zero, suc, ◌+◌, ◌<◌, ◌≤◌, ◌==◌, Bool, true, false, ◌&&◌, if◌then◌else◌, List, [], ◌∷◌, filter, find, take, length, Option, Some, None, unwrap_or, option_and_then, option_map, refl, ap, sym, ◌∙◌, subst, arith}
 use Rattle.std.proofs.lemmas.Bool.{false≢true}
 use Rattle.std.proofs.lemmas.List.{length-take-le}
 use Rattle.dom_model.specs.declared.Kind.TheVariants.{DocumentType}
 use Rattle.dom_model.specs.Lists.{hits, among, head_of, last_of, place_in, left_out}
 use Rattle.dom_model.specs.Arena.{Entry}
-use Rattle.dom_model.specs.Kinds.{is_kind, is_character_data, may_be_parent}
-use Rattle.dom_model.specs.Forest.{Node, Forest, occurs, entry_in, parent_of, children_of, index_of, ancestors, root_of}
+use Rattle.dom_model.specs.Kinds.{is_character_data, may_be_parent}
+use Rattle.dom_model.specs.Forest.{Node, Forest, occurs, entry_in, parent_of, children_of, index_of, ancestors}
 use Rattle.dom_model.specs.World.{Content, Point, Range}
 use Rattle.dom_model.specs.Checks.{entry_has, if_given, kind_passes, is_of_kind}
 use Rattle.dom_model.specs.Ranges.{is_before, point_after, common_ancestor}
@@ -18,7 +18,7 @@ use Rattle.dom_model.proofs.Climbing.{hits-append, hits-first, among-hits, ances
 use Rattle.dom_model.proofs.Entries.{HasNode-occurs, occurs-HasNode}
 use Rattle.dom_model.proofs.Paths.{parent-path, root-path}
 use Rattle.dom_model.proofs.Places.{place-there}
-use Rattle.dom_model.proofs.Indices.{child-listed, child-once, child-parent, child-there, index-child}
+use Rattle.dom_model.proofs.Indices.{child-listed, child-once, child-parent, index-child}
 use Rattle.dom_model.proofs.Chains.{way}
 use Rattle.dom_model.proofs.Listed.{hits-other, hits-itself}
 use Rattle.dom_model.proofs.RangesCut.{no_doctype}
@@ -132,7 +132,7 @@ module _ {f : Forest Content} {made : ℕ} (s : IsWood f made) (r : Range) (h : 
 
 -- Counting children.
 
-length_within : (xs ys : List ℕ) → ((m : ℕ) → hits m xs ≤ 1) → ((m : ℕ) → 0 < hits m xs → 0 < hits m ys) → length xs ≤ length ys
+pub length_within : (xs ys : List ℕ) → ((m : ℕ) → hits m xs ≤ 1) → ((m : ℕ) → 0 < hits m xs → 0 < hits m ys) → length xs ≤ length ys
 length_within [] ys once each = omega arith
 length_within (x ∷ xs) ys once each =
     let i = length_within xs (left_out x ys) (λ m. let j = once m in let k = hits-append m (x ∷ []) xs in omega arith) others in

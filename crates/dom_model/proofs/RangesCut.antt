@@ -1,15 +1,14 @@
 -- A live range is one after a node is cut from its parent, once its ends have given way.
-use Rattle.std.proofs.Common.{◌≡◌, ℕ, ◌+◌, ◌-◌, ◌<◌, ◌≤◌, ◌==◌, nat_lt, Bool, true, false, ◌&&◌, if◌then◌else◌, Option, Some, None, refl, ap, sym, ◌∙◌, subst, arith, ⊎_elim}
+use Rattle.std.proofs.Common.{◌≡◌, ℕ, ◌-◌, ◌<◌, ◌≤◌, ◌==◌, nat_lt, Bool, true, false, ◌&&◌, if◌then◌else◌, Option, Some, None, refl, sym, ◌∙◌, subst, arith, ⊎_elim}
 use Rattle.std.proofs.lemmas.Bool.{cases_lt, false≢true}
 use Rattle.std.proofs.lemmas.Bool.Decides.{nat_tests}
-use Rattle.std.specs.declared.cmp.Ordering.TheVariants.{Greater}
 use Rattle.dom_model.specs.declared.Kind.TheVariants.{DocumentType}
-use Rattle.dom_model.specs.Lists.{hits, among, place_in}
+use Rattle.dom_model.specs.Lists.{hits, among}
 use Rattle.dom_model.specs.Arena.{Entry}
 use Rattle.dom_model.specs.Kinds.{is_kind, may_be_parent}
 use Rattle.dom_model.specs.Forest.{Node, Forest, occurs, one_at, cut, entry_in, HasNode, parent_of, children_of, index_of, inclusive_descendants}
 use Rattle.dom_model.specs.World.{Content, Point, Range, Iterator}
-use Rattle.dom_model.specs.Points.{after_removal, moved_range, order_of}
+use Rattle.dom_model.specs.Points.{after_removal, moved_range}
 use Rattle.dom_model.specs.PreRemoval.{pre_removed}
 use Rattle.dom_model.specs.Checks.{entry_has, kind_passes, is_of_kind}
 use Rattle.dom_model.specs.Lengths.{unit_count, node_length}

@@ -1,9 +1,8 @@
 -- A live range is one after a root is put under a node, once its ends have made room.
-use Rattle.std.proofs.Common.{◌≡◌, ℕ, ◌+◌, ◌<◌, ◌≤◌, ◌==◌, nat_lt, Bool, true, false, ◌&&◌, if◌then◌else◌, Option, Some, None, refl, ap, sym, ◌∙◌, subst, arith, ⊎_elim}
+use Rattle.std.proofs.Common.{◌≡◌, ℕ, ◌+◌, ◌<◌, ◌≤◌, ◌==◌, nat_lt, Bool, true, false, ◌&&◌, if◌then◌else◌, Option, None, refl, ap, sym, ◌∙◌, subst, arith, ⊎_elim}
 use Rattle.std.proofs.lemmas.Bool.{cases_lt, false≢true}
 use Rattle.std.specs.declared.cmp.Ordering.TheVariants.{Greater}
 use Rattle.dom_model.specs.declared.Kind.TheVariants.{DocumentType}
-use Rattle.dom_model.specs.Lists.{hits, among}
 use Rattle.dom_model.specs.Kinds.{is_kind, may_be_parent}
 use Rattle.dom_model.specs.Forest.{Forest, occurs, one_at, tree_at, put, HasNode, parent_of, children_of, ancestors, root_of}
 use Rattle.dom_model.specs.World.{Content, Point, Range, Iterator}

@@ -1,5 +1,5 @@
 -- Live ranges as their ends are set. DOM Standard, "Interface Range": set the start or end, collapse, select.
-use Rattle.std.proofs.Common.{◌≡◌, ℕ, ◌+◌, ◌*◌, ◌<◌, ◌≤◌, nat_lt, Bool, true, false, not, ◌&&◌, if◌then◌else◌, List, [], ◌∷◌, length, Option, Some, None, IfSome, option_map, refl, ap, sym, ◌∙◌, subst, arith, ⊎_elim}
+use Rattle.std.proofs.Common.{◌≡◌, ℕ, ◌+◌, ◌<◌, ◌≤◌, nat_lt, Bool, true, false, not, ◌&&◌, if◌then◌else◌, List, [], ◌∷◌, Option, Some, None, IfSome, option_map, refl, ap, sym, ◌∙◌, arith, ⊎_elim}
 use Rattle.std.proofs.lemmas.Bool.{cases_lt, false≢true}
 use Rattle.std.proofs.lemmas.Bool.Decides.{nat_tests}
 use Rattle.std.specs.Ordering.{nat_cmp}
@@ -7,20 +7,19 @@ use Rattle.std.specs.declared.cmp.Ordering.TheVariants.{Less, Equal, Greater}
 use Rattle.std.specs.Cmp.Lexicographic.{slice_cmp}
 use Rattle.dom_model.specs.declared.Kind.TheVariants.{DocumentType}
 use Rattle.dom_model.specs.declared.DomError.TheVariants.{InvalidNodeTypeError, IndexSizeError}
-use Rattle.dom_model.specs.Kinds.{may_be_parent}
-use Rattle.dom_model.specs.Forest.{Forest, occurs, HasNode, parent_of, children_of, index_of, root_of}
+use Rattle.dom_model.specs.Forest.{Forest, occurs, parent_of, children_of, index_of, root_of}
 use Rattle.dom_model.specs.World.{Content, Point, Range}
 use Rattle.dom_model.specs.Points.{place_of, order_of}
-use Rattle.dom_model.specs.Checks.{is_same, kind_passes, is_of_kind}
+use Rattle.dom_model.specs.Checks.{is_same, is_of_kind}
 use Rattle.dom_model.specs.Lengths.{unit_count, node_length}
-use Rattle.dom_model.specs.Ranges.{is_less, end_of, collapsed_at, collapsed, same_root, is_before, start_set, end_set, point_before, point_after, around, contents_of, check_point, check_contents}
+use Rattle.dom_model.specs.Ranges.{collapsed_at, collapsed, same_root, is_before, start_set, end_set, point_before, point_after, around, contents_of, check_point}
 use Rattle.dom_model.specs.Sound.{IsBoundary, IsRange}
 use Rattle.dom_model.proofs.Numbers.{same_or, same, apart}
 use Rattle.dom_model.proofs.Entries.{HasNode-occurs}
 use Rattle.dom_model.proofs.Paths.{parent-path}
 use Rattle.dom_model.proofs.Places.{place-there}
 use Rattle.dom_model.proofs.Indices.{child-listed, index-child}
-use Rattle.dom_model.proofs.PointOrder.{nat_cmp-same, nat_cmp-less, nat_cmp-greater, order-one_node}
+use Rattle.dom_model.proofs.PointOrder.{nat_cmp-same, nat_cmp-less, order-one_node}
 use Rattle.dom_model.proofs.SoundForests.{IsWood, parent-passes}
 use Rattle.dom_model.proofs.Measured.{length-parent}
 use Rattle.dom_model.proofs.RangesCut.{no_doctype}
@@ -33,7 +32,7 @@ same_place : (xs : List ℕ) → slice_cmp nat_cmp xs xs ≡ Equal
 same_place [] = refl
 same_place (x ∷ xs) = rw (nat_cmp-same x) (same_place xs)
 
-turned_round : (xs ys : List ℕ) → slice_cmp nat_cmp xs ys ≡ Greater → slice_cmp nat_cmp ys xs ≡ Less
+pub turned_round : (xs ys : List ℕ) → slice_cmp nat_cmp xs ys ≡ Greater → slice_cmp nat_cmp ys xs ≡ Less
 turned_round [] [] g = absurd (cc g)
 turned_round [] (y ∷ ys) g = absurd (cc g)
 turned_round (x ∷ xs) [] g = refl

@@ -1,14 +1,13 @@
 -- A live range is one after contents and node documents change, and after units take the place of others, once its ends have moved.
-use Rattle.std.proofs.Common.{◌≡◌, ℕ, ◌+◌, ◌-◌, ◌<◌, ◌≤◌, ◌==◌, nat_lt, nat_le, Bool, true, false, ◌&&◌, if◌then◌else◌, length, refl, ap, sym, ◌∙◌, subst, arith}
+use Rattle.std.proofs.Common.{◌≡◌, ℕ, ◌+◌, ◌-◌, ◌<◌, ◌≤◌, ◌==◌, nat_lt, nat_le, Bool, true, false, ◌&&◌, if◌then◌else◌, refl, ap, sym, ◌∙◌, subst, arith}
 use Rattle.std.proofs.lemmas.Bool.{false≢true}
 use Rattle.std.proofs.lemmas.Bool.Decides.{nat_tests}
-use Rattle.std.specs.declared.cmp.Ordering.TheVariants.{Greater}
 use Rattle.dom_model.specs.declared.Kind.TheVariants.{DocumentType}
 use Rattle.dom_model.specs.Lists.{hits}
 use Rattle.dom_model.specs.Kinds.{is_kind, is_character_data}
-use Rattle.dom_model.specs.Forest.{Forest, occurs, HasNode, root_of}
-use Rattle.dom_model.specs.World.{Content, Point, Range, Iterator, Walker, Registration}
-use Rattle.dom_model.specs.Points.{after_splice, moved_range, order_of}
+use Rattle.dom_model.specs.Forest.{Forest, HasNode, root_of}
+use Rattle.dom_model.specs.World.{Content, Point, Range, Iterator}
+use Rattle.dom_model.specs.Points.{after_splice, moved_range}
 use Rattle.dom_model.specs.Checks.{kind_passes, is_of_kind}
 use Rattle.dom_model.specs.Lengths.{unit_count, node_length}
 use Rattle.dom_model.specs.Sound.{IsBoundary, IsRange, IsIterator}

@@ -1,31 +1,31 @@
 -- A node is put last under a root that may have children: a sound world is left. DOM Standard, "Mutation algorithms": append; "Interface Node": clone.
-use Rattle.std.proofs.Common.{◌≡◌, ℕ, ◌+◌, ◌<◌, ◌≤◌, ◌==◌, Bool, true, false, not, ◌&&◌, if◌then◌else◌, List, [], ◌∷◌, ◌++◌, Option, Some, None, refl, ap, sym, ◌∙◌, subst, arith, ⊎_elim}
-use Rattle.std.proofs.lemmas.Bool.{cases_lt, false≢true}
+use Rattle.std.proofs.Common.{◌≡◌, ℕ, ◌+◌, ◌<◌, ◌≤◌, ◌==◌, Bool, true, false, not, ◌&&◌, if◌then◌else◌, List, [], ◌∷◌, Option, Some, None, refl, ap, sym, ◌∙◌, subst, arith, ⊎_elim}
+use Rattle.std.proofs.lemmas.Bool.{cases_lt}
 use Rattle.dom_model.specs.declared.Kind.{Kind}
 use Rattle.dom_model.specs.declared.Kind.TheVariants.{Document, DocumentType, DocumentFragment}
 use Rattle.dom_model.specs.Lists.{hits, or_else}
 use Rattle.dom_model.specs.Arena.{Entry, parent_in}
 use Rattle.dom_model.specs.Kinds.{is_kind, may_be_parent}
-use Rattle.dom_model.specs.Forest.{Node, Forest, empty, node, occurs, one_at, size, tops, beside, tree_at, map_nodes, entry_under, entry_in, parent_of, children_of, ancestors, KindsFit}
+use Rattle.dom_model.specs.Forest.{Node, Forest, empty, node, occurs, tops, beside, tree_at, map_nodes, entry_under, entry_in, parent_of, children_of, ancestors, KindsFit}
 use Rattle.dom_model.specs.World.{Content, World, no_content}
 use Rattle.dom_model.specs.Checks.{entry_has, kind_passes, is_of_kind}
-use Rattle.dom_model.specs.Making.{made_node, named}
-use Rattle.dom_model.specs.Editing.{node_document, is_fragment, nodes_of, append, insert}
-use Rattle.dom_model.specs.Clones.{renumbered, alone_of, original, with_copies, document_of_clone, clone_node}
+use Rattle.dom_model.specs.Making.{named}
+use Rattle.dom_model.specs.Editing.{node_document, nodes_of, append}
+use Rattle.dom_model.specs.Clones.{renumbered, alone_of, with_copies, document_of_clone, clone_node}
 use Rattle.dom_model.specs.Data.{with_data}
 use Rattle.dom_model.specs.Contents.{new_fragment, clone_with}
 use Rattle.dom_model.specs.Sound.{IsSound}
 use Rattle.dom_model.proofs.Numbers.{same_or, same, apart}
-use Rattle.dom_model.proofs.Totals.{tree_at-absent, total-tree_at, total-beside}
-use Rattle.dom_model.proofs.Climbing.{hits-append, hits-first}
+use Rattle.dom_model.proofs.Totals.{tree_at-absent}
+use Rattle.dom_model.proofs.Climbing.{hits-first}
 use Rattle.dom_model.proofs.Entries.{entry_under-absent, occurs-HasNode}
 use Rattle.dom_model.proofs.Paths.{root-path}
 use Rattle.dom_model.proofs.Listed.{hits-other}
 use Rattle.dom_model.proofs.Measured.{entry-joined}
-use Rattle.dom_model.proofs.SoundMaking.{fits-original, sound-copies, sound-clone_node, sound-made_node}
+use Rattle.dom_model.proofs.SoundMaking.{fits-original, sound-copies, sound-made_node}
 use Rattle.dom_model.proofs.SoundTextContent.{entry-made, made-there}
 use Rattle.dom_model.proofs.SoundInserting.{IsInsertable, sound-insert}
-use Rattle.dom_model.proofs.Extending.{Extends, extends-same, extends-beside, extends-of, IsPut, put_by_insert, insert-made}
+use Rattle.dom_model.proofs.Extending.{Extends, extends-beside, IsPut, put_by_insert, insert-made}
 
 -- a root that may have children
 pub record IsHolder (w : World) (into : ℕ) : Type 0 where

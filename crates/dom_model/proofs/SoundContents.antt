@@ -1,20 +1,18 @@
 -- The contents of a live range, as a new fragment: extract and clone contents leave a sound world. DOM Standard, "Interface Range".
-use Rattle.std.proofs.Common.{◌≡◌, ℕ, ◌+◌, ◌-◌, ◌<◌, ◌≤◌, ◌==◌, Bool, true, false, ◌&&◌, ◌||◌, if◌then◌else◌, List, [], ◌∷◌, filter, length, Option, Some, None, unwrap_or, refl, ap, sym, ◌∙◌, subst, arith}
+use Rattle.std.proofs.Common.{◌≡◌, ℕ, ◌-◌, ◌<◌, Bool, true, false, ◌&&◌, ◌||◌, if◌then◌else◌, List, [], ◌∷◌, filter, Option, Some, None, unwrap_or, refl, ap, sym, ◌∙◌, subst, arith}
 use Rattle.std.proofs.lemmas.Bool.{false≢true}
-use Rattle.dom_model.specs.declared.Kind.{Kind}
 use Rattle.dom_model.specs.declared.Kind.TheVariants.{DocumentType, DocumentFragment}
 use Rattle.dom_model.specs.declared.DomError.{DomError}
 use Rattle.dom_model.specs.declared.DomError.TheVariants.{HierarchyRequestError}
 use Rattle.dom_model.specs.Lists.{hits, among, head_of}
 use Rattle.dom_model.specs.Kinds.{is_kind, is_character_data, may_be_parent}
-use Rattle.dom_model.specs.Forest.{Node, Forest, empty, node, occurs, entry_in, parent_of, children_of, index_of, ancestors, root_of}
+use Rattle.dom_model.specs.Forest.{Forest, empty, node, occurs, entry_in, parent_of, children_of, index_of, ancestors, root_of}
 use Rattle.dom_model.specs.World.{Content, Point, Range, World, no_content}
 use Rattle.dom_model.specs.Checks.{kind_passes, is_of_kind, has_kind, is_same}
 use Rattle.dom_model.specs.Lengths.{unit_count, node_length}
 use Rattle.dom_model.specs.Making.{named}
 use Rattle.dom_model.specs.Editing.{node_document}
 use Rattle.dom_model.specs.Ranges.{same_root, is_less, is_before, is_collapsed, collapsed_at, range_at, with_range}
-use Rattle.dom_model.specs.Data.{data_of}
 use Rattle.dom_model.specs.Contents.{for_range, is_in_one_data, contained_in, new_place, new_fragment, units_into, common_of, contained_children, parts_into, contents_drawn, check_draw, check_extract, extracted, extract, clone_contents}
 use Rattle.dom_model.specs.Sound.{IsRange, IsSound}
 use Rattle.dom_model.proofs.Numbers.{same_or, same, apart}
@@ -26,13 +24,12 @@ use Rattle.dom_model.proofs.SoundWorlds.{IsLive, child_there}
 use Rattle.dom_model.proofs.SoundEditing.{clear, holder_there}
 use Rattle.dom_model.proofs.SoundNormalizing.{filter-passed}
 use Rattle.dom_model.proofs.SoundAppending.{IsFragment, fragment_made}
-use Rattle.dom_model.proofs.SoundDrawing.{IsFilled}
 use Rattle.dom_model.proofs.SoundCopies.{filled_units}
 use Rattle.dom_model.proofs.SoundRangeSteps.{live_range, sound-with_range}
 use Rattle.dom_model.proofs.RangesSet.{range_at_point}
 use Rattle.dom_model.proofs.PlacesLeft.{IsNewPlace, place_is, place_stays}
-use Rattle.dom_model.proofs.SoundDeleting.{not_contained, offset_of_start, sound-for_range}
-use Rattle.dom_model.proofs.SoundExtracting.{none_listed, common_above, sound-parts, parts_kind, parts_parent}
+use Rattle.dom_model.proofs.SoundDeleting.{not_contained, offset_of_start}
+use Rattle.dom_model.proofs.SoundExtracting.{none_listed, common_above, sound-parts, parts_there, parts_kind, parts_parent}
 
 filter-kept : (p : ℕ → Bool) (ns : List ℕ) (m : ℕ) → 0 < hits m ns → p m ≡ true → 0 < hits m (filter p ns)
 filter-kept p [] m h e = absurd (omega arith)
@@ -124,6 +121,25 @@ module _ (moves : Bool) (r : Range) (w : World) (s : IsSound w) (h : IsRange w.f
       go true v e = fragment.drawn.sound
       go false true e = sound-units e
       go false false e = sound-parts moves w.made r made fragment.drawn.sound fragment.holder range_made doctypes
+
+  -- the nodes that were there, and the fragment, are there
+  there-made : (m : ℕ) → 0 < occurs m made.forest → 0 < occurs m (contents_drawn moves r w).forest
+  there-made m k = go (is_collapsed r) (is_in_one_data w r) refl
+    where
+      go : (c v : Bool) → is_in_one_data w r ≡ v → 0 < occurs m (if c then made else if v then units_into moves w.made r.start.node r.start.offset (r.end.offset - r.start.offset) made else parts_into moves w.made r made).forest
+      go true v e = k
+      go false true e =
+          let d = one_data e in
+          let d2 : kind_passes is_character_data made.forest r.start.node ≡ true = fragment.drawn.extends.kinds is_character_data r.start.node hs ∙ d in
+          let f = filled_units moves w.made r.start.node r.start.offset (r.end.offset - r.start.offset) made fragment.drawn.sound fragment.holder (fragment.drawn.extends.there r.start.node hs) d2 (offset_of_start made r range_made d2) in
+          f.there m k
+      go false false e = parts_there moves w.made r made fragment.drawn.sound fragment.holder range_made doctypes m k
+
+  pub there-drawn : (m : ℕ) → 0 < occurs m w.forest → 0 < occurs m (contents_drawn moves r w).forest
+  there-drawn m k = there-made m (fragment.drawn.extends.there m k)
+
+  pub fragment-drawn : 0 < occurs w.made (contents_drawn moves r w).forest
+  fragment-drawn = there-made w.made fragment.holder.there
 
   -- The ends go to the new place.
 

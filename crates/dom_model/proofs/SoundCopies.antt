@@ -1,23 +1,21 @@
 -- Units and copies of nodes that go into a fragment leave a sound world. DOM Standard, "Interface Range": extract, clone the contents.
-use Rattle.std.proofs.Common.{◌≡◌, ℕ, ◌+◌, ◌-◌, ◌<◌, ◌≤◌, ◌==◌, Bool, true, false, not, ◌&&◌, if◌then◌else◌, List, [], ◌∷◌, ◌++◌, take, drop, length, Option, Some, None, refl, ap, sym, ◌∙◌, subst, arith, ⊎_elim}
+use Rattle.std.proofs.Common.{◌≡◌, ℕ, ◌<◌, ◌≤◌, Bool, true, false, not, ◌&&◌, if◌then◌else◌, List, [], ◌∷◌, ◌++◌, length, Option, Some, None, refl, ap, sym, ◌∙◌, subst, arith, ⊎_elim}
 use Rattle.std.proofs.lemmas.Bool.{cases_lt, false≢true}
 use Rattle.dom_model.specs.declared.Kind.{Kind}
 use Rattle.dom_model.specs.declared.Kind.TheVariants.{Element, Text, ProcessingInstruction, Comment, Document, DocumentType, DocumentFragment}
 use Rattle.dom_model.specs.Lists.{hits}
 use Rattle.dom_model.specs.Arena.{Entry}
 use Rattle.dom_model.specs.Kinds.{is_kind, is_character_data, may_be_parent}
-use Rattle.dom_model.specs.Forest.{Node, Forest, occurs, entry_in, parent_of, children_of, ancestors, with_node}
+use Rattle.dom_model.specs.Forest.{Node, occurs, entry_in, parent_of, children_of, ancestors}
 use Rattle.dom_model.specs.Texts.{substring, spliced}
 use Rattle.dom_model.specs.World.{Content, World, no_content}
 use Rattle.dom_model.specs.Making.{named}
 use Rattle.dom_model.specs.Checks.{entry_has, kind_passes, is_of_kind}
-use Rattle.dom_model.specs.Editing.{node_document, is_fragment, nodes_of, append, insert}
+use Rattle.dom_model.specs.Editing.{node_document, nodes_of, append}
 use Rattle.dom_model.specs.Clones.{clone_node}
 use Rattle.dom_model.specs.Data.{data_of, with_data, cut_count, replace_data}
-use Rattle.dom_model.specs.Contents.{new_fragment, clone_with, cut_if, units_into, copy_into}
+use Rattle.dom_model.specs.Contents.{new_fragment, clone_with, cut_if, units_into}
 use Rattle.dom_model.specs.Sound.{IsSound}
-use Rattle.dom_model.proofs.Numbers.{same_or, same, apart}
-use Rattle.dom_model.proofs.Climbing.{hits-append, hits-first}
 use Rattle.dom_model.proofs.Paths.{parent-path, root-path}
 use Rattle.dom_model.proofs.Indices.{child-parent}
 use Rattle.dom_model.proofs.Listed.{hits-other}
@@ -25,9 +23,9 @@ use Rattle.dom_model.proofs.SameShape.{IsAlike, with_node-alike, occurs-alike, p
 use Rattle.dom_model.proofs.SoundData.{sound-replace_data}
 use Rattle.dom_model.proofs.SoundTextContent.{entry-made}
 use Rattle.dom_model.proofs.SoundInserting.{IsInsertable, sound-insert}
-use Rattle.dom_model.proofs.Extending.{Extends, extends-then, extends-of, IsPut, put_by_insert, insert-made}
-use Rattle.dom_model.proofs.SoundAppending.{IsHolder, IsPlain, IsDrawn, holder_stays, plain_stays, IsAppended, append-plain, IsCopy, clone_copy, clone_with_copy, IsFragment, fragment_made}
-use Rattle.dom_model.proofs.SoundDrawing.{drawn-then, drawn-of, new_apart, new_not_hit, IsFilled, filled-then, filled-of, filled_by_moves}
+use Rattle.dom_model.proofs.Extending.{IsPut, put_by_insert, insert-made}
+use Rattle.dom_model.proofs.SoundAppending.{IsHolder, IsPlain, IsDrawn, holder_stays, IsAppended, append-plain, IsCopy, clone_copy, clone_with_copy, IsFragment, fragment_made}
+use Rattle.dom_model.proofs.SoundDrawing.{drawn-then, drawn-of, new_apart, new_not_hit, IsFilled, filled-then, filled_by_moves}
 
 -- A cut of data moves nothing.
 

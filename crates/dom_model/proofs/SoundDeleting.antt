@@ -1,25 +1,24 @@
 -- Deleting the contents of a live range leaves a sound world. DOM Standard, "Interface Range": delete contents.
-use Rattle.std.proofs.Common.{◌≡◌, ℕ, ◌+◌, ◌-◌, ◌<◌, ◌≤◌, ◌==◌, Bool, true, false, not, ◌&&◌, if◌then◌else◌, List, [], ◌∷◌, length, Option, Some, None, refl, ap, sym, ◌∙◌, subst, arith, ⊎_elim}
+use Rattle.std.proofs.Common.{◌≡◌, ℕ, ◌-◌, ◌<◌, ◌≤◌, ◌==◌, Bool, true, false, not, ◌&&◌, if◌then◌else◌, List, [], ◌∷◌, length, Option, Some, None, refl, ap, sym, ◌∙◌, arith, ⊎_elim}
 use Rattle.std.proofs.lemmas.Bool.{cases_lt, false≢true}
 use Rattle.dom_model.specs.Lists.{hits}
 use Rattle.dom_model.specs.Kinds.{is_character_data, may_be_parent}
-use Rattle.dom_model.specs.Forest.{Forest, occurs, numbers, cut, parent_of, children_of, index_of}
-use Rattle.dom_model.specs.World.{Content, Point, Range, World}
+use Rattle.dom_model.specs.Forest.{occurs, numbers, parent_of, index_of}
+use Rattle.dom_model.specs.World.{Range, World}
 use Rattle.dom_model.specs.Checks.{if_given, kind_passes}
-use Rattle.dom_model.specs.Lengths.{unit_count, node_length}
 use Rattle.dom_model.specs.Editing.{removed_from, remove}
-use Rattle.dom_model.specs.Ranges.{same_root, is_before, is_collapsed, collapsed_at, contents_of, is_contained, range_at, with_range}
+use Rattle.dom_model.specs.Ranges.{same_root, is_before, is_collapsed, collapsed_at, range_at}
 use Rattle.dom_model.specs.Data.{data_of, replace_data, remove_each}
 use Rattle.dom_model.specs.Contents.{for_range, is_in_one_data, cut_from, cut_up_to, contained_in, contained_tops, new_place, deleted_between, deleted, delete_contents}
 use Rattle.dom_model.specs.Sound.{IsRange, IsSound}
 use Rattle.dom_model.proofs.Numbers.{same_or, same, apart}
 use Rattle.dom_model.proofs.Totals.{IsOnce-cut}
 use Rattle.dom_model.proofs.Climbing.{hits-append, hits-first}
-use Rattle.dom_model.proofs.Entries.{parent-cut, occurs-HasNode}
+use Rattle.dom_model.proofs.Entries.{parent-cut}
 use Rattle.dom_model.proofs.SoundWorlds.{IsLive, child_there, sound-remove}
 use Rattle.dom_model.proofs.SoundData.{length-data, sound-replace_data}
 use Rattle.dom_model.proofs.SoundEditing.{holder_there}
-use Rattle.dom_model.proofs.SoundNormalizing.{SameKinds, each_kinds, filter-passed}
+use Rattle.dom_model.proofs.SoundNormalizing.{each_kinds, filter-passed}
 use Rattle.dom_model.proofs.SoundCopies.{filled-replace}
 use Rattle.dom_model.proofs.SoundDrawing.{IsFilled}
 use Rattle.dom_model.proofs.SoundRangeSteps.{live_range, sound-with_range}

@@ -1,5 +1,5 @@
 -- A tree that nothing names is discarded: a sound world is left.
-use Rattle.std.proofs.Common.{◌≡◌, ℕ, ◌+◌, ◌<◌, ◌≤◌, Bool, true, false, not, ◌||◌, List, [], ◌∷◌, ◌++◌, flat_map, Option, Some, None, is_some, IsSome, IfSome, All, slice_index_or, refl, ap, sym, ◌∙◌, subst, arith}
+use Rattle.std.proofs.Common.{◌≡◌, ℕ, ◌<◌, Bool, true, false, ◌||◌, List, [], ◌∷◌, ◌++◌, flat_map, Option, Some, None, is_some, IfSome, All, slice_index_or, refl, sym, ◌∙◌, arith}
 use Rattle.std.proofs.lemmas.Bool.{false≢true}
 use Rattle.std.proofs.lemmas.List.Elements.{All-nil, All-cons}
 use Rattle.std.specs.List.{list_any}
@@ -8,10 +8,10 @@ use Rattle.dom_model.specs.Lists.{among}
 use Rattle.dom_model.specs.Forest.{Forest, occurs, one_at, tree_at, without, entry_in, HasNode, parent_of, inclusive_descendants}
 use Rattle.dom_model.specs.World.{Content, Range, Iterator, Walker, Registration, World}
 use Rattle.dom_model.specs.Reply.{Own}
-use Rattle.dom_model.specs.Discarding.{if_any, documents, nodes_of_range, nodes_of_live, nodes_of_iterator, nodes_of_walker, nodes_of_registration, nodes_of_record, queued_records, observed_nodes, named_nodes, is_held_outside, is_in_use, discarded}
+use Rattle.dom_model.specs.Discarding.{if_any, documents, nodes_of_range, nodes_of_live, nodes_of_iterator, nodes_of_walker, nodes_of_registration, named_nodes, is_held_outside, is_in_use, discarded}
 use Rattle.dom_model.specs.Guards.{Bounds, no_node, does}
 use Rattle.dom_model.specs.AnswerDiscard.{answer_discard}
-use Rattle.dom_model.specs.Sound.{IsRange, IsIterator, IsWalker, IsRegistration, IsSound}
+use Rattle.dom_model.specs.Sound.{IsIterator, IsWalker, IsRegistration, IsSound}
 use Rattle.dom_model.proofs.Totals.{total-tree_at}
 use Rattle.dom_model.proofs.Lying.{Lies-without_root}
 use Rattle.dom_model.proofs.Climbing.{not_among-hits}
@@ -22,7 +22,7 @@ use Rattle.dom_model.proofs.Parts.{range-to_part, iterator-to_part}
 use Rattle.dom_model.proofs.SoundForests.{IsWood, IsWood-without}
 use Rattle.dom_model.proofs.SoundMaking.{reference_there}
 use Rattle.dom_model.proofs.SoundWorlds.{IsLive}
-use Rattle.dom_model.proofs.SoundGuards.{sound-guarded, there_unless}
+use Rattle.dom_model.proofs.SoundGuards.{sound-guarded}
 
 neither : (v w : Bool) → (v || w) ≡ false → (v ≡ false) × (w ≡ false)
 neither true w h = absurd (false≢true (sym h))

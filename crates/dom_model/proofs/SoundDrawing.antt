@@ -1,36 +1,22 @@
 -- What extracting and cloning draw out of a tree: children, units, and copies of the nodes on a path. A sound world is left.
 -- DOM Standard, "Interface Range": extract, clone the contents.
-use Rattle.std.proofs.Common.{◌≡◌, ℕ, ◌+◌, ◌-◌, ◌<◌, ◌≤◌, ◌==◌, Bool, true, false, not, ◌&&◌, if◌then◌else◌, List, [], ◌∷◌, ◌++◌, take, drop, length, Option, Some, None, refl, ap, sym, ◌∙◌, subst, arith, ⊎_elim}
-use Rattle.std.proofs.lemmas.Bool.{cases_lt, false≢true}
+use Rattle.std.proofs.Common.{◌≡◌, ℕ, ◌<◌, ◌≤◌, Bool, true, false, List, [], ◌∷◌, ◌++◌, Some, None, refl, ap, sym, ◌∙◌, subst, arith, ⊎_elim}
+use Rattle.std.proofs.lemmas.Bool.{cases_lt}
 use Rattle.dom_model.specs.declared.Kind.{Kind}
-use Rattle.dom_model.specs.declared.Kind.TheVariants.{Element, Text, ProcessingInstruction, Comment, Document, DocumentType, DocumentFragment}
+use Rattle.dom_model.specs.declared.Kind.TheVariants.{Document, DocumentType, DocumentFragment}
 use Rattle.dom_model.specs.Lists.{hits}
-use Rattle.dom_model.specs.Arena.{Entry}
-use Rattle.dom_model.specs.Kinds.{is_kind, is_character_data, may_be_parent, may_stand_in}
-use Rattle.dom_model.specs.Forest.{Node, Forest, occurs, entry_in, parent_of, children_of, ancestors, with_node}
-use Rattle.dom_model.specs.Texts.{substring, spliced}
-use Rattle.dom_model.specs.World.{Content, World}
-use Rattle.dom_model.specs.PreRemoval.{past}
-use Rattle.dom_model.specs.Checks.{up_to, entry_has, kind_passes, is_of_kind}
-use Rattle.dom_model.specs.Editing.{node_document, is_fragment, nodes_of, append, insert}
+use Rattle.dom_model.specs.Kinds.{is_kind, may_be_parent}
+use Rattle.dom_model.specs.Forest.{occurs, parent_of}
+use Rattle.dom_model.specs.World.{World}
+use Rattle.dom_model.specs.Checks.{kind_passes}
+use Rattle.dom_model.specs.Editing.{append}
 use Rattle.dom_model.specs.Clones.{clone_node}
-use Rattle.dom_model.specs.Data.{data_of, with_data, cut_count, replace_data}
-use Rattle.dom_model.specs.Contents.{new_fragment, clone_with, cut_if, units_into, child_into, children_into, copy_into, tail_into, head_into}
+use Rattle.dom_model.specs.Contents.{child_into, children_into}
 use Rattle.dom_model.specs.Sound.{IsSound}
-use Rattle.dom_model.proofs.Numbers.{same_or, same, apart}
 use Rattle.dom_model.proofs.Climbing.{hits-append, hits-first}
-use Rattle.dom_model.proofs.Paths.{parent-path, root-path}
-use Rattle.dom_model.proofs.Indices.{child-parent, child-there}
-use Rattle.dom_model.proofs.IteratorsStay.{hits-past}
-use Rattle.dom_model.proofs.RootsKept.{hits-up_to}
 use Rattle.dom_model.proofs.Listed.{hits-other}
-use Rattle.dom_model.proofs.SameShape.{IsAlike, with_node-alike, occurs-alike, parent-alike, kind-alike}
-use Rattle.dom_model.proofs.SoundForests.{IsWood, entry_there, child-fits, parent-passes}
-use Rattle.dom_model.proofs.SoundWorlds.{child_there}
-use Rattle.dom_model.proofs.SoundData.{sound-replace_data}
-use Rattle.dom_model.proofs.SoundInserting.{IsInsertable, sound-insert}
-use Rattle.dom_model.proofs.Extending.{Extends, extends-then, extends-of, IsPut, put_by_insert, insert-made}
-use Rattle.dom_model.proofs.SoundAppending.{IsHolder, IsPlain, IsDrawn, holder_stays, plain_stays, IsAppended, append-plain, IsCopy, clone_copy, clone_with_copy, IsFragment, fragment_made}
+use Rattle.dom_model.proofs.Extending.{extends-then, extends-of}
+use Rattle.dom_model.proofs.SoundAppending.{IsHolder, IsPlain, IsDrawn, holder_stays, plain_stays, append-plain, clone_copy}
 
 -- one step after another
 pub drawn-then : (w v u : World) (ns ms : List ℕ) → IsDrawn w v ns → IsDrawn v u ms → IsDrawn w u (ns ++ ms)
@@ -92,8 +78,8 @@ filled-then w v u ps qs a b =
       there = λ m h. b.there m (a.there m h);
       kinds = λ test m h. b.kinds test m (a.there m h) ∙ a.kinds test m h;
       parents = λ m h far.
-      let e = a.parents m h (λ x k. let z = far x k in let i = hits-append x ps qs in omega arith) in
-      b.parents m (a.there m h) (λ x k. let z = far x (sym e ∙ k) in let i = hits-append x ps qs in omega arith) ∙ e;
+          let e = a.parents m h (λ x k. let z = far x k in let i = hits-append x ps qs in omega arith) in
+          b.parents m (a.there m h) (λ x k. let z = far x (sym e ∙ k) in let i = hits-append x ps qs in omega arith) ∙ e;
       made = (let i = a.made in let j = b.made in omega arith);
     }
 
@@ -109,11 +95,11 @@ filled_by_moves w v ns path a moved =
       there = a.extends.there;
       kinds = a.extends.kinds;
       parents = λ m h far.
-      a.extends.parents m h
-      (⊎_elim
-      (λ (lt : 0 < hits m ns). absurd (let i = moved m lt h in let z = far i.0 i.1 in let j = i.2 in omega arith))
-      (λ (le : hits m ns ≤ 0). omega arith)
-      (cases_lt 0 (hits m ns)));
+          a.extends.parents m h
+          (⊎_elim
+          (λ (lt : 0 < hits m ns). absurd (let i = moved m lt h in let z = far i.0 i.1 in let j = i.2 in omega arith))
+          (λ (le : hits m ns ≤ 0). omega arith)
+          (cases_lt 0 (hits m ns)));
       made = a.made;
     }
 

@@ -56,14 +56,14 @@ number_is None n h = absurd (false≢true h)
 number_is (Some m) n h = elim (same_or m n) [ same e t ↦ ap (λ k. Some k) e | apart ne t ↦ absurd (false≢true (sym t ∙ h)) ]
 
 -- what both checks tell
-record IsChecked (f : Forest Content) (parent n : ℕ) (child : Option ℕ) : Type 0 where
-  may_hold : kind_passes may_be_parent f parent ≡ true
-  outside : hits n (ancestors parent f) ≡ 0
-  child_of : IsChildOf f parent child
-  no_document : is_of_kind Document f n ≡ false
-  doctype_fits : (is_of_kind DocumentType f n && not (is_of_kind Document f parent)) ≡ false
+pub record IsChecked (f : Forest Content) (parent n : ℕ) (child : Option ℕ) : Type 0 where
+  pub may_hold : kind_passes may_be_parent f parent ≡ true
+  pub outside : hits n (ancestors parent f) ≡ 0
+  pub child_of : IsChildOf f parent child
+  pub no_document : is_of_kind Document f n ≡ false
+  pub doctype_fits : (is_of_kind DocumentType f n && not (is_of_kind Document f parent)) ≡ false
 
-checks : (f : Forest Content) (parent n : ℕ) (child : Option ℕ) (more : List (Bool × DomError)) → first_refusal (common_conditions f parent n child ++ more) ≡ None → IsChecked f parent n child
+pub checks : (f : Forest Content) (parent n : ℕ) (child : Option ℕ) (more : List (Bool × DomError)) → first_refusal (common_conditions f parent n child ++ more) ≡ None → IsChecked f parent n child
 checks f parent n child more h =
     let c = clear (common_conditions f parent n child ++ more) h in
     record {
@@ -77,6 +77,9 @@ checks f parent n child more h =
     given : (o : Option ℕ) → if_given (λ c. not (is_number (parent_of f c) parent)) o ≡ false → IsChildOf f parent o
     given None k = tt
     given (Some c) k = number_is (parent_of f c) parent (turned (is_number (parent_of f c) parent) k)
+
+pub checks_insert : (f : Forest Content) (parent n : ℕ) (child : Option ℕ) → check_insert f parent n child ≡ None → IsChecked f parent n child
+checks_insert f parent n child c = checks f parent n child ((kind_refuses (λ k. document_refuses k f parent n child) f parent n, HierarchyRequestError) ∷ []) c
 
 pub holder_there : (f : Forest Content) (p : ℕ) → kind_passes may_be_parent f p ≡ true → 0 < occurs p f
 holder_there f p h =
@@ -141,7 +144,7 @@ is_reference f o parent n (Some d) c =
       | apart ne t ↦ rw t (record { child_of = c; other = ne })
     ]
 
-insertable : (w : World) → IsSound w → (parent n : ℕ) (child : Option ℕ) → 0 < occurs n w.forest → IsChecked w.forest parent n child → IsInsertable w.forest n parent (reference_child w n child)
+pub insertable : (w : World) → IsSound w → (parent n : ℕ) (child : Option ℕ) → 0 < occurs n w.forest → IsChecked w.forest parent n child → IsInsertable w.forest n parent (reference_child w n child)
 insertable w s parent n child h c =
     let r = is_reference w.forest s.forest.once parent n child c.child_of in
     record {

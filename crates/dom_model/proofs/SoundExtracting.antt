@@ -1,45 +1,29 @@
 -- Extracting and cloning the contents of a live range leave a sound world. DOM Standard, "Interface Range": extract, clone the contents.
-use Rattle.std.proofs.Common.{◌≡◌, ℕ, ◌+◌, ◌-◌, ◌<◌, ◌≤◌, ◌==◌, Bool, true, false, not, ◌&&◌, ◌||◌, if◌then◌else◌, List, [], ◌∷◌, ◌++◌, filter, reverse, length, Option, Some, None, unwrap_or, refl, ap, sym, ◌∙◌, subst, arith, ⊎_elim}
+use Rattle.std.proofs.Common.{◌≡◌, ℕ, ◌<◌, ◌≤◌, Bool, true, false, ◌||◌, List, [], ◌∷◌, filter, Some, None, unwrap_or, refl, ap, sym, ◌∙◌, subst, arith, ⊎_elim}
 use Rattle.std.proofs.lemmas.Bool.{cases_lt, false≢true}
 use Rattle.std.specs.List.{list_any}
 use Rattle.dom_model.specs.declared.Kind.{Kind}
-use Rattle.dom_model.specs.declared.Kind.TheVariants.{DocumentType, DocumentFragment}
-use Rattle.dom_model.specs.declared.DomError.{DomError}
-use Rattle.dom_model.specs.declared.DomError.TheVariants.{HierarchyRequestError}
+use Rattle.dom_model.specs.declared.Kind.TheVariants.{DocumentType}
 use Rattle.dom_model.specs.Lists.{hits, among, head_of, last_of}
-use Rattle.dom_model.specs.Kinds.{is_kind, is_character_data, may_be_parent}
-use Rattle.dom_model.specs.Forest.{Node, Forest, empty, node, occurs, one_at, beside, entry_in, parent_of, children_of, index_of, ancestors}
-use Rattle.dom_model.specs.World.{Content, Point, Range, World, no_content}
-use Rattle.dom_model.specs.Checks.{up_to, entry_has, kind_passes, is_of_kind, has_kind}
-use Rattle.dom_model.specs.Lengths.{unit_count, node_length}
-use Rattle.dom_model.specs.Making.{made_node, named}
-use Rattle.dom_model.specs.Editing.{node_document}
-use Rattle.dom_model.specs.Ranges.{same_root, is_before, is_less, is_collapsed, collapsed_at, contents_of, common_ancestor, range_at, with_range}
-use Rattle.dom_model.specs.Data.{data_of}
-use Rattle.dom_model.specs.Contents.{for_range, is_in_one_data, contained_in, new_place, new_fragment, units_into, children_into, tail_into, head_into, path_below, common_of, contained_children, parts_into, contents_drawn, check_draw, check_extract, extracted, extract, clone_contents}
+use Rattle.dom_model.specs.Forest.{occurs, parent_of, children_of, ancestors}
+use Rattle.dom_model.specs.World.{Range, World}
+use Rattle.dom_model.specs.Checks.{up_to, kind_passes, is_of_kind}
+use Rattle.dom_model.specs.Contents.{contained_in, children_into, tail_into, head_into, path_below, common_of, contained_children, parts_into}
 use Rattle.dom_model.specs.Sound.{IsRange, IsSound}
 use Rattle.dom_model.proofs.Numbers.{same_or, same, apart}
-use Rattle.dom_model.proofs.Climbing.{hits-append, hits-first, among-hits, hits-among, ancestors-there}
-use Rattle.dom_model.proofs.Entries.{occurs-HasNode, HasNode-occurs}
+use Rattle.dom_model.proofs.Climbing.{hits-first, among-hits, hits-among}
+use Rattle.dom_model.proofs.Entries.{occurs-HasNode}
 use Rattle.dom_model.proofs.PutBack.{hits-head_of}
 use Rattle.dom_model.proofs.Climbing.{hits-reverse}
 use Rattle.dom_model.proofs.StepsThere.{hits-last}
 use Rattle.dom_model.proofs.Indices.{child-parent, child-there}
 use Rattle.dom_model.proofs.Chains.{way}
-use Rattle.dom_model.proofs.Measured.{entry-beside, kind-beside, parent-beside}
-use Rattle.dom_model.proofs.Parts.{path-there, ancestors-part, root-part, order-part, length-part, range-from_part}
-use Rattle.dom_model.proofs.SoundWorlds.{IsLive}
-use Rattle.dom_model.proofs.SoundEditing.{clear, holder_there}
 use Rattle.dom_model.proofs.SoundNormalizing.{filter-passed}
-use Rattle.dom_model.proofs.SoundAppending.{IsHolder, IsPlain, IsDrawn, holder_stays, IsFragment, fragment_made, plain_stays}
-use Rattle.dom_model.proofs.SoundDrawing.{drawn_children, IsFilled, filled-then, filled-of, filled_by_moves, holder_filled, plain_filled, new_apart}
-use Rattle.dom_model.proofs.SoundCopies.{filled_units}
+use Rattle.dom_model.proofs.SoundAppending.{IsHolder, IsPlain, IsDrawn, holder_stays}
+use Rattle.dom_model.proofs.SoundDrawing.{drawn_children, IsFilled, filled_by_moves, holder_filled, plain_filled}
 use Rattle.dom_model.proofs.SoundPaths.{IsTail, IsHead, tail_filled, head_filled, head_filled_stays}
-use Rattle.dom_model.proofs.PathsToEnds.{plain_below, below_has_parent, path_without_top, PathTo, path_is, tail_of_path, head_of_path}
-use Rattle.dom_model.proofs.SoundRangeSteps.{live_range, sound-with_range}
-use Rattle.dom_model.proofs.RangesSet.{range_at_point}
-use Rattle.dom_model.proofs.PlacesLeft.{IsNewPlace, place_is, place_stays}
-use Rattle.dom_model.proofs.SoundDeleting.{not_contained, offset_of_start, sound-for_range}
+use Rattle.dom_model.proofs.PathsToEnds.{plain_below, below_has_parent, path_without_top, path_is, tail_of_path, head_of_path}
+use Rattle.dom_model.proofs.SoundDeleting.{offset_of_start}
 
 -- no number of a list passes the test
 pub none_listed : (p : ℕ → Bool) (ns : List ℕ) (m : ℕ) → list_any p ns ≡ false → 0 < hits m ns → p m ≡ false
@@ -180,6 +164,9 @@ module _ (moves : Bool) (into : ℕ) (r : Range) (w : World) (s : IsSound w) (ho
 
   pub sound-parts : IsSound (parts_into moves into r w)
   sound-parts = three.sound
+
+  pub parts_there : (m : ℕ) → 0 < occurs m w.forest → 0 < occurs m (parts_into moves into r w).forest
+  parts_there m k = three.there m (two.extends.there m (one.there m k))
 
   pub parts_kind : (test : Kind → Bool) (m : ℕ) → 0 < occurs m w.forest → kind_passes test (parts_into moves into r w).forest m ≡ kind_passes test w.forest m
   parts_kind test m k = three.kinds test m (two.extends.there m (one.there m k)) ∙ two.extends.kinds test m (one.there m k) ∙ one.kinds test m k

@@ -1,12 +1,12 @@
 -- A forest stays one as trees are cut, put, made, changed and taken away.
-use Rattle.std.proofs.Common.{◌≡◌, ℕ, suc, ◌+◌, ◌<◌, ◌≤◌, ◌==◌, Bool, true, false, List, [], ◌∷◌, ◌++◌, Option, Some, None, is_some, refl, ap, sym, ◌∙◌, subst, arith, ⊎_elim}
+use Rattle.std.proofs.Common.{◌≡◌, ℕ, suc, ◌<◌, ◌≤◌, Bool, true, false, List, [], ◌∷◌, ◌++◌, Option, Some, None, is_some, refl, ap, sym, ◌∙◌, subst, arith, ⊎_elim}
 use Rattle.std.proofs.lemmas.Bool.{cases_lt, false≢true}
 use Rattle.dom_model.specs.Lists.{hits}
 use Rattle.dom_model.specs.Arena.{Entry, parent_in}
 use Rattle.dom_model.specs.declared.Kind.{Kind}
 use Rattle.dom_model.specs.declared.Kind.TheVariants.{Element, Text, ProcessingInstruction, Comment, Document, DocumentType, DocumentFragment}
 use Rattle.dom_model.specs.Kinds.{is_kind, is_character_data, may_be_parent, may_stand_in, may_stand_under}
-use Rattle.dom_model.specs.Forest.{Node, Forest, empty, node, Grove, occurs, one_at, tops, beside, tree_at, without, cut, put, entry_in, parent_of, children_of, IsRising, KindsFit, IsForest}
+use Rattle.dom_model.specs.Forest.{Node, Forest, empty, node, occurs, one_at, tops, beside, tree_at, without, cut, put, entry_in, parent_of, children_of, IsRising, KindsFit, IsForest}
 use Rattle.dom_model.specs.World.{Content}
 use Rattle.dom_model.specs.Checks.{entry_has, kind_passes}
 use Rattle.dom_model.specs.Lies.{Lies}
@@ -170,9 +170,9 @@ module _ {f : Forest Content} {made : ℕ} (s : IsWood f made) where
         small = λ n l. total-put (one_at n) p c b f whole ∙ s.small n l;
         rising = rw (tops-placed_under p b (tree_at c f) (without c f), tops-without c f) (IsRising-left_out 0 c (tops f) s.rising);
         kinds =
-        KindsFit-placed_under (entry_in f) p ep.0 b (tree_at c f) ep.1
-        (KindsFit-under (entry_in f) c ec.0 ep.0.value.label.kind ec.1 m None None f lies s.kinds)
-        None None (without c f) (Lies-without_root (entry_in f) c r f lies) (KindsFit-without None c f s.kinds);
+            KindsFit-placed_under (entry_in f) p ep.0 b (tree_at c f) ep.1
+            (KindsFit-under (entry_in f) c ec.0 ep.0.value.label.kind ec.1 m None None f lies s.kinds)
+            None None (without c f) (Lies-without_root (entry_in f) c r f lies) (KindsFit-without None c f s.kinds);
       }
 
   -- trees with new numbers come in last
@@ -180,10 +180,10 @@ module _ {f : Forest Content} {made : ℕ} (s : IsWood f made) where
   IsWood-beside g more m once old new rising kinds =
       record {
         once = λ n. let t = total-beside (one_at n) f g in
-        ⊎_elim
-        (λ (lt : n < made). let z = old n lt in let k = s.once n in omega arith)
-        (λ (le : made ≤ n). let z = s.small n le in let k = once n in omega arith)
-        (cases_lt n made);
+            ⊎_elim
+            (λ (lt : n < made). let z = old n lt in let k = s.once n in omega arith)
+            (λ (le : made ≤ n). let z = s.small n le in let k = once n in omega arith)
+            (cases_lt n made);
         small = λ n l. let t = total-beside (one_at n) f g in let z = s.small n (omega arith) in let k = new n l in omega arith;
         rising = rw (tops-beside f g) (risen 0 (tops f) (omega arith) s.rising (λ n h. below n h));
         kinds = KindsFit-beside None f g s.kinds kinds;

@@ -1,10 +1,10 @@
 -- What the refusals of a command tell of the step that they let through.
-use Rattle.std.proofs.Common.{◌≡◌, ℕ, ◌<◌, ◌≤◌, Bool, true, false, not, if◌then◌else◌, List, [], ◌∷◌, Option, Some, None, is_none, refl, sym, ◌∙◌, arith}
+use Rattle.std.proofs.Common.{◌≡◌, ℕ, ◌<◌, Bool, true, false, not, if◌then◌else◌, List, [], ◌∷◌, Option, Some, None, is_none, refl, sym}
 use Rattle.std.proofs.lemmas.Bool.{false≢true}
 use Rattle.dom_model.specs.declared.DomError.{DomError}
 use Rattle.dom_model.specs.Forest.{Forest, occurs, entry_in}
 use Rattle.dom_model.specs.World.{Content, World}
-use Rattle.dom_model.specs.Reply.{Reply, Dom}
+use Rattle.dom_model.specs.Reply.{Reply}
 use Rattle.dom_model.specs.Guards.{Step, refused, guarded, checked}
 use Rattle.dom_model.specs.Sound.{IsSound}
 use Rattle.dom_model.proofs.Changes.{seen, nothing, just}

@@ -1,11 +1,11 @@
 -- An insertion leaves a sound world. DOM Standard, "Mutation algorithms": insert, pre-insert, append.
-use Rattle.std.proofs.Common.{◌≡◌, ℕ, ◌+◌, ◌<◌, ◌≤◌, ◌==◌, Bool, true, false, not, ◌&&◌, if◌then◌else◌, List, [], ◌∷◌, ◌++◌, length, Option, Some, None, IfSome, refl, ap, sym, ◌∙◌, subst, arith, ⊎_elim}
+use Rattle.std.proofs.Common.{◌≡◌, ℕ, ◌<◌, ◌≤◌, Bool, true, false, not, ◌&&◌, if◌then◌else◌, List, [], ◌∷◌, ◌++◌, length, Option, Some, None, IfSome, refl, ap, sym, ◌∙◌, subst, arith, ⊎_elim}
 use Rattle.std.proofs.lemmas.Bool.{cases_lt, false≢true}
 use Rattle.dom_model.specs.declared.Kind.{Kind}
 use Rattle.dom_model.specs.declared.Kind.TheVariants.{Element, Text, ProcessingInstruction, Comment, Document, DocumentType, DocumentFragment}
 use Rattle.dom_model.specs.Lists.{hits}
 use Rattle.dom_model.specs.Kinds.{is_kind, may_be_parent, may_stand_in}
-use Rattle.dom_model.specs.Forest.{Forest, occurs, entry_in, parent_of, children_of, ancestors}
+use Rattle.dom_model.specs.Forest.{Forest, occurs, parent_of, children_of, ancestors}
 use Rattle.dom_model.specs.World.{Content, World}
 use Rattle.dom_model.specs.Checks.{kind_passes, is_of_kind}
 use Rattle.dom_model.specs.Editing.{remove, remove_all, is_fragment, nodes_of, emptied_fragment, freed, put_all, gap_before, previous_to, insert_all, insert_nodes, insert}
@@ -17,7 +17,7 @@ use Rattle.dom_model.proofs.Indices.{child-parent, child-once, child-there}
 use Rattle.dom_model.proofs.RemovalOrder.{ancestors-split}
 use Rattle.dom_model.proofs.SoundForests.{IsWood, may_stand_at, entry_there, child-fits}
 use Rattle.dom_model.proofs.SoundWorlds.{child_there, sound-record_unless, sound-tree_record, sound-remove, sound-remove_all}
-use Rattle.dom_model.proofs.Loosened.{IsLoosened, loosened-remove, parent-remove, loosened-remove_all, parent-remove_all, root-remove_all}
+use Rattle.dom_model.proofs.Loosened.{loosened-remove, parent-remove, loosened-remove_all, parent-remove_all, root-remove_all}
 use Rattle.dom_model.proofs.SoundPlacing.{IsPlaceable, ArePlaceable, IsChildOf, fits-kept, sound-put_all}
 
 -- A node that may be inserted: the parent is not inside it, their kinds fit, and what it comes in before is another child of the parent.
@@ -94,7 +94,7 @@ module _ {f : Forest Content} {made : ℕ} (s : IsWood f made) (n parent : ℕ) 
       rw (em.1, ep.1) (stands_too ep.0.value.label.kind em.0.value.label.kind p c2)
 
   -- no child of the node is above the parent
-  child_outside : (m : ℕ) → parent_of f m ≡ Some n → hits m (ancestors parent f) ≡ 0
+  pub child_outside : (m : ℕ) → parent_of f m ≡ Some n → hits m (ancestors parent f) ≡ 0
   child_outside m e =
       ⊎_elim
       (λ (lt : 0 < hits m (ancestors parent f)).
@@ -150,11 +150,11 @@ ready_alone n parent child w s k g =
       parent_there = subst (λ x. 0 < x) (sym (a.numbers parent)) k.parent_there;
       placeable = (
         record {
-              there = subst (λ x. 0 < x) (sym (a.numbers n)) k.there;
-              root = parent-remove false n w s k.there n ∙ (elim (same_or n n) [ same e t ↦ rw t refl | apart ne t ↦ absurd (ne refl) ]);
-              outside = let i = a.paths n parent k.parent_there in let j = k.outside in omega arith;
-              fits = fits-kept w.forest v.forest a.kinds parent n ∙ fits_alone s.forest n parent child k g;
-            },
+          there = subst (λ x. 0 < x) (sym (a.numbers n)) k.there;
+          root = parent-remove false n w s k.there n ∙ (elim (same_or n n) [ same e t ↦ rw t refl | apart ne t ↦ absurd (ne refl) ]);
+          outside = let i = a.paths n parent k.parent_there in let j = k.outside in omega arith;
+          fits = fits-kept w.forest v.forest a.kinds parent n ∙ fits_alone s.forest n parent child k g;
+        },
         refl,
         tt,
       );
@@ -176,12 +176,12 @@ ready_children n parent child w s k g =
       sound = sound-remove_all ns w s;
       parent_there = subst (λ x. 0 < x) (sym (a.numbers parent)) k.parent_there;
       placeable = ArePlaceable-from v.forest parent ns (λ m. child-once f s.forest.once m n)
-      (λ m h. record {
-        there = subst (λ x. 0 < x) (sym (a.numbers m)) (there m h);
-        root = root-remove_all ns w s there m h;
-        outside = let i = a.paths m parent k.parent_there in let j = child_outside s.forest n parent child k m (child-parent f s.forest.once m n h) in omega arith;
-        fits = fits-kept f v.forest a.kinds parent m ∙ fits_of_fragment s.forest n parent child k m g (child-parent f s.forest.once m n h);
-      });
+          (λ m h. record {
+            there = subst (λ x. 0 < x) (sym (a.numbers m)) (there m h);
+            root = root-remove_all ns w s there m h;
+            outside = let i = a.paths m parent k.parent_there in let j = child_outside s.forest n parent child k m (child-parent f s.forest.once m n h) in omega arith;
+            fits = fits-kept f v.forest a.kinds parent m ∙ fits_of_fragment s.forest n parent child k m g (child-parent f s.forest.once m n h);
+          });
       before_child = kept child k.before_child (before_apart s.forest n parent child k);
     }
   where

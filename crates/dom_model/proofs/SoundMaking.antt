@@ -1,24 +1,22 @@
 -- New trees leave a sound world: a node that is made, and the copies of a tree. DOM Standard, "Interface Document", "Interface Node" (clone).
-use Rattle.std.proofs.Common.{◌≡◌, ℕ, suc, ◌+◌, ◌<◌, ◌≤◌, ◌==◌, Bool, true, false, if◌then◌else◌, List, [], ◌∷◌, Option, Some, None, refl, ap, sym, ◌∙◌, subst, arith, ⊎_elim}
-use Rattle.std.proofs.lemmas.Bool.{cases_lt, false≢true}
+use Rattle.std.proofs.Common.{◌≡◌, ℕ, suc, ◌+◌, ◌<◌, ◌≤◌, Bool, true, false, Option, Some, None, refl, arith, ⊎_elim}
+use Rattle.std.proofs.lemmas.Bool.{cases_lt}
 use Rattle.std.proofs.lemmas.List.Elements.{All-weaker}
 use Rattle.dom_model.specs.declared.Kind.{Kind}
-use Rattle.dom_model.specs.Lists.{hits}
 use Rattle.dom_model.specs.Kinds.{Label}
-use Rattle.dom_model.specs.Forest.{Node, Forest, empty, node, occurs, one_at, total, size, tops, beside, tree_at, entry_in, HasNode, inclusive_descendants, IsRising, KindsFit, IsForest}
+use Rattle.dom_model.specs.Forest.{Node, Forest, empty, node, occurs, one_at, size, tops, beside, tree_at, entry_in, HasNode, IsRising, KindsFit}
 use Rattle.dom_model.specs.World.{Content, Iterator, World}
 use Rattle.dom_model.specs.Making.{made_node}
 use Rattle.dom_model.specs.Clones.{renumbered, alone_of, original, with_copies, document_of_clone, clone_node, import_node}
 use Rattle.dom_model.specs.Sound.{IsIterator, IsSound}
 use Rattle.dom_model.proofs.Numbers.{same_or, same, apart}
 use Rattle.dom_model.proofs.Totals.{total-beside, total-tree_at}
-use Rattle.dom_model.proofs.Tops.{tops-tree_at}
 use Rattle.dom_model.proofs.Entries.{HasNode-occurs, occurs-HasNode}
 use Rattle.dom_model.proofs.Flattened.{hits-numbers}
 use Rattle.dom_model.proofs.KindsFitting.{KindsFit-root}
 use Rattle.dom_model.proofs.SoundForests.{IsWood, IsWood-beside}
 use Rattle.dom_model.proofs.Measured.{entry-beside}
-use Rattle.dom_model.proofs.Parts.{there-part, range-from_part, iterator-from_part}
+use Rattle.dom_model.proofs.Parts.{range-from_part, iterator-from_part}
 use Rattle.dom_model.proofs.SoundWorlds.{ranges-kept, walkers-kept, registrations-kept}
 
 -- the reference of an iterator is in the forest

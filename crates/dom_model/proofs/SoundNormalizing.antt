@@ -38,7 +38,7 @@ use Rattle.dom_model.proofs.SoundJoining.{AreUpTo, AreJoinable, sound-joined}
 abbrev pub SameKinds : Forest Content → Forest Content → Type 0
 SameKinds f g = (test : Kind → Bool) (n : ℕ) → kind_passes test g n ≡ kind_passes test f n
 
-removed_kinds : (n : ℕ) (w : World) → ((m : ℕ) → occurs m w.forest ≤ 1) → SameKinds w.forest (remove false n w).forest × ((m : ℕ) → occurs m (remove false n w).forest ≤ 1)
+pub removed_kinds : (n : ℕ) (w : World) → ((m : ℕ) → occurs m w.forest ≤ 1) → SameKinds w.forest (remove false n w).forest × ((m : ℕ) → occurs m (remove false n w).forest ≤ 1)
 removed_kinds n w o = go (parent_of w.forest n)
   where
     go : (p : Option ℕ) → SameKinds w.forest (removed_from false n p w).forest × ((m : ℕ) → occurs m (removed_from false n p w).forest ≤ 1)

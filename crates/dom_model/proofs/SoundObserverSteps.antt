@@ -1,5 +1,5 @@
 -- The commands of mutation observers leave a sound world. DOM Standard, "Interface MutationObserver".
-use Rattle.std.proofs.Common.{◌≡◌, ℕ, ◌==◌, Bool, true, false, not, ◌&&◌, if◌then◌else◌, List, [], ◌∷◌, ◌++◌, map, filter, length, Option, Some, None, is_none, All, refl}
+use Rattle.std.proofs.Common.{ℕ, ◌==◌, Bool, true, false, not, if◌then◌else◌, List, [], ◌∷◌, ◌++◌, map, filter, is_none, All}
 use Rattle.std.proofs.lemmas.List.Elements.{All-map, All-weaker, All-filter, All-push}
 use Rattle.std.specs.List.{list_any}
 use Rattle.dom_model.specs.Forest.{Forest, HasNode}

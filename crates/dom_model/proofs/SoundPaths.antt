@@ -1,28 +1,26 @@
 -- The part of a tree that lies from a point to the end of an ancestor's child, or from its start to the point, goes into a fragment:
 -- a sound world is left. DOM Standard, "Interface Range": extract, clone the contents.
-use Rattle.std.proofs.Common.{◌≡◌, ℕ, zero, suc, ◌+◌, ◌-◌, ◌<◌, ◌≤◌, ◌==◌, Bool, true, false, if◌then◌else◌, List, [], ◌∷◌, ◌++◌, take, drop, length, Option, Some, None, refl, ap, sym, ◌∙◌, subst, arith, ⊎_elim}
+use Rattle.std.proofs.Common.{◌≡◌, ℕ, zero, suc, ◌-◌, ◌<◌, ◌≤◌, Bool, true, false, if◌then◌else◌, List, [], ◌∷◌, take, drop, length, Some, refl, sym, ◌∙◌, subst, arith, ⊎_elim}
 use Rattle.std.proofs.lemmas.Bool.{cases_lt, false≢true}
 use Rattle.dom_model.specs.declared.Kind.{Kind}
 use Rattle.dom_model.specs.declared.Kind.TheVariants.{Element, Text, ProcessingInstruction, Comment, Document, DocumentType, DocumentFragment}
 use Rattle.dom_model.specs.Lists.{hits}
-use Rattle.dom_model.specs.Arena.{Entry}
 use Rattle.dom_model.specs.Kinds.{is_kind, is_character_data, may_be_parent, may_stand_in}
-use Rattle.dom_model.specs.Forest.{Node, Forest, occurs, entry_in, parent_of, children_of}
-use Rattle.dom_model.specs.World.{Content, World}
+use Rattle.dom_model.specs.Forest.{occurs, parent_of, children_of}
+use Rattle.dom_model.specs.World.{World}
 use Rattle.dom_model.specs.PreRemoval.{past}
-use Rattle.dom_model.specs.Checks.{up_to, entry_has, kind_passes, is_of_kind}
+use Rattle.dom_model.specs.Checks.{up_to, kind_passes, is_of_kind}
 use Rattle.dom_model.specs.Editing.{append}
 use Rattle.dom_model.specs.Clones.{clone_node}
 use Rattle.dom_model.specs.Data.{data_of}
 use Rattle.dom_model.specs.Contents.{units_into, children_into, copy_into, tail_into, head_into}
 use Rattle.dom_model.specs.Sound.{IsSound}
-use Rattle.dom_model.proofs.Numbers.{same_or, same, apart}
 use Rattle.dom_model.proofs.Climbing.{hits-append, hits-first}
 use Rattle.dom_model.proofs.Indices.{child-parent, child-there}
 use Rattle.dom_model.proofs.IteratorsStay.{hits-past}
 use Rattle.dom_model.proofs.RootsKept.{hits-up_to}
 use Rattle.dom_model.proofs.Listed.{hits-other}
-use Rattle.dom_model.proofs.SoundForests.{IsWood, entry_there, child-fits}
+use Rattle.dom_model.proofs.SoundForests.{entry_there, child-fits}
 use Rattle.dom_model.proofs.SoundAppending.{IsHolder, IsPlain, IsDrawn, holder_stays, plain_stays}
 use Rattle.dom_model.proofs.SoundDrawing.{drawn_children, new_apart, IsFilled, filled-then, filled-of, filled_by_moves, holder_filled, plain_filled}
 use Rattle.dom_model.proofs.SoundCopies.{filled_units, opened, drawn_opened, holder_inner, inner_new, filled_copy}
@@ -160,13 +158,13 @@ filled_more f v u n ns path a b moved =
       there = λ m h. b.extends.there m (a.there m h);
       kinds = λ test m h. b.extends.kinds test m (a.there m h) ∙ a.kinds test m h;
       parents = λ m h far.
-      let e = a.parents m h (λ x k. let z = far x k in let i = hits-append x (n ∷ []) path in omega arith) in
-      b.extends.parents m (a.there m h)
-      (⊎_elim
-      (λ (lt : 0 < hits m ns). absurd (let z = far n (moved m lt h) in let i = hits-first n path in omega arith))
-      (λ (le : hits m ns ≤ 0). omega arith)
-      (cases_lt 0 (hits m ns)))
-      ∙ e;
+          let e = a.parents m h (λ x k. let z = far x k in let i = hits-append x (n ∷ []) path in omega arith) in
+          b.extends.parents m (a.there m h)
+          (⊎_elim
+          (λ (lt : 0 < hits m ns). absurd (let z = far n (moved m lt h) in let i = hits-first n path in omega arith))
+          (λ (le : hits m ns ≤ 0). omega arith)
+          (cases_lt 0 (hits m ns)))
+          ∙ e;
       made = (let i = a.made in let j = b.made in omega arith);
     }
 

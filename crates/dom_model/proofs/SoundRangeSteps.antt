@@ -1,5 +1,5 @@
 -- The commands that make, set and release live ranges leave a sound world. DOM Standard, "Interface Range".
-use Rattle.std.proofs.Common.{◌≡◌, ℕ, ◌+◌, ◌<◌, ◌≤◌, Bool, true, false, not, List, [], ◌∷◌, length, Option, Some, None, IfSome, All, slice_index_or, refl, ap, sym, ◌∙◌, subst, arith, ⊎_elim}
+use Rattle.std.proofs.Common.{◌≡◌, ℕ, ◌<◌, ◌≤◌, Bool, true, false, [], ◌∷◌, length, Option, Some, None, IfSome, refl, sym, subst, arith, ⊎_elim}
 use Rattle.std.proofs.lemmas.Bool.{cases_lt}
 use Rattle.std.proofs.lemmas.List.{get_or_past}
 use Rattle.std.proofs.lemmas.List.Elements.{All-set, All-push}
@@ -9,7 +9,7 @@ use Rattle.std.proofs.lemmas.Bool.{false≢true}
 use Rattle.dom_model.specs.declared.DomError.TheVariants.{InvalidNodeTypeError}
 use Rattle.dom_model.specs.Arena.{Entry}
 use Rattle.dom_model.specs.Kinds.{is_kind}
-use Rattle.dom_model.specs.Forest.{Node, Forest, occurs, entry_in}
+use Rattle.dom_model.specs.Forest.{Node, Forest, entry_in}
 use Rattle.dom_model.specs.World.{Content, Point, Range, World}
 use Rattle.dom_model.specs.Lengths.{unit_count}
 use Rattle.dom_model.specs.Checks.{entry_has, kind_passes, is_of_kind}

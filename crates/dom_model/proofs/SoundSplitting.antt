@@ -86,13 +86,13 @@ module _ (n parent offset : ℕ) (w : World) (s : IsSound w) (hn : 0 < occurs n 
   absent : occurs w.made w.forest ≡ 0
   absent = s.forest.small w.made (omega arith)
 
-  entry-new : entry_in made.forest w.made ≡ Some (record { value = new_node; parent = None; children = [] })
+  pub entry-new : entry_in made.forest w.made ≡ Some (record { value = new_node; parent = None; children = [] })
   entry-new =
       entry-joined None w.made w.forest (node new_node empty empty)
       ∙ ap (λ o. or_else o (entry_in (node new_node empty empty) w.made)) (entry_under-absent None w.made w.forest absent)
       ∙ (elim (same_or w.made w.made) [ same e t ↦ rw t refl | apart ne t ↦ absurd (ne refl) ])
 
-  there-new : 0 < occurs w.made made.forest
+  pub there-new : 0 < occurs w.made made.forest
   there-new = occurs-HasNode made.forest w.made (rw entry-new refl)
 
   apart-new : (m : ℕ) → 0 < occurs m w.forest → m ≡ w.made → ⊥
@@ -107,7 +107,7 @@ module _ (n parent offset : ℕ) (w : World) (s : IsSound w) (hn : 0 < occurs n 
   pub par-made : parent_of made.forest n ≡ Some parent
   par-made = parent-beside w.forest (node new_node empty empty) n hn ∙ par
 
-  text-made : (test : Kind → Bool) → kind_passes test made.forest n ≡ kind_passes test w.forest n
+  pub text-made : (test : Kind → Bool) → kind_passes test made.forest n ≡ kind_passes test w.forest n
   text-made test = kind-beside w.forest (node new_node empty empty) n hn test
 
   has_data : kind_passes is_character_data w.forest n ≡ true
@@ -119,7 +119,7 @@ module _ (n parent offset : ℕ) (w : World) (s : IsSound w) (hn : 0 < occurs n 
   bare-new : children_of made.forest w.made ≡ []
   bare-new = ap children_in entry-new
 
-  root-new : parent_of made.forest w.made ≡ None
+  pub root-new : parent_of made.forest w.made ≡ None
   root-new = ap parent_in entry-new
 
   pub placeable : IsPlaceable made.forest parent w.made
@@ -153,15 +153,15 @@ module _ (n parent offset : ℕ) (w : World) (s : IsSound w) (hn : 0 < occurs n 
   pub there-parted : (m : ℕ) → 0 < occurs m made.forest → 0 < occurs m parted
   there-parted m h = subst (λ x. 0 < x) (sym (occurs_placed parent w.made (next_of made.forest n) made sm (there-old parent hp) placeable m)) h
 
-  kind-parted : (test : Kind → Bool) (m : ℕ) → kind_passes test parted m ≡ kind_passes test made.forest m
+  pub kind-parted : (test : Kind → Bool) (m : ℕ) → kind_passes test parted m ≡ kind_passes test made.forest m
   kind-parted = kind_placed parent w.made (next_of made.forest n) made sm (there-old parent hp) placeable
 
-  par-parted : parent_of parted n ≡ Some parent
+  pub par-parted : parent_of parted n ≡ Some parent
   par-parted =
       parent_placed parent w.made (next_of made.forest n) made sm (there-old parent hp) placeable n (there-old n hn)
       ∙ (elim (same_or n w.made) [ same e t ↦ absurd (apart-new n hn e) | apart ne t ↦ rw t par-made ])
 
-  par-new : parent_of parted w.made ≡ Some parent
+  pub par-new : parent_of parted w.made ≡ Some parent
   par-new =
       parent_placed parent w.made (next_of made.forest n) made sm (there-old parent hp) placeable w.made there-new
       ∙ (elim (same_or w.made w.made) [ same e t ↦ rw t refl | apart ne t ↦ absurd (ne refl) ])
@@ -172,7 +172,7 @@ module _ (n parent offset : ℕ) (w : World) (s : IsSound w) (hn : 0 < occurs n 
   pub index-kept : index_of parted n ≡ index_of made.forest n
   index-kept = index-alike alike n ∙ index-split made.forest sm.forest.once parent n w.made offset (there-old n hn) there-new par-made root-new bare bare-new
 
-  index-after : index_of parted w.made ≡ index_of parted n + 1
+  pub index-after : index_of parted w.made ≡ index_of parted n + 1
   index-after =
       index-alike alike w.made
       ∙ index-new made.forest sm.forest.once parent n w.made offset (there-old n hn) there-new par-made root-new bare bare-new

@@ -1,16 +1,16 @@
 -- Setting text content leaves a sound world. DOM Standard, "Interface Node": textContent; string replace all.
-use Rattle.std.proofs.Common.{◌≡◌, ℕ, ◌+◌, ◌<◌, ◌≤◌, ◌==◌, Bool, true, false, not, ◌&&◌, List, [], ◌∷◌, length, Option, Some, None, refl, ap, sym, ◌∙◌, subst, arith, ⊎_elim}
-use Rattle.std.proofs.lemmas.Bool.{cases_lt, false≢true}
+use Rattle.std.proofs.Common.{◌≡◌, ℕ, ◌<◌, ◌≤◌, Bool, true, false, not, ◌&&◌, List, [], ◌∷◌, Some, None, refl, ap, sym, ◌∙◌, subst, arith, ⊎_elim}
+use Rattle.std.proofs.lemmas.Bool.{cases_lt}
 use Rattle.dom_model.specs.declared.Kind.{Kind}
 use Rattle.dom_model.specs.declared.Kind.TheVariants.{Element, Text, ProcessingInstruction, Comment, Document, DocumentType, DocumentFragment}
 use Rattle.dom_model.specs.Lists.{hits, or_else}
 use Rattle.dom_model.specs.Arena.{Entry}
 use Rattle.dom_model.specs.Kinds.{Label, is_kind, is_character_data, may_be_parent}
-use Rattle.dom_model.specs.Forest.{Node, Forest, empty, node, occurs, one_at, beside, entry_in, ancestors}
+use Rattle.dom_model.specs.Forest.{Node, Forest, empty, node, occurs, one_at, entry_in, ancestors}
 use Rattle.dom_model.specs.World.{Content, World}
 use Rattle.dom_model.specs.Checks.{entry_has, kind_passes, is_of_kind}
 use Rattle.dom_model.specs.Making.{made_node, named, with_text}
-use Rattle.dom_model.specs.Editing.{node_document, replace_all}
+use Rattle.dom_model.specs.Editing.{node_document}
 use Rattle.dom_model.specs.Data.{by_kind, string_replace_all, set_text_content_by, set_text_content}
 use Rattle.dom_model.specs.Sound.{IsSound}
 use Rattle.dom_model.proofs.Numbers.{same_or, same, apart}

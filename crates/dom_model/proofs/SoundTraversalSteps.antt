@@ -1,14 +1,13 @@
 -- The commands of iterators and tree walkers leave a sound world. DOM Standard, "Interface NodeIterator", "Interface TreeWalker".
-use Rattle.std.proofs.Common.{◌≡◌, ℕ, ◌+◌, ◌<◌, ◌≤◌, Bool, true, false, List, [], ◌∷◌, ◌++◌, find, length, Option, Some, None, IfSome, All, slice_get, slice_set, slice_index_or, refl, ap, sym, ◌∙◌, subst, arith, ◌⊎◌, inl, inr}
+use Rattle.std.proofs.Common.{◌≡◌, ℕ, ◌<◌, ◌≤◌, Bool, true, false, List, [], ◌∷◌, ◌++◌, find, length, Option, Some, None, IfSome, All, slice_get, slice_index_or, refl, sym, subst, arith, ◌⊎◌, inl, inr}
 use Rattle.std.proofs.lemmas.Option.{slice_get_cases}
 use Rattle.std.proofs.lemmas.List.Elements.{All-set, All-push}
 use Rattle.dom_model.specs.declared.Move.{Move}
-use Rattle.dom_model.specs.Lists.{hits}
-use Rattle.dom_model.specs.Forest.{Forest, occurs, one_at, tree_at, HasNode, inclusive_descendants}
+use Rattle.dom_model.specs.Forest.{Forest, occurs, one_at, tree_at, HasNode}
 use Rattle.dom_model.specs.World.{Content, Filter, Iterator, Walker, World}
 use Rattle.dom_model.specs.Reply.{Number, MaybeNumber}
 use Rattle.dom_model.specs.Iterators.{new_iterator, iterator_moved, next_found, previous_found, moved_to_next, moved_to_previous}
-use Rattle.dom_model.specs.Walks.{new_walker, walk_list, found_by_steps, is_inside_root, found_where, walk_found, walker_moved}
+use Rattle.dom_model.specs.Walks.{new_walker, walk_list, is_inside_root, found_where, walk_found, walker_moved}
 use Rattle.dom_model.specs.Filters.{accepts}
 use Rattle.dom_model.specs.Guards.{Bounds, Step, guarded, no_node, no_room, answers, does}
 use Rattle.dom_model.specs.AnswerTraversal.{with_object, iterator_at, walker_at, with_iterator, with_walker, answer_create_iterator, answer_create_walker, answer_iterator, answer_next_node, answer_previous_node, answer_walker, answer_set_current, answer_walk}

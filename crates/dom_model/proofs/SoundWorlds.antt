@@ -1,18 +1,17 @@
 -- The parts of a sound world, and what a removal leaves of them. DOM Standard, "Mutation algorithms": remove.
-use Rattle.std.proofs.Common.{◌≡◌, ℕ, ◌+◌, ◌<◌, ◌≤◌, ◌==◌, Bool, true, false, List, [], ◌∷◌, ◌++◌, map, filter, flat_map, Option, Some, None, IfSome, All, option_map, unwrap_or, refl, ap, sym, ◌∙◌, subst, arith}
+use Rattle.std.proofs.Common.{◌≡◌, ℕ, ◌<◌, ◌==◌, Bool, true, false, List, [], ◌∷◌, map, filter, Option, Some, None, IfSome, All, option_map, unwrap_or, refl, sym, subst}
 use Rattle.std.proofs.lemmas.List.Elements.{All-map, All-weaker, All-append, All-filter, All-nil}
-use Rattle.dom_model.specs.Arena.{parent_in}
 use Rattle.dom_model.specs.Forest.{Forest, occurs, one_at, cut, entry_in, HasNode, parent_of, ancestors, previous_of, next_of}
-use Rattle.dom_model.specs.World.{Content, Point, Range, Iterator, Walker, Options, Registration, Mutation, Observing, World}
-use Rattle.dom_model.specs.Points.{moved_range, map_ranges, after_removal}
-use Rattle.dom_model.specs.PreRemoval.{pre_removed, pre_removed_all}
-use Rattle.dom_model.specs.Observing.{registered_on, standing_on, transient_of, with_transients}
+use Rattle.dom_model.specs.World.{Content, Point, Range, Walker, Registration, Mutation, World}
+use Rattle.dom_model.specs.Points.{moved_range, map_ranges}
+use Rattle.dom_model.specs.PreRemoval.{pre_removed}
+use Rattle.dom_model.specs.Observing.{registered_on, standing_on, transient_of}
 use Rattle.dom_model.specs.Editing.{queued, tree_record, tree_record_unless, taken_out, transients_made, removed_from, remove, remove_all}
 use Rattle.dom_model.specs.Sound.{IsRange, IsIterator, IsWalker, IsRegistration, IsSound}
 use Rattle.dom_model.proofs.Changes.{seen, nothing, just}
 use Rattle.dom_model.proofs.Totals.{total-cut}
 use Rattle.dom_model.proofs.Entries.{HasNode-occurs, occurs-HasNode}
-use Rattle.dom_model.proofs.SoundForests.{IsWood, IsWood-cut}
+use Rattle.dom_model.proofs.SoundForests.{IsWood-cut}
 use Rattle.dom_model.proofs.RangesCut.{range-cut, iterator-cut}
 
 -- a live range, or none
@@ -86,10 +85,10 @@ sound-transients n parent w h s =
       iterators = s.iterators;
       walkers = s.walkers;
       registrations =
-      All-append (IsRegistration w.forest) w.observing.registrations (map (transient_of n) asked) s.registrations
-      (All-map (IsRegistration w.forest) (transient_of n) asked
-      (All-weaker (IsRegistration w.forest) (λ r. IsRegistration w.forest (transient_of n r)) (transient-sound w.forest n h) asked
-      (All-filter (λ (r : Registration). r.options.subtree) (IsRegistration w.forest) standing (standing-kept w.forest (ancestors parent w.forest) w.observing.registrations s.registrations))));
+          All-append (IsRegistration w.forest) w.observing.registrations (map (transient_of n) asked) s.registrations
+          (All-map (IsRegistration w.forest) (transient_of n) asked
+          (All-weaker (IsRegistration w.forest) (λ r. IsRegistration w.forest (transient_of n r)) (transient-sound w.forest n h) asked
+          (All-filter (λ (r : Registration). r.options.subtree) (IsRegistration w.forest) standing (standing-kept w.forest (ancestors parent w.forest) w.observing.registrations s.registrations))));
     }
   where
     standing : List Registration
