@@ -41,6 +41,7 @@ pub mod EditsOfAnswers
 pub mod EditsOfCommands
 pub mod EditsOfDeletedContents
 pub mod EditsOfDrawnContents
+pub mod EditsOfEachCommand
 pub mod EditsOfInsertedNodes
 pub mod EditsOfInsertions
 pub mod EditsOfNormalizing
@@ -141,6 +142,7 @@ pub mod NoInput
 pub mod NodeBeforeItself
 pub mod NodeRegistrations
 pub mod Numbers
+pub mod NumbersKept
 pub mod NumbersLimited
 pub mod ObserverOptions
 pub mod ObserversApart

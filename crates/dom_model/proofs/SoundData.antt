@@ -1,25 +1,24 @@
 -- Changes of data and of attributes leave a sound world. DOM Standard, "Interface CharacterData" (replace data), "Interface Element".
-use Rattle.std.proofs.Common.{◌≡◌, ℕ, ◌+◌, ◌-◌, ◌<◌, ◌≤◌, ◌==◌, nat_lt, Bool, true, false, not, if◌then◌else◌, List, [], ◌∷◌, ◌++◌, take, drop, length, Option, Some, None, All, option_map, refl, ap, sym, ◌∙◌, subst, arith, length-append, length-drop}
+use Rattle.std.proofs.Common.{◌≡◌, ℕ, ◌+◌, ◌≤◌, ◌==◌, Bool, true, false, if◌then◌else◌, List, [], ◌++◌, take, drop, length, Option, Some, None, All, option_map, refl, ap, sym, ◌∙◌, subst, arith, length-append, length-drop}
 use Rattle.std.proofs.lemmas.Bool.{false≢true}
 use Rattle.std.proofs.lemmas.Bool.Decides.{nat_tests}
 use Rattle.std.proofs.lemmas.List.{length-take-le}
 use Rattle.std.proofs.lemmas.List.Elements.{All-weaker}
-use Rattle.dom_model.specs.declared.Kind.{Kind}
 use Rattle.dom_model.specs.Arena.{Entry}
 use Rattle.dom_model.specs.Kinds.{is_character_data}
-use Rattle.dom_model.specs.Forest.{Node, Forest, occurs, with_node, entry_in, HasNode}
-use Rattle.dom_model.specs.Attributes.{Attribute, with_attribute, without_attribute, attribute_value}
+use Rattle.dom_model.specs.Forest.{Node, Forest, with_node, entry_in}
+use Rattle.dom_model.specs.Attributes.{Attribute, with_attribute, without_attribute}
 use Rattle.dom_model.specs.Texts.{spliced}
-use Rattle.dom_model.specs.World.{Content, Point, Range, Iterator, World}
-use Rattle.dom_model.specs.Points.{after_splice, moved_range}
+use Rattle.dom_model.specs.World.{Content, Range, World}
+use Rattle.dom_model.specs.Points.{after_splice}
 use Rattle.dom_model.specs.Checks.{entry_has, kind_passes}
-use Rattle.dom_model.specs.Lengths.{unit_count, length_in, node_length, length_at}
+use Rattle.dom_model.specs.Lengths.{unit_count, length_in, node_length}
 use Rattle.dom_model.specs.Data.{content_in, data_of, attributes_of, with_data, with_attributes, cut_count, data_record, replace_units, replace_data, set_data, attribute_record, set_attribute, has_attribute, remove_attribute_if, remove_attribute, is_toggled_on, toggled, toggle_attribute}
-use Rattle.dom_model.specs.Sound.{IsRange, IsIterator, IsSound}
+use Rattle.dom_model.specs.Sound.{IsIterator, IsSound}
 use Rattle.dom_model.proofs.Numbers.{same_or, same, apart}
 use Rattle.dom_model.proofs.Changes.{change_at}
 use Rattle.dom_model.proofs.SameShape.{IsAlike, bare_node, with_node-alike}
-use Rattle.dom_model.proofs.SoundForests.{IsWood, IsWood-alike}
+use Rattle.dom_model.proofs.SoundForests.{IsWood-alike}
 use Rattle.dom_model.proofs.Measured.{data_kind, entry-with_node}
 use Rattle.dom_model.proofs.RangesSpliced.{range-alike, iterator-alike, there-alike, range-splice}
 use Rattle.dom_model.proofs.SoundWorlds.{IsLive, ranges-moved, ranges-kept, walkers-kept, registrations-kept}

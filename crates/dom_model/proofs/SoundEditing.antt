@@ -1,23 +1,23 @@
 -- Pre-insert, append, replace, replace all and adopt leave a sound world. DOM Standard, "Mutation algorithms".
-use Rattle.std.proofs.Common.{◌≡◌, ℕ, suc, ◌+◌, ◌<◌, ◌≤◌, ◌==◌, Bool, true, false, not, ◌&&◌, ◌||◌, if◌then◌else◌, List, [], ◌∷◌, ◌++◌, Option, Some, None, IfSome, refl, ap, sym, ◌∙◌, subst, arith, ⊎_elim}
+use Rattle.std.proofs.Common.{◌≡◌, ℕ, ◌+◌, ◌<◌, ◌≤◌, Bool, true, false, not, ◌&&◌, ◌||◌, if◌then◌else◌, List, [], ◌∷◌, ◌++◌, Option, Some, None, IfSome, refl, ap, sym, ◌∙◌, subst, arith}
 use Rattle.std.proofs.lemmas.Bool.{false≢true}
 use Rattle.std.proofs.lemmas.List.Elements.{All-weaker}
 use Rattle.dom_model.specs.declared.Kind.TheVariants.{Text, Document, DocumentType}
 use Rattle.dom_model.specs.declared.DomError.{DomError}
 use Rattle.dom_model.specs.declared.DomError.TheVariants.{HierarchyRequestError}
-use Rattle.dom_model.specs.Lists.{hits, among, is_number, head_of, after, place_in}
+use Rattle.dom_model.specs.Lists.{hits, is_number, head_of, after, place_in}
 use Rattle.dom_model.specs.Arena.{list_under}
 use Rattle.dom_model.specs.Kinds.{is_kind, may_be_parent}
-use Rattle.dom_model.specs.Forest.{Forest, occurs, HasNode, in_document, adopted, entry_in, parent_of, children_of, next_of, ancestors}
-use Rattle.dom_model.specs.World.{Content, Iterator, World}
-use Rattle.dom_model.specs.Checks.{first_refusal, if_given, kind_passes, is_of_kind, is_misplaced, common_conditions, check_insert, check_replace, kind_refuses, document_refuses, document_refuses_instead}
-use Rattle.dom_model.specs.Editing.{tree_record, remove, remove_all, insert, reference_child, pre_insert, append, replace, insert_if_any, added_by, replaced_record, replace_all, adopt}
+use Rattle.dom_model.specs.Forest.{Forest, occurs, in_document, adopted, entry_in, parent_of, children_of, next_of, ancestors}
+use Rattle.dom_model.specs.World.{Content, World}
+use Rattle.dom_model.specs.Checks.{first_refusal, if_given, kind_passes, is_of_kind, common_conditions, check_insert, check_replace, kind_refuses, document_refuses, document_refuses_instead}
+use Rattle.dom_model.specs.Editing.{remove, remove_all, insert, reference_child, pre_insert, replace, insert_if_any, added_by, replaced_record, replace_all, adopt}
 use Rattle.dom_model.specs.Sound.{IsIterator, IsSound}
 use Rattle.dom_model.proofs.Numbers.{same_or, same, apart}
 use Rattle.dom_model.proofs.Changes.{seen, nothing, just}
-use Rattle.dom_model.proofs.Climbing.{not_among-hits, hits-first}
+use Rattle.dom_model.proofs.Climbing.{not_among-hits}
 use Rattle.dom_model.proofs.PutBack.{hits-after, hits-head_of}
-use Rattle.dom_model.proofs.Entries.{HasNode-occurs, occurs-HasNode}
+use Rattle.dom_model.proofs.Entries.{occurs-HasNode}
 use Rattle.dom_model.proofs.Indices.{child-parent, child-once, child-there}
 use Rattle.dom_model.proofs.SameShape.{IsAlike, with_tree-alike}
 use Rattle.dom_model.proofs.SoundForests.{IsWood-alike}

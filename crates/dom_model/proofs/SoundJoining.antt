@@ -1,16 +1,16 @@
 -- Texts that follow a Text are joined to it: a sound world is left. DOM Standard, "Interface Node": normalize.
-use Rattle.std.proofs.Common.{◌≡◌, ℕ, ◌+◌, ◌-◌, ◌<◌, ◌≤◌, ◌==◌, nat_lt, Bool, true, false, ◌&&◌, if◌then◌else◌, List, [], ◌∷◌, ◌++◌, flat_map, length, Option, Some, None, IfSome, All, slice_index_or, refl, ap, sym, ◌∙◌, subst, arith, append_assoc, length-append, ⊎_elim}
+use Rattle.std.proofs.Common.{◌≡◌, ℕ, ◌+◌, ◌-◌, ◌<◌, ◌≤◌, ◌==◌, nat_lt, Bool, true, false, ◌&&◌, if◌then◌else◌, List, [], ◌∷◌, ◌++◌, flat_map, length, Option, Some, None, IfSome, slice_index_or, refl, ap, sym, ◌∙◌, subst, arith, append_assoc, length-append, ⊎_elim}
 use Rattle.std.proofs.lemmas.Bool.{cases_lt, false≢true, lt-ltb}
 use Rattle.std.proofs.Math.Path.{fun_ext}
 use Rattle.dom_model.specs.declared.Kind.{Kind}
 use Rattle.dom_model.specs.declared.Kind.TheVariants.{Element, Text, ProcessingInstruction, Comment, Document, DocumentType, DocumentFragment}
 use Rattle.dom_model.specs.Lists.{hits, among, place_in, left_out}
 use Rattle.dom_model.specs.Arena.{Entry}
-use Rattle.dom_model.specs.Kinds.{is_kind, is_character_data}
+use Rattle.dom_model.specs.Kinds.{is_kind}
 use Rattle.dom_model.specs.Forest.{Node, Forest, occurs, one_at, tree_at, cut, entry_in, parent_of, children_of, index_of, inclusive_descendants}
 use Rattle.dom_model.specs.World.{Content, Point, Range, World}
-use Rattle.dom_model.specs.Points.{after_merge, after_removal, map_ranges, moved_range}
-use Rattle.dom_model.specs.Checks.{entry_has, kind_passes, is_of_kind}
+use Rattle.dom_model.specs.Points.{after_merge, map_ranges}
+use Rattle.dom_model.specs.Checks.{entry_has, is_of_kind}
 use Rattle.dom_model.specs.Lengths.{unit_count, node_length}
 use Rattle.dom_model.specs.Editing.{remove}
 use Rattle.dom_model.specs.Data.{content_in, data_of, joined_data, merged_ends, merge_ends, remove_each}
@@ -18,14 +18,14 @@ use Rattle.dom_model.specs.Sound.{IsRange, IsSound}
 use Rattle.dom_model.proofs.Numbers.{same_or, same, apart}
 use Rattle.dom_model.proofs.Changes.{cut_at}
 use Rattle.dom_model.proofs.Totals.{total-tree_at}
-use Rattle.dom_model.proofs.Climbing.{hits-append, hits-first, among-hits, hits-not_among}
+use Rattle.dom_model.proofs.Climbing.{hits-append, hits-first, hits-not_among}
 use Rattle.dom_model.proofs.Entries.{entry-cut, children-cut, parent-cut}
 use Rattle.dom_model.proofs.Flattened.{hits-numbers}
-use Rattle.dom_model.proofs.Indices.{child-listed, child-once, child-parent, child-there, index-child, index-cut}
+use Rattle.dom_model.proofs.Indices.{child-once, child-parent, child-there, index-child, index-cut}
 use Rattle.dom_model.proofs.SplitOrder.{inside-childless}
 use Rattle.dom_model.proofs.Listed.{hits-itself, place-behind, place-first, place-second, left_out-here}
 use Rattle.dom_model.proofs.SoundForests.{data-childless}
-use Rattle.dom_model.proofs.SoundWorlds.{Lives, each-moved, each-kept, sound-remove}
+use Rattle.dom_model.proofs.SoundWorlds.{Lives, each-moved, sound-remove}
 use Rattle.dom_model.proofs.Loosened.{loosened-remove, forest-remove}
 use Rattle.dom_model.proofs.SoundData.{length-data}
 use Rattle.dom_model.proofs.SoundSplitting.{text_has_data}
@@ -187,10 +187,10 @@ module _ (v : World) (t p base first : ℕ) (ts : List ℕ) (j : AreJoinable v t
       record {
         forest = j.sound.forest;
         ranges =
-        each-moved (λ r. IsRange v.forest r × AreUpTo t base r) (IsRange v.forest) joins
-        (λ r h. range-merged j.sound.forest p t first base (is_there t t_in) (is_there first first_in) (is_child t t_in) (is_child first first_in) index_first (bare_of t j.text) (bare_of first text_first) (text_is_no_doctype v.forest t j.text) room_first r h.0 h.1.0 h.1.1)
-        v.ranges
-        (lives-both (IsRange v.forest) (AreUpTo t base) (λ r. IsRange v.forest r × AreUpTo t base r) (λ r a b. (a, b)) v.ranges j.sound.ranges j.up_to);
+            each-moved (λ r. IsRange v.forest r × AreUpTo t base r) (IsRange v.forest) joins
+            (λ r h. range-merged j.sound.forest p t first base (is_there t t_in) (is_there first first_in) (is_child t t_in) (is_child first first_in) index_first (bare_of t j.text) (bare_of first text_first) (text_is_no_doctype v.forest t j.text) room_first r h.0 h.1.0 h.1.1)
+            v.ranges
+            (lives-both (IsRange v.forest) (AreUpTo t base) (λ r. IsRange v.forest r × AreUpTo t base r) (λ r a b. (a, b)) v.ranges j.sound.ranges j.up_to);
         iterators = j.sound.iterators;
         walkers = j.sound.walkers;
         registrations = j.sound.registrations;
@@ -284,13 +284,13 @@ module _ (v : World) (t p base first : ℕ) (ts : List ℕ) (j : AreJoinable v t
         listed = listed_left;
         texts = λ m h. kind_left m ∙ j.texts m (let i = hits-append m (first ∷ []) ts in omega arith);
         room = (
-          let a : joined_data left ts ≡ joined_data v ts = ap (λ (data_at : ℕ → List ℕ). flat_map data_at ts) (fun_ext content_left) in
-          let b = ap length a in
-          let c = ap length (content_left t) in
-          let d = j.room in
-          let e = length-append (data_of v first) (joined_data v ts) in
-          omega arith
-        );
+            let a : joined_data left ts ≡ joined_data v ts = ap (λ (data_at : ℕ → List ℕ). flat_map data_at ts) (fun_ext content_left) in
+            let b = ap length a in
+            let c = ap length (content_left t) in
+            let d = j.room in
+            let e = length-append (data_of v first) (joined_data v ts) in
+            omega arith
+            );
         up_to = up_to_left;
       }
 

@@ -1,20 +1,20 @@
 -- Normalize leaves a sound world. DOM Standard, "Interface Node": normalize.
-use Rattle.std.proofs.Common.{◌≡◌, ℕ, ◌+◌, ◌-◌, ◌<◌, ◌≤◌, ◌==◌, nat_lt, nat_le, Bool, true, false, ◌&&◌, if◌then◌else◌, List, [], ◌∷◌, ◌++◌, filter, flat_map, take_while, drop, length, Option, Some, None, refl, ap, sym, ◌∙◌, subst, arith, ⊎_elim}
+use Rattle.std.proofs.Common.{◌≡◌, ℕ, ◌+◌, ◌<◌, ◌≤◌, ◌==◌, Bool, true, false, if◌then◌else◌, List, [], ◌∷◌, ◌++◌, filter, take_while, drop, length, Option, Some, None, refl, ap, sym, ◌∙◌, subst, arith, ⊎_elim}
 use Rattle.std.proofs.lemmas.Bool.{cases_lt, false≢true, le-ltb}
 use Rattle.dom_model.specs.declared.Kind.{Kind}
 use Rattle.dom_model.specs.declared.Kind.TheVariants.{Text}
 use Rattle.dom_model.specs.Lists.{hits, among, head_of}
 use Rattle.dom_model.specs.Arena.{Entry, list_under, siblings_in}
-use Rattle.dom_model.specs.Kinds.{is_kind, is_character_data}
-use Rattle.dom_model.specs.Forest.{Node, Forest, empty, node, occurs, one_at, tops, numbers, tree_at, cut, with_node, entry_in, parent_of, children_of, ancestors, inclusive_descendants}
+use Rattle.dom_model.specs.Kinds.{is_kind}
+use Rattle.dom_model.specs.Forest.{Node, Forest, empty, node, occurs, one_at, tops, numbers, tree_at, entry_in, parent_of, children_of, inclusive_descendants}
 use Rattle.dom_model.specs.Texts.{spliced}
-use Rattle.dom_model.specs.World.{Content, Point, Range, World}
+use Rattle.dom_model.specs.World.{Content, Point, World}
 use Rattle.dom_model.specs.Points.{after_splice}
 use Rattle.dom_model.specs.PreRemoval.{past}
 use Rattle.dom_model.specs.Checks.{entry_has, kind_passes, is_of_kind, up_to}
 use Rattle.dom_model.specs.Lengths.{unit_count, node_length}
 use Rattle.dom_model.specs.Editing.{removed_from, remove}
-use Rattle.dom_model.specs.Data.{content_in, data_of, with_data, cut_count, data_record, replace_units, replace_data, following_texts, joined_data, merged_ends, merge_ends, remove_each, join_following, normalize_text, is_descendant, text_descendants, normalize_each, normalize}
+use Rattle.dom_model.specs.Data.{content_in, data_of, with_data, cut_count, replace_data, following_texts, joined_data, merged_ends, merge_ends, remove_each, join_following, normalize_text, is_descendant, text_descendants, normalize_each, normalize}
 use Rattle.dom_model.specs.Sound.{IsRange, IsSound}
 use Rattle.dom_model.proofs.Numbers.{same_or, same, apart}
 use Rattle.dom_model.proofs.Changes.{seen, nothing, just, change_at}

@@ -1,17 +1,16 @@
 -- Roots that are put under a node, one after another, leave a sound world. DOM Standard, "Mutation algorithms": insert.
-use Rattle.std.proofs.Common.{◌≡◌, ℕ, suc, ◌+◌, ◌<◌, ◌≤◌, ◌==◌, nat_lt, nat_le, Bool, true, false, ◌&&◌, if◌then◌else◌, List, [], ◌∷◌, ◌++◌, map, length, Option, Some, None, option_map, IfSome, All, refl, ap, sym, ◌∙◌, subst, arith, append-nil, ⊎_elim}
-use Rattle.std.proofs.lemmas.Bool.{cases_lt, false≢true, le-ltb}
+use Rattle.std.proofs.Common.{◌≡◌, ℕ, suc, ◌+◌, ◌<◌, ◌≤◌, ◌==◌, nat_lt, nat_le, Bool, true, false, ◌&&◌, if◌then◌else◌, List, [], ◌∷◌, length, Option, Some, None, option_map, IfSome, All, refl, ap, sym, ◌∙◌, subst, arith, append-nil}
+use Rattle.std.proofs.lemmas.Bool.{le-ltb}
 use Rattle.std.proofs.lemmas.List.Elements.{All-weaker}
 use Rattle.std.proofs.lemmas.Bool.Decides.{nat_tests}
 use Rattle.std.proofs.Math.Path.{fun_ext}
 use Rattle.dom_model.specs.declared.Kind.{Kind}
-use Rattle.dom_model.specs.Lists.{hits, among, is_number, place_in}
-use Rattle.dom_model.specs.Arena.{Entry}
+use Rattle.dom_model.specs.Lists.{hits}
 use Rattle.dom_model.specs.Kinds.{may_be_parent, may_stand_in}
-use Rattle.dom_model.specs.Forest.{Node, Forest, occurs, one_at, tree_at, put, in_document, adopted, entry_in, HasNode, parent_of, children_of, index_of, ancestors}
+use Rattle.dom_model.specs.Forest.{Forest, occurs, one_at, tree_at, put, in_document, adopted, HasNode, parent_of, children_of, index_of, ancestors}
 use Rattle.dom_model.specs.World.{Content, Point, Range, World}
 use Rattle.dom_model.specs.Points.{after_gap, moved_range, map_ranges}
-use Rattle.dom_model.specs.Checks.{entry_has, kind_passes}
+use Rattle.dom_model.specs.Checks.{kind_passes}
 use Rattle.dom_model.specs.Lengths.{unit_count, node_length}
 use Rattle.dom_model.specs.Editing.{node_document, put_in, put_all, gap_before}
 use Rattle.dom_model.specs.Sound.{IsBoundary, IsRange, IsIterator, IsSound}
@@ -21,9 +20,9 @@ use Rattle.dom_model.proofs.Climbing.{hits-ancestors, hits-not_among}
 use Rattle.dom_model.proofs.Entries.{HasNode-occurs, occurs-HasNode, parent-put}
 use Rattle.dom_model.proofs.Paths.{ancestors-put}
 use Rattle.dom_model.proofs.Places.{place_before}
-use Rattle.dom_model.proofs.Indices.{index-child, index-put, child-listed}
+use Rattle.dom_model.proofs.Indices.{index-child, index-put}
 use Rattle.dom_model.proofs.GapOrder.{gap-more}
-use Rattle.dom_model.proofs.SoundForests.{IsWood, parent_kind, may_stand_at, entry_there, IsWood-alike, IsWood-put}
+use Rattle.dom_model.proofs.SoundForests.{parent_kind, may_stand_at, entry_there, IsWood-alike, IsWood-put}
 use Rattle.dom_model.proofs.SameShape.{IsAlike, with_tree-alike, occurs-alike, parent-alike, ancestors-alike, kind-alike, index-alike}
 use Rattle.dom_model.proofs.Measured.{kind-put, length-parent, length-adopted}
 use Rattle.dom_model.proofs.RangesPut.{range-put, iterator-put}

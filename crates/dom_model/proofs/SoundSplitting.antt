@@ -1,13 +1,12 @@
 -- A split leaves a sound world. DOM Standard, "Interface Text": split.
-use Rattle.std.proofs.Common.{◌≡◌, ℕ, ◌+◌, ◌-◌, ◌<◌, ◌≤◌, ◌==◌, Bool, true, false, if◌then◌else◌, List, [], ◌∷◌, ◌++◌, drop, length, Option, Some, None, All, refl, ap, sym, ◌∙◌, subst, arith, length-drop}
+use Rattle.std.proofs.Common.{◌≡◌, ℕ, ◌+◌, ◌-◌, ◌<◌, ◌≤◌, ◌==◌, Bool, true, false, if◌then◌else◌, [], ◌∷◌, length, Option, Some, None, refl, ap, sym, ◌∙◌, subst, arith, length-drop}
 use Rattle.std.proofs.lemmas.Bool.{false≢true}
-use Rattle.std.specs.declared.cmp.Ordering.TheVariants.{Greater}
 use Rattle.dom_model.specs.declared.Kind.{Kind}
 use Rattle.dom_model.specs.declared.Kind.TheVariants.{Element, Text, ProcessingInstruction, Comment, Document, DocumentType, DocumentFragment}
-use Rattle.dom_model.specs.Lists.{hits, or_else}
+use Rattle.dom_model.specs.Lists.{or_else}
 use Rattle.dom_model.specs.Arena.{Entry, parent_in, children_in}
-use Rattle.dom_model.specs.Kinds.{is_kind, is_character_data, may_stand_in}
-use Rattle.dom_model.specs.Forest.{Node, Forest, empty, node, occurs, one_at, beside, tree_at, put, entry_in, HasNode, parent_of, children_of, next_of, index_of, ancestors}
+use Rattle.dom_model.specs.Kinds.{is_kind, is_character_data}
+use Rattle.dom_model.specs.Forest.{Node, Forest, empty, node, occurs, one_at, tree_at, put, entry_in, parent_of, children_of, next_of, index_of}
 use Rattle.dom_model.specs.World.{Content, Point, Range, World}
 use Rattle.dom_model.specs.Points.{after_gap, after_split, moved_range, map_ranges, order_of}
 use Rattle.dom_model.specs.Checks.{entry_has, kind_passes, is_of_kind}
@@ -17,23 +16,21 @@ use Rattle.dom_model.specs.Editing.{tree_record, removed_from, remove, is_fragme
 use Rattle.dom_model.specs.Data.{content_in, data_of, replace_data, tail_of, split_off, split}
 use Rattle.dom_model.specs.Sound.{IsBoundary, IsRange, IsSound}
 use Rattle.dom_model.proofs.Numbers.{same_or, same, apart}
-use Rattle.dom_model.proofs.Changes.{seen, nothing, just}
 use Rattle.dom_model.proofs.Totals.{total-beside}
-use Rattle.dom_model.proofs.Climbing.{hits-ancestors, ancestors-absent}
-use Rattle.dom_model.proofs.Entries.{HasNode-occurs, occurs-HasNode, entry_under-absent}
+use Rattle.dom_model.proofs.Climbing.{hits-ancestors}
+use Rattle.dom_model.proofs.Entries.{occurs-HasNode, entry_under-absent}
 use Rattle.dom_model.proofs.Paths.{parent-path}
 use Rattle.dom_model.proofs.Places.{place_before}
 use Rattle.dom_model.proofs.Indices.{child-listed}
 use Rattle.dom_model.proofs.NextSibling.{place-next}
-use Rattle.dom_model.proofs.PointOrder.{gap-node}
 use Rattle.dom_model.proofs.SplitOrder.{inside-childless, split_point, index-split, index-new, split-order_kept}
-use Rattle.dom_model.proofs.SameShape.{IsAlike, occurs-alike, parent-alike, index-alike, order-alike, kind-alike}
-use Rattle.dom_model.proofs.SoundForests.{IsWood, may_stand_at, entry_there, data-childless, parent-passes}
+use Rattle.dom_model.proofs.SameShape.{IsAlike, index-alike, order-alike}
+use Rattle.dom_model.proofs.SoundForests.{IsWood, entry_there, data-childless, parent-passes}
 use Rattle.dom_model.proofs.Measured.{entry-joined, entry-beside, kind-beside, length-beside, parent-beside, length-put, length-adopted}
 use Rattle.dom_model.proofs.RangesSplit.{IsWithin, boundary-split}
 use Rattle.dom_model.proofs.Parts.{range-from_part}
-use Rattle.dom_model.proofs.SoundWorlds.{IsLive, Lives, each-moved, child_there}
-use Rattle.dom_model.proofs.SoundPlacing.{IsPlaceable, IsChildOf, gap_each, sound-put_one, after_put, after_adoption, renamed, total_put, range_placed, occurs_placed, parent_placed, kind_placed, placed-forest}
+use Rattle.dom_model.proofs.SoundWorlds.{Lives, each-moved}
+use Rattle.dom_model.proofs.SoundPlacing.{IsPlaceable, IsChildOf, gap_each, sound-put_one, after_put, after_adoption, renamed, range_placed, occurs_placed, parent_placed, kind_placed, placed-forest}
 use Rattle.dom_model.proofs.SoundMaking.{sound-made_node}
 use Rattle.dom_model.proofs.SoundData.{length-data, sound-replace_data}
 use Rattle.dom_model.proofs.SoundEditing.{next_child}
@@ -239,11 +236,11 @@ module _ (n parent offset : ℕ) (w : World) (s : IsSound w) (hn : 0 < occurs n 
         ends = b.boundary;
         one_root = a.one_root ∙ k.one_root ∙ sym b.one_root;
         in_order = λ g. rm.in_order (
-          sym (split-order_kept made.forest sm.forest.once parent n w.made offset (there-old n hn) there-new par-made root-new bare bare-new r.start.node r.end.node r.start.offset r.end.offset (there-old r.start.node hs) (there-old r.end.node he) (apart-new r.start.node hs) (apart-new r.end.node he) rm.one_root)
-          ∙ sym (order-alike alike (split_point n offset w.made parent (index_of made.forest n) r.start) (split_point n offset w.made parent (index_of made.forest n) r.end))
-          ∙ ap (λ q. order_of parted q (split_point n offset w.made parent (index_of made.forest n) r.end)) (sym (split_is r.start))
-          ∙ ap (order_of parted (divided (opened r.start))) (sym (split_is r.end))
-          ∙ g);
+            sym (split-order_kept made.forest sm.forest.once parent n w.made offset (there-old n hn) there-new par-made root-new bare bare-new r.start.node r.end.node r.start.offset r.end.offset (there-old r.start.node hs) (there-old r.end.node he) (apart-new r.start.node hs) (apart-new r.end.node he) rm.one_root)
+            ∙ sym (order-alike alike (split_point n offset w.made parent (index_of made.forest n) r.start) (split_point n offset w.made parent (index_of made.forest n) r.end))
+            ∙ ap (λ q. order_of parted q (split_point n offset w.made parent (index_of made.forest n) r.end)) (sym (split_is r.start))
+            ∙ ap (order_of parted (divided (opened r.start))) (sym (split_is r.end))
+            ∙ g);
       }
 
   ranges-divided : Lives (IsRange placed.forest) (map_ranges (after_split n offset w.made parent (index_of placed.forest n)) placed.ranges)
