@@ -20,7 +20,7 @@ use Rattle.dom_model.specs.Contents.{check_extract}
 use Rattle.dom_model.specs.Wrapping.{insert_node, surround}
 use Rattle.dom_model.specs.StaticRanges.{check_static, static_at, made_static}
 use Rattle.dom_model.specs.Records.{options_refusal, with_observer}
-use Rattle.dom_model.specs.Counts.{no_numbers, node_numbers, numbers_for_copies, asked, Needed}
+use Rattle.dom_model.specs.Counts.{no_numbers, node_numbers, numbers_for_copies, asked}
 use Rattle.dom_model.specs.Guards.{Bounds, Step, guarded, answers, does, no_node, no_node_given, wrong_kind, no_room, no_room_for_copies, bad_name, throws}
 use Rattle.dom_model.specs.Command.{Command, NewDocument, CreateElement, CreateText, CreateComment, CreatePI, CreateDoctype, CreateFragment, InsertBefore, AppendChild, AdoptNode, ReplaceChild, RemoveChild, Remove, ReplaceChildren, ImportNode, CloneNode, Normalize, DescribeNode, Children, Index, Length, Root, IsContaining, IsEqual, ComparePosition, TextContent, SetTextContent, Tree, GetData, SetData, AppendData, InsertData, DeleteData, ReplaceData, SubstringData, SplitText, SetAttribute, GetAttribute, HasAttribute, RemoveAttribute, ToggleAttribute, AttributeNames, CreateRange, CloneRange, DescribeRange, SetStart, SetEnd, SetStartBefore, SetStartAfter, SetEndBefore, SetEndAfter, Collapse, SelectNode, SelectNodeContents, CompareBoundaryPoints, ComparePoint, IsPointInRange, IntersectsNode, CommonAncestor, RangeText, DeleteContents, ExtractContents, CloneContents, InsertNode, SurroundContents, ReleaseRange, CreateIterator, CreateWalker, DescribeIterator, NextNode, PreviousNode, DescribeWalker, SetCurrent, Walk, CreateObserver, Observe, Disconnect, TakeRecords, Notify, Pending, Discard, CreateStaticRange, DescribeStaticRange}
 use Rattle.dom_model.specs.AnswerTree.{is_child_node, described, check_replace_children}
@@ -35,9 +35,14 @@ use Rattle.dom_model.proofs.CountsKept.{observing-kept, forest-kept, ranges-kept
 use Rattle.dom_model.proofs.CountsOfData.{made_node-grown, replace_data-kept, set_data-kept, split-grown, normalize-kept, set_text_content-grown, set_attribute-kept, remove_attribute-kept, toggle_attribute-kept}
 use Rattle.dom_model.proofs.CountsOfContents.{clone-grown, import-grown, with_range-kept, delete_contents-kept}
 use Rattle.dom_model.proofs.CopiesGrow.{clone_contents-grows}
-use Rattle.dom_model.proofs.CopiesOfContents.{clone_contents-grown}
+use Rattle.dom_model.proofs.CopiesOfContents.{clone_contents-grown, IsInOrder}
 use Rattle.dom_model.proofs.CountsOfExtraction.{extract-grown, insert_node-to, surround-to}
 use Rattle.dom_model.proofs.StepsCounted.{IsCounted, leaves, takes, guarded-counted, checked-counted, on_range-counted, at_point-counted, at_ends-counted, object-counted, outcome-counted, keeps, grows, grows-in_order}
+
+-- what a command needs to take no more numbers than it asks for: a copy of contents wants the world in order, any other nothing
+abbrev pub Needed : World → Command → Type 0
+Needed w (CloneContents r) = IsInOrder w
+Needed w _ = Unit {0}
 
 module _ (b : Bounds) (w : World) where
   -- A question leaves the world.

@@ -4,7 +4,7 @@ use Rattle.std.specs.Prelude.{filter, cond, unwrap_or}
 use Rattle.std.proofs.lemmas.Bool.{cases_lt, false≢true}
 use Rattle.dom_model.specs.declared.Kind.TheVariants.{DocumentFragment}
 use Rattle.dom_model.specs.Lists.{hits, among, head_of}
-use Rattle.dom_model.specs.Forest.{Forest, empty, node, occurs, one_at, size, tree_at, children_of, ancestors, KindsFit}
+use Rattle.dom_model.specs.Forest.{Forest, empty, node, occurs, one_at, size, tree_at, children_of, ancestors, root_of, HasNode, KindsFit, IsForest}
 use Rattle.dom_model.specs.World.{Content, Range, World, no_content}
 use Rattle.dom_model.specs.Making.{named}
 use Rattle.dom_model.specs.Checks.{up_to}
@@ -12,7 +12,6 @@ use Rattle.dom_model.specs.Editing.{node_document}
 use Rattle.dom_model.specs.Lengths.{unit_count, node_length, length_in}
 use Rattle.dom_model.specs.Ranges.{is_collapsed, common_ancestor, range_at}
 use Rattle.dom_model.specs.Contents.{for_range, is_in_one_data, contained_in, new_fragment, children_into, tail_into, path_below, common_of, contained_children, parts_into, contents_drawn, clone_contents}
-use Rattle.dom_model.specs.Counts.{HasEnds, IsInOrder}
 use Rattle.dom_model.proofs.Numbers.{same_or, same, apart}
 use Rattle.dom_model.proofs.Totals.{IsOnce, beside-empty, total-beside}
 use Rattle.dom_model.proofs.Climbing.{hits-first, hits-among}
@@ -29,6 +28,18 @@ use Rattle.dom_model.proofs.WaysBelow.{way-above, IsFork, fork}
 use Rattle.dom_model.proofs.ContainedAside.{start-not_contained, end-not_contained}
 use Rattle.dom_model.proofs.CountsKept.{IsGrown, grown-then, grown-more, grown-if, kept-same}
 use Rattle.dom_model.proofs.CountsOfContents.{size-tree_at, new_fragment-grown, units_into-grown}
+
+-- a range as live ranges are: both ends in one tree, and the end within its node
+pub record HasEnds (f : Forest Content) (r : Range) : Type 0 where
+  pub start : HasNode f r.start.node
+  pub end : HasNode f r.end.node
+  pub one_root : root_of f r.start.node ≡ root_of f r.end.node
+  pub within : r.end.offset ≤ node_length unit_count f r.end.node
+
+-- each number stands once, below the next one, and the live ranges are in order: what a copy of contents needs, to take no more than is asked
+pub record IsInOrder (w : World) : Type 0 where
+  pub forest : IsForest (record { forest = w.forest; made = w.made })
+  pub ends : (r : ℕ) (range : Range) → range_at w r ≡ Some range → HasEnds w.forest range
 
 -- What a filter lets through, with some that it does not, weighs no more than the whole.
 

@@ -6,11 +6,13 @@ use Rattle.dom_model.specs.Guards.{Bounds}
 use Rattle.dom_model.specs.Answer.{answer}
 use Rattle.dom_model.specs.CommandEdits.{world_past}
 use Rattle.dom_model.specs.Ranges.{range_at}
-use Rattle.dom_model.specs.Counts.{counts_of, asked, plus, of_each, AreAtMost, HasEnds, Needed, IsInOrder}
+use Rattle.dom_model.specs.Counts.{counts_of, asked, plus, of_each, AreAtMost}
 use Rattle.dom_model.specs.Sound.{IsRange, IsSound}
 use Rattle.dom_model.proofs.SoundWorlds.{IsLive}
 use Rattle.dom_model.proofs.SoundRangeSteps.{live_range}
 use Rattle.dom_model.proofs.SoundAnswers.{sound-answer, sound-first}
+use Rattle.dom_model.proofs.CopiesOfContents.{HasEnds, IsInOrder}
+use Rattle.dom_model.proofs.CommandsCounted.{Needed}
 use Rattle.dom_model.proofs.RefusalsLeave.{counts-as_asked, numbers-kept}
 
 -- a sound world is in order

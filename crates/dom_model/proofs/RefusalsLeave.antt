@@ -3,10 +3,10 @@ use Rattle.std.proofs.Common.{◌≡◌, true}
 use Rattle.dom_model.specs.World.{World}
 use Rattle.dom_model.specs.Reply.{is_refusal}
 use Rattle.dom_model.specs.Command.{Command}
-use Rattle.dom_model.specs.Counts.{counts_of, plus, of_each, asked, AreAtMost, Needed}
+use Rattle.dom_model.specs.Counts.{counts_of, plus, of_each, asked, AreAtMost}
 use Rattle.dom_model.specs.Answer.{Bounds, answer}
 use Rattle.dom_model.proofs.StepsCounted.{counted-leaves, counted-never_fall, counted-at_most, counted-within}
-use Rattle.dom_model.proofs.CommandsCounted.{command-counted}
+use Rattle.dom_model.proofs.CommandsCounted.{command-counted, Needed}
 
 -- a refusal leaves the world
 pub refused-leaves : (b : Bounds) (w : World) (c : Command) → is_refusal (answer b w c).reply ≡ true → (answer b w c).world ≡ w

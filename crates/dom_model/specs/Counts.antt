@@ -1,9 +1,7 @@
 -- How many numbers of each kind are given out, and how many a command asks for. Ours; the standard has no numbers.
-use Rattle.std.specs.Prelude.{◌≡◌, ℕ, ◌+◌, ◌*◌, ◌≤◌, length, Some}
-use Rattle.dom_model.specs.Forest.{Forest, HasNode, root_of, size, IsForest}
-use Rattle.dom_model.specs.World.{Content, Range, World}
-use Rattle.dom_model.specs.Lengths.{unit_count, node_length}
-use Rattle.dom_model.specs.Ranges.{range_at}
+use Rattle.std.specs.Prelude.{ℕ, ◌+◌, ◌*◌, ◌≤◌, length}
+use Rattle.dom_model.specs.Forest.{size}
+use Rattle.dom_model.specs.World.{World}
 use Rattle.dom_model.specs.Command.{Command, NewDocument, CreateElement, CreateText, CreateComment, CreatePI, CreateDoctype, CreateFragment, ImportNode, CloneNode, SetTextContent, SplitText, CreateRange, CloneRange, ExtractContents, CloneContents, InsertNode, SurroundContents, CreateIterator, CreateWalker, CreateObserver, CreateStaticRange}
 
 -- of each kind of object, how many numbers
@@ -91,20 +89,3 @@ pub record AreAtMost (some most : Counts) : Type 0 where
   pub walkers : some.walkers ≤ most.walkers
   pub observers : some.observers ≤ most.observers
   pub static_ranges : some.static_ranges ≤ most.static_ranges
-
--- a range as live ranges are: both ends in one tree, and the end within its node
-pub record HasEnds (f : Forest Content) (r : Range) : Type 0 where
-  pub start : HasNode f r.start.node
-  pub end : HasNode f r.end.node
-  pub one_root : root_of f r.start.node ≡ root_of f r.end.node
-  pub within : r.end.offset ≤ node_length unit_count f r.end.node
-
--- each number stands once, below the next one, and the live ranges are in order: what a copy of contents needs, to take no more than is asked
-pub record IsInOrder (w : World) : Type 0 where
-  pub forest : IsForest (record { forest = w.forest; made = w.made })
-  pub ends : (r : ℕ) (range : Range) → range_at w r ≡ Some range → HasEnds w.forest range
-
--- what a command needs to take no more numbers than it asks for: a copy of contents wants the world in order, any other nothing
-abbrev pub Needed : World → Command → Type 0
-Needed w (CloneContents r) = IsInOrder w
-Needed w _ = Unit {0}
