@@ -2,6 +2,7 @@
 #![tactic(auto)]
 
 mod body;
+mod indices;
 mod item;
 mod node_id;
 mod tree;
