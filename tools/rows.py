@@ -2,10 +2,11 @@
 """Writes theorems for each dialogue of a folder: the bytes that a session reads give the bytes that it writes, and the edits of the
 token text that its commands make leave the ends, texts and worlds that the commands leave.
 
-usage: rows.py DIALOGUES PROOFS
+usage: rows.py tools/dialogues crates/dom_model/proofs/Dialogues
 
-DIALOGUES holds NAME.in, NAME.out and, where the session has options, NAME.opts (one line, as `--numbers 4`).
-For each NAME a file PROOFS/Name.antt is written, and its line in PROOFS/Lib.antt. The theorems hold by computation.
+The first folder has a folder for each subject, with NAME.in, NAME.out and, where the session has options, NAME.opts (one line, as
+`--numbers 4`). For each NAME a file Subject/Name.antt is written in the second, and its line in Subject.antt, which must stand there
+and be named in the file beside that folder. The theorems hold by computation.
 """
 import os
 import sys
@@ -18,12 +19,12 @@ use Rattle.std.specs.Str.{is_utf8, chars}
 use Rattle.std.specs.Char.Utf16.{utf16_chars}
 use Rattle.std.specs.Fmt.{digits}
 use lib.Utf8.{encode}
-use Rattle.dom_model.specs.Table.{whole_table}
-use Rattle.dom_model.specs.Line.{json_of, command_of, command_within}
-use Rattle.dom_model.specs.Answer.{Bounds}
-use Rattle.dom_model.specs.Output.{whole_lines, last_piece, due, output_of}
-use Rattle.dom_model.proofs.Agreement.{ends_missed, texts_missed, worlds_missed}
-use Rattle.dom_model.proofs.ContentsBetween.{contents_missed}
+use Rattle.dom_model.specs.Commands.Table.{whole_table}
+use Rattle.dom_model.specs.Commands.Line.{json_of, command_of, command_within}
+use Rattle.dom_model.specs.Commands.Answer.{Bounds}
+use Rattle.dom_model.specs.Commands.Output.{whole_lines, last_piece, due, output_of}
+use Rattle.dom_model.proofs.TokenText.Agreement.{ends_missed, texts_missed, worlds_missed}
+use Rattle.dom_model.proofs.TokenText.ContentsBetween.{contents_missed}
 """
 
 UNFOLDING = (
@@ -108,19 +109,26 @@ def module_of(name):
     return "".join(word.capitalize() for word in name.split("_"))
 
 
-def main():
-    folder, proofs = sys.argv[1:3]
-    names = sorted(entry[:-3] for entry in os.listdir(folder) if entry.endswith(".in"))
-    library = os.path.join(proofs, "Lib.antt")
+def write_subject(dialogues, proofs):
+    """The theorems of one subject's dialogues, and their lines in the file beside their folder."""
+    names = sorted(entry[:-3] for entry in os.listdir(dialogues) if entry.endswith(".in"))
+    library = proofs + ".antt"
     lines = open(library).read().splitlines()
+    os.makedirs(proofs, exist_ok=True)
     for name in names:
         with open(os.path.join(proofs, module_of(name) + ".antt"), "w") as out:
-            out.write(theorem(folder, name))
+            out.write(theorem(dialogues, name))
         line = f"pub mod {module_of(name)}"
         if line not in lines:
             lines.append(line)
     with open(library, "w") as out:
         out.write("\n".join(lines) + "\n")
+
+
+def main():
+    folder, proofs = sys.argv[1:3]
+    for subject in sorted(os.listdir(folder)):
+        write_subject(os.path.join(folder, subject), os.path.join(proofs, module_of(subject)))
 
 
 if __name__ == "__main__":

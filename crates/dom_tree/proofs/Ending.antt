@@ -1,15 +1,15 @@
 -- The last of the inclusive descendants.
 use Rattle.std.proofs.Common.{◌≡◌, ℕ, ◌<◌, ◌≤◌, ◌∷◌, ◌++◌, Some, None, refl, ap, sym, ◌∙◌, subst, arith, append-nil}
-use Rattle.dom_model.specs.Lists.{last_of}
-use Rattle.dom_model.specs.Arena.{parent_in}
-use Rattle.dom_model.specs.Forest.{Node, Forest, empty, node, Grove, occurs, size, one_at, tops, numbers, tree_at, entry_in, HasNode, children_of, inclusive_descendants, IsForest}
-use Rattle.dom_model.specs.Lies.{Lies}
-use Rattle.dom_model.proofs.Numbers.{same_or, same, apart}
-use Rattle.dom_model.proofs.Totals.{total-tree_at, tree_at-absent, beside-empty}
-use Rattle.dom_model.proofs.Tops.{hits-tops}
-use Rattle.dom_model.proofs.RootsKept.{last_of-behind}
-use Rattle.dom_model.proofs.IteratorsStay.{tree_at-inside}
-use Rattle.dom_model.proofs.Entries.{occurs-HasNode, HasNode-occurs, Lies-entry_in}
+use Rattle.dom_model.specs.PlainLists.Lists.{last_of}
+use Rattle.dom_model.specs.Forests.Arena.{parent_in}
+use Rattle.dom_model.specs.Forests.Forest.{Node, Forest, empty, node, Grove, occurs, size, one_at, tops, numbers, tree_at, entry_in, HasNode, children_of, inclusive_descendants, IsForest}
+use Rattle.dom_model.specs.Forests.Lies.{Lies}
+use Rattle.dom_model.proofs.PlainLists.Numbers.{same_or, same, apart}
+use Rattle.dom_model.proofs.Forests.Totals.{total-tree_at, tree_at-absent, beside-empty}
+use Rattle.dom_model.proofs.Forests.Tops.{hits-tops}
+use Rattle.dom_model.proofs.BoundaryPoints.RootsKept.{last_of-behind}
+use Rattle.dom_model.proofs.Traversal.IteratorsStay.{tree_at-inside}
+use Rattle.dom_model.proofs.Forests.Entries.{occurs-HasNode, HasNode-occurs, Lies-entry_in}
 use Rattle.dom_tree.proofs.Numbering.{hits-last_of}
 use Rattle.dom_tree.proofs.Ordering.{Single, single, tree_at-single, Lies-tree_at}
 

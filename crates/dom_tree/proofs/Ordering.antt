@@ -2,15 +2,15 @@
 use Rattle.std.proofs.Common.{◌≡◌, ℕ, ◌<◌, ◌≤◌, ◌==◌, nat_lt, true, false, if◌then◌else◌, List, [], ◌∷◌, ◌++◌, Option, Some, None, refl, ap, sym, ◌∙◌, subst, arith, ⊎_elim, append_assoc}
 use Rattle.std.proofs.lemmas.Bool.{cases_lt, lt-ltb, le-ltb}
 use Rattle.std.proofs.lemmas.Bool.Decides.{nat_tests}
-use Rattle.dom_model.specs.Lists.{hits, head_of, after, or_else}
-use Rattle.dom_model.specs.Arena.{Entry, parent_in, children_in, list_under, next_in}
-use Rattle.dom_model.specs.Forest.{Node, Forest, empty, node, occurs, tops, numbers, tree_at}
-use Rattle.dom_model.specs.Lies.{Lies}
-use Rattle.dom_model.proofs.Numbers.{same_or, same, apart}
-use Rattle.dom_model.proofs.Totals.{tree_at-absent, beside-empty}
-use Rattle.dom_model.proofs.Tops.{hits-tops}
-use Rattle.dom_model.proofs.Lying.{Lies-beside}
-use Rattle.dom_model.proofs.Flattened.{hits-numbers}
+use Rattle.dom_model.specs.PlainLists.Lists.{hits, head_of, after, or_else}
+use Rattle.dom_model.specs.Forests.Arena.{Entry, parent_in, children_in, list_under, next_in}
+use Rattle.dom_model.specs.Forests.Forest.{Node, Forest, empty, node, occurs, tops, numbers, tree_at}
+use Rattle.dom_model.specs.Forests.Lies.{Lies}
+use Rattle.dom_model.proofs.PlainLists.Numbers.{same_or, same, apart}
+use Rattle.dom_model.proofs.Forests.Totals.{tree_at-absent, beside-empty}
+use Rattle.dom_model.proofs.Forests.Tops.{hits-tops}
+use Rattle.dom_model.proofs.Forests.Lying.{Lies-beside}
+use Rattle.dom_model.proofs.Forests.Flattened.{hits-numbers}
 
 head_of-append : (xs ys : List ℕ) → head_of (xs ++ ys) ≡ or_else (head_of xs) (head_of ys)
 head_of-append [] ys = refl

@@ -1,19 +1,19 @@
 -- Which of two nodes comes first in tree order.
 use Rattle.std.proofs.Common.{◌≡◌, ℕ, suc, ◌+◌, ◌<◌, ◌≤◌, ◌==◌, nat_lt, true, false, if◌then◌else◌, List, [], ◌∷◌, ◌++◌, length, Option, Some, None, IsSome, IfSome, refl, ap, sym, ◌∙◌, subst, arith, ⊎_elim}
 use Rattle.std.proofs.lemmas.Bool.{cases_lt, false≢true, lt-ltb, le-ltb}
-use Rattle.dom_model.specs.Lists.{hits, head_of, last_of, after, place_in}
-use Rattle.dom_model.specs.Forest.{Forest, empty, node, Grove, occurs, one_at, tops, numbers, tree_at, HasNode, ancestors, root_of, inclusive_descendants, IsForest}
-use Rattle.dom_model.proofs.Numbers.{same_or, same, apart}
-use Rattle.dom_model.proofs.Changes.{seen, nothing, just}
-use Rattle.dom_model.proofs.Totals.{total-tree_at, tree_at-absent}
-use Rattle.dom_model.proofs.Tops.{hits-tops}
-use Rattle.dom_model.proofs.Climbing.{ancestors-there, ancestors-kids, ancestors-rest}
-use Rattle.dom_model.proofs.RootsKept.{last_of-behind}
-use Rattle.dom_model.proofs.Places.{place-there}
-use Rattle.dom_model.proofs.Chains.{place-apart}
-use Rattle.dom_model.proofs.PutBack.{hits-after, hits-head_of}
-use Rattle.dom_model.proofs.Flattened.{hits-numbers}
-use Rattle.dom_model.proofs.Entries.{occurs-HasNode, HasNode-occurs}
+use Rattle.dom_model.specs.PlainLists.Lists.{hits, head_of, last_of, after, place_in}
+use Rattle.dom_model.specs.Forests.Forest.{Forest, empty, node, Grove, occurs, one_at, tops, numbers, tree_at, HasNode, ancestors, root_of, inclusive_descendants, IsForest}
+use Rattle.dom_model.proofs.PlainLists.Numbers.{same_or, same, apart}
+use Rattle.dom_model.proofs.Forests.Changes.{seen, nothing, just}
+use Rattle.dom_model.proofs.Forests.Totals.{total-tree_at, tree_at-absent}
+use Rattle.dom_model.proofs.Forests.Tops.{hits-tops}
+use Rattle.dom_model.proofs.Forests.Climbing.{ancestors-there, ancestors-kids, ancestors-rest}
+use Rattle.dom_model.proofs.BoundaryPoints.RootsKept.{last_of-behind}
+use Rattle.dom_model.proofs.PlainLists.Places.{place-there}
+use Rattle.dom_model.proofs.Forests.Chains.{place-apart}
+use Rattle.dom_model.proofs.Forests.PutBack.{hits-after, hits-head_of}
+use Rattle.dom_model.proofs.Forests.Flattened.{hits-numbers}
+use Rattle.dom_model.proofs.Forests.Entries.{occurs-HasNode, HasNode-occurs}
 use Rattle.dom_tree.proofs.Walking.{root-top, inside-root}
 use Rattle.dom_tree.proofs.Stepping.{after-inside}
 

@@ -1,13 +1,13 @@
 -- Children and siblings, told on nested lists alone.
 use Rattle.std.proofs.Common.{◌≡◌, ℕ, zero, suc, ◌+◌, ◌<◌, ◌≤◌, List, [], ◌∷◌, length, Some, None, refl, sym, ◌∙◌, arith, ⊎_elim}
 use Rattle.std.specs.Prelude.{slice_get}
-use Rattle.dom_model.specs.Lists.{hits, head_of, after, before, before_from, place_in}
-use Rattle.dom_model.specs.Arena.{siblings_in}
-use Rattle.dom_model.specs.Forest.{Forest, Grove, entry_in, HasNode, parent_of, children_of, next_of, previous_of, index_of, IsForest}
-use Rattle.dom_model.proofs.Numbers.{same_or, same, apart}
-use Rattle.dom_model.proofs.Changes.{seen, nothing, just}
-use Rattle.dom_model.proofs.Entries.{occurs-HasNode, HasNode-occurs}
-use Rattle.dom_model.proofs.Indices.{child-parent, child-there, child-listed, child-once}
+use Rattle.dom_model.specs.PlainLists.Lists.{hits, head_of, after, before, before_from, place_in}
+use Rattle.dom_model.specs.Forests.Arena.{siblings_in}
+use Rattle.dom_model.specs.Forests.Forest.{Forest, Grove, entry_in, HasNode, parent_of, children_of, next_of, previous_of, index_of, IsForest}
+use Rattle.dom_model.proofs.PlainLists.Numbers.{same_or, same, apart}
+use Rattle.dom_model.proofs.Forests.Changes.{seen, nothing, just}
+use Rattle.dom_model.proofs.Forests.Entries.{occurs-HasNode, HasNode-occurs}
+use Rattle.dom_model.proofs.Forests.Indices.{child-parent, child-there, child-listed, child-once}
 use Rattle.dom_tree.proofs.Numbering.{hits-before}
 
 pub place_in-length : (n : ℕ) (l : List ℕ) → place_in n l ≤ length l

@@ -2,15 +2,15 @@
 use Rattle.std.proofs.Common.{◌≡◌, ℕ, ◌<◌, ◌≤◌, nat_lt, true, [], Option, Some, None, IsSome, IfSome, refl, ap, sym, ◌∙◌, subst, arith, ⊎_elim, append-nil}
 use Rattle.std.proofs.lemmas.Bool.{cases_lt, false≢true, lt-ltb}
 use Rattle.std.proofs.lemmas.Bool.Decides.{nat_tests}
-use Rattle.dom_model.specs.Lists.{head_of, after, or_else}
-use Rattle.dom_model.specs.Arena.{Entry, parent_in, next_in}
-use Rattle.dom_model.specs.Forest.{Node, Forest, empty, node, Grove, occurs, one_at, numbers, entry_in, HasNode, parent_of, children_of, next_of, root_of, tree_at, inclusive_descendants, IsForest}
-use Rattle.dom_model.specs.Lies.{Lies}
-use Rattle.dom_model.proofs.Numbers.{same_or, same, apart}
-use Rattle.dom_model.proofs.Totals.{total-tree_at, tree_at-absent}
-use Rattle.dom_model.proofs.Entries.{Lies-entry_in}
-use Rattle.dom_model.proofs.PutBack.{hits-after}
-use Rattle.dom_model.proofs.Flattened.{hits-numbers}
+use Rattle.dom_model.specs.PlainLists.Lists.{head_of, after, or_else}
+use Rattle.dom_model.specs.Forests.Arena.{Entry, parent_in, next_in}
+use Rattle.dom_model.specs.Forests.Forest.{Node, Forest, empty, node, Grove, occurs, one_at, numbers, entry_in, HasNode, parent_of, children_of, next_of, root_of, tree_at, inclusive_descendants, IsForest}
+use Rattle.dom_model.specs.Forests.Lies.{Lies}
+use Rattle.dom_model.proofs.PlainLists.Numbers.{same_or, same, apart}
+use Rattle.dom_model.proofs.Forests.Totals.{total-tree_at, tree_at-absent}
+use Rattle.dom_model.proofs.Forests.Entries.{Lies-entry_in}
+use Rattle.dom_model.proofs.Forests.PutBack.{hits-after}
+use Rattle.dom_model.proofs.Forests.Flattened.{hits-numbers}
 use Rattle.dom_tree.proofs.Ordering.{past, after-numbers, past-next, past-up, Up, over, up, Single, single, tree_at-single, Lies-tree_at}
 use Rattle.dom_tree.proofs.Walking.{IfSome-from, next-root, root-parent, inside-root}
 

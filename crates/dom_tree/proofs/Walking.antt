@@ -1,17 +1,17 @@
 -- A walk to the root, told on nested lists alone.
 use Rattle.std.proofs.Common.{◌≡◌, ℕ, ◌<◌, ◌≤◌, ◌==◌, true, false, [], ◌∷◌, length, Option, Some, None, IfSome, refl, sym, ◌∙◌, arith, ⊎_elim}
 use Rattle.std.proofs.lemmas.Bool.{cases_lt}
-use Rattle.dom_model.specs.Lists.{hits, among, last_of}
-use Rattle.dom_model.specs.Arena.{Entry, parent_in}
-use Rattle.dom_model.specs.Forest.{Node, Forest, empty, node, Grove, occurs, tops, entry_in, HasNode, parent_of, next_of, previous_of, ancestors, root_of, tree_at, IsForest}
-use Rattle.dom_model.proofs.Numbers.{same_or, same, apart}
-use Rattle.dom_model.proofs.Tops.{hits-tops}
+use Rattle.dom_model.specs.PlainLists.Lists.{hits, among, last_of}
+use Rattle.dom_model.specs.Forests.Arena.{Entry, parent_in}
+use Rattle.dom_model.specs.Forests.Forest.{Node, Forest, empty, node, Grove, occurs, tops, entry_in, HasNode, parent_of, next_of, previous_of, ancestors, root_of, tree_at, IsForest}
+use Rattle.dom_model.proofs.PlainLists.Numbers.{same_or, same, apart}
+use Rattle.dom_model.proofs.Forests.Tops.{hits-tops}
 use Rattle.dom_tree.proofs.Growing.{rooted, rootless, rooted-tops}
 use Rattle.dom_tree.proofs.Numbering.{hits-last_of}
-use Rattle.dom_model.proofs.Climbing.{ancestors-there, ancestors-kids, ancestors-rest, hits-ancestors, hits-among, among-hits}
-use Rattle.dom_model.proofs.Entries.{occurs-HasNode, Lies-entry_in}
-use Rattle.dom_model.proofs.RootsKept.{last_of-behind}
-use Rattle.dom_model.proofs.Paths.{root-path}
+use Rattle.dom_model.proofs.Forests.Climbing.{ancestors-there, ancestors-kids, ancestors-rest, hits-ancestors, hits-among, among-hits}
+use Rattle.dom_model.proofs.Forests.Entries.{occurs-HasNode, Lies-entry_in}
+use Rattle.dom_model.proofs.BoundaryPoints.RootsKept.{last_of-behind}
+use Rattle.dom_model.proofs.Forests.Paths.{root-path}
 use Rattle.dom_tree.proofs.Forests.{Above}
 
 pub IfSome-from : {A : Type 0} (o : Option A) (P : A → Type 0) → ((x : A) → o ≡ Some x → P x) → IfSome o P

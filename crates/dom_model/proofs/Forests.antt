@@ -1,0 +1,26 @@
+-- Laws of nested lists: what is told of each node, and what is left of it as trees are cut, put, made and changed. None speaks of a world.
+pub mod Totals
+pub mod Tops
+pub mod KindsFitting
+pub mod Changes
+pub mod Lying
+pub mod Entries
+pub mod Climbing
+pub mod Paths
+pub mod Indices
+pub mod Undone
+pub mod PutBack
+pub mod Flattened
+pub mod Chains
+pub mod Lots
+pub mod IndexedTrees
+pub mod NextSibling
+pub mod Listed
+pub mod Standing
+pub mod Below
+pub mod Mirrored
+pub mod EachNode
+pub mod Documents
+pub mod ForestsBeside
+pub mod NewRoots
+pub mod OneMoreRoot

@@ -1,0 +1,4 @@
+-- Laws of numbers and of lists of numbers.
+pub mod Numbers
+pub mod Rising
+pub mod Places
