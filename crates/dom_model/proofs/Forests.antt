@@ -4,13 +4,16 @@ pub mod Tops
 pub mod KindsFitting
 pub mod Changes
 pub mod Lying
+pub mod Rooted
 pub mod Entries
 pub mod Climbing
 pub mod Paths
+pub mod Above
+pub mod ToTheRoot
 pub mod Indices
+pub mod Siblings
 pub mod Undone
 pub mod PutBack
-pub mod Flattened
 pub mod Chains
 pub mod Lots
 pub mod IndexedTrees
@@ -22,5 +25,5 @@ pub mod Mirrored
 pub mod EachNode
 pub mod Documents
 pub mod ForestsBeside
-pub mod NewRoots
 pub mod OneMoreRoot
+pub mod TreeOrder

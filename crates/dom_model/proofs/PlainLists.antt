@@ -2,3 +2,6 @@
 pub mod Numbers
 pub mod Rising
 pub mod Places
+pub mod Members
+pub mod Mapped
+pub mod FromFirst

@@ -12,7 +12,6 @@ pub mod StartsAhead
 pub mod WaysBelow
 pub mod PathsApart
 pub mod ContainedAside
-pub mod PathsDown
 pub mod PathsToEnds
 pub mod NewPlaces
 pub mod PlacesLeft

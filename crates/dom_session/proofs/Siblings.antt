@@ -12,7 +12,7 @@ use Rattle.dom_model.proofs.Forests.Climbing.{hits-first}
 use Rattle.dom_model.proofs.Forests.PutBack.{hits-after}
 use Rattle.dom_model.proofs.Forests.Entries.{HasNode-occurs}
 use Rattle.dom_model.proofs.Forests.Indices.{child-parent, child-there}
-use Rattle.dom_tree.proofs.Adopting.{from_first, from-after, from-last}
+use Rattle.dom_model.proofs.PlainLists.FromFirst.{from-last, from-after, from_first}
 
 -- the part of a list from a number on; nothing where no number is given
 abbrev pub from_optional : Option ℕ → List ℕ → List ℕ

@@ -15,7 +15,7 @@ use Rattle.dom_model.proofs.Forests.Indices.{child-once}
 use Rattle.dom_model.proofs.Forests.Climbing.{hits-first, hits-append}
 use Rattle.dom_session.specs.declared.printing.Waiting.{Waiting}
 use Rattle.dom_session.specs.Printing.{row_at, waiting_for}
-use Rattle.dom_tree.proofs.Ordering.{Single, single, tree_at-single, Lies-tree_at, after-front}
+use Rattle.dom_model.proofs.Forests.TreeOrder.Ordering.{Single, single, tree_at-single, Lies-tree_at, after-front}
 
 -- a part of the forest: trees that stand beside one another at a depth
 pub record Part : Type 0 where

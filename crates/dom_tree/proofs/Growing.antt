@@ -9,43 +9,10 @@ use Rattle.dom_model.specs.Forests.Lies.{Lies}
 use Rattle.dom_tree.specs.Spelled.{Spells, grown, root_first, root_under, roots_from, forest_of}
 use Rattle.dom_model.proofs.PlainLists.Numbers.{same_or, same, apart}
 use Rattle.dom_model.proofs.Forests.Tops.{IsRising-from, hits-tops}
-use Rattle.dom_model.proofs.PlainLists.Rising.{hits-low}
+use Rattle.dom_model.proofs.PlainLists.Rising.{hits-low, rising_same}
+use Rattle.dom_model.proofs.Forests.Rooted.{rootless, rooted, rooted-tops}
 use Rattle.dom_model.proofs.Forests.Entries.{entry_in-Lies}
 use Rattle.dom_tree.proofs.Spelling.{held_at_most}
-
--- numbers that rise and stand in both lists alike
-pub rising_same : (low : ℕ) (xs ys : List ℕ) → IsRising low xs → IsRising low ys → ((n : ℕ) → hits n xs ≡ hits n ys) → xs ≡ ys
-rising_same low [] [] r s h = refl
-rising_same low [] (y ∷ ys) r s h = absurd (let k = h y in grind (arith, nat_tests))
-rising_same low (x ∷ xs) [] r s h = absurd (let k = h x in grind (arith, nat_tests))
-rising_same low (x ∷ xs) (y ∷ ys) r s h =
-    ⊎_elim
-    (λ (lt : x < y).
-    let k = h x in
-    let z = hits-low (suc y) x ys s.1 (omega arith) in
-    absurd (grind (arith, nat_tests)))
-    (λ (le : y ≤ x).
-    ⊎_elim
-    (λ (lt : y < x).
-    let k = h y in
-    let z = hits-low (suc x) y xs r.1 (omega arith) in
-    absurd (grind (arith, nat_tests)))
-    (λ (ge : x ≤ y).
-    let e : x ≡ y = omega arith in
-    let r1 = rw e at r.1 in
-    let tail : xs ≡ ys = rising_same (suc y) xs ys r1 s.1 (λ n. let k = h n in let k2 = rw e at k in omega (arith, k2)) in
-    rw (e, tail) refl)
-    (cases_lt y x))
-    (cases_lt x y)
-
-abbrev pub rootless : Option ℕ → ℕ
-rootless None = 1
-rootless (Some p) = 0
-
--- 1 for a root
-abbrev pub rooted : {X : Type 0} → Option (Entry (Node X)) → ℕ
-rooted None = 0
-rooted (Some e) = rootless e.parent
 
 hits-root_under : (n low : ℕ) (p : Option ℕ) (ns : List ℕ) → hits n (root_under p low ns) ≡ rootless p * one_at n low + hits n ns
 hits-root_under n low None ns = omega arith
@@ -92,37 +59,6 @@ module _ {X : Type 0} where
         | apart ne t ↦
             let s2 = rw t at s in
             omega (arith, s2, hits-roots_past at n (suc low) count (omega arith))
-      ]
-
-  -- what stands under a parent is no root
-  pub rooted-under : (at : (ℕ → Option (Entry (Node X)))) (q : ℕ) (f : Forest X) (n : ℕ) → Lies at (Some q) f → 0 < occurs n f → rooted (at n) ≡ 0
-  rooted-under at q empty n l h = absurd (omega arith)
-  rooted-under at q (node x kids rest) n l h =
-      elim (same_or x.number n) [
-        | same e t ↦ subst (λ m. rooted (at m) ≡ 0) e (rw l.0 refl)
-        | apart ne t ↦
-            let k = rw t at h in
-            ⊎_elim
-            (λ (lt : 0 < occurs n kids). rooted-under at x.number kids n l.1 lt)
-            (λ (le : occurs n kids ≤ 0). rooted-under at q rest n l.2 (omega arith))
-            (cases_lt 0 (occurs n kids))
-      ]
-
-  pub rooted-tops : (at : (ℕ → Option (Entry (Node X)))) (f : Forest X) (n : ℕ) → Lies at None f → occurs n f ≤ 1 → 0 < occurs n f → hits n (tops f) ≡ rooted (at n)
-  rooted-tops at empty n l o h = absurd (omega arith)
-  rooted-tops at (node x kids rest) n l o h =
-      elim (same_or x.number n) [
-        | same e t ↦
-            let k = rw t at o in
-            let r : rooted (at n) ≡ 1 = subst (λ m. rooted (at m) ≡ 1) e (rw l.0 refl) in
-            rw t (omega (arith, r, hits-tops n rest))
-        | apart ne t ↦
-            let k = rw t at h in
-            let ko = rw t at o in
-            rw t (⊎_elim
-            (λ (lt : 0 < occurs n kids). omega (arith, rooted-under at x.number kids n l.1 lt, hits-tops n rest))
-            (λ (le : occurs n kids ≤ 0). omega (arith, rooted-tops at rest n l.2 (omega arith) (omega arith)))
-            (cases_lt 0 (occurs n kids)))
       ]
 
   pub held-none : (o : Option (Entry (Node X))) → held o ≡ 0 → o ≡ None

@@ -6,72 +6,10 @@ use Rattle.dom_model.specs.Forests.Arena.{Entry, held, names, parent_in, childre
 use Rattle.dom_model.specs.Forests.Forest.{Node}
 use Rattle.dom_tree.specs.Spelled.{number_at, renumbered, entry_in_slot, by_number, IsTabled}
 use Rattle.dom_model.proofs.PlainLists.Numbers.{same_or, same, apart}
+use Rattle.dom_model.proofs.PlainLists.Mapped.{head_of-map, last_of-map, after-map, before_from-map}
+use Rattle.dom_model.proofs.PlainLists.Members.{hits-last_of, hits-before}
 use Rattle.dom_model.proofs.Forests.Changes.{seen, nothing, just}
 use Rattle.dom_model.proofs.Forests.Climbing.{hits-first}
-
--- a list mapped, and a question asked of it before or after
-pub head_of-map : (f : ℕ → ℕ) (l : List ℕ) → head_of (map f l) ≡ option_map f (head_of l)
-head_of-map f [] = refl
-head_of-map f (x ∷ xs) = refl
-
-pub last_of-map : (f : ℕ → ℕ) (l : List ℕ) → last_of (map f l) ≡ option_map f (last_of l)
-last_of-map f [] = refl
-last_of-map f (x ∷ []) = refl
-last_of-map f (x ∷ y ∷ ys) = last_of-map f (y ∷ ys)
-
-pub after-map : (f : ℕ → ℕ) (s : ℕ) (l : List ℕ) → ((x : ℕ) → 0 < hits x l → (f x == f s) ≡ (x == s)) → after (f s) (map f l) ≡ option_map f (after s l)
-after-map f s [] h = refl
-after-map f s (x ∷ xs) h =
-    rw (h x (hits-first x xs)) (elim (x == s) as (λ v. (if v then head_of (map f xs) else after (f s) (map f xs)) ≡ option_map f (if v then head_of xs else after s xs)) [
-      | true ↦ head_of-map f xs
-      | false ↦ after-map f s xs (λ y k. h y (omega arith))
-    ])
-
-pub before_from-map : (f : ℕ → ℕ) (s : ℕ) (passed : Option ℕ) (l : List ℕ) → ((x : ℕ) → 0 < hits x l → (f x == f s) ≡ (x == s)) → before_from (option_map f passed) (f s) (map f l) ≡ option_map f (before_from passed s l)
-before_from-map f s passed [] h = refl
-before_from-map f s passed (x ∷ xs) h =
-    rw (h x (hits-first x xs)) (elim (x == s) as (λ v. (if v then option_map f passed else before_from (Some (f x)) (f s) (map f xs)) ≡ option_map f (if v then passed else before_from (Some x) s xs)) [
-      | true ↦ refl
-      | false ↦ before_from-map f s (Some x) xs (λ y k. h y (omega arith))
-    ])
-
-pub left_out-map : (f : ℕ → ℕ) (s : ℕ) (l : List ℕ) → ((x : ℕ) → 0 < hits x l → (f x == f s) ≡ (x == s)) → left_out (f s) (map f l) ≡ map f (left_out s l)
-left_out-map f s [] h = refl
-left_out-map f s (x ∷ xs) h =
-    rw (h x (hits-first x xs)) (elim (x == s) as (λ v. (if v then left_out (f s) (map f xs) else f x ∷ left_out (f s) (map f xs)) ≡ map f (if v then left_out s xs else x ∷ left_out s xs)) [
-      | true ↦ left_out-map f s xs (λ y k. h y (omega arith))
-      | false ↦ ap (λ l. f x ∷ l) (left_out-map f s xs (λ y k. h y (omega arith)))
-    ])
-
-pub entered-map : (f : ℕ → ℕ) (b : Option ℕ) (s : ℕ) (l : List ℕ) → ((x : ℕ) → 0 < hits x l → is_number (option_map f b) (f x) ≡ is_number b x) → entered (option_map f b) (f s) (map f l) ≡ map f (entered b s l)
-entered-map f b s [] h = refl
-entered-map f b s (x ∷ xs) h =
-    rw (h x (hits-first x xs)) (elim (is_number b x) as (λ v. (if v then f s ∷ f x ∷ map f xs else f x ∷ entered (option_map f b) (f s) (map f xs)) ≡ map f (if v then s ∷ x ∷ xs else x ∷ entered b s xs)) [
-      | true ↦ refl
-      | false ↦ ap (λ l. f x ∷ l) (entered-map f b s xs (λ y k. h y (omega arith)))
-    ])
-
-pub map-same : (f g : ℕ → ℕ) (l : List ℕ) → ((x : ℕ) → 0 < hits x l → f x ≡ g x) → map f l ≡ map g l
-map-same f g [] h = refl
-map-same f g (x ∷ xs) h = rw (h x (hits-first x xs), map-same f g xs (λ y k. h y (omega arith))) refl
-
-pub hits-last_of : (l : List ℕ) (x : ℕ) → last_of l ≡ Some x → 0 < hits x l
-hits-last_of [] x e = absurd (cc e)
-hits-last_of (y ∷ []) x e = (let d : y ≡ x = cc e in subst (λ m. 0 < hits m (y ∷ [])) d (hits-first y []))
-hits-last_of (y ∷ z ∷ zs) x e = omega (arith, hits-last_of (z ∷ zs) x e)
-
-pub hits-before : (passed : Option ℕ) (s : ℕ) (l : List ℕ) (x : ℕ) → before_from passed s l ≡ Some x → (passed ≡ Some x) ⊎ (0 < hits x l)
-hits-before passed s [] x e = absurd (cc e)
-hits-before passed s (y ∷ ys) x e =
-    elim (same_or y s) [
-      | same d t ↦ (let k = rw t at e in inl k)
-      | apart ne t ↦
-          let k = rw t at e in
-          ⊎_elim
-          (λ (p : Some y ≡ Some x). inr (let d : y ≡ x = cc p in subst (λ m. 0 < hits m (y ∷ ys)) d (hits-first y ys)))
-          (λ (lt : 0 < hits x ys). inr (omega arith))
-          (hits-before (Some y) s ys x k)
-    ]
 
 module _ {X : Type 0} where
   pub held-some : (o : Option (Entry (Node X))) → 0 < held o → IsSome o

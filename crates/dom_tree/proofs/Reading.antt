@@ -12,7 +12,9 @@ use Rattle.dom_model.proofs.Forests.Climbing.{not_among-hits}
 use Rattle.dom_model.proofs.Forests.PutBack.{hits-head_of, hits-after}
 use Rattle.dom_tree.proofs.Making.{write-kept, alter-kept}
 use Rattle.dom_tree.proofs.Kept.{Keeps, cut-kept, put-kept, stands-among, entry-numbered, entry-slot, parent-slot, children-slot, next-slot, previous-slot, slot-node, slot-parent, option_map-none, option_map-some}
-use Rattle.dom_tree.proofs.Numbering.{head_of-map, last_of-map, hits-last_of, hits-before, child-held, parent-held, sibling-held, one_slot}
+use Rattle.dom_tree.proofs.Numbering.{child-held, parent-held, sibling-held, one_slot}
+use Rattle.dom_model.proofs.PlainLists.Members.{hits-before, hits-last_of}
+use Rattle.dom_model.proofs.PlainLists.Mapped.{last_of-map, head_of-map}
 use Rattle.dom_tree.proofs.Spelling.{IsForest-Spells}
 
 -- what a reading of the links names is held

@@ -7,7 +7,8 @@ use Rattle.dom_model.specs.Forests.Forest.{Node}
 use Rattle.dom_tree.specs.Spelled.{number_in, number_at, renumbered, by_number, IsTabled}
 use Rattle.dom_model.proofs.PlainLists.Numbers.{same_or, same, apart}
 use Rattle.dom_model.proofs.Forests.Changes.{seen, nothing, just, cut_at, link_at, change_at, held-cut_at, held-link_at}
-use Rattle.dom_tree.proofs.Numbering.{child-held, parent-held, same_test, left_out-map, entered-map, map-same}
+use Rattle.dom_tree.proofs.Numbering.{child-held, parent-held, same_test}
+use Rattle.dom_model.proofs.PlainLists.Mapped.{map-same, entered-map, left_out-map}
 
 module _ {X : Type 0} where
   -- a table stays right where slots keep their numbers

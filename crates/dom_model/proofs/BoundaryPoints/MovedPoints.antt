@@ -11,7 +11,7 @@ use Rattle.dom_model.specs.RangesAndContents.Ranges.{range_at}
 use Rattle.dom_model.specs.Worlds.Sound.{IsRange, IsSound}
 use Rattle.dom_model.proofs.PlainLists.Numbers.{same_or, same, apart}
 use Rattle.dom_model.proofs.Forests.Climbing.{hits-append, hits-first, hits-ancestors, hits-not_among}
-use Rattle.dom_model.proofs.Forests.Flattened.{hits-numbers}
+use Rattle.dom_model.proofs.Forests.TreeOrder.Flattened.{hits-numbers}
 use Rattle.dom_model.proofs.BoundaryPoints.PointOrder.{map_ranges-twice}
 use Rattle.dom_model.proofs.Soundness.SoundWorlds.{IsLive, sound-remove}
 use Rattle.dom_model.proofs.MutationAlgorithms.Loosened.{loosened-remove, parent-remove}

@@ -15,7 +15,7 @@ use Rattle.dom_model.proofs.Forests.Totals.{total-tree_at}
 use Rattle.dom_model.proofs.Forests.Climbing.{among-hits, hits-among, hits-ancestors, ancestors-there, hits-append}
 use Rattle.dom_model.proofs.Forests.Paths.{parent-path, root-path, ancestors-cut, up_with}
 use Rattle.dom_model.proofs.PlainLists.Places.{place-absent, place-there}
-use Rattle.dom_model.proofs.Forests.Flattened.{hits-numbers}
+use Rattle.dom_model.proofs.Forests.TreeOrder.Flattened.{hits-numbers}
 use Rattle.dom_model.proofs.Forests.Indices.{child-listed, index-child, index-cut, child-parent}
 use Rattle.dom_model.proofs.BoundaryPoints.PointOrder.{nat_cmp-same, nat_cmp-less, nat_cmp-greater}
 use Rattle.dom_model.proofs.Forests.Chains.{way_to, IsWay, way, index-apart}

@@ -14,7 +14,7 @@ use Rattle.dom_model.proofs.PlainLists.Numbers.{same_or, same, apart}
 use Rattle.dom_model.proofs.Forests.Totals.{total-put, total-tree_at}
 use Rattle.dom_model.proofs.Forests.Climbing.{among-hits, not_among-hits, hits-append, hits-reverse, hits-ancestors, ancestors-there, hits-first}
 use Rattle.dom_model.proofs.Forests.Paths.{parent-path, root-path, ancestors-cut, ancestors-put}
-use Rattle.dom_model.proofs.Forests.Flattened.{hits-numbers}
+use Rattle.dom_model.proofs.Forests.TreeOrder.Flattened.{hits-numbers}
 use Rattle.dom_model.proofs.BoundaryPoints.RemovalOrder.{ancestors-split, up_with-clear, no_cycle}
 use Rattle.dom_model.proofs.Traversal.IteratorsStay.{IsInRoot, hits-past}
 

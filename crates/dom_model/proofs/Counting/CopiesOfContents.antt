@@ -19,7 +19,7 @@ use Rattle.dom_model.proofs.Forests.Entries.{occurs-HasNode}
 use Rattle.dom_model.proofs.Forests.Indices.{child-listed}
 use Rattle.dom_model.proofs.Forests.Chains.{IsWay}
 use Rattle.dom_model.proofs.RangesAndContents.PathsApart.{along}
-use Rattle.dom_model.proofs.Forests.NewRoots.{root-once, root-kinds}
+use Rattle.dom_model.proofs.Forests.OneMoreRoot.{more-once, root-kinds}
 use Rattle.dom_model.proofs.Forests.ForestsBeside.{AreUnder, IsBelow, absent-from, ancestors-older, entry-older}
 use Rattle.dom_model.proofs.DataAndCopies.CopiesBeside.{StandsBeside, made-beside}
 use Rattle.dom_model.proofs.Counting.CopiesCounted.{tree_sizes, tail_cost, head_cost, IsCopied, copied-then, kids-same, kids-under, children-copied, tail-copied, head-copied}
@@ -156,7 +156,7 @@ module _ (w : World) (in_order : IsInOrder w) (r : Range) (ends : HasEnds w.fore
       ∙ ap (length_in unit_count) (entry-older r.end.node f begun.others (absent-from low r.end.node begun.others begun.from (under r.end.node end_there)))
 
   made_once : IsOnce made.forest
-  made_once = root-once f _ once (below w.made (omega arith))
+  made_once = more-once f once _ (below w.made (omega arith))
 
   made_kinds : KindsFit None made.forest
   made_kinds = root-kinds None f _ refl in_order.forest.kinds

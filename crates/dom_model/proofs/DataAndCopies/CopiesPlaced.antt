@@ -11,7 +11,7 @@ use Rattle.dom_model.specs.DataAndCopies.Clones.{renumbered, alone_of, original}
 use Rattle.dom_model.proofs.PlainLists.Numbers.{same_or, same, apart}
 use Rattle.dom_model.proofs.Forests.Totals.{tree_at-absent, beside-empty}
 use Rattle.dom_model.proofs.Forests.Entries.{entry_under-absent}
-use Rattle.dom_model.proofs.Forests.OneMoreRoot.{entry-behind}
+use Rattle.dom_model.proofs.Forests.ForestsBeside.{entry-younger}
 use Rattle.dom_model.proofs.Worlds.Measured.{parent-beside}
 
 -- A number with a parent among copies from a number on: the parent is the one that all stand under, or a copy with a smaller number.
@@ -52,7 +52,7 @@ parent-copies d made f g n q h =
     (λ (lt : 0 < occurs n f). inl (sym (parent-beside f (renumbered d made g) n lt) ∙ h))
     (λ (le : occurs n f ≤ 0).
     let z : occurs n f ≡ 0 = omega arith in
-    let k : parent_in (entry_under None n (renumbered d made g)) ≡ Some q = sym (ap parent_in (entry-behind None n f (renumbered d made g) z)) ∙ h in
+    let k : parent_in (entry_under None n (renumbered d made g)) ≡ Some q = sym (ap parent_in (entry-younger n f (renumbered d made g) z)) ∙ h in
     inr (below (parent-renumbered d None n q made g k)))
     (cases_lt 0 (occurs n f))
   where
@@ -108,7 +108,7 @@ top-renumbered test d made (node x kids rest) = elim (same_or made made) [ same 
 -- the first copy has the kind of the node that is copied
 pub kind-clone : (test : Kind → Bool) (d made : ℕ) (deep : Bool) (n : ℕ) (f : Forest Content) → ((m : ℕ) → occurs m f ≤ 1) → occurs made f ≡ 0 → 0 < occurs n f → kind_passes test (beside f (renumbered d made (original deep n f))) made ≡ kind_passes test f n
 kind-clone test d made deep n f o new there =
-    ap (entry_has test) (entry-behind None made f (renumbered d made (original deep n f)) new)
+    ap (entry_has test) (entry-younger made f (renumbered d made (original deep n f)) new)
     ∙ top-renumbered test d made (original deep n f)
     ∙ top-original test deep n f
     ∙ top-tree_at test None n f o there
@@ -117,7 +117,7 @@ kind-clone test d made deep n f o new there =
 pub kind-copy : (test : Kind → Bool) (d made : ℕ) (deep : Bool) (h : Node Content → Node Content) → ((x : Node Content) → (h x).label ≡ x.label) → (n : ℕ) (f : Forest Content) → ((m : ℕ) → occurs m f ≤ 1) → occurs made f ≡ 0 → 0 < occurs n f →
     kind_passes test (beside f (renumbered d made (map_nodes h (original deep n f)))) made ≡ kind_passes test f n
 kind-copy test d made deep h keeps n f o new there =
-    ap (entry_has test) (entry-behind None made f (renumbered d made (map_nodes h (original deep n f))) new)
+    ap (entry_has test) (entry-younger made f (renumbered d made (map_nodes h (original deep n f))) new)
     ∙ top-renumbered test d made (map_nodes h (original deep n f))
     ∙ top-map test h keeps (original deep n f)
     ∙ top-original test deep n f

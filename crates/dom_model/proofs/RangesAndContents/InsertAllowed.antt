@@ -20,7 +20,7 @@ use Rattle.dom_model.proofs.Forests.Entries.{occurs-HasNode}
 use Rattle.dom_model.proofs.Forests.Indices.{parent-there}
 use Rattle.dom_model.proofs.Forests.Paths.{parent-path}
 use Rattle.dom_model.proofs.Worlds.SameShape.{bare, IsAlike, with_node-alike, with_tree-alike, ancestors-alike, parent-alike, children-alike, kind-alike, occurs-alike}
-use Rattle.dom_model.proofs.Forests.NewRoots.{root-kind, root-parent, put-kind, put-kind_old, put-parent_new, put-kids_there, put-kids_elsewhere, put-above, put-once}
+use Rattle.dom_model.proofs.Forests.OneMoreRoot.{root-kind, parent-new, put-kind, put-kind_old, put-parent_new, put-kids_there, put-kids_elsewhere, put-above, put-once}
 use Rattle.dom_model.proofs.MutationAlgorithms.ChecksKept.{refusal-head, allows, check-kept}
 use Rattle.dom_model.proofs.MutationAlgorithms.RemovalsLike.{IsWithout, without-cut, without-root, removal-like}
 use Rattle.dom_model.proofs.MutationAlgorithms.SplitsLike.{IsSplit, split-like}
@@ -71,7 +71,7 @@ module _ (w : World) (sound : IsForest (record { forest = w.forest; made = w.mad
   no_fragment = root-kind w.forest sound.once new_text fresh (is_kind DocumentFragment)
 
   no_parent : parent_of made.forest w.made ≡ None
-  no_parent = root-parent w.forest sound.once new_text fresh
+  no_parent = parent-new w.forest sound.once new_text fresh
 
   abbrev next : Option ℕ
   next = next_of made.forest t

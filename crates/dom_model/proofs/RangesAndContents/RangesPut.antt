@@ -16,7 +16,7 @@ use Rattle.dom_model.proofs.Forests.Climbing.{among-hits, hits-among, hits-ances
 use Rattle.dom_model.proofs.Forests.Entries.{HasNode-occurs, occurs-HasNode}
 use Rattle.dom_model.proofs.PlainLists.Places.{place_before}
 use Rattle.dom_model.proofs.BoundaryPoints.PointOrder.{gap-node, gap-elsewhere}
-use Rattle.dom_model.proofs.Forests.Flattened.{hits-numbers}
+use Rattle.dom_model.proofs.Forests.TreeOrder.Flattened.{hits-numbers}
 use Rattle.dom_model.proofs.BoundaryPoints.GapOrder.{gap-order_kept}
 use Rattle.dom_model.proofs.BoundaryPoints.GapInside.{gap-order_inside}
 use Rattle.dom_model.proofs.BoundaryPoints.RootsKept.{one_root-put, reference-put, root-among, last-among}

@@ -11,7 +11,7 @@ use Rattle.dom_model.specs.RangesAndContents.Ranges.{range_at}
 use Rattle.dom_model.specs.Worlds.Sound.{IsBoundary, IsRange, IsSound}
 use Rattle.dom_model.proofs.PlainLists.Numbers.{same_or, same, apart}
 use Rattle.dom_model.proofs.Forests.Climbing.{hits-ancestors, hits-not_among}
-use Rattle.dom_model.proofs.Forests.Flattened.{hits-numbers}
+use Rattle.dom_model.proofs.Forests.TreeOrder.Flattened.{hits-numbers}
 use Rattle.dom_model.proofs.Forests.Entries.{occurs-HasNode, children-cut}
 use Rattle.dom_model.proofs.PlainLists.Places.{place_before, place-absent, place-left_out}
 use Rattle.dom_model.proofs.Forests.Indices.{child-once, child-parent, index-child}

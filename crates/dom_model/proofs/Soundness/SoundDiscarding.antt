@@ -16,7 +16,7 @@ use Rattle.dom_model.proofs.Forests.Totals.{total-tree_at}
 use Rattle.dom_model.proofs.Forests.Lying.{Lies-without_root}
 use Rattle.dom_model.proofs.Forests.Climbing.{not_among-hits}
 use Rattle.dom_model.proofs.Forests.Entries.{Lies-entry_in, entry_under-Lies, HasNode-occurs, occurs-HasNode}
-use Rattle.dom_model.proofs.Forests.Flattened.{hits-numbers}
+use Rattle.dom_model.proofs.Forests.TreeOrder.Flattened.{hits-numbers}
 use Rattle.dom_model.proofs.Forests.Changes.{seen, nothing, just}
 use Rattle.dom_model.proofs.Worlds.Parts.{range-to_part, iterator-to_part}
 use Rattle.dom_model.proofs.Soundness.SoundForests.{IsWood, IsWood-without}

@@ -15,7 +15,7 @@ use Rattle.dom_model.proofs.Forests.Climbing.{hits-first, among-hits, hits-among
 use Rattle.dom_model.proofs.Forests.Entries.{occurs-HasNode}
 use Rattle.dom_model.proofs.Forests.PutBack.{hits-head_of}
 use Rattle.dom_model.proofs.Forests.Climbing.{hits-reverse}
-use Rattle.dom_model.proofs.Traversal.StepsThere.{hits-last}
+use Rattle.dom_model.proofs.PlainLists.Members.{hits-last_of}
 use Rattle.dom_model.proofs.Forests.Indices.{child-parent, child-there}
 use Rattle.dom_model.proofs.Forests.Chains.{way}
 use Rattle.dom_model.proofs.Soundness.SoundNormalizing.{filter-passed}
@@ -75,7 +75,7 @@ common_above w s r h =
     (subst (λ x. 0 < hits x (ancestors r.start.node f)) (sym e) j.0, subst (λ x. 0 < hits x (ancestors r.end.node f)) (sym e) (among-hits i.0 (ancestors r.end.node f) j.1))
   where
     last-hits : (ns : List ℕ) (x : ℕ) → last_of ns ≡ Some x → 0 < hits x ns
-    last-hits ns x e = hits-last ns x e
+    last-hits ns x e = hits-last_of ns x e
 
 -- The parts of a range that is not collapsed and not in one node with data go into a fragment.
 module _ (moves : Bool) (into : ℕ) (r : Range) (w : World) (s : IsSound w) (holder : IsHolder w into) (h : IsRange w.forest r) (doctypes : (m : ℕ) → 0 < hits m (contained_children w r) → is_of_kind DocumentType w.forest m ≡ false) where

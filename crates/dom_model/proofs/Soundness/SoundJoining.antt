@@ -20,7 +20,7 @@ use Rattle.dom_model.proofs.Forests.Changes.{cut_at}
 use Rattle.dom_model.proofs.Forests.Totals.{total-tree_at}
 use Rattle.dom_model.proofs.Forests.Climbing.{hits-append, hits-first, hits-not_among}
 use Rattle.dom_model.proofs.Forests.Entries.{entry-cut, children-cut, parent-cut}
-use Rattle.dom_model.proofs.Forests.Flattened.{hits-numbers}
+use Rattle.dom_model.proofs.Forests.TreeOrder.Flattened.{hits-numbers}
 use Rattle.dom_model.proofs.Forests.Indices.{child-once, child-parent, child-there, index-child, index-cut}
 use Rattle.dom_model.proofs.BoundaryPoints.SplitOrder.{inside-childless}
 use Rattle.dom_model.proofs.Forests.Listed.{hits-itself, place-behind, place-first, place-second, left_out-here}

@@ -12,7 +12,7 @@ use Rattle.dom_model.specs.Worlds.Sound.{IsIterator, IsSound}
 use Rattle.dom_model.proofs.PlainLists.Numbers.{same_or, same, apart}
 use Rattle.dom_model.proofs.Forests.Totals.{total-beside, total-tree_at}
 use Rattle.dom_model.proofs.Forests.Entries.{HasNode-occurs, occurs-HasNode}
-use Rattle.dom_model.proofs.Forests.Flattened.{hits-numbers}
+use Rattle.dom_model.proofs.Forests.TreeOrder.Flattened.{hits-numbers}
 use Rattle.dom_model.proofs.Forests.KindsFitting.{KindsFit-root}
 use Rattle.dom_model.proofs.Soundness.SoundForests.{IsWood, IsWood-beside}
 use Rattle.dom_model.proofs.Worlds.Measured.{entry-beside}

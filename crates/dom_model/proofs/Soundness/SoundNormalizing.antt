@@ -21,7 +21,7 @@ use Rattle.dom_model.proofs.Forests.Changes.{seen, nothing, just, change_at}
 use Rattle.dom_model.proofs.Forests.Totals.{IsOnce-cut, total-tree_at, tree_at-absent}
 use Rattle.dom_model.proofs.Forests.Tops.{tops-tree_at}
 use Rattle.dom_model.proofs.Forests.Climbing.{hits-append, among-hits, hits-first, hits-ancestors}
-use Rattle.dom_model.proofs.Forests.Flattened.{hits-numbers}
+use Rattle.dom_model.proofs.Forests.TreeOrder.Flattened.{hits-numbers}
 use Rattle.dom_model.proofs.Forests.Indices.{child-listed, child-once}
 use Rattle.dom_model.proofs.Forests.Paths.{root-path}
 use Rattle.dom_model.proofs.Worlds.SameShape.{IsAlike, children-alike, kind-alike, with_node-alike}

@@ -14,7 +14,7 @@ use Rattle.dom_model.specs.Commands.AnswerTraversal.{with_object, iterator_at, w
 use Rattle.dom_model.specs.Worlds.Sound.{IsIterator, IsWalker, IsSound}
 use Rattle.dom_model.proofs.Forests.Totals.{total-tree_at, occurs-without}
 use Rattle.dom_model.proofs.Forests.Entries.{HasNode-occurs, occurs-HasNode}
-use Rattle.dom_model.proofs.Forests.Flattened.{hits-numbers}
+use Rattle.dom_model.proofs.Forests.TreeOrder.Flattened.{hits-numbers}
 use Rattle.dom_model.proofs.BoundaryPoints.RootsKept.{hits-found, next-stays, previous-stays}
 use Rattle.dom_model.proofs.Traversal.WalksThere.{listed_there}
 use Rattle.dom_model.proofs.Traversal.StepsThere.{steps_there}

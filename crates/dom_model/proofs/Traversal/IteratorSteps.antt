@@ -13,7 +13,7 @@ use Rattle.dom_model.proofs.PlainLists.Numbers.{same_or, same, apart}
 use Rattle.dom_model.proofs.Forests.Totals.{IsOnce}
 use Rattle.dom_model.proofs.Forests.Climbing.{hits-reverse, hits-first, among-hits, hits-among, hits-ancestors}
 use Rattle.dom_model.proofs.Forests.PutBack.{hits-after}
-use Rattle.dom_model.proofs.Forests.Flattened.{hits-numbers}
+use Rattle.dom_model.proofs.Forests.TreeOrder.Flattened.{hits-numbers}
 use Rattle.dom_model.proofs.Forests.Below.{occurs-tree, at_itself}
 use Rattle.dom_model.proofs.Forests.Mirrored.{reverse-first, after-reverse, Round, round}
 

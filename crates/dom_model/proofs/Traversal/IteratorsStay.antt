@@ -13,7 +13,7 @@ use Rattle.dom_model.proofs.Forests.Undone.{tree_at-beside, without-beside, tree
 use Rattle.dom_model.proofs.Forests.Tops.{tops-tree_at}
 use Rattle.dom_model.proofs.BoundaryPoints.RemovalOrder.{ancestors-split}
 use Rattle.std.proofs.lemmas.List.{nil_from_length}
-use Rattle.dom_model.proofs.Forests.Flattened.{Piece, hits-numbers, numbers-without}
+use Rattle.dom_model.proofs.Forests.TreeOrder.Flattened.{Piece, hits-numbers, numbers-without}
 
 pub hits-past : (x n : ℕ) (xs : List ℕ) → hits x (past n xs) ≤ hits x xs
 hits-past x n [] = omega arith

@@ -9,7 +9,7 @@ use Rattle.dom_model.specs.Traversal.Filters.{rejects}
 use Rattle.dom_model.specs.Traversal.Walks.{rows_past, rows_up_to, unhidden, without_under, outside, following_list, preceding_list, ancestor_list, child_list, sibling_list_under}
 use Rattle.dom_model.proofs.PlainLists.Numbers.{same_or, same, apart}
 use Rattle.dom_model.proofs.Forests.Totals.{IsOnce, tree_at-absent, beside-empty}
-use Rattle.dom_model.proofs.Forests.Flattened.{hits-numbers}
+use Rattle.dom_model.proofs.Forests.TreeOrder.Flattened.{hits-numbers}
 use Rattle.dom_model.proofs.Forests.Climbing.{hits-first, hits-not_among, hits-among, hits-ancestors}
 use Rattle.dom_model.proofs.Forests.Below.{Below, path_below, path_in_tree}
 use Rattle.dom_model.proofs.Forests.Standing.{top, inside, beyond, whereabouts, Tree}

@@ -7,7 +7,7 @@ use Rattle.dom_model.specs.Forests.Forest.{Node, Forest, empty, node, occurs, nu
 use Rattle.dom_model.proofs.PlainLists.Numbers.{same_or, same, apart}
 use Rattle.dom_model.proofs.Forests.Totals.{IsOnce}
 use Rattle.dom_model.proofs.Forests.Climbing.{hits-first, among-hits, hits-ancestors}
-use Rattle.dom_model.proofs.Forests.Flattened.{hits-numbers}
+use Rattle.dom_model.proofs.Forests.TreeOrder.Flattened.{hits-numbers}
 use Rattle.dom_model.proofs.Forests.Standing.{top, inside, beyond, whereabouts, Stands, Tree, tree_of}
 use Rattle.dom_model.proofs.Forests.Below.{Below, below, tree-there, tree-top, tree-inside, tree-beyond, tree-kids}
 use Rattle.dom_model.proofs.Traversal.ListsOfWalks.{top_apart}

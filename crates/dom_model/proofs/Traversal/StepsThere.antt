@@ -12,16 +12,12 @@ use Rattle.dom_model.specs.Traversal.Filters.{verdict_on, accepts}
 use Rattle.dom_model.specs.Traversal.Walks.{mirrored, found_by_steps}
 use Rattle.dom_model.specs.Traversal.WalkSteps.{Stand, at, leaving, ended, at_or, come_to, come_back_to, up_to_parent, walked, parent_arrived, parent_step, first_child_arrived, past_child, first_child_step, next_sibling_arrived, past_sibling, next_sibling_step, past_node, next_step, previous_arrived, back_past_node, previous_step, moves_allowed, next_sibling_by_steps, previous_by_steps}
 use Rattle.dom_model.proofs.PlainLists.Numbers.{same_or, same, apart}
+use Rattle.dom_model.proofs.PlainLists.Members.{hits-last_of}
 use Rattle.dom_model.proofs.Forests.PutBack.{hits-head_of, hits-after}
 use Rattle.dom_model.proofs.Forests.Indices.{child-there}
 use Rattle.dom_model.proofs.Forests.Paths.{parent-path}
 use Rattle.dom_model.proofs.Soundness.SoundWorlds.{child_there}
 use Rattle.dom_model.proofs.Traversal.WalksThere.{total-mirrored}
-
-pub hits-last : (ns : List ℕ) (b : ℕ) → last_of ns ≡ Some b → 0 < hits b ns
-hits-last [] b e = absurd (cc e)
-hits-last (n ∷ []) b e = elim (same_or n b) [ same d t ↦ rw t (omega arith) | apart ne t ↦ absurd (ne (let u : Some n ≡ Some b = e in cc u)) ]
-hits-last (n ∷ m ∷ ns) b e = let i = hits-last (m ∷ ns) b e in omega arith
 
 hits-before : (passed : Option ℕ) (c : ℕ) (ns : List ℕ) (b : ℕ) → before_from passed c ns ≡ Some b → IfSome passed (λ p. 0 < hits b ns → 0 < hits b ns) → (passed ≡ Some b → ⊥) → 0 < hits b ns
 hits-before passed c [] b e t ne = absurd (cc e)
@@ -72,7 +68,7 @@ module _ (f : Forest Content) (o : (m : ℕ) → occurs m f ≤ 1) where
   head_there n = among_children (Some n) head_of (λ ns x e. hits-head_of ns x e) refl
 
   last_there : (n : ℕ) → IsThere (last_of (children_of f n))
-  last_there n = among_children (Some n) last_of (λ ns x e. hits-last ns x e) refl
+  last_there n = among_children (Some n) last_of (λ ns x e. hits-last_of ns x e) refl
 
   at_or_stands : (x : Option ℕ) (other : Stand) → IsThere x → Stands other → Stands (at_or x other)
   at_or_stands None other h k = k

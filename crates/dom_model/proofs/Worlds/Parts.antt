@@ -18,7 +18,7 @@ use Rattle.dom_model.proofs.Forests.Totals.{tree_at-absent}
 use Rattle.dom_model.proofs.Forests.Climbing.{hits-append, hits-ancestors, ancestors-there}
 use Rattle.dom_model.proofs.Forests.Entries.{HasNode-occurs, occurs-HasNode}
 use Rattle.dom_model.proofs.Forests.Paths.{parent-path, root-path}
-use Rattle.dom_model.proofs.Forests.Flattened.{hits-numbers}
+use Rattle.dom_model.proofs.Forests.TreeOrder.Flattened.{hits-numbers}
 
 map_agree : (F G : ℕ → ℕ) (ns : List ℕ) → ((m : ℕ) → 0 < hits m ns → F m ≡ G m) → map F ns ≡ map G ns
 map_agree F G [] h = refl

@@ -35,7 +35,7 @@ use Rattle.dom_model.proofs.TokenText.EditsMade.EditsOfDeletedContents.{follows-
 use Rattle.dom_model.proofs.RangesAndContents.Drawing.{IsDrawing, extends-then, Draws, draws-none, draws-then, draws-as, passes_there, IsHolder, holder-extends}
 use Rattle.dom_model.proofs.RangesAndContents.DrawnPieces.{is_drawn, IsDrawable, drawable-extends, draws-fragment, draws-units, draws-children}
 use Rattle.dom_model.proofs.RangesAndContents.DrawnPaths.{ArePath, path-extends, kind-drawn, hits-filter, draws-tail, draws-head}
-use Rattle.dom_model.proofs.RangesAndContents.PathsDown.{common-above, path-down}
+use Rattle.dom_model.proofs.RangesAndContents.PathsToEnds.{common-above, path-down}
 
 -- A live range of a sound world is in order.
 

@@ -14,7 +14,7 @@ use Rattle.dom_model.specs.TokenText.Tokens.{Token, point, token_texts, on_texts
 use Rattle.dom_model.specs.TokenText.Edits.{on_world, merge_from}
 use Rattle.dom_model.proofs.Forests.Undone.{beside-assoc}
 use Rattle.dom_model.proofs.Forests.Tops.{tops-beside}
-use Rattle.dom_model.proofs.Forests.Flattened.{hits-numbers}
+use Rattle.dom_model.proofs.Forests.TreeOrder.Flattened.{hits-numbers}
 use Rattle.dom_model.proofs.Forests.Lying.{total-with_node}
 use Rattle.dom_model.proofs.Forests.Entries.{entry_under-absent}
 use Rattle.dom_model.proofs.Forests.Indices.{child-listed, index-child}

@@ -10,7 +10,7 @@ use Rattle.dom_model.specs.TokenText.Tokens.{Token, Open, Close, point, child_to
 use Rattle.dom_model.specs.TokenText.Edits.{on_world, removal_from}
 use Rattle.dom_model.proofs.Forests.Totals.{total-tree_at}
 use Rattle.dom_model.proofs.Forests.Climbing.{among-hits, not_among-hits}
-use Rattle.dom_model.proofs.Forests.Flattened.{hits-numbers}
+use Rattle.dom_model.proofs.Forests.TreeOrder.Flattened.{hits-numbers}
 use Rattle.dom_model.proofs.Forests.Entries.{entry_under-absent}
 use Rattle.dom_model.proofs.Forests.Indices.{child-listed, index-child}
 use Rattle.dom_model.proofs.Forests.Paths.{parent-path}

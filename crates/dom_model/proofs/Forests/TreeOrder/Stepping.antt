@@ -10,9 +10,9 @@ use Rattle.dom_model.proofs.PlainLists.Numbers.{same_or, same, apart}
 use Rattle.dom_model.proofs.Forests.Totals.{total-tree_at, tree_at-absent}
 use Rattle.dom_model.proofs.Forests.Entries.{Lies-entry_in}
 use Rattle.dom_model.proofs.Forests.PutBack.{hits-after}
-use Rattle.dom_model.proofs.Forests.Flattened.{hits-numbers}
-use Rattle.dom_tree.proofs.Ordering.{past, after-numbers, past-next, past-up, Up, over, up, Single, single, tree_at-single, Lies-tree_at}
-use Rattle.dom_tree.proofs.Walking.{IfSome-from, next-root, root-parent, inside-root}
+use Rattle.dom_model.proofs.Forests.TreeOrder.Flattened.{hits-numbers}
+use Rattle.dom_model.proofs.Forests.TreeOrder.Ordering.{past, after-numbers, past-next, past-up, Up, over, up, Single, single, tree_at-single, Lies-tree_at}
+use Rattle.dom_model.proofs.Forests.ToTheRoot.{IfSome-from, next-root, root-parent, inside-root}
 
 -- a parent in the tree, with the same past
 pub data Rise {X : Type 0} (n : ℕ) (parent : Option ℕ) (t : Forest X) : Type 0 where

@@ -6,13 +6,13 @@ use Rattle.dom_model.specs.Forests.Arena.{Entry, parent_in}
 use Rattle.dom_model.specs.Forests.Forest.{Node, Forest, empty, node, Grove, occurs, tops, entry_in, HasNode, parent_of, next_of, previous_of, ancestors, root_of, tree_at, IsForest}
 use Rattle.dom_model.proofs.PlainLists.Numbers.{same_or, same, apart}
 use Rattle.dom_model.proofs.Forests.Tops.{hits-tops}
-use Rattle.dom_tree.proofs.Growing.{rooted, rootless, rooted-tops}
-use Rattle.dom_tree.proofs.Numbering.{hits-last_of}
+use Rattle.dom_model.proofs.Forests.Rooted.{rooted-tops, rooted, rootless}
+use Rattle.dom_model.proofs.PlainLists.Members.{hits-last_of}
 use Rattle.dom_model.proofs.Forests.Climbing.{ancestors-there, ancestors-kids, ancestors-rest, hits-ancestors, hits-among, among-hits}
 use Rattle.dom_model.proofs.Forests.Entries.{occurs-HasNode, Lies-entry_in}
 use Rattle.dom_model.proofs.BoundaryPoints.RootsKept.{last_of-behind}
 use Rattle.dom_model.proofs.Forests.Paths.{root-path}
-use Rattle.dom_tree.proofs.Forests.{Above}
+use Rattle.dom_model.proofs.Forests.Above.{Above}
 
 pub IfSome-from : {A : Type 0} (o : Option A) (P : A → Type 0) → ((x : A) → o ≡ Some x → P x) → IfSome o P
 IfSome-from None P h = tt

@@ -12,10 +12,10 @@ use Rattle.dom_model.proofs.BoundaryPoints.RootsKept.{last_of-behind}
 use Rattle.dom_model.proofs.PlainLists.Places.{place-there}
 use Rattle.dom_model.proofs.Forests.Chains.{place-apart}
 use Rattle.dom_model.proofs.Forests.PutBack.{hits-after, hits-head_of}
-use Rattle.dom_model.proofs.Forests.Flattened.{hits-numbers}
+use Rattle.dom_model.proofs.Forests.TreeOrder.Flattened.{hits-numbers}
 use Rattle.dom_model.proofs.Forests.Entries.{occurs-HasNode, HasNode-occurs}
-use Rattle.dom_tree.proofs.Walking.{root-top, inside-root}
-use Rattle.dom_tree.proofs.Stepping.{after-inside}
+use Rattle.dom_model.proofs.Forests.ToTheRoot.{root-top, inside-root}
+use Rattle.dom_model.proofs.Forests.TreeOrder.Stepping.{after-inside}
 
 pub place-after : (n m : ℕ) (l : List ℕ) → ((k : ℕ) → hits k l ≤ 1) → after n l ≡ Some m → place_in m l ≡ 1 + place_in n l
 place-after n m [] o e = absurd (cc e)

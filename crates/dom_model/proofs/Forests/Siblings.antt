@@ -8,7 +8,7 @@ use Rattle.dom_model.proofs.PlainLists.Numbers.{same_or, same, apart}
 use Rattle.dom_model.proofs.Forests.Changes.{seen, nothing, just}
 use Rattle.dom_model.proofs.Forests.Entries.{occurs-HasNode, HasNode-occurs}
 use Rattle.dom_model.proofs.Forests.Indices.{child-parent, child-there, child-listed, child-once}
-use Rattle.dom_tree.proofs.Numbering.{hits-before}
+use Rattle.dom_model.proofs.PlainLists.Members.{hits-before}
 
 pub place_in-length : (n : ℕ) (l : List ℕ) → place_in n l ≤ length l
 place_in-length n [] = omega arith

@@ -10,8 +10,8 @@ use Rattle.dom_model.proofs.Forests.Tops.{hits-tops}
 use Rattle.dom_model.proofs.BoundaryPoints.RootsKept.{last_of-behind}
 use Rattle.dom_model.proofs.Traversal.IteratorsStay.{tree_at-inside}
 use Rattle.dom_model.proofs.Forests.Entries.{occurs-HasNode, HasNode-occurs, Lies-entry_in}
-use Rattle.dom_tree.proofs.Numbering.{hits-last_of}
-use Rattle.dom_tree.proofs.Ordering.{Single, single, tree_at-single, Lies-tree_at}
+use Rattle.dom_model.proofs.PlainLists.Members.{hits-last_of}
+use Rattle.dom_model.proofs.Forests.TreeOrder.Ordering.{Single, single, tree_at-single, Lies-tree_at}
 
 module _ {X : Type 0} where
   -- the last number is the last one's of the last tree
