@@ -1,4 +1,4 @@
--- Laws of nested lists: what is told of each node, and what is left of it as trees are cut, put, made and changed. None speaks of a world.
+-- Laws of nested lists: what is told of each node, and what is left of it as trees are cut, put, made and changed.
 pub mod Totals
 pub mod Tops
 pub mod KindsFitting
@@ -17,7 +17,6 @@ pub mod PutBack
 pub mod Chains
 pub mod Lots
 pub mod IndexedTrees
-pub mod NextSibling
 pub mod Listed
 pub mod Standing
 pub mod Below

@@ -17,7 +17,6 @@ pub mod SoundPaths
 pub mod SoundExtracting
 pub mod SoundDeleting
 pub mod SoundContents
-pub mod SoundInsertNode
 pub mod SoundPlacedNode
 pub mod SoundInsertedNode
 pub mod SoundSurrounding

@@ -12,4 +12,3 @@ pub mod WalksMirrored
 pub mod EndingWalks
 pub mod MovesEnough
 pub mod WalksThere
-pub mod StepsThere

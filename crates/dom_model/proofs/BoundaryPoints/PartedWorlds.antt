@@ -10,7 +10,7 @@ use Rattle.dom_model.specs.DataAndCopies.Data.{tail_of, with_data}
 use Rattle.dom_model.specs.TokenText.Tokens.{point, Parting}
 use Rattle.dom_model.specs.TokenText.Edits.{parting_from, on_world}
 use Rattle.dom_model.proofs.Forests.Indices.{child-listed}
-use Rattle.dom_model.proofs.Forests.NextSibling.{next-child}
+use Rattle.dom_model.proofs.Forests.Siblings.{next-child}
 use Rattle.dom_model.proofs.BoundaryPoints.NestedAlike.{order-nested, nested-with_node, nested-adopted}
 use Rattle.dom_model.proofs.Forests.OneMoreRoot.{more, more-once, more-there, new-there, parent-new, children-new, parent-more, children-more, root-more, index-more, order-more}
 use Rattle.dom_model.proofs.BoundaryPoints.SplitOrder.{split_point, tail-settled, split-order_kept}

@@ -16,7 +16,7 @@ use Rattle.dom_model.proofs.Forests.Indices.{child-listed, child-parent, index-c
 use Rattle.dom_model.proofs.BoundaryPoints.PointOrder.{gap-node}
 use Rattle.dom_model.proofs.BoundaryPoints.GapOrder.{gap-order_kept}
 use Rattle.dom_model.proofs.BoundaryPoints.RootsKept.{one_root-put}
-use Rattle.dom_model.proofs.Forests.NextSibling.{place-next, next-listed}
+use Rattle.dom_model.proofs.Forests.Siblings.{place-next, next-listed}
 use Rattle.dom_model.proofs.BoundaryPoints.SplitInPlace.{split-in_place}
 
 -- where a point goes as the Text `at` of (parent, index) is split

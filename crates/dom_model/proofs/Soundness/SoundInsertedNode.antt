@@ -40,8 +40,7 @@ use Rattle.dom_model.proofs.BoundaryPoints.MovedPoints.{KeepsPoint, range_at-mov
 use Rattle.dom_model.proofs.BoundaryPoints.GapsKept.{position, ahead}
 use Rattle.dom_model.proofs.RangesAndContents.EndsGrown.{boundary_ahead}
 use Rattle.dom_model.proofs.Soundness.SoundPlacedNode.{Gives, gives-unless, gives-after, StartsAhead, placed-next}
-use Rattle.dom_model.proofs.Soundness.SoundInsertNode.{from_child, outside_before, got_place}
-use Rattle.dom_model.proofs.RangesAndContents.StartsAhead.{start_left, outside_removed, starts_at_child}
+use Rattle.dom_model.proofs.RangesAndContents.StartsAhead.{from_child, outside_before, got_place, start_left, outside_removed, starts_at_child}
 
 -- The start stands in a Text, which is split: the node comes in before the new Text.
 module _ (r n parent : ℕ) (w : World) (range : Range) (s : IsSound w) (hn : 0 < occurs n w.forest) (e : range_at w r ≡ Some range) (h : IsRange w.forest range) (text : is_of_kind Text w.forest range.start.node ≡ true) (par : parent_of w.forest range.start.node ≡ Some parent) (other : range.start.node ≡ n → ⊥) where

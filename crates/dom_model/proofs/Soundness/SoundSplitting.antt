@@ -22,7 +22,7 @@ use Rattle.dom_model.proofs.Forests.Entries.{occurs-HasNode, entry_under-absent}
 use Rattle.dom_model.proofs.Forests.Paths.{parent-path}
 use Rattle.dom_model.proofs.PlainLists.Places.{place_before}
 use Rattle.dom_model.proofs.Forests.Indices.{child-listed}
-use Rattle.dom_model.proofs.Forests.NextSibling.{place-next}
+use Rattle.dom_model.proofs.Forests.Siblings.{place-next}
 use Rattle.dom_model.proofs.BoundaryPoints.SplitOrder.{inside-childless, split_point, index-split, index-new, split-order_kept}
 use Rattle.dom_model.proofs.Worlds.SameShape.{IsAlike, index-alike, order-alike}
 use Rattle.dom_model.proofs.Soundness.SoundForests.{IsWood, entry_there, data-childless, parent-passes}

@@ -16,8 +16,7 @@ use Rattle.dom_model.proofs.Forests.Totals.{total-tree_at, occurs-without}
 use Rattle.dom_model.proofs.Forests.Entries.{HasNode-occurs, occurs-HasNode}
 use Rattle.dom_model.proofs.Forests.TreeOrder.Flattened.{hits-numbers}
 use Rattle.dom_model.proofs.BoundaryPoints.RootsKept.{hits-found, next-stays, previous-stays}
-use Rattle.dom_model.proofs.Traversal.WalksThere.{listed_there}
-use Rattle.dom_model.proofs.Traversal.StepsThere.{steps_there}
+use Rattle.dom_model.proofs.Traversal.WalksThere.{listed_there, steps_there}
 use Rattle.dom_model.proofs.Soundness.SoundGuards.{sound-guarded, there_unless}
 
 -- an element that is read is one of the list

@@ -13,7 +13,7 @@ use Rattle.dom_model.specs.DataAndCopies.Data.{content_in, data_of, cut_count, r
 use Rattle.dom_model.specs.TokenText.Tokens.{point, Splice, Parting}
 use Rattle.dom_model.specs.TokenText.Edits.{index_before, insertion_at, parting_from, making, replace_data_edits, split_edits_by, split_edits}
 use Rattle.dom_model.specs.Worlds.Sound.{IsSound}
-use Rattle.dom_model.proofs.Forests.NextSibling.{place-next}
+use Rattle.dom_model.proofs.Forests.Siblings.{place-next}
 use Rattle.dom_model.proofs.PlainLists.Places.{place_before}
 use Rattle.dom_model.proofs.Forests.Indices.{index-child}
 use Rattle.dom_model.proofs.Forests.OneMoreRoot.{index-more}
