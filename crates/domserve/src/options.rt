@@ -46,7 +46,12 @@ fn command<'a>(alloc: Global) -> Result<Command<'a>, AllocError>
         .action(ArgAction::Set)
         .value_parser(clap::value_parser!(u64).range(1..=4294967295))
         .default_value("4294967295");
-    Command::new(alloc, "domserve").arg(line)?.arg(numbers)
+    Command::new(alloc, "domserve")
+        .about(
+            "Keeps documents (DOM Standard): one JSON command a line in, one JSON reply a line out",
+        )
+        .arg(line)?
+        .arg(numbers)
 }
 
 /// The value where it is in the range, which clap has tested, or else the other one.
