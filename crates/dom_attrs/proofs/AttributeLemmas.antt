@@ -5,7 +5,7 @@ use Rattle.std.specs.List.{AllByRecursion, IsDistinct, list_any, list_all}
 use Rattle.std.proofs.lemmas.Slice.Eq.{bytes_eq-Decides}
 use Rattle.std.proofs.lemmas.List.Folds.{list_all_more}
 use Rattle.std.proofs.lemmas.Option.{slice_get_within, get_or_from_slice_get}
-use Rattle.dom_model.specs.Attributes.{Attribute, attribute_value, attribute_names, with_attribute, is_attribute}
+use Rattle.dom_model.specs.Forests.Attributes.{Attribute, attribute_value, attribute_names, with_attribute, is_attribute}
 
 -- whether a value is there, and is that one
 abbrev pub has_value : List ℕ → Option (List ℕ) → Bool

@@ -4,7 +4,7 @@ use Rattle.std.specs.Prelude.{String, string_eq, bytes_eq}
 use Rattle.std.specs.List.{AllByRecursion, IsDistinct, list_any}
 use Rattle.std.specs.Map.{lookup, remove_entry, keys_of}
 use Rattle.indexmap.specs.IndexMap.{insert_entry}
-use Rattle.dom_model.specs.Attributes.{Attribute, attribute_value, attribute_names, with_attribute, without_attribute, is_attribute}
+use Rattle.dom_model.specs.Forests.Attributes.{Attribute, attribute_value, attribute_names, with_attribute, without_attribute, is_attribute}
 use Rattle.dom_attrs.specs.Entries.{attribute_of, attributes_of}
 use Rattle.dom_attrs.proofs.AttributeLemmas.{has_value, list_any-is_attribute}
 

@@ -2,7 +2,7 @@
 use Rattle.std.specs.Prelude.{ℕ, List, [], map, String, string_bytes, Option, None, Some, Box}
 use Rattle.std.specs.HashMap.{HashMap}
 use Rattle.std.specs.Borrow.{Bor}
-use Rattle.dom_model.specs.Attributes.{Attribute}
+use Rattle.dom_model.specs.Forests.Attributes.{Attribute}
 
 -- an entry
 abbrev pub attribute_of : {Z : Type 0} → String Z × List ℕ → Attribute

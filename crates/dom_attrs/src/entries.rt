@@ -2,7 +2,7 @@
 ghost use Rattle.std.specs.Prelude.{◌≡◌, [], length, slice_get, option_map, option_copied, string_bytes, string_eq, bytes_eq, IfOk, OnOk, OnErr};
 ghost use Rattle.std.specs.List.{IsDistinct, list_any};
 ghost use Rattle.std.specs.Map.{keys_of};
-ghost use Rattle.dom_model.specs.Attributes.{attribute_value, attribute_names, with_attribute, without_attribute, is_attribute};
+ghost use Rattle.dom_model.specs.Forests.Attributes.{attribute_value, attribute_names, with_attribute, without_attribute, is_attribute};
 ghost use Rattle.dom_attrs.specs.Entries.{attribute_at, attributes_of, entries_in};
 
 use dom_units::Units;

@@ -2,7 +2,7 @@
 #![tactic(auto)]
 
 ghost use Rattle.std.specs.Prelude.{◌≡◌, ◌<◌, [], length, slice_get, option_map, option_copied, string_bytes, bytes_eq, IsTrue, ◌↔◌, IfOk, OnOk, OnErr};
-ghost use Rattle.dom_model.specs.Attributes.{Attribute, attribute_value, attribute_names, with_attribute, without_attribute, is_attribute, are_among, same_attributes};
+ghost use Rattle.dom_model.specs.Forests.Attributes.{Attribute, attribute_value, attribute_names, with_attribute, without_attribute, is_attribute, are_among, same_attributes};
 ghost use Rattle.dom_attrs.specs.Entries.{attribute_at};
 ghost use Rattle.std.specs.List.{IsDistinct, list_any};
 
@@ -27,7 +27,7 @@ pub struct Attrs {
 
 impl Model for Attrs {
     ghost use Rattle.std.specs.Prelude.{List};
-    ghost use Rattle.dom_model.specs.Attributes.{Attribute};
+    ghost use Rattle.dom_model.specs.Forests.Attributes.{Attribute};
     ghost use Rattle.std.specs.Prelude.{string_eq};
     ghost use Rattle.std.specs.List.{IsDistinct};
     ghost use Rattle.std.specs.Map.{keys_of};

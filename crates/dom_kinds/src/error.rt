@@ -1,6 +1,6 @@
 //! The name and the code of an exception.
 ghost use Rattle.std.specs.Prelude.{◌≡◌, ℕ, List};
-ghost use Rattle.dom_model.specs.Refusal.{name_of_error, code_of_error};
+ghost use Rattle.dom_model.specs.Commands.Refusal.{name_of_error, code_of_error};
 
 use dom_model::DomError;
 

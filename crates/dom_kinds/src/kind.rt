@@ -1,6 +1,6 @@
 //! The number of a kind.
 ghost use Rattle.std.specs.Prelude.{◌≡◌, ℕ};
-ghost use Rattle.dom_model.specs.Kinds.{number_of_kind};
+ghost use Rattle.dom_model.specs.Forests.Kinds.{number_of_kind};
 
 use dom_model::Kind;
 

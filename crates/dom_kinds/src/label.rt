@@ -19,7 +19,7 @@ pub struct Label {
 
 impl Model for Label {
     ghost use Rattle.std.specs.Prelude.{string_bytes};
-    ghost use Rattle.dom_model.specs.Kinds.{Label as PlainLabel};
+    ghost use Rattle.dom_model.specs.Forests.Kinds.{Label as PlainLabel};
 
     ghost Value = { PlainLabel };
 

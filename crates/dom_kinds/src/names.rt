@@ -1,7 +1,7 @@
 //! Which names are valid (DOM Standard, "Name validation").
 ghost use Rattle.std.specs.Prelude.{◌≡◌, ◌∷◌};
 ghost use Rattle.std.specs.List.{list_all};
-ghost use Rattle.dom_model.specs.Names.{is_ascii_letter, is_ascii_digit, is_ascii_white_space, is_other_name_start, may_follow_letter, may_follow_other, may_stand_in_attribute_name, may_stand_in_doctype_name, is_element_name, is_attribute_name, is_doctype_name};
+ghost use Rattle.dom_model.specs.Forests.Names.{is_ascii_letter, is_ascii_digit, is_ascii_white_space, is_other_name_start, may_follow_letter, may_follow_other, may_stand_in_attribute_name, may_stand_in_doctype_name, is_element_name, is_attribute_name, is_doctype_name};
 
 /// Whether an element may have the name, or a processing instruction the target.
 pub fn is_element_name(name: &str) -> bool

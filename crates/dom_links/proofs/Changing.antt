@@ -2,8 +2,8 @@
 use Rattle.std.proofs.Common.{◌≡◌, ℕ, ◌<◌, Bool, true, false, cond, eqb, List, Option, Some, None, refl, sym, ap, ◌∙◌, subst, ⊎_elim, arith}
 use Rattle.std.specs.Prelude.{IsSome, option_map}
 use Rattle.std.proofs.lemmas.Bool.{cases_eq, eqb-true, eqb-false, eq-eqb, ne_eqb, false≢true}
-use Rattle.dom_model.specs.Lists.{hits, last_of, after, before, entered, left_out}
-use Rattle.dom_model.specs.Arena.{Entry, Arena, names, entry_at, parent_in, children_in, list_under, next_in, previous_in, with_parent, with_children, altered, linked, unlinked, unlinked_from, IsLinked}
+use Rattle.dom_model.specs.PlainLists.Lists.{hits, last_of, after, before, entered, left_out}
+use Rattle.dom_model.specs.Forests.Arena.{Entry, Arena, names, entry_at, parent_in, children_in, list_under, next_in, previous_in, with_parent, with_children, altered, linked, unlinked, unlinked_from, IsLinked}
 use Rattle.dom_links.proofs.Neighbours.{left_out-none, hits-left_out_same, hits-left_out_other, left_out-entered, hits-entered, after-entered, after-entered_last, before_from-entered, before_from-entered_last, last_of-last_from}
 use Rattle.dom_links.proofs.Cutting.{IsCut, names-same, names-other, next_is, previous_is}
 use Rattle.dom_links.proofs.Closing.{entry_at-altered}

@@ -4,8 +4,8 @@ use Rattle.std.specs.Prelude.{reverse, IsSome, is_some, option_map}
 use Rattle.std.proofs.lemmas.Bool.{cases_eq, cases_lt, eq-eqb, ne_eqb, le-ltb}
 use Rattle.std.proofs.lemmas.List.{get_or-set_same, get_or-set_other, get_or_past, set_past, length-set}
 use denote.RawPtr.{Ptr}
-use Rattle.dom_model.specs.Lists.{is_number}
-use Rattle.dom_model.specs.Arena.{Entry, Arena, held, entry_at, altered, no_slots, IsLinked}
+use Rattle.dom_model.specs.PlainLists.Lists.{is_number}
+use Rattle.dom_model.specs.Forests.Arena.{Entry, Arena, held, entry_at, altered, no_slots, IsLinked}
 use Rattle.dom_links.specs.Cells.{same_ptr, look}
 use Rattle.dom_links.specs.declared.links.Node.{Node}
 use Rattle.dom_links.specs.Standing.{place_in, link_in, node_behind, arena_of, wired, Stands}

@@ -1,7 +1,7 @@
 -- Lists with no number twice are short.
 use Rattle.std.proofs.Common.{◌≡◌, ℕ, zero, suc, ◌≤◌, ◌<◌, List, [], ◌∷◌, length, refl, ⊎_elim, arith}
 use Rattle.std.proofs.lemmas.Bool.{cases_eq, eq-eqb}
-use Rattle.dom_model.specs.Lists.{hits, left_out}
+use Rattle.dom_model.specs.PlainLists.Lists.{hits, left_out}
 use Rattle.dom_links.proofs.Neighbours.{length-left_out, hits-left_out_same, hits-left_out_other}
 
 -- numbers below n, each at most once, are at most n

@@ -5,8 +5,8 @@ use Rattle.std.proofs.lemmas.Bool.{cases_eq, cases_lt, eq-eqb, ne_eqb, lt-ltb, l
 use Rattle.std.proofs.lemmas.List.{get_or-set_same, get_or-set_other, get_or_past, length-set, length_push, set_at, length-reverse, reverse-append}
 use Rattle.std.proofs.lemmas.List.Sums.{sum_by-set, sum_by_push}
 use denote.RawPtr.{Ptr}
-use Rattle.dom_model.specs.Lists.{hits, head_of, last_of, after, before}
-use Rattle.dom_model.specs.Arena.{Entry, Arena, names, held, alone, entry_at, parent_in, children_in, list_under, siblings_in, next_in, previous_in, next_from, next_slot, added, added_from, taken, IsLinked, IsSound}
+use Rattle.dom_model.specs.PlainLists.Lists.{hits, head_of, last_of, after, before}
+use Rattle.dom_model.specs.Forests.Arena.{Entry, Arena, names, held, alone, entry_at, parent_in, children_in, list_under, siblings_in, next_in, previous_in, next_from, next_slot, added, added_from, taken, IsLinked, IsSound}
 use Rattle.dom_links.specs.Cells.{same_ptr, look, without}
 use Rattle.dom_links.specs.declared.links.Node.{Node}
 use Rattle.dom_links.specs.Standing.{place_in, link_in, node_behind, node_in, wired, Stands}

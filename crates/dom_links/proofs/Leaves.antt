@@ -1,9 +1,9 @@
 -- Nothing stands under a slot with no child but that slot.
 use Rattle.std.proofs.Common.{◌≡◌, ℕ, [], length, Option, Some, refl, ap, ◌∙◌, arith}
 use Rattle.std.proofs.lemmas.List.{nil_from_length}
-use Rattle.dom_model.specs.Lists.{hits}
-use Rattle.dom_model.specs.Arena.{Entry, names, parent_in, children_in, IsLinked, StandsUnder}
-use Rattle.dom_model.specs.Arena.StandsUnder.{itself, below}
+use Rattle.dom_model.specs.PlainLists.Lists.{hits}
+use Rattle.dom_model.specs.Forests.Arena.{Entry, names, parent_in, children_in, IsLinked, StandsUnder}
+use Rattle.dom_model.specs.Forests.Arena.StandsUnder.{itself, below}
 use Rattle.dom_links.proofs.Cutting.{names-same}
 
 childless : {T : Type 0} (at : ℕ → Option (Entry T)) (c n : ℕ) → IsLinked at → children_in (at c) ≡ [] → parent_in (at n) ≡ Some c → ⊥

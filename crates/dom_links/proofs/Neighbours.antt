@@ -1,7 +1,7 @@
 -- The numbers beside a number of a list, once a number is left out or entered.
 use Rattle.std.proofs.Common.{◌≡◌, ℕ, ◌+◌, ◌≤◌, ◌<◌, true, false, cond, eqb, List, [], ◌∷◌, length, Option, Some, None, refl, sym, ap, ◌∙◌, ⊎_elim, arith}
 use Rattle.std.proofs.lemmas.Bool.{cases_Bool, eqb-true, eqb-false, eq-eqb, ne_eqb, false≢true}
-use Rattle.dom_model.specs.Lists.{hits, is_number, head_of, last_of, after, before_from, before, entered, left_out}
+use Rattle.dom_model.specs.PlainLists.Lists.{hits, is_number, head_of, last_of, after, before_from, before, entered, left_out}
 use Rattle.dom_links.specs.Wiring.{link_unless}
 
 -- the last of a list that comes after o

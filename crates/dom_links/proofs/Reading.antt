@@ -2,8 +2,8 @@
 use Rattle.std.proofs.Common.{◌≡◌, ℕ, List, length, Option, Some, sym, ap, ◌∙◌, subst}
 use Rattle.std.specs.Prelude.{IsSome, IfSome}
 use denote.RawPtr.{Ptr}
-use Rattle.dom_model.specs.Lists.{head_of, last_of}
-use Rattle.dom_model.specs.Arena.{Entry, Arena, entry_at, parent_in, children_in, next_in, previous_in}
+use Rattle.dom_model.specs.PlainLists.Lists.{head_of, last_of}
+use Rattle.dom_model.specs.Forests.Arena.{Entry, Arena, entry_at, parent_in, children_in, next_in, previous_in}
 use Rattle.dom_links.specs.Cells.{look}
 use Rattle.dom_links.specs.declared.links.Node.{Node}
 use Rattle.dom_links.specs.Standing.{node_in, slot_behind, link_in, wired, Stands}

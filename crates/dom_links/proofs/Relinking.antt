@@ -5,8 +5,8 @@ use Rattle.std.proofs.lemmas.Bool.{cases_Bool, cases_eq, false≢true}
 use Rattle.std.proofs.lemmas.List.{get_or_past}
 use Rattle.dom_links.proofs.Counting.{length-le_from_once}
 use denote.RawPtr.{Ptr}
-use Rattle.dom_model.specs.Lists.{hits, is_number, head_of, last_of, entered, left_out}
-use Rattle.dom_model.specs.Arena.{Entry, Arena, entry_at, parent_in, children_in, next_in, previous_in, with_parent, with_children, altered, linked, unlinked, unlinked_from, IsLinked}
+use Rattle.dom_model.specs.PlainLists.Lists.{hits, is_number, head_of, last_of, entered, left_out}
+use Rattle.dom_model.specs.Forests.Arena.{Entry, Arena, entry_at, parent_in, children_in, next_in, previous_in, with_parent, with_children, altered, linked, unlinked, unlinked_from, IsLinked}
 use Rattle.dom_links.specs.Cells.{same_ptr, look}
 use Rattle.dom_links.specs.declared.links.Node.{Node}
 use Rattle.dom_links.specs.Standing.{place_in, link_in, node_behind, node_in, wired, Stands}

@@ -2,8 +2,8 @@
 use Rattle.std.proofs.Common.{◌≡◌, ℕ, Bool, true, false, cond, eqb, List, length, Option, Some, None, refl, sym, ap, ◌∙◌}
 use Rattle.std.specs.Prelude.{reverse, option_map}
 use denote.RawPtr.{Ptr}
-use Rattle.dom_model.specs.Lists.{hits, head_of, last_of, after, before}
-use Rattle.dom_model.specs.Arena.{Entry, Arena, names, entry_at, parent_in, children_in, list_under, siblings_in, with_value, altered, IsLinked}
+use Rattle.dom_model.specs.PlainLists.Lists.{hits, head_of, last_of, after, before}
+use Rattle.dom_model.specs.Forests.Arena.{Entry, Arena, names, entry_at, parent_in, children_in, list_under, siblings_in, with_value, altered, IsLinked}
 use Rattle.dom_links.specs.Cells.{same_ptr, put}
 use Rattle.dom_links.specs.declared.links.Node.{Node}
 use Rattle.dom_links.specs.Standing.{place_in, link_in, wired}

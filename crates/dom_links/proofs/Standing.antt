@@ -4,9 +4,9 @@ use Rattle.std.specs.Prelude.{reverse, IsSome, option_map}
 use Rattle.std.proofs.lemmas.Bool.{cases_Bool, cases_eq, eq-eqb, true≢false}
 use Rattle.std.proofs.lemmas.List.{ext_get_or, length-map, get_or-map}
 use denote.RawPtr.{Ptr}
-use Rattle.dom_model.specs.Lists.{hits, is_number, head_of, last_of, after, before}
-use Rattle.dom_model.specs.Arena.{Entry, Arena, names, entry_at, parent_in, children_in, list_under, siblings_in, next_in, previous_in, IsLinked}
-use Rattle.dom_model.proofs.Climbing.{hits-append}
+use Rattle.dom_model.specs.PlainLists.Lists.{hits, is_number, head_of, last_of, after, before}
+use Rattle.dom_model.specs.Forests.Arena.{Entry, Arena, names, entry_at, parent_in, children_in, list_under, siblings_in, next_in, previous_in, IsLinked}
+use Rattle.dom_model.proofs.Forests.Climbing.{hits-append}
 use Rattle.dom_links.specs.Cells.{look}
 use Rattle.dom_links.specs.declared.links.Node.{Node}
 use Rattle.dom_links.specs.Standing.{place_in, link_in, node_behind, node_in, slot_behind, slots_from, slots_along, entry_from, arena_of, wired, Stands}

@@ -2,7 +2,7 @@
 use Rattle.std.specs.Prelude.{ℕ}
 use Rattle.std.specs.Borrow.{Fml, RattleType, MutBor, Lends}
 use denote.RawPtr.{Ptr}
-use Rattle.dom_model.specs.Arena.{altered, with_value}
+use Rattle.dom_model.specs.Forests.Arena.{altered, with_value}
 use Rattle.dom_links.specs.Cells.{put}
 use Rattle.dom_links.specs.declared.pool.Pool.{Pool}
 use Rattle.dom_links.specs.contracts.pool.Pool.{the_row}

@@ -1,8 +1,8 @@
 -- What stands in memory for an arena: a table from slots to places, and a node at each place.
 use Rattle.std.specs.Prelude.{◌≡◌, ℕ, zero, suc, ◌≤◌, List, [], ◌∷◌, length, map, reverse, count_by, slice_index_or, Option, Some, None, IsSome, is_some, option_map}
 use denote.RawPtr.{Ptr}
-use Rattle.dom_model.specs.Lists.{head_of, last_of}
-use Rattle.dom_model.specs.Arena.{Entry, Arena, entry_at, next_in, previous_in, IsSound}
+use Rattle.dom_model.specs.PlainLists.Lists.{head_of, last_of}
+use Rattle.dom_model.specs.Forests.Arena.{Entry, Arena, entry_at, next_in, previous_in, IsSound}
 use Rattle.dom_links.specs.Cells.{look}
 use Rattle.dom_links.specs.declared.links.Node.{Node}
 

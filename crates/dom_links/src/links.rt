@@ -71,7 +71,7 @@ pub struct Links<T> {
 }
 
 impl<T> Model for Links<T> {
-    ghost use Rattle.dom_model.specs.Arena.{Arena};
+    ghost use Rattle.dom_model.specs.Forests.Arena.{Arena};
 
     ghost Value = { Arena T };
 
@@ -86,8 +86,8 @@ impl<T> Model for Links<T> {
 
 impl<T> Links<T> {
     ghost use Rattle.std.specs.Borrow.{sem};
-    ghost use Rattle.dom_model.specs.Lists.{head_of, last_of};
-    ghost use Rattle.dom_model.specs.Arena.{entry_at, parent_in, children_in, next_in, previous_in, IsHeld, IsSound, StandsUnder, no_slots, next_slot, added, linked, unlinked, taken};
+    ghost use Rattle.dom_model.specs.PlainLists.Lists.{head_of, last_of};
+    ghost use Rattle.dom_model.specs.Forests.Arena.{entry_at, parent_in, children_in, next_in, previous_in, IsHeld, IsSound, StandsUnder, no_slots, next_slot, added, linked, unlinked, taken};
     ghost use Rattle.dom_links.specs.Lends.{lends_value};
 
     /// A store with no slot. It takes no memory.

@@ -5,12 +5,12 @@ use Rattle.std.proofs.lemmas.Bool.{le-leb, lt-leb, ne_eqb, eqb-false}
 use Rattle.std.proofs.lemmas.List.{take_more}
 use Rattle.std.specs.Io.KnownBytes.{Appends}
 use Rattle.dom_model.specs.declared.OwnError.TheVariants.{LineTooLong}
-use Rattle.dom_model.specs.Table.{served_table}
-use Rattle.dom_model.specs.Line.{command_of, command_within}
-use Rattle.dom_model.specs.Answer.{Bounds, Step}
-use Rattle.dom_model.specs.World.{World, first_world}
-use Rattle.dom_model.specs.Printed.{reply_line}
-use Rattle.dom_model.specs.Output.{whole_lines, last_piece, lines_of, line_if_any, step_of, line_step, world_after, replies_from, due}
+use Rattle.dom_model.specs.Commands.Table.{served_table}
+use Rattle.dom_model.specs.Commands.Line.{command_of, command_within}
+use Rattle.dom_model.specs.Commands.Answer.{Bounds, Step}
+use Rattle.dom_model.specs.Worlds.World.{World, first_world}
+use Rattle.dom_model.specs.Commands.Printed.{reply_line}
+use Rattle.dom_model.specs.Commands.Output.{whole_lines, last_piece, lines_of, line_if_any, step_of, line_step, world_after, replies_from, due}
 use Rattle.dom_session.specs.Stands.{StandsFor}
 use Rattle.dom_serve.specs.declared.fault.Fault.{Fault}
 use Rattle.dom_serve.specs.declared.fault.Fault.TheVariants.{Read, Write, Memory, InputTooLong}

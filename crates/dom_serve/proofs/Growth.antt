@@ -2,8 +2,8 @@
 use Rattle.std.proofs.Common.{◌≡◌, ℕ, List, [], ◌∷◌, ◌++◌, Option, refl, sym, ap, ◌∙◌, subst, append_assoc, append-nil, inl, inr}
 use Rattle.std.specs.Io.KnownBytes.{Appends}
 use Rattle.std.proofs.KnownBytes.{Appends-trans, Appends-nil}
-use Rattle.dom_model.specs.Printed.{out_of_memory_line}
-use Rattle.dom_model.specs.Output.{joined}
+use Rattle.dom_model.specs.Commands.Printed.{out_of_memory_line}
+use Rattle.dom_model.specs.Commands.Output.{joined}
 use Rattle.dom_serve.specs.declared.fault.Fault.{Fault}
 use Rattle.dom_serve.specs.declared.fault.Fault.TheVariants.{Read, Write, Memory, InputTooLong}
 use Rattle.dom_serve.specs.Writes.{IsPrefix, AppendsFront}

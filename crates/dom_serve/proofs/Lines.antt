@@ -2,11 +2,11 @@
 use Rattle.std.proofs.Common.{◌≡◌, ℕ, Bool, true, false, List, [], ◌∷◌, ◌++◌, refl, sym, ap, ◌∙◌, append_assoc, append-nil}
 use Rattle.std.specs.Prelude.{◌==◌, if◌then◌else◌}
 use Rattle.std.proofs.lemmas.Grind.{flat_map-append}
-use Rattle.dom_model.specs.Table.{Row, served_table}
-use Rattle.dom_model.specs.Answer.{Bounds}
-use Rattle.dom_model.specs.World.{World, first_world}
-use Rattle.dom_model.specs.Printed.{reply_line}
-use Rattle.dom_model.specs.Output.{onto_first, onto_last, whole_lines, last_piece, line_if_any, line_step, replies_from, world_after, due_lines, due, joined}
+use Rattle.dom_model.specs.Commands.Table.{Row, served_table}
+use Rattle.dom_model.specs.Commands.Answer.{Bounds}
+use Rattle.dom_model.specs.Worlds.World.{World, first_world}
+use Rattle.dom_model.specs.Commands.Printed.{reply_line}
+use Rattle.dom_model.specs.Commands.Output.{onto_first, onto_last, whole_lines, last_piece, line_if_any, line_step, replies_from, world_after, due_lines, due, joined}
 use Rattle.dom_serve.specs.Writes.{IsPrefix}
 
 pub joined-append : (xs ys : List (List ℕ)) → joined (xs ++ ys) ≡ joined xs ++ joined ys

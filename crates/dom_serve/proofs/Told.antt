@@ -4,11 +4,11 @@ use Rattle.std.specs.List.{All}
 use Rattle.std.proofs.lemmas.List.Elements.{All-push}
 use Rattle.std.specs.Io.KnownBytes.{Appends, Consumes, Keeps}
 use Rattle.std.proofs.KnownBytes.{Appends-trans, Appends-nil, Consumes-nil, Consumes-trans, Consumes-kept}
-use Rattle.dom_model.specs.Answer.{Bounds}
-use Rattle.dom_model.specs.Table.{served_table}
-use Rattle.dom_model.specs.Printed.{out_of_memory_line}
-use Rattle.dom_model.specs.Output.{joined, due, whole_lines, last_piece, lines_of, output_of}
-use Rattle.dom_model.proofs.ReplyLines.{length-whole_lines-output_of, last_piece-output_of}
+use Rattle.dom_model.specs.Commands.Answer.{Bounds}
+use Rattle.dom_model.specs.Commands.Table.{served_table}
+use Rattle.dom_model.specs.Commands.Printed.{out_of_memory_line}
+use Rattle.dom_model.specs.Commands.Output.{joined, due, whole_lines, last_piece, lines_of, output_of}
+use Rattle.dom_model.proofs.Commands.ReplyLines.{length-whole_lines-output_of, last_piece-output_of}
 use Rattle.dom_serve.specs.declared.fault.Fault.{Fault}
 use Rattle.dom_serve.specs.declared.fault.Fault.TheVariants.{Read, Write, Memory, InputTooLong}
 use Rattle.dom_serve.specs.declared.fault.Summary.{Summary}

@@ -4,14 +4,14 @@ use Rattle.std.specs.List.{All}
 use Rattle.std.specs.Io.KnownBytes.{Appends, Consumes}
 use Rattle.dom_model.specs.declared.OwnError.{OwnError}
 use Rattle.dom_model.specs.declared.OwnError.TheVariants.{LineTooLong}
-use Rattle.dom_model.specs.Command.{Command}
-use Rattle.dom_model.specs.Reply.{Reply}
-use Rattle.dom_model.specs.World.{World, first_world}
-use Rattle.dom_model.specs.Answer.{Bounds, Step}
-use Rattle.dom_model.specs.Table.{served_table}
-use Rattle.dom_model.specs.Line.{command_of}
-use Rattle.dom_model.specs.Printed.{reply_line, out_of_memory_line}
-use Rattle.dom_model.specs.Output.{joined, due, whole_lines, last_piece, lines_of, step_of, world_after}
+use Rattle.dom_model.specs.Commands.Command.{Command}
+use Rattle.dom_model.specs.Commands.Reply.{Reply}
+use Rattle.dom_model.specs.Worlds.World.{World, first_world}
+use Rattle.dom_model.specs.Commands.Answer.{Bounds, Step}
+use Rattle.dom_model.specs.Commands.Table.{served_table}
+use Rattle.dom_model.specs.Commands.Line.{command_of}
+use Rattle.dom_model.specs.Commands.Printed.{reply_line, out_of_memory_line}
+use Rattle.dom_model.specs.Commands.Output.{joined, due, whole_lines, last_piece, lines_of, step_of, world_after}
 use Rattle.dom_session.specs.Stands.{Held, StandsFor}
 use Rattle.dom_serve.specs.declared.fault.Fault.{Fault}
 use Rattle.dom_serve.specs.declared.fault.Fault.TheVariants.{Read, Write, Memory, InputTooLong}

@@ -1,10 +1,10 @@
 -- What was written, for each way in which serving ends. Due are the replies to the lines whose newline was read and, once the
 -- input has ended, to a last piece that is not empty.
 use Rattle.std.specs.Prelude.{◌≡◌, ℕ, Bool, true, false, List, ◌++◌, length, Result, Ok, Err, ◌⊎◌}
-use Rattle.dom_model.specs.Answer.{Bounds}
-use Rattle.dom_model.specs.Table.{served_table}
-use Rattle.dom_model.specs.Printed.{out_of_memory_line}
-use Rattle.dom_model.specs.Output.{joined, due, output_of, lines_of}
+use Rattle.dom_model.specs.Commands.Answer.{Bounds}
+use Rattle.dom_model.specs.Commands.Table.{served_table}
+use Rattle.dom_model.specs.Commands.Printed.{out_of_memory_line}
+use Rattle.dom_model.specs.Commands.Output.{joined, due, output_of, lines_of}
 use Rattle.dom_serve.specs.declared.fault.Fault.{Fault}
 use Rattle.dom_serve.specs.declared.fault.Fault.TheVariants.{Read, Write, Memory, InputTooLong}
 use Rattle.dom_serve.specs.declared.fault.Summary.{Summary}

@@ -2,9 +2,9 @@
 
 ghost use Rattle.std.specs.Prelude.{◌≡◌, ℕ, ◌+◌, ◌<◌, ◌≤◌, ◌^◌, false, List, [], length, IfOk, OnOk, IfSome};
 ghost use Rattle.std.specs.Io.KnownBytes.{Appends, Consumes, IsAtEnd};
-ghost use Rattle.dom_model.specs.Answer.{Bounds};
-ghost use Rattle.dom_model.specs.Table.{served_table};
-ghost use Rattle.dom_model.specs.Output.{joined, whole_lines, last_piece, lines_of, output_of};
+ghost use Rattle.dom_model.specs.Commands.Answer.{Bounds};
+ghost use Rattle.dom_model.specs.Commands.Table.{served_table};
+ghost use Rattle.dom_model.specs.Commands.Output.{joined, whole_lines, last_piece, lines_of, output_of};
 ghost use Rattle.dom_session.specs.Bounding.{bounds_of};
 ghost use Rattle.dom_serve.specs.Pieces.{Reads, AreWithin};
 ghost use Rattle.dom_serve.specs.Tells.{is_read_fault, is_write_fault, Tells};

@@ -1,7 +1,7 @@
 //! Taking bytes, one at a time, and answering each line at its newline.
 
 ghost use Rattle.std.specs.Prelude.{◌≡◌, ℕ, ◌+◌, ◌<◌, ◌≤◌, ◌^◌, false, List, ◌++◌, ◌∷◌, [], length, IfOk};
-ghost use Rattle.dom_model.specs.Answer.{Bounds};
+ghost use Rattle.dom_model.specs.Commands.Answer.{Bounds};
 ghost use Rattle.dom_session.specs.Bounding.{bounds_of};
 ghost use Rattle.dom_serve.specs.Tells.{is_write_fault};
 ghost use Rattle.dom_serve.specs.Server.{Stands, Fed, Finishes};

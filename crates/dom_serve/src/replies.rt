@@ -1,7 +1,7 @@
 //! The reply to a line that is held whole, or of which there were too many bytes.
 
 ghost use Rattle.std.specs.Prelude.{◌≡◌, false, IfOk};
-ghost use Rattle.dom_model.specs.World.{World};
+ghost use Rattle.dom_model.specs.Worlds.World.{World};
 ghost use Rattle.dom_session.specs.Stands.{StandsFor};
 ghost use Rattle.dom_session.specs.Views.{reply_view};
 ghost use Rattle.dom_wire.specs.Reads.{Reads};

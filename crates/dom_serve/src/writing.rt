@@ -1,7 +1,7 @@
 //! Writing a line, whole and passed on.
 
 ghost use Rattle.std.specs.Prelude.{◌≡◌, false, is_err};
-ghost use Rattle.dom_model.specs.Printed.{out_of_memory_line};
+ghost use Rattle.dom_model.specs.Commands.Printed.{out_of_memory_line};
 ghost use Rattle.dom_serve.specs.Writes.{Writes};
 ghost use Rattle.dom_serve.specs.Tells.{is_write};
 ghost use Rattle.dom_serve.specs.Server.{SaysWant};

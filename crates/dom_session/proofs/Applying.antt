@@ -1,9 +1,9 @@
 -- From the step of a tree to the step of a session.
 use Rattle.std.proofs.Common.{◌≡◌, [], refl, ap, ◌∙◌, subst}
-use Rattle.dom_model.specs.Forest.{Grove, IsForest}
-use Rattle.dom_model.specs.World.{Content, World}
-use Rattle.dom_model.specs.Command as model
-use Rattle.dom_model.specs.Answer.{Bounds, Step, answer}
+use Rattle.dom_model.specs.Forests.Forest.{Grove, IsForest}
+use Rattle.dom_model.specs.Worlds.World.{Content, World}
+use Rattle.dom_model.specs.Commands.Command as model
+use Rattle.dom_model.specs.Commands.Answer.{Bounds, Step, answer}
 use Rattle.dom_session.specs.declared.command.Command.{Command}
 use Rattle.dom_session.specs.declared.command.Command.TheVariants.{NewDocument, CreateElement, CreateText, AppendChild, Tree}
 use Rattle.dom_session.specs.declared.reply.Reply.{Reply}

@@ -2,15 +2,15 @@
 use Rattle.std.specs.Prelude.{IsSome, IfSome, ◌==◌}
 use Rattle.std.proofs.Common.{◌≡◌, ℕ, ◌+◌, true, false, Option, Some, None, refl, arith}
 use Rattle.std.proofs.lemmas.Bool.Decides.{nat_tests}
-use Rattle.dom_model.specs.Lists.{among}
-use Rattle.dom_model.specs.Arena.{Entry}
-use Rattle.dom_model.specs.Forest.{Node, Forest, occurs, tree_at, without, put, entry_in, HasNode, parent_of, ancestors}
-use Rattle.dom_model.specs.World.{Content}
-use Rattle.dom_model.specs.Editing.{document_in}
-use Rattle.dom_model.proofs.Totals.{total-cut, total-put, total-tree_at, IsOnce}
-use Rattle.dom_model.proofs.Climbing.{hits-ancestors, not_among-hits}
-use Rattle.dom_model.proofs.Entries.{HasNode-occurs, occurs-HasNode, entry-cut, parent-cut}
-use Rattle.dom_model.proofs.Paths.{outside-cut}
+use Rattle.dom_model.specs.PlainLists.Lists.{among}
+use Rattle.dom_model.specs.Forests.Arena.{Entry}
+use Rattle.dom_model.specs.Forests.Forest.{Node, Forest, occurs, tree_at, without, put, entry_in, HasNode, parent_of, ancestors}
+use Rattle.dom_model.specs.Worlds.World.{Content}
+use Rattle.dom_model.specs.MutationAlgorithms.Editing.{document_in}
+use Rattle.dom_model.proofs.Forests.Totals.{total-cut, total-put, total-tree_at, IsOnce}
+use Rattle.dom_model.proofs.Forests.Climbing.{hits-ancestors, not_among-hits}
+use Rattle.dom_model.proofs.Forests.Entries.{HasNode-occurs, occurs-HasNode, entry-cut, parent-cut}
+use Rattle.dom_model.proofs.Forests.Paths.{outside-cut}
 use Rattle.dom_session.specs.Appending.{cut_where, detached}
 use Rattle.dom_session.proofs.Standing.{Stands, Stands-cut}
 

@@ -2,14 +2,14 @@
 use Rattle.std.specs.Prelude.{IfSome}
 use Rattle.std.proofs.Common.{◌≡◌, ℕ, ◌≤◌, false, Option, Some, None, refl}
 use Rattle.dom_model.specs.declared.Kind.TheVariants.{DocumentFragment}
-use Rattle.dom_model.specs.Kinds.{is_kind}
-use Rattle.dom_model.specs.Arena.{Entry}
-use Rattle.dom_model.specs.Forest.{Node, Forest, empty, node, occurs, entry_in, parent_of, beside, in_document, put}
-use Rattle.dom_model.specs.World.{Content}
-use Rattle.dom_model.specs.Editing.{document_in}
-use Rattle.dom_model.specs.Documents.{HasOneDocument}
-use Rattle.dom_model.proofs.EachNode.{EachNode-beside, EachNode-cut, EachNode-put, EachNode-with_tree}
-use Rattle.dom_model.proofs.Documents.{HasDocument-entry, HasOneDocument-new_root, HasOneDocument-cut, HasOneDocument-adopted_put, adopted-put_same}
+use Rattle.dom_model.specs.Forests.Kinds.{is_kind}
+use Rattle.dom_model.specs.Forests.Arena.{Entry}
+use Rattle.dom_model.specs.Forests.Forest.{Node, Forest, empty, node, occurs, entry_in, parent_of, beside, in_document, put}
+use Rattle.dom_model.specs.Worlds.World.{Content}
+use Rattle.dom_model.specs.MutationAlgorithms.Editing.{document_in}
+use Rattle.dom_model.specs.Forests.Documents.{HasOneDocument}
+use Rattle.dom_model.proofs.Forests.EachNode.{EachNode-beside, EachNode-cut, EachNode-put, EachNode-with_tree}
+use Rattle.dom_model.proofs.Forests.Documents.{HasDocument-entry, HasOneDocument-new_root, HasOneDocument-cut, HasOneDocument-adopted_put, adopted-put_same}
 use Rattle.dom_session.specs.Stands.{IsSessionForest}
 use Rattle.dom_session.specs.Appending.{cut_where, detached, put_last, appended}
 use Rattle.dom_session.proofs.Detaching.{IsOnce-detached}

@@ -1,13 +1,13 @@
 -- A node without children has none but itself inside it.
 use Rattle.std.specs.Prelude.{◌==◌}
 use Rattle.std.proofs.Common.{◌≡◌, ℕ, None, refl, ap, arith}
-use Rattle.dom_model.specs.Lists.{head_of, among}
-use Rattle.dom_model.specs.Forest.{Forest, empty, node, Grove, IsForest, one_at, occurs, tops, tree_at, HasNode, children_of, ancestors}
-use Rattle.dom_model.specs.World.{Content}
-use Rattle.dom_model.proofs.Numbers.{same_or, same, apart}
-use Rattle.dom_model.proofs.Climbing.{hits-ancestors, hits-among, hits-not_among}
-use Rattle.dom_model.proofs.Totals.{IsOnce}
-use Rattle.dom_model.proofs.Entries.{occurs-HasNode}
+use Rattle.dom_model.specs.PlainLists.Lists.{head_of, among}
+use Rattle.dom_model.specs.Forests.Forest.{Forest, empty, node, Grove, IsForest, one_at, occurs, tops, tree_at, HasNode, children_of, ancestors}
+use Rattle.dom_model.specs.Worlds.World.{Content}
+use Rattle.dom_model.proofs.PlainLists.Numbers.{same_or, same, apart}
+use Rattle.dom_model.proofs.Forests.Climbing.{hits-ancestors, hits-among, hits-not_among}
+use Rattle.dom_model.proofs.Forests.Totals.{IsOnce}
+use Rattle.dom_model.proofs.Forests.Entries.{occurs-HasNode}
 use Rattle.dom_session.proofs.Waits.{top_tree}
 
 no_tops : (f : Forest Content) → head_of (tops f) ≡ None → f ≡ empty

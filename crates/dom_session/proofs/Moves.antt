@@ -1,15 +1,15 @@
 -- The step of appending a node, from any world that the tree shows.
 use Rattle.std.specs.Prelude.{is_none, is_some}
 use Rattle.std.proofs.Common.{◌≡◌, ℕ, true, false, List, [], ◌∷◌, Option, Some, None, refl, sym, ap, ◌∙◌, subst}
-use Rattle.dom_model.specs.Arena.{Entry}
-use Rattle.dom_model.specs.Forest.{Node, Grove, IsForest, entry_in, parent_of}
-use Rattle.dom_model.specs.World.{Content, Observing, World}
-use Rattle.dom_model.specs.Observing.{standing_on, with_transients}
-use Rattle.dom_model.specs.Checks.{check_insert}
-use Rattle.dom_model.specs.Editing.{removed_from, remove, insert_all, is_fragment, append}
-use Rattle.dom_model.specs.Command.{AppendChild}
-use Rattle.dom_model.specs.Reply as model
-use Rattle.dom_model.specs.Answer.{Bounds, Step, answer}
+use Rattle.dom_model.specs.Forests.Arena.{Entry}
+use Rattle.dom_model.specs.Forests.Forest.{Node, Grove, IsForest, entry_in, parent_of}
+use Rattle.dom_model.specs.Worlds.World.{Content, Observing, World}
+use Rattle.dom_model.specs.MutationObservers.Observing.{standing_on, with_transients}
+use Rattle.dom_model.specs.MutationAlgorithms.Checks.{check_insert}
+use Rattle.dom_model.specs.MutationAlgorithms.Editing.{removed_from, remove, insert_all, is_fragment, append}
+use Rattle.dom_model.specs.Commands.Command.{AppendChild}
+use Rattle.dom_model.specs.Commands.Reply as model
+use Rattle.dom_model.specs.Commands.Answer.{Bounds, Step, answer}
 use Rattle.dom_session.specs.declared.reply.Answer.TheVariants.{Number}
 use Rattle.dom_session.specs.declared.reply.Reply.TheVariants.{Done}
 use Rattle.dom_session.specs.Stands.{IsStep, Shows, no_ranges, no_iterators, no_registrations}

@@ -3,16 +3,16 @@ use Rattle.std.specs.Prelude.{◌==◌, if◌then◌else◌, not, ◌||◌, nat_
 use Rattle.std.proofs.Common.{◌≡◌, ℕ, ◌+◌, ◌≤◌, Bool, true, false, List, [], ◌∷◌, length, Option, Some, None, refl, ap, arith}
 use Rattle.std.proofs.lemmas.Bool.Decides.{nat_tests}
 use Rattle.dom_model.specs.declared.Kind.{Kind}
-use Rattle.dom_model.specs.Lists.{hits, head_of, after}
-use Rattle.dom_model.specs.Arena.{list_under}
-use Rattle.dom_model.specs.Forest.{Forest, Grove, IsForest, entry_in, HasNode, children_of, next_of}
-use Rattle.dom_model.specs.Checks.{is_of_kind, count_kind, has_kind}
-use Rattle.dom_model.proofs.Changes.{seen, nothing, just}
-use Rattle.dom_model.proofs.Climbing.{hits-first}
-use Rattle.dom_model.proofs.PutBack.{hits-after}
-use Rattle.dom_model.proofs.Entries.{HasNode-occurs}
-use Rattle.dom_model.proofs.Indices.{child-parent, child-there}
-use Rattle.dom_tree.proofs.Adopting.{from_first, from-after, from-last}
+use Rattle.dom_model.specs.PlainLists.Lists.{hits, head_of, after}
+use Rattle.dom_model.specs.Forests.Arena.{list_under}
+use Rattle.dom_model.specs.Forests.Forest.{Forest, Grove, IsForest, entry_in, HasNode, children_of, next_of}
+use Rattle.dom_model.specs.MutationAlgorithms.Checks.{is_of_kind, count_kind, has_kind}
+use Rattle.dom_model.proofs.Forests.Changes.{seen, nothing, just}
+use Rattle.dom_model.proofs.Forests.Climbing.{hits-first}
+use Rattle.dom_model.proofs.Forests.PutBack.{hits-after}
+use Rattle.dom_model.proofs.Forests.Entries.{HasNode-occurs}
+use Rattle.dom_model.proofs.Forests.Indices.{child-parent, child-there}
+use Rattle.dom_model.proofs.PlainLists.FromFirst.{from-last, from-after, from_first}
 
 -- the part of a list from a number on; nothing where no number is given
 abbrev pub from_optional : Option ℕ → List ℕ → List ℕ

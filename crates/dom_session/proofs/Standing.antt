@@ -5,13 +5,13 @@ use Rattle.dom_model.specs.declared.Kind.{Kind}
 use Rattle.dom_model.specs.declared.Kind.TheVariants.{Element, Text, ProcessingInstruction, Comment, Document, DocumentType, DocumentFragment}
 use Rattle.dom_model.specs.declared.DomError.{DomError}
 use Rattle.dom_model.specs.declared.DomError.TheVariants.{HierarchyRequestError, NotFoundError}
-use Rattle.dom_model.specs.Kinds.{is_kind, may_be_parent, may_stand_in}
-use Rattle.dom_model.specs.Lists.{among, or_else}
-use Rattle.dom_model.specs.Arena.{Entry}
-use Rattle.dom_model.specs.Forest.{Node, Forest, empty, node, tops, entry_under, entry_in, ancestors}
-use Rattle.dom_model.specs.World.{Content}
-use Rattle.dom_model.specs.Checks.{first_refusal, entry_has, kind_passes, is_of_kind, is_misplaced, kind_refuses, document_refuses, check_insert}
-use Rattle.dom_model.proofs.Changes.{cut_at}
+use Rattle.dom_model.specs.Forests.Kinds.{is_kind, may_be_parent, may_stand_in}
+use Rattle.dom_model.specs.PlainLists.Lists.{among, or_else}
+use Rattle.dom_model.specs.Forests.Arena.{Entry}
+use Rattle.dom_model.specs.Forests.Forest.{Node, Forest, empty, node, tops, entry_under, entry_in, ancestors}
+use Rattle.dom_model.specs.Worlds.World.{Content}
+use Rattle.dom_model.specs.MutationAlgorithms.Checks.{first_refusal, entry_has, kind_passes, is_of_kind, is_misplaced, kind_refuses, document_refuses, check_insert}
+use Rattle.dom_model.proofs.Forests.Changes.{cut_at}
 use Rattle.dom_session.specs.Stands.{HasNoFragment}
 
 -- none of six tests holds

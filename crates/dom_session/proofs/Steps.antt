@@ -4,14 +4,14 @@ use Rattle.std.specs.Prelude.{is_none}
 use Rattle.dom_model.specs.declared.Kind.TheVariants.{Element, Text, Document, DocumentFragment}
 use Rattle.dom_model.specs.declared.DomError.TheVariants.{TypeError}
 use Rattle.dom_model.specs.declared.OwnError.TheVariants.{NoSuchObject, Limit}
-use Rattle.dom_model.specs.Kinds.{Label, is_kind}
-use Rattle.dom_model.specs.Forest.{empty, node, Grove, IsForest, entry_in, beside}
-use Rattle.dom_model.specs.World.{Content, World, no_content, document_label}
-use Rattle.dom_model.specs.Reply as model
-use Rattle.dom_model.specs.Checks.{first_refusal, kind_passes}
-use Rattle.dom_model.specs.Names.{is_element_name}
-use Rattle.dom_model.specs.Command.{Command, NewDocument, CreateElement, CreateText}
-use Rattle.dom_model.specs.Answer.{Bounds, Step, guarded, no_node, wrong_kind, no_room, bad_name, made_node, makes, named, with_text, answer}
+use Rattle.dom_model.specs.Forests.Kinds.{Label, is_kind}
+use Rattle.dom_model.specs.Forests.Forest.{empty, node, Grove, IsForest, entry_in, beside}
+use Rattle.dom_model.specs.Worlds.World.{Content, World, no_content, document_label}
+use Rattle.dom_model.specs.Commands.Reply as model
+use Rattle.dom_model.specs.MutationAlgorithms.Checks.{first_refusal, kind_passes}
+use Rattle.dom_model.specs.Forests.Names.{is_element_name}
+use Rattle.dom_model.specs.Commands.Command.{Command, NewDocument, CreateElement, CreateText}
+use Rattle.dom_model.specs.Commands.Answer.{Bounds, Step, guarded, no_node, wrong_kind, no_room, bad_name, made_node, makes, named, with_text, answer}
 use Rattle.dom_session.specs.declared.reply.Answer.TheVariants.{Number}
 use Rattle.dom_session.specs.declared.reply.Reply.TheVariants.{Done}
 use Rattle.dom_session.specs.Limiting.{numbered}

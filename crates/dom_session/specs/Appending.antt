@@ -1,8 +1,8 @@
 -- What appending a node does to the forest alone.
 use Rattle.std.specs.Prelude.{ℕ, Option, Some, None}
-use Rattle.dom_model.specs.Forest.{Forest, entry_in, parent_of, cut, put, adopted}
-use Rattle.dom_model.specs.World.{Content}
-use Rattle.dom_model.specs.Editing.{document_in}
+use Rattle.dom_model.specs.Forests.Forest.{Forest, entry_in, parent_of, cut, put, adopted}
+use Rattle.dom_model.specs.Worlds.World.{Content}
+use Rattle.dom_model.specs.MutationAlgorithms.Editing.{document_in}
 
 abbrev pub cut_where : Option ℕ → ℕ → Forest Content → Forest Content
 cut_where None n f = f

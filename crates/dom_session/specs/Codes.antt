@@ -1,11 +1,11 @@
 -- The codes of what a session holds, by which a proof tells two of them apart.
 use Rattle.std.specs.Prelude.{ℕ, Bool, List, refl}
 use Rattle.std.specs.Coded.{Coded, code_by, coded×, coded_ℕ, coded_bool, coded_list}
-use Rattle.dom_model.specs.Attributes.{Attribute}
-use Rattle.dom_model.specs.World.{Content}
-use Rattle.dom_model.specs.Forest.{Grove}
-use Rattle.dom_model.specs.Answer.{Bounds}
-use Rattle.dom_model.specs.ForestCode.{grove_code}
+use Rattle.dom_model.specs.Forests.Attributes.{Attribute}
+use Rattle.dom_model.specs.Worlds.World.{Content}
+use Rattle.dom_model.specs.Forests.Forest.{Grove}
+use Rattle.dom_model.specs.Commands.Answer.{Bounds}
+use Rattle.dom_model.specs.Forests.ForestCode.{grove_code}
 use Rattle.dom_session.specs.Stands.{Held}
 
 abbrev pub attribute_code : Coded Attribute

@@ -1,8 +1,8 @@
 -- A tree as rows: one node's row, and what waits to be printed.
 use Rattle.std.specs.Prelude.{ℕ, List, [], ◌∷◌, Option, Some, None}
-use Rattle.dom_model.specs.Forest.{Node}
-use Rattle.dom_model.specs.World.{Content}
-use Rattle.dom_model.specs.Reply.{TreeRow}
+use Rattle.dom_model.specs.Forests.Forest.{Node}
+use Rattle.dom_model.specs.Worlds.World.{Content}
+use Rattle.dom_model.specs.Commands.Reply.{TreeRow}
 use Rattle.dom_session.specs.declared.printing.Waiting.{Waiting}
 
 -- the row of a node of that number

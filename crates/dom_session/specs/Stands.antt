@@ -3,15 +3,15 @@ use Rattle.std.specs.Prelude.{◌≡◌, ℕ, ◌+◌, nat_lt, Bool, false, not,
 use Rattle.dom_model.specs.declared.Kind.TheVariants.{Document, DocumentFragment}
 use Rattle.dom_model.specs.declared.DomError.TheVariants.{TypeError}
 use Rattle.dom_model.specs.declared.OwnError.TheVariants.{NoSuchObject, Limit}
-use Rattle.dom_model.specs.Kinds.{is_kind}
-use Rattle.dom_model.specs.Forest.{Forest, Grove, IsForest, entry_in}
-use Rattle.dom_model.specs.EachNode.{EachNode}
-use Rattle.dom_model.specs.Documents.{HasOneDocument}
-use Rattle.dom_model.specs.World.{Content, Range, Iterator, Registration, World}
-use Rattle.dom_model.specs.Command.{Command}
-use Rattle.dom_model.specs.Reply as model
-use Rattle.dom_model.specs.Checks.{first_refusal, kind_passes}
-use Rattle.dom_model.specs.Answer.{Bounds, answer}
+use Rattle.dom_model.specs.Forests.Kinds.{is_kind}
+use Rattle.dom_model.specs.Forests.Forest.{Forest, Grove, IsForest, entry_in}
+use Rattle.dom_model.specs.Forests.EachNode.{EachNode}
+use Rattle.dom_model.specs.Forests.Documents.{HasOneDocument}
+use Rattle.dom_model.specs.Worlds.World.{Content, Range, Iterator, Registration, World}
+use Rattle.dom_model.specs.Commands.Command.{Command}
+use Rattle.dom_model.specs.Commands.Reply as model
+use Rattle.dom_model.specs.MutationAlgorithms.Checks.{first_refusal, kind_passes}
+use Rattle.dom_model.specs.Commands.Answer.{Bounds, answer}
 use Rattle.dom_session.specs.declared.reply.Reply.{Reply}
 use Rattle.dom_session.specs.Views.{reply_view}
 

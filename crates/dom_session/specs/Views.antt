@@ -6,8 +6,8 @@ use Rattle.dom_session.specs.declared.reply.Answer.{Answer}
 use Rattle.dom_session.specs.declared.reply.Answer.TheVariants.{Number, Rows}
 use Rattle.dom_session.specs.declared.reply.Reply.{Reply}
 use Rattle.dom_session.specs.declared.reply.Reply.TheVariants.{Done, Dom, Own}
-use Rattle.dom_model.specs.Command as model_command
-use Rattle.dom_model.specs.Reply as model_reply
+use Rattle.dom_model.specs.Commands.Command as model_command
+use Rattle.dom_model.specs.Commands.Reply as model_reply
 
 abbrev pub command_view : Command → model_command.Command
 command_view NewDocument = model_command.NewDocument

@@ -1,7 +1,7 @@
 //! The answer to each command.
 
 ghost use Rattle.std.specs.Prelude.{◌≡◌, ℕ, ◌≤◌, true, IfOk, OnErr};
-ghost use Rattle.dom_model.specs.Reply.{is_refusal};
+ghost use Rattle.dom_model.specs.Commands.Reply.{is_refusal};
 ghost use Rattle.dom_session.specs.Views.{command_view, reply_view};
 ghost use Rattle.dom_session.specs.Stands.{IsStep, IsSessionForest};
 ghost use Rattle.dom_session.specs.Limiting.{numbered};

@@ -1,12 +1,12 @@
 //! Appending a node: its check, and the change of the tree (DOM Standard, "Mutation algorithms").
 
 ghost use Rattle.std.specs.Prelude.{◌≡◌, ℕ, true, None, is_some, option_map, IsTrue};
-ghost use Rattle.dom_model.specs.Kinds.{may_be_parent};
-ghost use Rattle.dom_model.specs.Lists.{among};
-ghost use Rattle.dom_model.specs.Forest.{HasNode, children_of, ancestors, IsForest};
-ghost use Rattle.dom_model.specs.Checks.{is_of_kind, count_kind, has_kind, holds_too_much, document_refuses, check_insert};
-ghost use Rattle.dom_model.specs.Command.{AppendChild};
-ghost use Rattle.dom_model.specs.Reply.{is_refusal};
+ghost use Rattle.dom_model.specs.Forests.Kinds.{may_be_parent};
+ghost use Rattle.dom_model.specs.PlainLists.Lists.{among};
+ghost use Rattle.dom_model.specs.Forests.Forest.{HasNode, children_of, ancestors, IsForest};
+ghost use Rattle.dom_model.specs.MutationAlgorithms.Checks.{is_of_kind, count_kind, has_kind, holds_too_much, document_refuses, check_insert};
+ghost use Rattle.dom_model.specs.Commands.Command.{AppendChild};
+ghost use Rattle.dom_model.specs.Commands.Reply.{is_refusal};
 ghost use Rattle.dom_session.specs.Views.{reply_view};
 ghost use Rattle.dom_session.specs.Stands.{IsStep, IsSessionForest};
 ghost use Rattle.dom_session.specs.Limiting.{numbered};

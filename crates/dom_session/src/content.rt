@@ -15,7 +15,7 @@ pub struct Content {
 
 impl Model for Content {
     ghost use Rattle.std.specs.Prelude.{[]};
-    ghost use Rattle.dom_model.specs.World.{Content};
+    ghost use Rattle.dom_model.specs.Worlds.World.{Content};
 
     ghost Value = { Content };
 

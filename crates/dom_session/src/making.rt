@@ -1,10 +1,10 @@
 //! The commands that make nodes.
 
 ghost use Rattle.std.specs.Prelude.{◌≡◌, ℕ, ◌≤◌, [], true, IfOk, OnErr, option_map, string_bytes};
-ghost use Rattle.dom_model.specs.World.{document_label};
-ghost use Rattle.dom_model.specs.Answer.{named};
-ghost use Rattle.dom_model.specs.Command.{NewDocument, CreateElement, CreateText};
-ghost use Rattle.dom_model.specs.Reply.{is_refusal};
+ghost use Rattle.dom_model.specs.Worlds.World.{document_label};
+ghost use Rattle.dom_model.specs.Commands.Answer.{named};
+ghost use Rattle.dom_model.specs.Commands.Command.{NewDocument, CreateElement, CreateText};
+ghost use Rattle.dom_model.specs.Commands.Reply.{is_refusal};
 ghost use Rattle.dom_session.specs.Views.{reply_view};
 ghost use Rattle.dom_session.specs.Stands.{IsStep, making_refusal};
 ghost use Rattle.dom_session.specs.Limiting.{numbered};

@@ -1,9 +1,9 @@
 //! A tree as a list of rows.
 
 ghost use Rattle.std.specs.Prelude.{◌≡◌, ℕ, ◌++◌, IfOk, IfSome, OnOk};
-ghost use Rattle.dom_model.specs.Forest.{HasNode, entry_in};
-ghost use Rattle.dom_model.specs.Answer.{tree_rows};
-ghost use Rattle.dom_model.specs.Command.{Tree as TreeCommand};
+ghost use Rattle.dom_model.specs.Forests.Forest.{HasNode, entry_in};
+ghost use Rattle.dom_model.specs.Commands.Answer.{tree_rows};
+ghost use Rattle.dom_model.specs.Commands.Command.{Tree as TreeCommand};
 ghost use Rattle.dom_session.specs.Views.{reply_view};
 ghost use Rattle.dom_session.specs.Stands.{IsStep};
 ghost use Rattle.dom_session.specs.Limiting.{numbered};

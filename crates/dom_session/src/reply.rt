@@ -16,7 +16,7 @@ pub struct TreeRow {
 }
 
 impl Model for TreeRow {
-    ghost use Rattle.dom_model.specs.Reply.{TreeRow};
+    ghost use Rattle.dom_model.specs.Commands.Reply.{TreeRow};
 
     ghost Value = { TreeRow };
 

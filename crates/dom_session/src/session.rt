@@ -1,8 +1,8 @@
 //! One session over one tree.
 
 ghost use Rattle.std.specs.Prelude.{◌≡◌, ℕ, ◌≤◌, true, IsErr, IfOk, OnErr};
-ghost use Rattle.dom_model.specs.World.{World, first_world};
-ghost use Rattle.dom_model.specs.Reply.{is_refusal};
+ghost use Rattle.dom_model.specs.Worlds.World.{World, first_world};
+ghost use Rattle.dom_model.specs.Commands.Reply.{is_refusal};
 ghost use Rattle.dom_session.specs.Views.{command_view, reply_view};
 ghost use Rattle.dom_session.specs.Stands.{StandsFor, IsAnswered};
 ghost use Rattle.dom_session.specs.Bounding.{bounds_of};

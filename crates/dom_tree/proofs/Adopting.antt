@@ -2,17 +2,17 @@
 use Rattle.std.proofs.Common.{◌≡◌, ℕ, ◌<◌, ◌≤◌, ◌==◌, Bool, true, false, if◌then◌else◌, List, [], ◌∷◌, ◌++◌, length, Some, None, refl, ap, sym, ◌∙◌, arith}
 use Rattle.std.proofs.lemmas.Bool.{false_from_ne_true}
 use Rattle.std.proofs.lemmas.Bool.Decides.{nat_tests}
-use Rattle.dom_model.specs.Lists.{hits, among, head_of, after}
-use Rattle.dom_model.specs.Forest.{Node, Forest, empty, node, Grove, occurs, one_at, numbers, HasNode, ancestors, beside, tree_at, without, map_nodes, with_node, with_tree, in_document, adopted, inclusive_descendants, IsForest}
-use Rattle.dom_model.proofs.Numbers.{same_or, same, apart}
-use Rattle.dom_model.proofs.Totals.{total-beside, total-tree_at}
-use Rattle.dom_model.proofs.Climbing.{hits-among, among-hits}
-use Rattle.dom_model.proofs.PutBack.{hits-after, hits-head_of}
-use Rattle.dom_model.proofs.Flattened.{hits-numbers}
-use Rattle.dom_model.proofs.Entries.{occurs-HasNode, HasNode-occurs}
-use Rattle.dom_tree.proofs.Ordering.{Single, single, tree_at-single}
-use Rattle.dom_tree.proofs.Walking.{inside-among}
-use Rattle.dom_tree.proofs.Stepping.{after-inside}
+use Rattle.dom_model.specs.PlainLists.Lists.{hits, among, head_of, after}
+use Rattle.dom_model.specs.Forests.Forest.{Node, Forest, empty, node, Grove, occurs, one_at, numbers, HasNode, ancestors, beside, tree_at, without, map_nodes, with_node, with_tree, in_document, adopted, inclusive_descendants, IsForest}
+use Rattle.dom_model.proofs.PlainLists.Numbers.{same_or, same, apart}
+use Rattle.dom_model.proofs.Forests.Totals.{total-beside, total-tree_at}
+use Rattle.dom_model.proofs.Forests.Climbing.{hits-among, among-hits}
+use Rattle.dom_model.proofs.Forests.PutBack.{hits-after, hits-head_of}
+use Rattle.dom_model.proofs.Forests.TreeOrder.Flattened.{hits-numbers}
+use Rattle.dom_model.proofs.Forests.Entries.{occurs-HasNode, HasNode-occurs}
+use Rattle.dom_model.proofs.Forests.TreeOrder.Ordering.{Single, single, tree_at-single}
+use Rattle.dom_model.proofs.Forests.ToTheRoot.{inside-among}
+use Rattle.dom_model.proofs.Forests.TreeOrder.Stepping.{after-inside}
 
 -- a list from the first n on
 abbrev pub from_first : ℕ → List ℕ → List ℕ

@@ -2,15 +2,15 @@
 use Rattle.std.proofs.Common.{◌≡◌, ℕ, zero, suc, ◌+◌, ◌*◌, ◌<◌, ◌≤◌, List, [], ◌∷◌, Option, Some, None, refl, ap, sym, ◌∙◌, subst, arith, ⊎_elim}
 use Rattle.std.proofs.lemmas.Bool.{cases_lt}
 use Rattle.std.proofs.lemmas.Bool.Decides.{nat_tests}
-use Rattle.dom_model.specs.Lists.{hits}
-use Rattle.dom_model.specs.Arena.{Entry, held}
-use Rattle.dom_model.specs.Forest.{Node, Forest, empty, node, occurs, one_at, size, tops, entry_in, IsRising}
-use Rattle.dom_model.specs.Lies.{Lies}
+use Rattle.dom_model.specs.PlainLists.Lists.{hits}
+use Rattle.dom_model.specs.Forests.Arena.{Entry, held}
+use Rattle.dom_model.specs.Forests.Forest.{Node, Forest, empty, node, occurs, one_at, size, tops, entry_in, IsRising}
+use Rattle.dom_model.specs.Forests.Lies.{Lies}
 use Rattle.dom_tree.specs.Spelled.{Spells, grown, root_first, root_under, roots_from, forest_of}
-use Rattle.dom_model.proofs.Numbers.{same_or, same, apart}
-use Rattle.dom_model.proofs.Tops.{IsRising-from, hits-tops}
-use Rattle.dom_model.proofs.Rising.{hits-low}
-use Rattle.dom_model.proofs.Entries.{entry_in-Lies}
+use Rattle.dom_model.proofs.PlainLists.Numbers.{same_or, same, apart}
+use Rattle.dom_model.proofs.Forests.Tops.{IsRising-from, hits-tops}
+use Rattle.dom_model.proofs.PlainLists.Rising.{hits-low}
+use Rattle.dom_model.proofs.Forests.Entries.{entry_in-Lies}
 use Rattle.dom_tree.proofs.Spelling.{held_at_most}
 
 -- numbers that rise and stand in both lists alike

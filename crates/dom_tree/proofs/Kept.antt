@@ -2,18 +2,18 @@
 use Rattle.std.proofs.Common.{◌≡◌, ℕ, ◌<◌, ◌≤◌, ◌^◌, false, List, length, map, Option, Some, None, option_map, IsSome, refl, ap, sym, ◌∙◌, subst, arith}
 use Rattle.std.proofs.lemmas.Bool.{false≢true}
 use Rattle.std.specs.Option.{ForSome}
-use Rattle.dom_model.specs.Lists.{hits, among}
-use Rattle.dom_model.specs.Arena.{Arena, Entry, entry_at, held, parent_in, children_in, next_in, previous_in, unlinked, linked, StandsUnder, itself, below, IsSound}
-use Rattle.dom_model.specs.Forest.{Node, Forest, occurs, one_at, size, tree_at, without, entry_in, HasNode, parent_of, children_of, next_of, previous_of, ancestors, cut, put, KindsFit}
+use Rattle.dom_model.specs.PlainLists.Lists.{hits, among}
+use Rattle.dom_model.specs.Forests.Arena.{Arena, Entry, entry_at, held, parent_in, children_in, next_in, previous_in, unlinked, linked, StandsUnder, itself, below, IsSound}
+use Rattle.dom_model.specs.Forests.Forest.{Node, Forest, occurs, one_at, size, tree_at, without, entry_in, HasNode, parent_of, children_of, next_of, previous_of, ancestors, cut, put, KindsFit}
 use Rattle.dom_tree.specs.Spelled.{number_at, renumbered, slot_in, slot_for, numbered, shown, Spells, IsTabled, IsKept}
 use Rattle.dom_tree.specs.Standing.{MayStand}
-use Rattle.dom_model.proofs.Totals.{total-cut, total-put, total-tree_at}
-use Rattle.dom_model.proofs.Changes.{seen, nothing, just, cut_at, link_at}
-use Rattle.dom_model.proofs.Lying.{Lies-without_root}
+use Rattle.dom_model.proofs.Forests.Totals.{total-cut, total-put, total-tree_at}
+use Rattle.dom_model.proofs.Forests.Changes.{seen, nothing, just, cut_at, link_at}
+use Rattle.dom_model.proofs.Forests.Lying.{Lies-without_root}
 use Rattle.dom_tree.proofs.Growing.{forest_of-Spells, entry_in-Spells}
 use Rattle.dom_tree.proofs.Spelling.{once_in, Spells-cut, Spells-put}
-use Rattle.dom_model.proofs.KindsFitting.{KindsFit-cut, KindsFit-without, KindsFit-under, KindsFit-placed_under}
-use Rattle.dom_model.proofs.Climbing.{hits-ancestors, climbs, hits-self, not_among-hits}
+use Rattle.dom_model.proofs.Forests.KindsFitting.{KindsFit-cut, KindsFit-without, KindsFit-under, KindsFit-placed_under}
+use Rattle.dom_model.proofs.Forests.Climbing.{hits-ancestors, climbs, hits-self, not_among-hits}
 use Rattle.dom_tree.proofs.Stores.{linked-at, unlinked-at}
 use Rattle.dom_tree.proofs.Numbering.{parent-held, slot-there, by_number-slot, parent_in-map, children_in-map, next_in-map, previous_in-map}
 use Rattle.dom_tree.proofs.Renumbering.{IsTabled-linked, IsTabled-unlinked, by_number-linked, by_number-unlinked}

@@ -1,16 +1,9 @@
 pub mod Adopting
-pub mod Ending
-pub mod Forests
 pub mod Growing
 pub mod Kept
 pub mod Making
 pub mod Numbering
-pub mod Ordering
-pub mod Preceding
 pub mod Reading
 pub mod Renumbering
-pub mod Siblings
 pub mod Spelling
-pub mod Stepping
 pub mod Stores
-pub mod Walking

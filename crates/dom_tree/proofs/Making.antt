@@ -3,15 +3,15 @@ use Rattle.std.proofs.Common.{◌≡◌, ℕ, ◌+◌, ◌<◌, ◌≤◌, List,
 use Rattle.std.proofs.lemmas.Bool.{cases_lt}
 use Rattle.std.proofs.lemmas.List.{get_or_past, get_or_append_left}
 use Rattle.std.proofs.Math.Seq.{get_or-append_seam}
-use Rattle.dom_model.specs.Arena.{Arena, Entry, entry_at, alone, added, altered, with_value, next_slot, IsSound}
-use Rattle.dom_model.specs.Forest.{Node, empty, node, Grove, beside, with_node}
+use Rattle.dom_model.specs.Forests.Arena.{Arena, Entry, entry_at, alone, added, altered, with_value, next_slot, IsSound}
+use Rattle.dom_model.specs.Forests.Forest.{Node, empty, node, Grove, beside, with_node}
 use Rattle.dom_tree.specs.Spelled.{slot_in, numbered, shown, Spells, IsKept}
-use Rattle.dom_model.proofs.Numbers.{same_or, same, apart}
-use Rattle.dom_model.proofs.Totals.{total-beside}
-use Rattle.dom_model.proofs.Changes.{change_at}
-use Rattle.dom_model.proofs.Lying.{total-with_node}
+use Rattle.dom_model.proofs.PlainLists.Numbers.{same_or, same, apart}
+use Rattle.dom_model.proofs.Forests.Totals.{total-beside}
+use Rattle.dom_model.proofs.Forests.Changes.{change_at}
+use Rattle.dom_model.proofs.Forests.Lying.{total-with_node}
 use Rattle.dom_tree.proofs.Spelling.{Spells-pushed, Spells-with_node}
-use Rattle.dom_model.proofs.KindsFitting.{KindsFit-beside, KindsFit-with_node}
+use Rattle.dom_model.proofs.Forests.KindsFitting.{KindsFit-beside, KindsFit-with_node}
 use Rattle.dom_tree.proofs.Stores.{altered-at, added-new, added-old}
 use Rattle.dom_tree.proofs.Renumbering.{IsTabled-added, by_number-added, changed_at, IsTabled-changed, by_number-changed}
 use Rattle.dom_tree.proofs.Kept.{Keeps, keeps}

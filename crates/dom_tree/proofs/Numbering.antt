@@ -1,13 +1,13 @@
 -- Entries by number, through a table from numbers to slots.
 use Rattle.std.proofs.Common.{◌≡◌, ℕ, ◌<◌, ◌==◌, true, false, if◌then◌else◌, List, [], ◌∷◌, map, Option, Some, None, option_map, IsSome, refl, ap, sym, ◌∙◌, subst, arith, ◌⊎◌, inl, inr, ⊎_elim}
 use Rattle.std.proofs.lemmas.Bool.{ne_eqb, eq-eqb}
-use Rattle.dom_model.specs.Lists.{hits, is_number, entered, left_out, head_of, last_of, after, before_from}
-use Rattle.dom_model.specs.Arena.{Entry, held, names, parent_in, children_in, siblings_in, list_under, next_in, previous_in, IsLinked}
-use Rattle.dom_model.specs.Forest.{Node}
+use Rattle.dom_model.specs.PlainLists.Lists.{hits, is_number, entered, left_out, head_of, last_of, after, before_from}
+use Rattle.dom_model.specs.Forests.Arena.{Entry, held, names, parent_in, children_in, siblings_in, list_under, next_in, previous_in, IsLinked}
+use Rattle.dom_model.specs.Forests.Forest.{Node}
 use Rattle.dom_tree.specs.Spelled.{number_at, renumbered, entry_in_slot, by_number, IsTabled}
-use Rattle.dom_model.proofs.Numbers.{same_or, same, apart}
-use Rattle.dom_model.proofs.Changes.{seen, nothing, just}
-use Rattle.dom_model.proofs.Climbing.{hits-first}
+use Rattle.dom_model.proofs.PlainLists.Numbers.{same_or, same, apart}
+use Rattle.dom_model.proofs.Forests.Changes.{seen, nothing, just}
+use Rattle.dom_model.proofs.Forests.Climbing.{hits-first}
 
 -- a list mapped, and a question asked of it before or after
 pub head_of-map : (f : ℕ → ℕ) (l : List ℕ) → head_of (map f l) ≡ option_map f (head_of l)

@@ -2,17 +2,19 @@
 use Rattle.std.proofs.Common.{◌≡◌, ℕ, ◌<◌, true, false, List, length, map, Option, Some, None, option_map, IsSome, is_some, IfSome, refl, ap, sym, ◌∙◌, subst, arith, ⊎_elim}
 use Rattle.std.proofs.lemmas.List.{length-map}
 use Rattle.std.specs.Option.{ForSome}
-use Rattle.dom_model.specs.Lists.{hits, among, head_of, last_of}
-use Rattle.dom_model.specs.Arena.{Arena, Entry, entry_at, parent_in, children_in, siblings_in, next_in, previous_in, linked, unlinked, altered, with_value, StandsUnder, IsHeld, IsSound}
-use Rattle.dom_model.specs.Forest.{Node, Forest, Grove, size, entry_in, HasNode, parent_of, children_of, next_of, previous_of, ancestors, cut, put, with_node, IsForest}
+use Rattle.dom_model.specs.PlainLists.Lists.{hits, among, head_of, last_of}
+use Rattle.dom_model.specs.Forests.Arena.{Arena, Entry, entry_at, parent_in, children_in, siblings_in, next_in, previous_in, linked, unlinked, altered, with_value, StandsUnder, IsHeld, IsSound}
+use Rattle.dom_model.specs.Forests.Forest.{Node, Forest, Grove, size, entry_in, HasNode, parent_of, children_of, next_of, previous_of, ancestors, cut, put, with_node, IsForest}
 use Rattle.dom_tree.specs.Standing.{MayStand}
 use Rattle.dom_tree.specs.Spelled.{number_at, renumbered, entry_in_slot, slot_in, slot_for, numbered, shown, IsKept}
-use Rattle.dom_model.proofs.Changes.{seen, nothing, just}
-use Rattle.dom_model.proofs.Climbing.{not_among-hits}
-use Rattle.dom_model.proofs.PutBack.{hits-head_of, hits-after}
+use Rattle.dom_model.proofs.Forests.Changes.{seen, nothing, just}
+use Rattle.dom_model.proofs.Forests.Climbing.{not_among-hits}
+use Rattle.dom_model.proofs.Forests.PutBack.{hits-head_of, hits-after}
 use Rattle.dom_tree.proofs.Making.{write-kept, alter-kept}
 use Rattle.dom_tree.proofs.Kept.{Keeps, cut-kept, put-kept, stands-among, entry-numbered, entry-slot, parent-slot, children-slot, next-slot, previous-slot, slot-node, slot-parent, option_map-none, option_map-some}
-use Rattle.dom_tree.proofs.Numbering.{head_of-map, last_of-map, hits-last_of, hits-before, child-held, parent-held, sibling-held, one_slot}
+use Rattle.dom_tree.proofs.Numbering.{child-held, parent-held, sibling-held, one_slot}
+use Rattle.dom_model.proofs.PlainLists.Members.{hits-before, hits-last_of}
+use Rattle.dom_model.proofs.PlainLists.Mapped.{last_of-map, head_of-map}
 use Rattle.dom_tree.proofs.Spelling.{IsForest-Spells}
 
 -- what a reading of the links names is held

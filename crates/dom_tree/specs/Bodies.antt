@@ -1,8 +1,8 @@
 -- A node's body, and the clause of one that is borrowed from a slot.
 use Rattle.std.specs.Prelude.{ℕ}
 use Rattle.std.specs.Borrow.{Lends, MutBor, Fml, RattleType}
-use Rattle.dom_model.specs.Arena.{Arena, Entry, with_value, altered}
-use Rattle.dom_model.specs.Forest.{Node}
+use Rattle.dom_model.specs.Forests.Arena.{Arena, Entry, with_value, altered}
+use Rattle.dom_model.specs.Forests.Forest.{Node}
 use Rattle.dom_links.specs.contracts.links.Links as links
 use Rattle.dom_tree.specs.contracts.item.Item as item
 

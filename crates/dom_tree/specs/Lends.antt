@@ -1,7 +1,7 @@
 -- The clause of a borrowed body.
 use Rattle.std.specs.Prelude.{ℕ}
 use Rattle.std.specs.Borrow.{Lends, MutBor, Fml, RattleType}
-use Rattle.dom_model.specs.Forest.{Grove, with_node}
+use Rattle.dom_model.specs.Forests.Forest.{Grove, with_node}
 use Rattle.dom_tree.specs.Bodies.{with_body}
 use Rattle.dom_tree.specs.contracts.tree.Tree.{the_row}
 

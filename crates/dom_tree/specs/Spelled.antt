@@ -1,8 +1,8 @@
 -- What the slots spell: a forest, told by the entries at its numbers.
 use Rattle.std.specs.Prelude.{◌≡◌, ℕ, zero, suc, ◌≤◌, ◌<◌, ◌^◌, List, [], ◌∷◌, length, map, slice_index_or, Option, Some, None, IsSome, option_map}
-use Rattle.dom_model.specs.Arena.{Arena, Entry, entry_at, held}
-use Rattle.dom_model.specs.Lies.{Lies}
-use Rattle.dom_model.specs.Forest.{Node, Forest, empty, node, tops, occurs, size, IsRising, KindsFit}
+use Rattle.dom_model.specs.Forests.Arena.{Arena, Entry, entry_at, held}
+use Rattle.dom_model.specs.Forests.Lies.{Lies}
+use Rattle.dom_model.specs.Forests.Forest.{Node, Forest, empty, node, tops, occurs, size, IsRising, KindsFit}
 
 -- the number before the rest, where it has no parent
 abbrev pub root_under : Option ℕ → ℕ → List ℕ → List ℕ

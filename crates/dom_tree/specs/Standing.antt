@@ -1,7 +1,7 @@
 -- What a node may be put under.
 use Rattle.std.specs.Prelude.{◌≡◌, ℕ, true, IfSome}
-use Rattle.dom_model.specs.Kinds.{may_stand_in}
-use Rattle.dom_model.specs.Forest.{Forest, entry_in}
+use Rattle.dom_model.specs.Forests.Kinds.{may_stand_in}
+use Rattle.dom_model.specs.Forests.Forest.{Forest, entry_in}
 
 -- the parent's kind lets a node of the child's kind stand under it
 abbrev pub MayStand : {X : Type 0} → Forest X → ℕ → ℕ → Type 0

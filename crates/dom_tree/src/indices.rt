@@ -1,7 +1,7 @@
 //! Indices that are kept beside the nodes.
 
 ghost use Rattle.std.specs.Prelude.{◌≡◌, IfSome};
-ghost use Rattle.dom_model.specs.Forest.{HasNode, index_of};
+ghost use Rattle.dom_model.specs.Forests.Forest.{HasNode, index_of};
 
 use crate::node_id::NodeId;
 use crate::tree::Tree;

@@ -14,8 +14,8 @@ pub struct Item<X> {
 }
 
 impl<X> Model for Item<X> {
-    ghost use Rattle.dom_model.specs.Forest.{Node};
-    ghost use Rattle.dom_model.specs.ForestCode.{node_code};
+    ghost use Rattle.dom_model.specs.Forests.Forest.{Node};
+    ghost use Rattle.dom_model.specs.Forests.ForestCode.{node_code};
 
     ghost Value = { Node X };
 

@@ -3,9 +3,9 @@
 ghost use Rattle.std.specs.Prelude.{◌≡◌, ℕ, ◌+◌, ◌<◌, length, slice_get, Some, None, IsSome, is_some, option_map, unwrap_or, IfSome, IfOk, OnOk, OnErr, false, true};
 ghost use Rattle.std.specs.Borrow.{sem};
 ghost use Rattle.std.specs.Option.{ForSome};
-ghost use Rattle.dom_model.specs.Lists.{among, head_of, last_of};
-ghost use Rattle.dom_model.specs.Arena.{IsHeld, entry_at};
-ghost use Rattle.dom_model.specs.Forest.{empty, node, beside, size, entry_in, HasNode, parent_of, children_of, next_of, previous_of, ancestors, put, cut, with_node, in_document, IsForest};
+ghost use Rattle.dom_model.specs.PlainLists.Lists.{among, head_of, last_of};
+ghost use Rattle.dom_model.specs.Forests.Arena.{IsHeld, entry_at};
+ghost use Rattle.dom_model.specs.Forests.Forest.{empty, node, beside, size, entry_in, HasNode, parent_of, children_of, next_of, previous_of, ancestors, put, cut, with_node, in_document, IsForest};
 ghost use Rattle.dom_tree.specs.Bodies.{lends_item_body};
 ghost use Rattle.dom_tree.specs.Spelled.{slot_in, slot_for, number_at};
 ghost use Rattle.dom_tree.specs.Standing.{MayStand};
@@ -27,8 +27,8 @@ pub struct Tree<X> {
 
 impl<X> Model for Tree<X> {
     ghost use Rattle.std.specs.Prelude.{length};
-    ghost use Rattle.dom_model.specs.Forest.{Grove};
-    ghost use Rattle.dom_model.specs.ForestCode.{grove_code};
+    ghost use Rattle.dom_model.specs.Forests.Forest.{Grove};
+    ghost use Rattle.dom_model.specs.Forests.ForestCode.{grove_code};
     ghost use Rattle.dom_tree.specs.Spelled.{shown, IsKept};
 
     ghost Value = { Grove X };

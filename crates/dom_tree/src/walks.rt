@@ -1,9 +1,9 @@
 //! Walks over the tree: ancestors and tree order (DOM Standard, "Trees").
 
 ghost use Rattle.std.specs.Prelude.{◌≡◌, ℕ, nat_lt, length, slice_get, Some, IfSome, true};
-ghost use Rattle.dom_model.specs.Lists.{among, after, last_of, place_in};
-ghost use Rattle.dom_model.specs.Arena.{siblings_in};
-ghost use Rattle.dom_model.specs.Forest.{HasNode, entry_in, children_of, index_of, root_of, ancestors, numbers, inclusive_descendants, adopted};
+ghost use Rattle.dom_model.specs.PlainLists.Lists.{among, after, last_of, place_in};
+ghost use Rattle.dom_model.specs.Forests.Arena.{siblings_in};
+ghost use Rattle.dom_model.specs.Forests.Forest.{HasNode, entry_in, children_of, index_of, root_of, ancestors, numbers, inclusive_descendants, adopted};
 ghost use Rattle.dom_tree.specs.Lengths.{length_of};
 
 use crate::body::Body;

@@ -2,7 +2,7 @@
 #![tactic(auto)]
 
 ghost use Rattle.std.specs.Prelude.{◌≡◌, ◌-◌, ◌≤◌, [], length, IsTrue, ◌↔◌, IfOk, OnOk, OnErr, option_map, string_bytes};
-ghost use Rattle.dom_model.specs.Texts.{units_of, is_well_formed_units, text_of_units, substring, spliced};
+ghost use Rattle.dom_model.specs.Forests.Texts.{units_of, is_well_formed_units, text_of_units, substring, spliced};
 
 use std::alloc::{AllocError, Global};
 use std::marker::Model;

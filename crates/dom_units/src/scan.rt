@@ -1,7 +1,7 @@
 //! Text to units, and whether units are well-formed.
 ghost use Rattle.std.specs.Prelude.{◌≡◌, ◌∷◌, IfOk};
 ghost use Rattle.std.specs.Char.Utf16.{is_low_surrogate, is_high_surrogate};
-ghost use Rattle.dom_model.specs.Texts.{units_of, is_well_formed_units};
+ghost use Rattle.dom_model.specs.Forests.Texts.{units_of, is_well_formed_units};
 
 use std::alloc::{AllocError, Global};
 

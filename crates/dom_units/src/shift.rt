@@ -1,6 +1,6 @@
 //! A part of a list replaced, with one move of what follows it.
 ghost use Rattle.std.specs.Prelude.{◌≡◌, ◌-◌, ◌≤◌, vec_len, length, OnOk, OnErr};
-ghost use Rattle.dom_model.specs.Texts.{spliced};
+ghost use Rattle.dom_model.specs.Forests.Texts.{spliced};
 
 use std::alloc::AllocError;
 

@@ -18,9 +18,9 @@ use Rattle.serde_json.specs.declared.value.Value.TheVariants.{Array}
 use Rattle.serde_json.proofs.Views.{view-Array}
 use Rattle.serde_json.specs.Written.{items_outline, compact_text}
 use Rattle.serde_json.proofs.Texts.{print-outline}
-use Rattle.dom_model.specs.Line.{list_of, arguments_from, with_argument, json_of, command_in_array, command_among}
-use Rattle.dom_model.specs.Table.{Row, Shape, Arguments}
-use Rattle.dom_model.specs.Printed as printed
+use Rattle.dom_model.specs.Commands.Line.{list_of, arguments_from, with_argument, json_of, command_in_array, command_among}
+use Rattle.dom_model.specs.Commands.Table.{Row, Shape, Arguments}
+use Rattle.dom_model.specs.Commands.Printed as printed
 use Rattle.dom_wire.specs.Prints.{tokens_of, tokens_of_all, Adds}
 
 -- ---- reading

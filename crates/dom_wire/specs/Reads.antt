@@ -1,6 +1,6 @@
 -- What a function that reads may return, against what is read by the definitions.
 use Rattle.std.specs.Prelude.{◌≡◌, Option, Some, None, Result, Ok, Err}
-use Rattle.dom_model.specs.Command as model
+use Rattle.dom_model.specs.Commands.Command as model
 use Rattle.dom_model.specs.declared.OwnError.{OwnError}
 use Rattle.dom_model.specs.declared.OwnError.TheVariants.{BadArguments}
 use Rattle.dom_session.specs.declared.command.Command.{Command}

@@ -1,7 +1,7 @@
 -- The row of the table that each name stands for.
 use Rattle.std.specs.Prelude.{[], ◌∷◌, codes}
-use Rattle.dom_model.specs.Command as model
-use Rattle.dom_model.specs.Table.{Row, row, Arguments, a_number, a_string, a_text, number_at, string_at}
+use Rattle.dom_model.specs.Commands.Command as model
+use Rattle.dom_model.specs.Commands.Table.{Row, row, Arguments, a_number, a_string, a_text, number_at, string_at}
 use Rattle.dom_wire.specs.declared.names.Name.{Name}
 use Rattle.dom_wire.specs.declared.names.Name.TheVariants.{NewDocument, CreateElement, CreateText, AppendChild, Tree}
 

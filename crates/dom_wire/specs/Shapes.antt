@@ -1,8 +1,8 @@
 -- The shapes and arguments of the code as those of the definitions.
 use Rattle.std.specs.Prelude.{[], map, false, None, string_bytes}
-use Rattle.dom_model.specs.Table as model
+use Rattle.dom_model.specs.Commands.Table as model
 use Rattle.dom_model.specs.declared.Move.TheVariants.{ParentNode}
-use Rattle.dom_model.specs.Command.{no_options}
+use Rattle.dom_model.specs.Commands.Command.{no_options}
 use Rattle.dom_wire.specs.declared.arguments.Shape.{Shape}
 use Rattle.dom_wire.specs.declared.arguments.Shape.TheVariants.{Number, String, Text}
 use Rattle.dom_wire.specs.declared.arguments.Arguments.{Arguments}

@@ -27,7 +27,7 @@ pub struct Arguments {
 }
 
 impl Arguments {
-    ghost use Rattle.dom_model.specs.Table.{no_arguments};
+    ghost use Rattle.dom_model.specs.Commands.Table.{no_arguments};
     ghost use Rattle.dom_wire.specs.Shapes.{arguments_view};
 
     /// None yet.

@@ -2,8 +2,8 @@
 
 ghost use Rattle.std.specs.Prelude.{◌<◌, ◌≤◌, map, length};
 ghost use Rattle.serde_json.specs.View.{view, items_view};
-ghost use Rattle.dom_model.specs.Table.{a_number, a_string, a_text, no_arguments};
-ghost use Rattle.dom_model.specs.Line.{unit_in, each_item, text_in, with_argument, arguments_from};
+ghost use Rattle.dom_model.specs.Commands.Table.{a_number, a_string, a_text, no_arguments};
+ghost use Rattle.dom_model.specs.Commands.Line.{unit_in, each_item, text_in, with_argument, arguments_from};
 ghost use Rattle.dom_wire.specs.Reads.{Decodes};
 ghost use Rattle.dom_wire.specs.Shapes.{shape_view, arguments_view};
 

@@ -2,9 +2,9 @@
 
 ghost use Rattle.std.specs.Prelude.{◌≡◌, [], ◌∷◌, map, IfOk, codes};
 ghost use Rattle.json.specs.Token.{begin_array, end_array, string, key};
-ghost use Rattle.dom_model.specs.Kinds.{node_name};
-ghost use Rattle.dom_model.specs.Refusal.{name_of_own};
-ghost use Rattle.dom_model.specs.Printed.{reply_line, reply_json, answer_json, row_json, detail_json, units_json, numbers_json, list_json};
+ghost use Rattle.dom_model.specs.Forests.Kinds.{node_name};
+ghost use Rattle.dom_model.specs.Commands.Refusal.{name_of_own};
+ghost use Rattle.dom_model.specs.Commands.Printed.{reply_line, reply_json, answer_json, row_json, detail_json, units_json, numbers_json, list_json};
 ghost use Rattle.dom_session.specs.Views.{reply_view, answer_view};
 ghost use Rattle.dom_wire.specs.Prints.{tokens_of, tokens_of_all, Adds};
 

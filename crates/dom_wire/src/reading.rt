@@ -3,8 +3,8 @@
 ghost use Rattle.std.specs.Prelude.{◌≡◌, map, find, option_map};
 ghost use Rattle.serde_json.specs.Find.{as_array};
 ghost use Rattle.serde_json.specs.View.{view};
-ghost use Rattle.dom_model.specs.Table.{served_table, no_arguments};
-ghost use Rattle.dom_model.specs.Line.{command_of, command_in_array, command_among, if_arguments, arguments_from, is_row_of};
+ghost use Rattle.dom_model.specs.Commands.Table.{served_table, no_arguments};
+ghost use Rattle.dom_model.specs.Commands.Line.{command_of, command_in_array, command_among, if_arguments, arguments_from, is_row_of};
 ghost use Rattle.dom_wire.specs.Reads.{Reads};
 ghost use Rattle.dom_wire.specs.Rows.{row_of};
 

@@ -1,9 +1,9 @@
 -- The program's limits, its statuses, and what it says of faults.
 use Rattle.std.specs.Prelude.{ℕ, ◌≤◌, List, Option, codes}
 use Rattle.std.specs.Io.KnownBytes.{Appends}
-use Rattle.dom_model.specs.Answer.{Bounds}
-use Rattle.dom_model.specs.Table.{served_table}
-use Rattle.dom_model.specs.Output.{output_of}
+use Rattle.dom_model.specs.Commands.Answer.{Bounds}
+use Rattle.dom_model.specs.Commands.Table.{served_table}
+use Rattle.dom_model.specs.Commands.Output.{output_of}
 use Rattle.dom_serve.specs.declared.fault.Fault.{Fault}
 use Rattle.dom_serve.specs.declared.fault.Fault.TheVariants.{Read, Write, Memory, InputTooLong}
 

@@ -1,5 +1,5 @@
 use Rattle.std.proofs.Common.{◌≡◌, ◌∙◌, ap, add-one}
-use Rattle.dom_model.specs.Attributes.{with_attribute}
+use Rattle.dom_model.specs.Forests.Attributes.{with_attribute}
 use Rattle.dom_attrs.proofs.AttributeLemmas.{with_attribute-next}
 use Rattle.dom_attrs.proofs.Attrs.try_clone.Goals as goal
 

@@ -1,6 +1,6 @@
 use Rattle.std.proofs.Common.{ap, sym, refl, ◌∙◌, option_copied}
 use Rattle.std.specs.Prelude.{bytes_eq}
-use Rattle.dom_model.specs.Attributes.{Attribute}
+use Rattle.dom_model.specs.Forests.Attributes.{Attribute}
 use Rattle.dom_attrs.specs.Entries.{attributes_of}
 use Rattle.dom_attrs.proofs.AttributeLemmas.{has_value}
 use Rattle.dom_attrs.proofs.EntriesLemmas.{list_any-lookup}

@@ -1,5 +1,5 @@
 use Rattle.std.proofs.Common.{◌≡◌, ◌*◌, ◌≤◌, false, [], length}
-use Rattle.dom_model.specs.Answer.{Bounds}
+use Rattle.dom_model.specs.Commands.Answer.{Bounds}
 use Rattle.dom_serve.specs.Server.{Stands, IsSoFar}
 use Rattle.dom_serve.proofs.answering.serve_all.Given as goal
 

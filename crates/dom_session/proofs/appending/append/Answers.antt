@@ -1,6 +1,6 @@
 use Rattle.std.proofs.Common.{◌≡◌, refl, arith}
 use Rattle.std.proofs.lemmas.Bool.Decides.{nat_tests}
-use Rattle.dom_model.specs.Forest.{entry_in}
+use Rattle.dom_model.specs.Forests.Forest.{entry_in}
 use Rattle.dom_session.specs.Appending.{detached}
 use Rattle.dom_session.proofs.Standing.{passed}
 use Rattle.dom_session.proofs.Detaching.{IsOnce-detached, HasNode-detached, parent_of-detached, outside-detached, Stands-detached, HasNode-put, document_told}

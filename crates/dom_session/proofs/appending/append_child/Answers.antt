@@ -1,6 +1,6 @@
 use Rattle.std.proofs.Common.{◌≡◌, true, sym}
 use Rattle.std.specs.Prelude.{is_some}
-use Rattle.dom_model.specs.Forest.{entry_in}
+use Rattle.dom_model.specs.Forests.Forest.{entry_in}
 use Rattle.dom_session.specs.Limiting.{numbered}
 use Rattle.dom_session.proofs.Moves.{IsStep-append_child}
 use Rattle.dom_session.proofs.appending.append_child.Goals as goal

@@ -1,10 +1,10 @@
 use Rattle.std.proofs.Common.{◌≡◌, ℕ, ◌≤◌, ◌∙◌, arith}
-use Rattle.dom_model.specs.Lists.{hits, after}
-use Rattle.dom_model.specs.Forest.{children_of}
+use Rattle.dom_model.specs.PlainLists.Lists.{hits, after}
+use Rattle.dom_model.specs.Forests.Forest.{children_of}
 use Rattle.dom_session.proofs.Siblings.{from_optional, from_optional-head, IsAmong-head, IsAmong-after, from_first-after, HasNode-child, next_of-child, count_kind-cons, count_kind_le-length}
 use Rattle.dom_session.proofs.appending.count_children.Goals as goal
 use Rattle.dom_session.proofs.appending.count_children.Goals.{then-is_of_kind, else-is_of_kind}
-use Rattle.dom_model.proofs.Indices.{child-once}
+use Rattle.dom_model.proofs.Forests.Indices.{child-once}
 
 pub loop-child-init : goal.loop-child-init
 loop-child-init c =

@@ -1,6 +1,6 @@
 use Rattle.std.proofs.Common.{◌≡◌, ◌+◌, length}
-use Rattle.dom_model.specs.Forest.{children_of}
-use Rattle.dom_model.specs.Checks.{count_kind}
+use Rattle.dom_model.specs.Forests.Forest.{children_of}
+use Rattle.dom_model.specs.MutationAlgorithms.Checks.{count_kind}
 use Rattle.dom_session.proofs.Siblings.{from_optional, IsAmong}
 use Rattle.dom_session.proofs.appending.count_children.Given as goal
 

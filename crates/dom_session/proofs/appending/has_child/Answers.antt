@@ -1,5 +1,5 @@
 use Rattle.std.proofs.Common.{sym}
-use Rattle.dom_model.specs.Forest.{children_of}
+use Rattle.dom_model.specs.Forests.Forest.{children_of}
 use Rattle.dom_session.proofs.Siblings.{has_kind-count}
 use Rattle.dom_session.proofs.appending.has_child.Goals as goal
 

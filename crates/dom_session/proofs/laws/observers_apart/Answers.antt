@@ -1,4 +1,4 @@
-use Rattle.dom_model.proofs.ErasedObservers.{observers-apart}
+use Rattle.dom_model.proofs.Erasure.ErasedObservers.{observers-apart}
 use Rattle.dom_session.proofs.laws.observers_apart.Goals as goal
 
 pub returns : goal.returns

@@ -1,4 +1,4 @@
-use Rattle.dom_model.proofs.ErasedWatchers.{watchers-apart}
+use Rattle.dom_model.proofs.Erasure.ErasedWatchers.{watchers-apart}
 use Rattle.dom_session.proofs.laws.watchers_apart.Goals as goal
 
 pub returns : goal.returns

@@ -1,9 +1,9 @@
 use Rattle.std.proofs.Common.{refl, sym, true, ◌≡◌, string_bytes, ◌∙◌}
 use Rattle.dom_model.specs.declared.Kind.TheVariants.{Element}
-use Rattle.dom_model.specs.Names.{is_element_name}
-use Rattle.dom_model.specs.World.{no_content}
-use Rattle.dom_model.specs.Answer.{named}
-use Rattle.dom_model.specs.Command.{CreateElement}
+use Rattle.dom_model.specs.Forests.Names.{is_element_name}
+use Rattle.dom_model.specs.Worlds.World.{no_content}
+use Rattle.dom_model.specs.Commands.Answer.{named}
+use Rattle.dom_model.specs.Commands.Command.{CreateElement}
 use Rattle.dom_session.specs.Limiting.{numbered}
 use Rattle.dom_session.proofs.Steps.{IsStep-makes, answer-create_element}
 use Rattle.dom_session.proofs.making.create_element.Goals as goal

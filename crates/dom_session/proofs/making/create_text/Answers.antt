@@ -1,7 +1,7 @@
 use Rattle.std.proofs.Common.{refl, sym, [], ◌∙◌}
 use Rattle.dom_model.specs.declared.Kind.TheVariants.{Text}
-use Rattle.dom_model.specs.Answer.{named, with_text}
-use Rattle.dom_model.specs.Command.{CreateText}
+use Rattle.dom_model.specs.Commands.Answer.{named, with_text}
+use Rattle.dom_model.specs.Commands.Command.{CreateText}
 use Rattle.dom_session.specs.Limiting.{numbered}
 use Rattle.dom_session.proofs.Steps.{IsStep-makes, answer-create_text}
 use Rattle.dom_session.proofs.making.create_text.Goals as goal

@@ -1,4 +1,4 @@
-use Rattle.dom_model.specs.Table.{served_table}
+use Rattle.dom_model.specs.Commands.Table.{served_table}
 use Rattle.dom_wire.proofs.Steps.{command_in-array}
 use Rattle.dom_wire.proofs.reading.command_in.Goals as goal
 

@@ -1,4 +1,4 @@
-use Rattle.dom_model.specs.Table.{served_table}
+use Rattle.dom_model.specs.Commands.Table.{served_table}
 use Rattle.dom_wire.specs.Rows.{row_of}
 use Rattle.dom_wire.proofs.reading.named.Goals as goal
 

@@ -1,5 +1,5 @@
-use Rattle.dom_model.specs.Table.{served_table}
-use Rattle.dom_model.specs.Line.{command_of, command_of_json}
+use Rattle.dom_model.specs.Commands.Table.{served_table}
+use Rattle.dom_model.specs.Commands.Line.{command_of, command_of_json}
 use Rattle.dom_wire.proofs.Steps.{json_of-text, json_of-none}
 use Rattle.dom_wire.proofs.reading.read_line.Goals as goal
 use Rattle.std.proofs.Common.{ap, sym, true≢false}

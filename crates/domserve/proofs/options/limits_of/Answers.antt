@@ -4,7 +4,7 @@ use Rattle.std.specs.Prelude.{Result}
 use Rattle.std.specs.declared.num.ParseIntError.{ParseIntError}
 use Rattle.std.specs.Str.Parse.{ParsesUnsigned, ExplainsUnsignedError, HasUnsignedDigitsIfOk}
 use Rattle.clap.proofs.WalkLemmas.{one_text-rows}
-use Rattle.dom_model.specs.Answer.{Bounds}
+use Rattle.dom_model.specs.Commands.Answer.{Bounds}
 use Rattle.domserve.specs.CommandLine.{limit_of}
 use Rattle.domserve.proofs.Reading.{limit_read}
 use Rattle.domserve.proofs.options.limits_of.Goals as goal

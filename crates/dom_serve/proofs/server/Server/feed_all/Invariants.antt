@@ -1,7 +1,7 @@
 use Rattle.std.proofs.Common.{◌≡◌, ℕ, ◌+◌, ◌≤◌, false, List, ◌++◌, take}
-use Rattle.dom_model.specs.Answer.{Bounds}
-use Rattle.dom_model.specs.Table.{served_table}
-use Rattle.dom_model.specs.Output.{due}
+use Rattle.dom_model.specs.Commands.Answer.{Bounds}
+use Rattle.dom_model.specs.Commands.Table.{served_table}
+use Rattle.dom_model.specs.Commands.Output.{due}
 use Rattle.dom_serve.specs.Server.{Stands, Grows}
 use Rattle.dom_serve.proofs.server.Server.feed_all.Given as goal
 

@@ -1,8 +1,8 @@
 -- The next child is at the next index.
 use Rattle.std.proofs.Common.{◌≡◌, suc, None, sym, ap, ◌∙◌, add-one, arith}
 use Rattle.std.specs.Prelude.{slice_get}
-use Rattle.dom_model.specs.Forest.{children_of}
-use Rattle.dom_tree.proofs.Siblings.{child-next, child-held, get-past, get-head}
+use Rattle.dom_model.specs.Forests.Forest.{children_of}
+use Rattle.dom_model.proofs.Forests.Siblings.{child-next, child-held, get-past, get-head}
 use Rattle.dom_tree.proofs.tree.Tree.child_at.Goals as goal
 
 pub next-requires : goal.next-requires

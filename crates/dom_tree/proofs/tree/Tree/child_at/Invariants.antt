@@ -1,7 +1,7 @@
 -- The child at the index that the walk has come to.
 use Rattle.std.proofs.Common.{◌≡◌, Some}
 use Rattle.std.specs.Prelude.{slice_get}
-use Rattle.dom_model.specs.Forest.{children_of}
+use Rattle.dom_model.specs.Forests.Forest.{children_of}
 use Rattle.dom_tree.proofs.tree.Tree.child_at.Given as goal
 
 abbrev pub invariant-loop-passed : goal.invariant-loop-passed

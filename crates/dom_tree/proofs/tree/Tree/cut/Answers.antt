@@ -1,5 +1,5 @@
 -- A child cut by slot is cut by number.
-use Rattle.dom_model.specs.Forest.{cut}
+use Rattle.dom_model.specs.Forests.Forest.{cut}
 use Rattle.dom_tree.proofs.Reading.{slot-of_child, parent-there, cut-done, changed-shown}
 use Rattle.dom_tree.proofs.tree.Tree.cut.Goals as goal
 

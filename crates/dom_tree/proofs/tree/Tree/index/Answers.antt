@@ -1,6 +1,6 @@
 -- Each step back counts one.
 use Rattle.std.proofs.Common.{sym, ◌∙◌, arith}
-use Rattle.dom_tree.proofs.Siblings.{index-step, index-first, index-within}
+use Rattle.dom_model.proofs.Forests.Siblings.{index-step, index-first, index-within}
 use Rattle.dom_tree.proofs.tree.Tree.index.Goals as goal
 
 pub returns-in-None : goal.returns-in-None

@@ -1,6 +1,6 @@
 -- As many steps back as were made, and the place of where the walk stands.
 use Rattle.std.proofs.Common.{◌≡◌, ◌+◌}
-use Rattle.dom_model.specs.Forest.{HasNode, parent_of, index_of}
+use Rattle.dom_model.specs.Forests.Forest.{HasNode, parent_of, index_of}
 use Rattle.dom_tree.proofs.tree.Tree.index.Given as goal
 
 abbrev pub invariant-loop-index : goal.invariant-loop-index

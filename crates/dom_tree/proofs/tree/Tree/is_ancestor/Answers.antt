@@ -1,8 +1,8 @@
 -- Each step goes to the parent, past a node that is not the one.
 use Rattle.std.proofs.Common.{◌≡◌, ◌==◌, refl, sym, ◌∙◌, false, true}
 use Rattle.std.proofs.lemmas.Bool.{not-true, not-false}
-use Rattle.dom_tree.proofs.Forests.{above}
-use Rattle.dom_tree.proofs.Walking.{shorter, among-above, among-here, among-top}
+use Rattle.dom_model.proofs.Forests.Above.{above}
+use Rattle.dom_model.proofs.Forests.ToTheRoot.{shorter, among-above, among-here, among-top}
 use Rattle.dom_tree.proofs.tree.Tree.is_ancestor.Goals as goal
 
 pub loop-above-init : goal.loop-above-init

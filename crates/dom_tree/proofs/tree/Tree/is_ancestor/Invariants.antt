@@ -1,7 +1,7 @@
 -- It is an ancestor of where the walk stands, where it is one of where it began.
 use Rattle.std.proofs.Common.{◌≡◌, length}
-use Rattle.dom_model.specs.Lists.{among}
-use Rattle.dom_model.specs.Forest.{HasNode, ancestors}
+use Rattle.dom_model.specs.PlainLists.Lists.{among}
+use Rattle.dom_model.specs.Forests.Forest.{HasNode, ancestors}
 use Rattle.dom_tree.proofs.tree.Tree.is_ancestor.Given as goal
 
 abbrev pub invariant-loop-above : goal.invariant-loop-above

@@ -1,5 +1,5 @@
 -- The value in the slot is the node's.
-use Rattle.dom_model.specs.Forest.{Node}
+use Rattle.dom_model.specs.Forests.Forest.{Node}
 use Rattle.dom_tree.proofs.Reading.{slot-held, value-read}
 use Rattle.dom_tree.proofs.tree.Tree.label.Goals as goal
 

@@ -1,6 +1,6 @@
 -- Each step goes to the last child.
 use Rattle.std.proofs.Common.{refl, sym, ◌∙◌}
-use Rattle.dom_tree.proofs.Ending.{last-leaf, last-down}
+use Rattle.dom_model.proofs.Forests.TreeOrder.Ending.{last-leaf, last-down}
 use Rattle.dom_tree.proofs.tree.Tree.last_inside.Goals as goal
 
 pub loop-last-init : goal.loop-last-init

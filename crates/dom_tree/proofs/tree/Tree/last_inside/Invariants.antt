@@ -1,7 +1,7 @@
 -- The tree of where the walk stands ends where the first one ends.
 use Rattle.std.proofs.Common.{◌≡◌}
-use Rattle.dom_model.specs.Lists.{last_of}
-use Rattle.dom_model.specs.Forest.{HasNode, size, tree_at, inclusive_descendants}
+use Rattle.dom_model.specs.PlainLists.Lists.{last_of}
+use Rattle.dom_model.specs.Forests.Forest.{HasNode, size, tree_at, inclusive_descendants}
 use Rattle.dom_tree.proofs.tree.Tree.last_inside.Given as goal
 
 abbrev pub invariant-loop-last : goal.invariant-loop-last

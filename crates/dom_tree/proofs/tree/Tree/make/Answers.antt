@@ -1,7 +1,7 @@
 -- A node stored and named in the table is one more root.
 use Rattle.std.proofs.Common.{◌≡◌, [], ◌∷◌, ◌++◌, length, Some, None, ap, ◌∙◌, unwrap_or}
-use Rattle.dom_model.specs.Arena.{added, next_slot, entry_at}
-use Rattle.dom_model.specs.Forest.{Node}
+use Rattle.dom_model.specs.Forests.Arena.{added, next_slot, entry_at}
+use Rattle.dom_model.specs.Forests.Forest.{Node}
 use Rattle.dom_tree.proofs.Making.{made-is, made-keeps, made-shown}
 use Rattle.dom_tree.proofs.tree.Tree.make.Goals as goal
 

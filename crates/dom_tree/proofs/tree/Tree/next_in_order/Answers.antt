@@ -1,8 +1,8 @@
 -- The first child, or else the next sibling of the nearest ancestor that has one.
 use Rattle.std.proofs.Common.{sym, ◌∙◌}
-use Rattle.dom_tree.proofs.Forests.{above}
-use Rattle.dom_tree.proofs.Walking.{shorter}
-use Rattle.dom_tree.proofs.Stepping.{order-first, Past-start, Past-next, Past-up, Past-end}
+use Rattle.dom_model.proofs.Forests.Above.{above}
+use Rattle.dom_model.proofs.Forests.ToTheRoot.{shorter}
+use Rattle.dom_model.proofs.Forests.TreeOrder.Stepping.{order-first, Past-start, Past-next, Past-up, Past-end}
 use Rattle.dom_tree.proofs.tree.Tree.next_in_order.Goals as goal
 
 pub returns-in-Some : goal.returns-in-Some

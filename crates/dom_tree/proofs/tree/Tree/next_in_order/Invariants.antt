@@ -1,7 +1,7 @@
 -- What follows in tree order is what comes past the tree of where the walk stands.
 use Rattle.std.proofs.Common.{length}
-use Rattle.dom_model.specs.Forest.{HasNode, ancestors}
-use Rattle.dom_tree.proofs.Stepping.{Past}
+use Rattle.dom_model.specs.Forests.Forest.{HasNode, ancestors}
+use Rattle.dom_model.proofs.Forests.TreeOrder.Stepping.{Past}
 use Rattle.dom_tree.proofs.tree.Tree.next_in_order.Given as goal
 
 abbrev pub invariant-loop-next : goal.invariant-loop-next

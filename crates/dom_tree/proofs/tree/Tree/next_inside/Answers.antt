@@ -1,9 +1,9 @@
 -- The first child, or else the next sibling of the nearest ancestor below the top that has one.
 use Rattle.std.proofs.Common.{◌==◌, sym, ◌∙◌}
 use Rattle.std.proofs.lemmas.Bool.{not-true, not-false, eqb-true, eqb-false}
-use Rattle.dom_tree.proofs.Forests.{above}
-use Rattle.dom_tree.proofs.Walking.{shorter, inside}
-use Rattle.dom_tree.proofs.Stepping.{first-after, none-after, tree-next, tree-up, tree-top, tree-parent}
+use Rattle.dom_model.proofs.Forests.Above.{above}
+use Rattle.dom_model.proofs.Forests.ToTheRoot.{shorter, inside}
+use Rattle.dom_model.proofs.Forests.TreeOrder.Stepping.{first-after, none-after, tree-next, tree-up, tree-top, tree-parent}
 use Rattle.dom_tree.proofs.tree.Tree.next_inside.Goals as goal
 
 pub returns-in-Some : goal.returns-in-Some

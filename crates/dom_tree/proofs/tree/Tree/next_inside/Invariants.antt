@@ -1,8 +1,8 @@
 -- What follows in tree order is what comes past the tree of where the walk stands.
 use Rattle.std.proofs.Common.{◌≡◌, ◌<◌, length, None}
-use Rattle.dom_model.specs.Lists.{after}
-use Rattle.dom_model.specs.Forest.{HasNode, ancestors, occurs, tree_at, inclusive_descendants}
-use Rattle.dom_tree.proofs.Ordering.{past}
+use Rattle.dom_model.specs.PlainLists.Lists.{after}
+use Rattle.dom_model.specs.Forests.Forest.{HasNode, ancestors, occurs, tree_at, inclusive_descendants}
+use Rattle.dom_model.proofs.Forests.TreeOrder.Ordering.{past}
 use Rattle.dom_tree.proofs.tree.Tree.next_inside.Given as goal
 
 abbrev pub invariant-loop-top : goal.invariant-loop-top

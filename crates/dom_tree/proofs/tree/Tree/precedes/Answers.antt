@@ -1,9 +1,9 @@
 -- Each step goes one place further.
 use Rattle.std.proofs.Common.{◌≡◌, ◌+◌, refl, sym, ap, ◌∙◌, arith}
 use Rattle.std.proofs.lemmas.Bool.{eqb-true, eqb-false, lt-ltb, le-ltb}
-use Rattle.dom_model.specs.Lists.{place_in}
-use Rattle.dom_model.specs.Forest.{numbers}
-use Rattle.dom_tree.proofs.Preceding.{order-step, order-end, order-same, order-within, lt-step}
+use Rattle.dom_model.specs.PlainLists.Lists.{place_in}
+use Rattle.dom_model.specs.Forests.Forest.{numbers}
+use Rattle.dom_model.proofs.Forests.TreeOrder.Preceding.{order-step, order-end, order-same, order-within, lt-step}
 use Rattle.dom_tree.proofs.tree.Tree.precedes.Goals as goal
 
 pub loop-next-init : goal.loop-next-init

@@ -1,7 +1,7 @@
 -- The walk has not come to the other node yet, and is no further from it than at the start.
 use Rattle.std.proofs.Common.{◌≡◌, ◌-◌, nat_lt, length}
-use Rattle.dom_model.specs.Lists.{place_in}
-use Rattle.dom_model.specs.Forest.{HasNode, root_of, numbers}
+use Rattle.dom_model.specs.PlainLists.Lists.{place_in}
+use Rattle.dom_model.specs.Forests.Forest.{HasNode, root_of, numbers}
 use Rattle.dom_tree.proofs.tree.Tree.precedes.Given as goal
 
 abbrev pub invariant-loop-next : goal.invariant-loop-next

@@ -1,5 +1,5 @@
 -- A root put by slot is put by number.
-use Rattle.dom_model.specs.Forest.{put}
+use Rattle.dom_model.specs.Forests.Forest.{put}
 use Rattle.dom_tree.proofs.Reading.{slot-held, slots-held, parent-none, parent-same, no_cycle-slots, put-done, changed-shown}
 use Rattle.dom_tree.proofs.tree.Tree.put.Goals as goal
 

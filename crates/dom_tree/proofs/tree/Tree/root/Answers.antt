@@ -1,7 +1,7 @@
 -- Each step goes to the parent, which has the same root and fewer ancestors.
 use Rattle.std.proofs.Common.{refl, sym, ◌∙◌}
-use Rattle.dom_tree.proofs.Forests.{above}
-use Rattle.dom_tree.proofs.Walking.{shorter, root-above, root-is}
+use Rattle.dom_model.proofs.Forests.Above.{above}
+use Rattle.dom_model.proofs.Forests.ToTheRoot.{shorter, root-above, root-is}
 use Rattle.dom_tree.proofs.tree.Tree.root.Goals as goal
 
 pub loop-above-init : goal.loop-above-init

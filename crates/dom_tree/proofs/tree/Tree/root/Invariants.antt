@@ -1,6 +1,6 @@
 -- The root of where the walk stands is the root of where it began.
 use Rattle.std.proofs.Common.{◌≡◌, length}
-use Rattle.dom_model.specs.Forest.{HasNode, root_of, ancestors}
+use Rattle.dom_model.specs.Forests.Forest.{HasNode, root_of, ancestors}
 use Rattle.dom_tree.proofs.tree.Tree.root.Given as goal
 
 abbrev pub invariant-loop-above : goal.invariant-loop-above

@@ -1,6 +1,6 @@
 -- A parent is there.
 use Rattle.std.proofs.Common.{sym, ◌∙◌}
-use Rattle.dom_tree.proofs.Forests.{above}
+use Rattle.dom_model.proofs.Forests.Above.{above}
 use Rattle.dom_tree.proofs.tree.Tree.siblings.Goals as goal
 
 pub count-requires : goal.count-requires

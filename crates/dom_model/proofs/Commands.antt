@@ -1,0 +1,4 @@
+-- A refused command leaves the world; a reply is one line; a first dialogue.
+pub mod RefusalsLeave
+pub mod ReplyLines
+pub mod FirstDialogue

@@ -1,0 +1,137 @@
+-- A step that is refused leaves the world; any other takes no more numbers than are asked for, and where they are left.
+use Rattle.std.proofs.Common.{◌≡◌, ℕ, ◌+◌, ◌≤◌, nat_lt, Bool, true, false, if◌then◌else◌, List, [], ◌∷◌, Option, Some, None, refl, sym, ◌∙◌, arith}
+use Rattle.std.specs.Prelude.{Ok, Err}
+use Rattle.std.proofs.lemmas.Bool.{false≢true, ltb-false}
+use Rattle.dom_model.specs.declared.DomError.{DomError}
+use Rattle.dom_model.specs.Worlds.World.{Point, Range, World}
+use Rattle.dom_model.specs.Commands.Reply.{Answer, Reply, Done, is_refusal}
+use Rattle.dom_model.specs.Worlds.Counts.{Counts, counts_of, no_numbers, node_numbers, plus, of_each, AreAtMost}
+use Rattle.dom_model.specs.Commands.Guards.{Bounds, Step, refused, guarded, checked}
+use Rattle.dom_model.specs.RangesAndContents.Wrapping.{Outcome}
+use Rattle.dom_model.specs.Commands.AnswerRanges.{on_range, at_point, at_ends, done_or_refused}
+use Rattle.dom_model.specs.Commands.AnswerTraversal.{with_object}
+use Rattle.dom_model.proofs.Counting.CountsKept.{IsGrown}
+use Rattle.dom_model.proofs.Counting.CountsOfExtraction.{IsGrownTo}
+
+-- the numbers asked for are left, where no more than the limit were given out before
+abbrev pub HasRoom : Bounds → Counts → World → Type 0
+HasRoom b asked w = AreAtMost (counts_of w) (of_each b.numbers) → AreAtMost (plus (counts_of w) asked) (of_each b.numbers)
+
+pub data IsCounted (b : Bounds) (asked : Counts) (needs : Type 0) (w : World) (s : Step) : Type 0 where
+  leaves : s.world ≡ w → IsCounted b asked needs w s
+  takes : is_refusal s.reply ≡ false → HasRoom b asked w → AreAtMost (counts_of w) (counts_of s.world) → (needs → AreAtMost (counts_of s.world) (plus (counts_of w) asked)) → IsCounted b asked needs w s
+
+pub counted-leaves : {b : Bounds} {asked : Counts} {needs : Type 0} {w : World} {s : Step} → IsCounted b asked needs w s → is_refusal s.reply ≡ true → s.world ≡ w
+counted-leaves (leaves e) h = e
+counted-leaves (takes n room more most) h = absurd (false≢true (sym n ∙ h))
+
+pub at_most-then : {x y z : Counts} → AreAtMost x y → AreAtMost y z → AreAtMost x z
+at_most-then g h = record {
+  nodes = omega (arith, g.nodes, h.nodes);
+  ranges = omega (arith, g.ranges, h.ranges);
+  iterators = omega (arith, g.iterators, h.iterators);
+  walkers = omega (arith, g.walkers, h.walkers);
+  observers = omega (arith, g.observers, h.observers);
+  static_ranges = omega (arith, g.static_ranges, h.static_ranges);
+}
+
+at_most-plus : (x y : Counts) → AreAtMost x (plus x y)
+at_most-plus x y = record { nodes = omega arith; ranges = omega arith; iterators = omega arith; walkers = omega arith; observers = omega arith; static_ranges = omega arith }
+
+-- the counts never fall
+pub counted-never_fall : {b : Bounds} {asked : Counts} {needs : Type 0} {w : World} {s : Step} → IsCounted b asked needs w s → AreAtMost (counts_of w) (counts_of s.world)
+counted-never_fall {b} {asked} {needs} {w} {s} (leaves e) = rw e (record { nodes = omega arith; ranges = omega arith; iterators = omega arith; walkers = omega arith; observers = omega arith; static_ranges = omega arith })
+counted-never_fall (takes n room more most) = more
+
+-- they grow by at most what is asked for
+pub counted-at_most : {b : Bounds} {asked : Counts} {needs : Type 0} {w : World} {s : Step} → IsCounted b asked needs w s → needs → AreAtMost (counts_of s.world) (plus (counts_of w) asked)
+counted-at_most {b} {asked} {needs} {w} {s} (leaves e) o = rw e (at_most-plus (counts_of w) asked)
+counted-at_most (takes n room more most) o = most o
+
+-- and stay within the limit
+pub counted-within : {b : Bounds} {asked : Counts} {needs : Type 0} {w : World} {s : Step} → IsCounted b asked needs w s → needs → AreAtMost (counts_of w) (of_each b.numbers) → AreAtMost (counts_of s.world) (of_each b.numbers)
+counted-within {b} {asked} {needs} {w} {s} (leaves e) o h = rw e h
+counted-within (takes n room more most) o h = at_most-then (most o) (room h)
+
+-- How steps are made up.
+
+-- no test holds
+abbrev pub NoneHolds : List (Bool × Reply) → Type 0
+NoneHolds [] = Unit {0}
+NoneHolds (c ∷ cs) = (c.0 ≡ false) × NoneHolds cs
+
+pub guarded-counted : {needs : Type 0} (b : Bounds) (asked : Counts) (cs : List (Bool × Reply)) (w : World) (s : Step) → (NoneHolds cs → IsCounted b asked needs w s) → IsCounted b asked needs w (guarded cs w s)
+guarded-counted b asked [] w s h = h tt
+guarded-counted {needs} b asked (c ∷ cs) w s h = go c.0 refl (λ e. guarded-counted b asked cs w s (λ k. h (e, k)))
+  where
+    go : (v : Bool) → c.0 ≡ v → (c.0 ≡ false → IsCounted b asked needs w (guarded cs w s)) → IsCounted b asked needs w (if v then refused c.1 w else guarded cs w s)
+    go true e later = leaves refl
+    go false e later = later e
+
+pub checked-counted : {needs : Type 0} (b : Bounds) (asked : Counts) (c : Option DomError) (w : World) (s : Step) → IsCounted b asked needs w s → IsCounted b asked needs w (checked c w s)
+checked-counted b asked None w s h = h
+checked-counted b asked (Some e) w s h = leaves refl
+
+pub on_range-counted : {needs : Type 0} (b : Bounds) (asked : Counts) (o : Option Range) (w : World) (step : Range → Step) → ((x : Range) → IsCounted b asked needs w (step x)) → IsCounted b asked needs w (on_range o w step)
+on_range-counted b asked None w step h = leaves refl
+on_range-counted b asked (Some x) w step h = h x
+
+pub at_point-counted : {needs : Type 0} (b : Bounds) (asked : Counts) (o : Option Point) (w : World) (step : Point → Step) → ((x : Point) → IsCounted b asked needs w (step x)) → IsCounted b asked needs w (at_point o w step)
+at_point-counted b asked None w step h = leaves refl
+at_point-counted b asked (Some x) w step h = h x
+
+pub at_ends-counted : {needs : Type 0} (b : Bounds) (asked : Counts) (o : Option Range) (w : World) (step : Range → Step) → ((x : Range) → IsCounted b asked needs w (step x)) → IsCounted b asked needs w (at_ends o w step)
+at_ends-counted b asked None w step h = leaves refl
+at_ends-counted b asked (Some x) w step h = h x
+
+pub object-counted : {A needs : Type 0} (b : Bounds) (asked : Counts) (o : Option A) (w : World) (step : A → Step) → ((x : A) → IsCounted b asked needs w (step x)) → IsCounted b asked needs w (with_object o w step)
+object-counted b asked None w step h = leaves refl
+object-counted b asked (Some x) w step h = h x
+
+-- What steps take.
+
+pub never-fall : (more : ℕ) (w v : World) → IsGrown more w v → AreAtMost (counts_of w) (counts_of v)
+never-fall more w v g = record {
+  nodes = g.least;
+  ranges = omega (arith, g.ranges);
+  iterators = omega (arith, g.iterators);
+  walkers = omega (arith, g.walkers);
+  observers = omega (arith, g.observers);
+  static_ranges = omega (arith, g.static_ranges);
+}
+
+pub grow-at_most : (more asked : ℕ) (w v : World) → more ≤ asked → IsGrown more w v → AreAtMost (counts_of v) (plus (counts_of w) (node_numbers asked))
+grow-at_most more asked w v l g = record {
+  nodes = omega (arith, g.most);
+  ranges = omega (arith, g.ranges);
+  iterators = omega (arith, g.iterators);
+  walkers = omega (arith, g.walkers);
+  observers = omega (arith, g.observers);
+  static_ranges = omega (arith, g.static_ranges);
+}
+
+has-room : (b : Bounds) (asked : ℕ) (w : World) → nat_lt b.numbers (w.made + asked) ≡ false → HasRoom b (node_numbers asked) w
+has-room b asked w e h = record {
+  nodes = ltb-false b.numbers (w.made + asked) e;
+  ranges = omega (arith, h.ranges);
+  iterators = omega (arith, h.iterators);
+  walkers = omega (arith, h.walkers);
+  observers = omega (arith, h.observers);
+  static_ranges = omega (arith, h.static_ranges);
+}
+
+-- no number
+pub keeps : {needs : Type 0} (b : Bounds) (w v : World) (a : Answer) → IsGrown 0 w v → IsCounted b no_numbers needs w (record { reply = Done a; world = v })
+keeps b w v a g = takes refl (λ h. at_most-then (record { nodes = omega arith; ranges = omega arith; iterators = omega arith; walkers = omega arith; observers = omega arith; static_ranges = omega arith }) h) (never-fall 0 w v g) (λ o. grow-at_most 0 0 w v (omega arith) g)
+
+-- numbers of nodes
+pub grows : {needs : Type 0} (b : Bounds) (asked more : ℕ) (w v : World) (a : Answer) → nat_lt b.numbers (w.made + asked) ≡ false → more ≤ asked → IsGrown more w v → IsCounted b (node_numbers asked) needs w (record { reply = Done a; world = v })
+grows b asked more w v a room l g = takes refl (has-room b asked w room) (never-fall more w v g) (λ o. grow-at_most more asked w v l g)
+
+-- the same, where something is needed to tell how many
+pub grows-in_order : {needs : Type 0} (b : Bounds) (asked most more : ℕ) (w v : World) (a : Answer) → nat_lt b.numbers (w.made + asked) ≡ false → IsGrown most w v → more ≤ asked → (needs → IsGrown more w v) → IsCounted b (node_numbers asked) needs w (record { reply = Done a; world = v })
+grows-in_order b asked most more w v a room g l h = takes refl (has-room b asked w room) (never-fall most w v g) (λ o. grow-at_most more asked w v l (h o))
+
+pub outcome-counted : {needs : Type 0} (b : Bounds) (asked more : ℕ) (w : World) (o : Outcome) → nat_lt b.numbers (w.made + asked) ≡ false → more ≤ asked → IsGrownTo more w o → IsCounted b (node_numbers asked) needs w (done_or_refused o w)
+outcome-counted b asked more w (Ok v) room l g = grows b asked more w v _ room l g
+outcome-counted b asked more w (Err e) room l g = leaves refl

@@ -1,0 +1,7 @@
+-- Dialogues as theorems, from bytes to bytes, by computing: each is written by `tools/rows.py` from the folder of its subject under
+-- `tools/dialogues`.
+pub mod TreesAndData
+pub mod Ranges
+pub mod Traversal
+pub mod Observers
+pub mod LinesAndLimits

@@ -1,0 +1,218 @@
+-- What an insertion keeps of the nodes that were there: their kinds, their data, and the parents of those that do not move.
+use Rattle.std.proofs.Common.{◌≡◌, ℕ, suc, ◌+◌, ◌<◌, ◌≤◌, Bool, true, false, if◌then◌else◌, List, [], ◌∷◌, ◌++◌, length, Option, Some, None, refl, ap, sym, ◌∙◌, subst, arith}
+use Rattle.dom_model.specs.declared.Kind.{Kind}
+use Rattle.dom_model.specs.PlainLists.Lists.{hits}
+use Rattle.dom_model.specs.Forests.Arena.{Entry, parent_in}
+use Rattle.dom_model.specs.Forests.Forest.{Node, Forest, occurs, one_at, beside, cut, map_nodes, adopted, entry_in, parent_of, children_of}
+use Rattle.dom_model.specs.Worlds.World.{Content, World}
+use Rattle.dom_model.specs.MutationAlgorithms.Checks.{entry_has, kind_passes}
+use Rattle.dom_model.specs.MutationAlgorithms.Editing.{node_document, remove, remove_all, is_fragment, nodes_of, emptied_fragment, freed, put_in, put_all, gap_before, previous_to, insert_nodes, insert}
+use Rattle.dom_model.specs.DataAndCopies.Data.{content_in}
+use Rattle.dom_model.specs.Worlds.Sound.{IsSound}
+use Rattle.dom_model.proofs.PlainLists.Numbers.{same_or, same, apart}
+use Rattle.dom_model.proofs.Forests.Changes.{cut_at, link_at}
+use Rattle.dom_model.proofs.Forests.Climbing.{hits-append, hits-first}
+use Rattle.dom_model.proofs.Forests.Totals.{total-cut, total-beside}
+use Rattle.dom_model.proofs.Forests.Entries.{entry-cut, entry-put, parent-cut}
+use Rattle.dom_model.proofs.Forests.Indices.{child-there}
+use Rattle.dom_model.proofs.Forests.Listed.{hits-other}
+use Rattle.dom_model.proofs.Worlds.Measured.{kind-cut, entry-beside, adopted-unplaced, unplaced, entry-unplaced, unplaced_entry}
+use Rattle.dom_model.proofs.MutationAlgorithms.Loosened.{forest-remove, made-remove, unless-forest, unless-made}
+use Rattle.dom_model.proofs.Soundness.SoundWorlds.{sound-remove}
+use Rattle.dom_model.proofs.Soundness.SoundPlacing.{IsPlaceable, ArePlaceable, IsChildOf, after_put, after_adoption, apart_from, occurs_placed, parent_placed, kind_placed, all_placeable, child_placed, placed-forest, gap-apart, sound-put_one}
+use Rattle.dom_model.proofs.Soundness.SoundInserting.{IsInsertable, IsReady, freed_ready}
+
+-- the data of a node
+abbrev pub text_at : Forest Content → ℕ → List ℕ
+text_at f n = (content_in (entry_in f n)).text
+
+pub record Extends (f g : Forest Content) (moved : List ℕ) : Type 0 where
+  pub there : (m : ℕ) → 0 < occurs m f → 0 < occurs m g
+  pub kinds : (test : Kind → Bool) (m : ℕ) → 0 < occurs m f → kind_passes test g m ≡ kind_passes test f m
+  pub texts : (m : ℕ) → 0 < occurs m f → text_at g m ≡ text_at f m
+  pub parents : (m : ℕ) → 0 < occurs m f → hits m moved ≡ 0 → parent_of g m ≡ parent_of f m
+
+pub extends-same : (f g : Forest Content) → g ≡ f → Extends f g []
+extends-same f g e =
+    record {
+      there = λ m h. subst (λ (x : Forest Content). 0 < occurs m x) (sym e) h;
+      kinds = λ test m h. ap (λ (x : Forest Content). kind_passes test x m) e;
+      texts = λ m h. ap (λ (x : Forest Content). text_at x m) e;
+      parents = λ m h z. ap (λ (x : Forest Content). parent_of x m) e;
+    }
+
+pub extends-then : (f g h : Forest Content) (ns ms : List ℕ) → Extends f g ns → Extends g h ms → Extends f h (ns ++ ms)
+extends-then f g h ns ms a b =
+    record {
+      there = λ m i. b.there m (a.there m i);
+      kinds = λ test m i. b.kinds test m (a.there m i) ∙ a.kinds test m i;
+      texts = λ m i. b.texts m (a.there m i) ∙ a.texts m i;
+      parents = λ m i z. let c = hits-append m ns ms in b.parents m (a.there m i) (omega arith) ∙ a.parents m i (omega arith);
+    }
+
+-- the same, told with other moves
+pub extends-of : (f g : Forest Content) (ns ms : List ℕ) → ((m : ℕ) → 0 < occurs m f → hits m ms ≡ 0 → hits m ns ≡ 0) → Extends f g ns → Extends f g ms
+extends-of f g ns ms fewer a = record { there = a.there; kinds = a.kinds; texts = a.texts; parents = λ m i z. a.parents m i (fewer m i z) }
+
+-- Trees that come in last.
+
+pub extends-beside : (f g : Forest Content) → Extends f (beside f g) []
+extends-beside f g =
+    record {
+      there = λ m h. let t = total-beside (one_at m) f g in omega arith;
+      kinds = λ test m h. ap (entry_has test) (entry-beside f g m h);
+      texts = λ m h. ap (λ o. (content_in o).text) (entry-beside f g m h);
+      parents = λ m h z. ap parent_in (entry-beside f g m h);
+    }
+
+-- A removal.
+
+extends-cut : (f : Forest Content) → ((m : ℕ) → occurs m f ≤ 1) → (n : ℕ) → Extends f (cut n f) (n ∷ [])
+extends-cut f o n =
+    record {
+      there = λ m h. subst (λ x. 0 < x) (sym (total-cut (one_at m) n f)) h;
+      kinds = λ test m h. kind-cut f o n test m;
+      texts = λ m h. ap (λ x. (content_in x).text) (entry-cut f o n m) ∙ text m (entry_in f m);
+      parents = λ m h z. parent-cut f o n m ∙ (elim (same_or m n) [
+        | same e t ↦ absurd (let k = hits-first n [] in let j : hits n (n ∷ []) ≡ 0 = ap (λ x. hits x (n ∷ [])) (sym e) ∙ z in omega arith)
+        | apart ne t ↦ rw t refl
+      ]);
+    }
+  where
+    text : (m : ℕ) (e : Option (Entry (Node Content))) → (content_in (cut_at n m e)).text ≡ (content_in e).text
+    text m None = refl
+    text m (Some e) = refl
+
+pub extends-remove : (suppressed : Bool) (n : ℕ) (w : World) → IsSound w → 0 < occurs n w.forest → Extends w.forest (remove suppressed n w).forest (n ∷ [])
+extends-remove suppressed n w s h =
+    extends-then w.forest (cut n w.forest) (remove suppressed n w).forest (n ∷ []) [] (extends-cut w.forest s.forest.once n)
+    (extends-same (cut n w.forest) (remove suppressed n w).forest (forest-remove suppressed n w s h))
+
+pub extends-remove_all : (ns : List ℕ) (w : World) → IsSound w → ((n : ℕ) → 0 < hits n ns → 0 < occurs n w.forest) → Extends w.forest (remove_all ns w).forest ns
+extends-remove_all [] w s h = extends-same w.forest w.forest refl
+extends-remove_all (n ∷ ns) w s h =
+    let v = remove true n w in
+    let a = extends-remove true n w s (h n (hits-first n ns)) in
+    extends-then w.forest v.forest (remove_all ns v).forest (n ∷ []) ns a
+    (extends-remove_all ns v (sound-remove true n w s) (λ m k. a.there m (h m (let i = hits-append m (n ∷ []) ns in omega arith))))
+
+-- A put.
+
+module _ (parent n : ℕ) (child : Option ℕ) (w : World) (s : IsSound w) (hp : 0 < occurs parent w.forest) (k : IsPlaceable w.forest parent n) where
+  text-put : (m : ℕ) → text_at (after_put parent n child w s hp k) m ≡ text_at w.forest m
+  text-put m =
+      ap (λ o. (content_in o).text) (entry-put w.forest s.forest.once parent n child hp k.there k.root (apart_from parent n child w s hp k) m)
+      ∙ go (entry_in w.forest m)
+    where
+      go : (e : Option (Entry (Node Content))) → (content_in (link_at parent child n m e)).text ≡ (content_in e).text
+      go None = refl
+      go (Some e) = refl
+
+  text-adopted : (f : Forest Content) (d m : ℕ) → text_at (adopted n d f) m ≡ text_at f m
+  text-adopted f d m = sym (measured (adopted n d f)) ∙ ap (λ g. text_at g m) (adopted-unplaced n d f) ∙ measured f
+    where
+      measured : (g : Forest Content) → text_at (map_nodes unplaced g) m ≡ text_at g m
+      measured g = ap (λ o. (content_in o).text) (entry-unplaced None m g) ∙ go (entry_in g m)
+        where
+          go : (e : Option (Entry (Node Content))) → (content_in (unplaced_entry e)).text ≡ (content_in e).text
+          go None = refl
+          go (Some e) = refl
+
+  extends-put : Extends w.forest (after_adoption parent n child w s hp k) (n ∷ [])
+  extends-put =
+      record {
+        there = λ m h. subst (λ x. 0 < x) (sym (occurs_placed parent n child w s hp k m)) h;
+        kinds = λ test m h. kind_placed parent n child w s hp k test m;
+        texts = λ m h. text-adopted (after_put parent n child w s hp k) (node_document w parent) m ∙ text-put m;
+        parents = λ m h z. parent_placed parent n child w s hp k m h ∙ (elim (same_or m n) [
+          | same e t ↦ absurd (let i = hits-first n [] in let j : hits n (n ∷ []) ≡ 0 = ap (λ x. hits x (n ∷ [])) (sym e) ∙ z in omega arith)
+          | apart ne t ↦ rw t refl
+        ]);
+      }
+
+-- what several puts leave: what was there stays, and the nodes have the parent
+pub record IsPut (f g : Forest Content) (parent : ℕ) (ns : List ℕ) : Type 0 where
+  pub extends : Extends f g ns
+  pub put_under : (m : ℕ) → 0 < hits m ns → parent_of g m ≡ Some parent
+
+gap-forest : (parent : ℕ) (child : Option ℕ) (count : ℕ) (w : World) → (gap_before parent child count w).forest ≡ w.forest
+gap-forest parent None count w = refl
+gap-forest parent (Some c) count w = refl
+
+gap-made : (parent : ℕ) (child : Option ℕ) (count : ℕ) (w : World) → (gap_before parent child count w).made ≡ w.made
+gap-made parent None count w = refl
+gap-made parent (Some c) count w = refl
+
+pub put_all-made : (parent : ℕ) (child : Option ℕ) (ns : List ℕ) (w : World) → (put_all parent child ns w).made ≡ w.made
+put_all-made parent child [] w = refl
+put_all-made parent child (n ∷ ns) w = put_all-made parent child ns (put_in parent child n w)
+
+put_each : (parent : ℕ) (child : Option ℕ) (ns : List ℕ) (w : World) → IsSound w → 0 < occurs parent w.forest → ArePlaceable w.forest parent ns → IsChildOf w.forest parent child → IsPut w.forest (put_all parent child ns (gap_before parent child (length ns) w)).forest parent ns
+put_each parent child [] w s hp k c = record { extends = extends-same w.forest _ (gap-forest parent child 0 w); put_under = λ m h. absurd (omega arith) }
+put_each parent child (n ∷ ns) w s hp k c =
+    let v = put_in parent child n (gap_before parent child 1 w) in
+    let e = placed-forest parent n child w s hp k.0 in
+    let count : suc (length ns) ≡ 1 + length ns = omega arith in
+    let first = subst (λ (g : Forest Content). Extends w.forest g (n ∷ [])) (sym e) (extends-put parent n child w s hp k.0) in
+    let next = put_each parent child ns v (sound-put_one parent n child w s hp k.0 c) (first.there parent hp)
+    (subst (λ (g : Forest Content). ArePlaceable g parent ns) (sym e) (all_placeable parent n child w s hp k.0 ns k.1 k.2))
+    (subst (λ (g : Forest Content). IsChildOf g parent child) (sym e) (child_placed parent n child w s hp k.0 child c)) in
+    let here : parent_of v.forest n ≡ Some parent = ap (λ (g : Forest Content). parent_of g n) e ∙ parent_placed parent n child w s hp k.0 n k.0.there ∙ (elim (same_or n n) [ same _ t ↦ rw t refl | apart ne t ↦ absurd (ne refl) ]) in
+    let whole : IsPut w.forest (put_all parent child ns (gap_before parent child (length ns) v)).forest parent (n ∷ ns) = record {
+      extends = extends-then w.forest v.forest _ (n ∷ []) ns first next.extends;
+      put_under = λ m h. elim (same_or m n) [
+        | same d t ↦ subst (λ x. parent_of (put_all parent child ns (gap_before parent child (length ns) v)).forest x ≡ Some parent) (sym d) (next.extends.parents n (first.there n k.0.there) k.1 ∙ here)
+        | apart ne t ↦ next.put_under m (let i = hits-other m n ns (λ d. ne (sym d)) in omega arith)
+      ];
+    } in
+    subst (λ x. IsPut w.forest (put_all parent child ns (put_in parent child n (gap_before parent child x w))).forest parent (n ∷ ns)) (sym count)
+    (subst (λ (x : World). IsPut w.forest (put_all parent child ns x).forest parent (n ∷ ns)) (sym (gap-apart parent n child (length ns) w s hp k.0 c)) whole)
+
+-- An insertion.
+
+extends-freed : (n : ℕ) (w : World) → IsSound w → 0 < occurs n w.forest → Extends w.forest (freed n (nodes_of w n) w).forest (nodes_of w n)
+extends-freed n w s h = go (is_fragment w n)
+  where
+    go : (v : Bool) → Extends w.forest (if v then emptied_fragment n (if v then children_of w.forest n else n ∷ []) w else remove false n w).forest (if v then children_of w.forest n else n ∷ [])
+    go true =
+        let a = extends-remove_all (children_of w.forest n) w s (λ m k. child-there w.forest s.forest.once m n k) in
+        record { there = a.there; kinds = a.kinds; texts = a.texts; parents = a.parents }
+    go false = extends-remove false n w s h
+
+twice : (ns ms : List ℕ) (m : ℕ) → ms ≡ ns → hits m ns ≡ 0 → hits m (ns ++ ms) ≡ 0
+twice ns ms m e z = let i = hits-append m ns ms in let j = ap (hits m) e in omega arith
+
+pub put_by_insert : (suppressed : Bool) (n parent : ℕ) (child : Option ℕ) (w : World) → IsSound w → IsInsertable w.forest n parent child → IsPut w.forest (insert suppressed n parent child w).forest parent (nodes_of w n)
+put_by_insert suppressed n parent child w s k = go (nodes_of w n) (freed_ready n parent child w s k) (extends-freed n w s k.there)
+  where
+    go : (ns : List ℕ) → IsReady (freed n ns w) parent child ns → Extends w.forest (freed n ns w).forest ns → IsPut w.forest (insert_nodes suppressed n parent child ns w).forest parent ns
+    go [] r a = record { extends = extends-same w.forest w.forest refl; put_under = λ m h. absurd (omega arith) }
+    go (m ∷ ms) r a =
+        let v = freed n (m ∷ ms) w in
+        let p = put_each parent child (m ∷ ms) v r.sound r.parent_there r.placeable r.before_child in
+        let e = unless-forest suppressed parent (m ∷ ms) [] (previous_to v.forest parent child) child (put_all parent child (m ∷ ms) (gap_before parent child (length (m ∷ ms)) v)) in
+        subst (λ (g : Forest Content). IsPut w.forest g parent (m ∷ ms)) (sym e)
+        (record {
+          extends = extends-of w.forest _ ((m ∷ ms) ++ (m ∷ ms)) (m ∷ ms) (λ x _ z. twice (m ∷ ms) (m ∷ ms) x refl z) (extends-then w.forest v.forest _ (m ∷ ms) (m ∷ ms) a p.extends);
+          put_under = p.put_under;
+        })
+
+removed_all-made : (ns : List ℕ) (w : World) → (remove_all ns w).made ≡ w.made
+removed_all-made [] w = refl
+removed_all-made (n ∷ ns) w = removed_all-made ns (remove true n w) ∙ made-remove true n w
+
+pub insert-made : (suppressed : Bool) (n parent : ℕ) (child : Option ℕ) (w : World) → (insert suppressed n parent child w).made ≡ w.made
+insert-made suppressed n parent child w = go (nodes_of w n)
+  where
+    freed-made : (ns : List ℕ) (v : Bool) → (if v then emptied_fragment n ns w else remove false n w).made ≡ w.made
+    freed-made ns true = removed_all-made ns w
+    freed-made ns false = made-remove false n w
+
+    go : (ns : List ℕ) → (insert_nodes suppressed n parent child ns w).made ≡ w.made
+    go [] = refl
+    go (m ∷ ms) =
+        let v = freed n (m ∷ ms) w in
+        unless-made suppressed parent (m ∷ ms) [] (previous_to v.forest parent child) child (put_all parent child (m ∷ ms) (gap_before parent child (length (m ∷ ms)) v))
+        ∙ put_all-made parent child (m ∷ ms) (gap_before parent child (length (m ∷ ms)) v)
+        ∙ gap-made parent child (length (m ∷ ms)) v
+        ∙ freed-made (m ∷ ms) (is_fragment w n)

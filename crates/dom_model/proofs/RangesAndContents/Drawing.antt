@@ -1,0 +1,228 @@
+-- Worlds on the way of extracting or cloning contents: what is new stands under what is new, with rising numbers, so that each node that is
+-- appended there may be. DOM Standard, "Interface Range": extract, clone the contents.
+use Rattle.std.proofs.Common.{◌≡◌, ℕ, zero, suc, ◌<◌, ◌≤◌, Bool, true, false, if◌then◌else◌, List, [], ◌∷◌, Option, Some, None, refl, sym, ◌∙◌, subst, arith, ◌⊎◌, inl, inr, ⊎_elim}
+use Rattle.std.proofs.lemmas.Bool.{cases_lt, false≢true}
+use Rattle.dom_model.specs.declared.Kind.{Kind}
+use Rattle.dom_model.specs.declared.Kind.TheVariants.{Document, DocumentType}
+use Rattle.dom_model.specs.PlainLists.Lists.{hits}
+use Rattle.dom_model.specs.Forests.Kinds.{may_be_parent}
+use Rattle.dom_model.specs.Forests.Arena.{Entry}
+use Rattle.dom_model.specs.Forests.Forest.{Node, Forest, occurs, one_at, parent_of, children_of, ancestors, entry_in}
+use Rattle.dom_model.specs.Worlds.World.{Content, World}
+use Rattle.dom_model.specs.MutationAlgorithms.Checks.{entry_has, kind_passes, is_of_kind}
+use Rattle.dom_model.specs.MutationAlgorithms.Editing.{is_fragment, nodes_of, append}
+use Rattle.dom_model.specs.DataAndCopies.Clones.{renumbered, with_copies}
+use Rattle.dom_model.specs.Worlds.Sound.{IsSound}
+use Rattle.dom_model.specs.TokenText.Tokens.{Edit}
+use Rattle.dom_model.specs.TokenText.Edits.{Trace, doing_append, append_edits}
+use Rattle.dom_model.proofs.PlainLists.Numbers.{same_or, same, apart}
+use Rattle.dom_model.proofs.Forests.Changes.{seen, nothing, just}
+use Rattle.dom_model.proofs.Forests.Totals.{total-beside}
+use Rattle.dom_model.proofs.Forests.Entries.{occurs-HasNode}
+use Rattle.dom_model.proofs.Forests.Paths.{parent-path, root-path}
+use Rattle.dom_model.proofs.Forests.Indices.{child-parent}
+use Rattle.dom_model.proofs.Worlds.Measured.{kind-beside}
+use Rattle.dom_model.proofs.Soundness.SoundInserting.{IsInsertable, sound-insert}
+use Rattle.dom_model.proofs.DataAndCopies.CopiesPlaced.{parent-copies}
+use Rattle.dom_model.proofs.MutationAlgorithms.Appended.{IsAppended, appended, made-appended}
+use Rattle.dom_model.proofs.RangesAndContents.LiveRangesKept.{is_live, append-live}
+use Rattle.dom_model.proofs.TokenText.EditsMade.EditsLeave.{Comes, Follows, follows-none, follows-then, follows-doing}
+use Rattle.dom_model.proofs.TokenText.EditsMade.EditsOfTrees.{leave-append}
+
+-- of the nodes from a number on, each stands under one of them with a smaller number, or under none
+pub record IsDrawing (low : ℕ) (v : World) : Type 0 where
+  pub sound : IsSound v
+  pub begun : low ≤ v.made
+  pub rising : (n q : ℕ) → low ≤ n → parent_of v.forest n ≡ Some q → (low ≤ q) × (q < n)
+
+-- nodes and live ranges of the one world are in the other too
+pub record Extends (v u : World) : Type 0 where
+  pub there : (n : ℕ) → 0 < occurs n v.forest → 0 < occurs n u.forest
+  pub kinds : (test : Kind → Bool) (n : ℕ) → 0 < occurs n v.forest → kind_passes test u.forest n ≡ kind_passes test v.forest n
+  pub live : (r : ℕ) → is_live r u ≡ is_live r v
+  pub made : v.made ≤ u.made
+
+pub extends-same : (v : World) → Extends v v
+extends-same v = record { there = λ n h. h; kinds = λ test n h. refl; live = λ r. refl; made = omega arith }
+
+pub extends-then : (v u x : World) → Extends v u → Extends u x → Extends v x
+extends-then v u x a b =
+    record {
+      there = λ n h. b.there n (a.there n h);
+      kinds = λ test n h. b.kinds test n (a.there n h) ∙ a.kinds test n h;
+      live = λ r. b.live r ∙ a.live r;
+      made = (let i = a.made in let j = b.made in omega arith);
+    }
+
+-- a step of a trace, and of a world, that goes on so
+pub record Draws (low : ℕ) (step : Trace → Trace) (v u : World) : Type 0 where
+  pub follows : Follows step v u
+  pub drawing : IsDrawing low u
+  pub extends : Extends v u
+
+pub draws-none : (low : ℕ) (v : World) → IsDrawing low v → Draws low (λ t. t) v v
+draws-none low v d = record { follows = follows-none v; drawing = d; extends = extends-same v }
+
+pub draws-then : (low : ℕ) (v u x : World) (first second : Trace → Trace) → Draws low first v u → Draws low second u x → Draws low (λ t. second (first t)) v x
+draws-then low v u x first second a b =
+    record { follows = follows-then v u x first second a.follows b.follows; drawing = b.drawing; extends = extends-then v u x a.extends b.extends }
+
+-- two steps that are one at the world
+pub draws-as : (low : ℕ) (v u : World) (step other : Trace → Trace) → ((es : List Edit) → step (record { world = v; edits = es }) ≡ other (record { world = v; edits = es })) → Draws low step v u → Draws low other v u
+draws-as low v u step other e h =
+    record { follows = λ w es l. subst (λ t. Comes w t u) (e es) (h.follows w es l); drawing = h.drawing; extends = h.extends }
+
+pub draws-if : (low : ℕ) (b : Bool) (v u x : World) (step other : Trace → Trace) → Draws low step v u → Draws low other v x → Draws low (λ t. if b then step t else other t) v (if b then u else x)
+draws-if low true v u x step other h k = h
+draws-if low false v u x step other h k = k
+
+pub passes_there : (test : Kind → Bool) (f : Forest Content) (n : ℕ) → kind_passes test f n ≡ true → 0 < occurs n f
+passes_there test f n h =
+    elim (seen (entry_in f n)) [
+      | nothing e ↦ absurd (let k = rw e at h in false≢true k)
+      | just a e ↦ occurs-HasNode f n (rw e refl)
+    ]
+
+-- one test of a kind that answers for another
+pub passes_too : (test other : Kind → Bool) (answer : Bool) → ((k : Kind) → test k ≡ true → other k ≡ answer) → (f : Forest Content) (n : ℕ) → kind_passes test f n ≡ true → kind_passes other f n ≡ answer
+passes_too test other answer each f n h = go (entry_in f n) h
+  where
+    go : (o : Option (Entry (Node Content))) → entry_has test o ≡ true → entry_has other o ≡ answer
+    go None k = absurd (false≢true k)
+    go (Some e) k = each e.value.label.kind k
+
+-- New trees.
+
+module _ (low : ℕ) (v : World) (d : IsDrawing low v) (document : ℕ) (g : Forest Content) where
+  pub extends-copies : Extends v (with_copies document g v)
+  extends-copies =
+      record {
+        there = λ n h. let t = total-beside (one_at n) v.forest (renumbered document v.made g) in omega arith;
+        kinds = λ test n h. kind-beside v.forest (renumbered document v.made g) n h test;
+        live = λ r. refl;
+        made = omega arith;
+      }
+
+  pub drawing-copies : IsSound (with_copies document g v) → IsDrawing low (with_copies document g v)
+  drawing-copies s = record { sound = s; begun = (let b = d.begun in omega arith); rising = λ n q l e. told n q l (parent-copies document v.made v.forest g n q e) }
+    where
+      told : (n q : ℕ) → low ≤ n → (parent_of v.forest n ≡ Some q) ⊎ ((v.made ≤ q) × (q < n)) → (low ≤ q) × (q < n)
+      told n q l (inl e) = d.rising n q l e
+      told n q l (inr i) = (let a = i.0 in let b = d.begun in omega arith, i.1)
+
+-- What is appended.
+
+-- a new node that may have children
+pub record IsHolder (low : ℕ) (v : World) (into : ℕ) : Type 0 where
+  pub fresh : low ≤ into
+  pub kind : kind_passes may_be_parent v.forest into ≡ true
+
+pub holder-extends : (low : ℕ) (v u : World) (into : ℕ) → Extends v u → IsHolder low v into → IsHolder low u into
+holder-extends low v u into x h = record { fresh = h.fresh; kind = x.kinds may_be_parent into (passes_there may_be_parent v.forest into h.kind) ∙ h.kind }
+
+-- an old node that is no fragment, or a new one with a greater number than its parent to be
+pub record IsComing (low : ℕ) (v : World) (into n : ℕ) : Type 0 where
+  pub there : 0 < occurs n v.forest
+  pub no_document : is_of_kind Document v.forest n ≡ false
+  pub no_doctype : is_of_kind DocumentType v.forest n ≡ false
+  pub place : ((n < low) × (is_fragment v n ≡ false)) ⊎ (into < n)
+
+first-or : (m n : ℕ) (ns : List ℕ) → 0 < hits m (n ∷ ns) → (m ≡ n) ⊎ (0 < hits m ns)
+first-or m n ns h = elim (same_or n m) [ same e t ↦ inl (sym e) | apart ne t ↦ inr (let k = rw t at h in omega arith) ]
+
+module _ (low : ℕ) (v : World) (d : IsDrawing low v) where
+  -- a node without a parent, and one that stands right under another, of which that is so
+  top-new : (into m : ℕ) → low ≤ into → 0 < occurs into v.forest → parent_of v.forest into ≡ None → 0 < hits m (ancestors into v.forest) → (low ≤ m) × (m ≤ into)
+  top-new into m l h e k = told (first-or m into [] (subst (λ ns. 0 < hits m ns) (root-path v.forest d.sound.forest.once into h e) k))
+    where
+      told : (m ≡ into) ⊎ (0 < hits m []) → (low ≤ m) × (m ≤ into)
+      told (inl e) = (omega arith, omega arith)
+      told (inr i) = absurd (omega arith)
+
+  under-new : (into q m : ℕ) → low ≤ into → 0 < occurs into v.forest → parent_of v.forest into ≡ Some q → (0 < hits m (ancestors q v.forest) → (low ≤ m) × (m ≤ q)) → 0 < hits m (ancestors into v.forest) → (low ≤ m) × (m ≤ into)
+  under-new into q m l h e above k = told (first-or m into (ancestors q v.forest) (subst (λ ns. 0 < hits m ns) (parent-path v.forest d.sound.forest.once into q h e).1 k))
+    where
+      told : (m ≡ into) ⊎ (0 < hits m (ancestors q v.forest)) → (low ≤ m) × (m ≤ into)
+      told (inl e) = (omega arith, omega arith)
+      told (inr i) = let a = above i in let r = d.rising into q l e in (a.0, let x = a.1 in let y = r.1 in omega arith)
+
+  -- all above a new node is new, and has a smaller number
+  above-new : (most into m : ℕ) → into ≤ most → low ≤ into → 0 < occurs into v.forest → 0 < hits m (ancestors into v.forest) → (low ≤ m) × (m ≤ into)
+  above-new zero into m b l h k =
+      elim (seen (parent_of v.forest into)) [
+        | nothing e ↦ top-new into m l h e k
+        | just q e ↦ absurd (let r = d.rising into q l e in let x = r.1 in omega arith)
+      ]
+  above-new (suc most) into m b l h k =
+      elim (seen (parent_of v.forest into)) [
+        | nothing e ↦ top-new into m l h e k
+        | just q e ↦
+            let r = d.rising into q l e in
+            let p = parent-path v.forest d.sound.forest.once into q h e in
+            under-new into q m l h e (λ j. above-new most q m (let x = r.1 in omega arith) r.0 p.0 j) k
+      ]
+
+  module _ (into n : ℕ) (k : IsHolder low v into) (c : IsComing low v into n) where
+    into_there : 0 < occurs into v.forest
+    into_there = passes_there may_be_parent v.forest into k.kind
+
+    outside : hits n (ancestors into v.forest) ≡ 0
+    outside =
+        ⊎_elim
+        (λ (lt : 0 < hits n (ancestors into v.forest)). absurd (clash (above-new into into n (omega arith) k.fresh into_there lt) c.place))
+        (λ (le : hits n (ancestors into v.forest) ≤ 0). omega arith)
+        (cases_lt 0 (hits n (ancestors into v.forest)))
+      where
+        clash : (low ≤ n) × (n ≤ into) → ((n < low) × (is_fragment v n ≡ false)) ⊎ (into < n) → ⊥
+        clash a (inl i) = let x = a.0 in let y = i.0 in omega arith
+        clash a (inr i) = let x = a.1 in omega arith
+
+    may_come : IsInsertable v.forest n into None
+    may_come =
+        record {
+          there = c.there;
+          parent_there = into_there;
+          outside = outside;
+          may_hold = k.kind;
+          no_document = c.no_document;
+          doctype_fits = rw c.no_doctype refl;
+          before_child = tt;
+          before_other = tt;
+        }
+
+    -- the nodes that come in are old, or greater than their parent
+    coming-greater : (m : ℕ) → low ≤ m → 0 < hits m (nodes_of v n) → into < m
+    coming-greater m l h = go (is_fragment v n) refl h c.place
+      where
+        go : (b : Bool) → is_fragment v n ≡ b → 0 < hits m (if b then children_of v.forest n else n ∷ []) → ((n < low) × (is_fragment v n ≡ false)) ⊎ (into < n) → into < m
+        go true e i (inl j) = absurd (false≢true (sym j.1 ∙ e))
+        go true e i (inr j) = let p = child-parent v.forest d.sound.forest.once m n i in let r = d.rising m n l p in let x = r.1 in omega arith
+        go false e i (inl j) = elim (same_or n m) [ same q t ↦ absurd (let x = j.0 in omega arith) | apart ne t ↦ absurd (let x = rw t at i in omega arith) ]
+        go false e i (inr j) = elim (same_or n m) [ same q t ↦ omega arith | apart ne t ↦ absurd (let x = rw t at i in omega arith) ]
+
+    abbrev after_append : World
+    after_append = append n into v
+
+    change : IsAppended v.forest after_append.forest into (nodes_of v n)
+    change = appended n into v d.sound may_come
+
+    pub draws-append : Draws low (doing_append n into) v after_append
+    draws-append =
+        record {
+          follows = follows-doing v (append n into) (append_edits n into) (leave-append n into v d.sound may_come);
+          drawing = record {
+            sound = sound-insert false n into None v d.sound may_come;
+            begun = (let b = d.begun in let e = made-appended n into v d.sound may_come in omega arith);
+            rising = λ m q l e. told m q l (change.parents m q e);
+          };
+          extends = record {
+            there = λ m h. subst (λ x. 0 < x) (sym (change.numbers m)) h;
+            kinds = λ test m h. change.kinds test m;
+            live = λ r. append-live r n into v;
+            made = (let e = made-appended n into v d.sound may_come in omega arith);
+          };
+        }
+      where
+        told : (m q : ℕ) → low ≤ m → ((q ≡ into) × (0 < hits m (nodes_of v n))) ⊎ (parent_of v.forest m ≡ Some q) → (low ≤ q) × (q < m)
+        told m q l (inl i) = let x = i.0 in let y = coming-greater m l i.1 in let f = k.fresh in (omega arith, omega arith)
+        told m q l (inr e) = d.rising m q l e

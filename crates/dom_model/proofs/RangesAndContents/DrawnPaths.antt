@@ -1,0 +1,268 @@
+-- What stands beside a path goes into a fragment, and copies of the nodes on the path with it. DOM Standard, "Interface Range": extract.
+use Rattle.std.proofs.Common.{◌≡◌, ℕ, zero, suc, ◌-◌, ◌<◌, ◌≤◌, ◌==◌, Bool, true, false, if◌then◌else◌, List, [], ◌∷◌, length, take, drop, filter, Some, refl, ap, sym, ◌∙◌, subst, arith, inr, ⊎_elim}
+use Rattle.std.proofs.lemmas.Bool.{cases_lt, false≢true}
+use Rattle.dom_model.specs.declared.Kind.{Kind}
+use Rattle.dom_model.specs.declared.Kind.TheVariants.{Element, Text, ProcessingInstruction, Comment, Document, DocumentType, DocumentFragment}
+use Rattle.dom_model.specs.PlainLists.Lists.{hits}
+use Rattle.dom_model.specs.Forests.Kinds.{is_kind, is_character_data, may_be_parent, may_stand_in}
+use Rattle.dom_model.specs.Forests.Forest.{Forest, occurs, parent_of, children_of}
+use Rattle.dom_model.specs.Worlds.World.{Content, World, no_content}
+use Rattle.dom_model.specs.MutationAlgorithms.PreRemoval.{past}
+use Rattle.dom_model.specs.MutationAlgorithms.Checks.{up_to, entry_has, kind_passes, is_of_kind}
+use Rattle.dom_model.specs.MutationAlgorithms.Editing.{node_document, append}
+use Rattle.dom_model.specs.Commands.Making.{named}
+use Rattle.dom_model.specs.DataAndCopies.Data.{data_of}
+use Rattle.dom_model.specs.DataAndCopies.Clones.{document_of_clone, clone_node}
+use Rattle.dom_model.specs.RangesAndContents.Contents.{new_fragment, units_into, children_into, copy_into, tail_into, head_into}
+use Rattle.dom_model.specs.TokenText.Edits.{Trace, doing_append, doing_clone, doing_fragment, doing_units, doing_children, doing_copy, doing_tail, doing_head}
+use Rattle.dom_model.proofs.Forests.Indices.{child-parent, child-there}
+use Rattle.dom_model.proofs.Forests.Paths.{parent-path}
+use Rattle.dom_model.proofs.Forests.OneMoreRoot.{entry-new}
+use Rattle.dom_model.proofs.Soundness.SoundForests.{IsWood, entry_there, child-fits}
+use Rattle.dom_model.proofs.DataAndCopies.CopiesPlaced.{kind-clone}
+use Rattle.dom_model.proofs.RangesAndContents.Drawing.{IsDrawing, Extends, extends-then, Draws, draws-none, draws-then, draws-as, passes_there, IsHolder, holder-extends, IsComing, draws-append}
+use Rattle.dom_model.proofs.RangesAndContents.DrawnPieces.{draws-fragment, draws-clone, new-greater, is_drawn, IsDrawable, drawable-extends, coming, draws-units, draws-children}
+
+-- Kinds.
+
+drawn-holds : (k : Kind) → is_drawn k ≡ true → is_character_data k ≡ false → may_be_parent k ≡ true
+drawn-holds Element h d = refl
+drawn-holds Text h d = absurd (false≢true (sym d))
+drawn-holds ProcessingInstruction h d = absurd (false≢true (sym d))
+drawn-holds Comment h d = absurd (false≢true (sym d))
+drawn-holds Document h d = absurd (false≢true h)
+drawn-holds DocumentType h d = absurd (false≢true h)
+drawn-holds DocumentFragment h d = absurd (false≢true h)
+
+-- a child that is no doctype
+pub stands-drawn : (parent child : Kind) → may_stand_in parent child ≡ true → is_kind DocumentType child ≡ false → is_drawn child ≡ true
+stands-drawn parent Element h d = refl
+stands-drawn parent Text h d = refl
+stands-drawn parent ProcessingInstruction h d = refl
+stands-drawn parent Comment h d = refl
+stands-drawn parent Document h d = absurd (false≢true h)
+stands-drawn parent DocumentType h d = absurd (false≢true (sym d))
+stands-drawn parent DocumentFragment h d = absurd (false≢true h)
+
+-- no doctype stands under a node that is drawn
+under-drawn : (parent child : Kind) → is_drawn parent ≡ true → may_stand_in parent child ≡ true → is_kind DocumentType child ≡ false
+under-drawn parent Element d h = refl
+under-drawn parent Text d h = refl
+under-drawn parent ProcessingInstruction d h = refl
+under-drawn parent Comment d h = refl
+under-drawn parent Document d h = refl
+under-drawn Element DocumentType d h = absurd (false≢true h)
+under-drawn Text DocumentType d h = absurd (false≢true h)
+under-drawn ProcessingInstruction DocumentType d h = absurd (false≢true h)
+under-drawn Comment DocumentType d h = absurd (false≢true h)
+under-drawn Document DocumentType d h = absurd (false≢true d)
+under-drawn DocumentType DocumentType d h = absurd (false≢true d)
+under-drawn DocumentFragment DocumentType d h = absurd (false≢true d)
+under-drawn parent DocumentFragment d h = refl
+
+-- Parts of lists.
+
+pub hits-drop : (c k : ℕ) (ns : List ℕ) → hits c (drop k ns) ≤ hits c ns
+hits-drop c zero ns = omega arith
+hits-drop c (suc k) [] = omega arith
+hits-drop c (suc k) (n ∷ ns) = omega (arith, hits-drop c k ns)
+
+pub hits-take : (c k : ℕ) (ns : List ℕ) → hits c (take k ns) ≤ hits c ns
+hits-take c zero ns = omega arith
+hits-take c (suc k) [] = omega arith
+hits-take c (suc k) (n ∷ ns) = omega (arith, hits-take c k ns)
+
+pub hits-past : (c m : ℕ) (ns : List ℕ) → hits c (past m ns) ≤ hits c ns
+hits-past c m [] = omega arith
+hits-past c m (n ∷ ns) =
+    let i = hits-past c m ns in
+    elim (n == m) as (λ b. hits c (if b then ns else past m ns) ≤ hits c (n ∷ ns)) [ true ↦ omega arith | false ↦ omega arith ]
+
+pub hits-up_to : (c m : ℕ) (ns : List ℕ) → hits c (up_to m ns) ≤ hits c ns
+hits-up_to c m [] = omega arith
+hits-up_to c m (n ∷ ns) =
+    let i = hits-up_to c m ns in
+    elim (n == m) as (λ b. hits c (if b then [] else n ∷ up_to m ns) ≤ hits c (n ∷ ns)) [ true ↦ omega arith | false ↦ omega arith ]
+
+pub hits-filter : (c : ℕ) (test : ℕ → Bool) (ns : List ℕ) → hits c (filter test ns) ≤ hits c ns
+hits-filter c test [] = omega arith
+hits-filter c test (n ∷ ns) =
+    let i = hits-filter c test ns in
+    elim (test n) as (λ b. hits c (if b then n ∷ filter test ns else filter test ns) ≤ hits c (n ∷ ns)) [ true ↦ omega arith | false ↦ omega arith ]
+
+-- a child that is no doctype is of a kind that may be drawn
+pub kind-drawn : (f : Forest Content) (made : ℕ) → IsWood f made → (c p : ℕ) → parent_of f c ≡ Some p → 0 < occurs c f → is_of_kind DocumentType f c ≡ false → kind_passes is_drawn f c ≡ true
+kind-drawn f made s c p e h d =
+    let ec = entry_there f c h in
+    let ep = entry_there f p (parent-path f s.once c p h e).0 in
+    let fit = rw (ec.1, ep.1) at (child-fits s c p e h) in
+    let k = rw ec.1 at d in
+    rw ec.1 (stands-drawn ep.0.value.label.kind ec.0.value.label.kind fit k)
+
+-- the children of a node that is drawn may be drawn
+child-drawable : (low : ℕ) (v : World) → IsDrawing low v → (n c : ℕ) → IsDrawable low v n → 0 < hits c (children_of v.forest n) → IsDrawable low v c
+child-drawable low v d n c h k =
+    let p = child-parent v.forest d.sound.forest.once c n k in
+    let hc = child-there v.forest d.sound.forest.once c n k in
+    let hn = passes_there is_drawn v.forest n h.kind in
+    let ec = entry_there v.forest c hc in
+    let en = entry_there v.forest n hn in
+    let fit = rw (ec.1, en.1) at (child-fits d.sound.forest c n p hc) in
+    let kn = rw en.1 at h.kind in
+    record {
+      old =
+          ⊎_elim
+          (λ (lt : c < low). lt)
+          (λ (le : low ≤ c). absurd (let r = d.rising c n le p in let x = r.0 in let y = h.old in omega arith))
+          (cases_lt c low);
+      kind = rw ec.1 (stands-drawn en.0.value.label.kind ec.0.value.label.kind fit (under-drawn en.0.value.label.kind ec.0.value.label.kind kn fit));
+    }
+
+-- A copy goes into a fragment, and what fills a further fragment into the copy.
+
+module _ (low into n : ℕ) (v : World) (d : IsDrawing low v) (k : IsHolder low v into) (h : IsDrawable low v n) (no_data : kind_passes is_character_data v.forest n ≡ false) where
+  abbrev copied : World
+  copied = clone_node false n v
+
+  abbrev held : World
+  held = append v.made into copied
+
+  abbrev begun : World
+  begun = new_fragment (node_document v n) held
+
+  n_there : 0 < occurs n v.forest
+  n_there = passes_there is_drawn v.forest n h.kind
+
+  n_holds : kind_passes may_be_parent v.forest n ≡ true
+  n_holds = let e = entry_there v.forest n n_there in rw e.1 (drawn-holds e.0.value.label.kind (rw e.1 at h.kind) (rw e.1 at no_data))
+
+  kind_copied : (test : Kind → Bool) → kind_passes test copied.forest v.made ≡ kind_passes test v.forest n
+  kind_copied test = kind-clone test (document_of_clone v n) v.made false n v.forest d.sound.forest.once (d.sound.forest.small v.made (omega arith)) n_there
+
+  first : Draws low (doing_clone false n) v copied
+  first = draws-clone low v d false n
+
+  second : Draws low (doing_append v.made into) copied held
+  second =
+      draws-append low copied first.drawing into v.made (holder-extends low v copied into first.extends k)
+      (coming low copied into v.made (kind_copied is_drawn ∙ h.kind) (inr (new-greater low v d into (passes_there may_be_parent v.forest into k.kind))))
+
+  third : Draws low (doing_fragment (node_document v n)) held begun
+  third = draws-fragment low held second.drawing (node_document v n)
+
+  copy_holds : IsHolder low held v.made
+  copy_holds = holder-extends low copied held v.made second.extends (record { fresh = d.begun; kind = kind_copied may_be_parent ∙ n_holds })
+
+  kind_inner : (test : Kind → Bool) → kind_passes test begun.forest held.made ≡ test DocumentFragment
+  kind_inner test =
+      ap (entry_has test)
+      (entry-new held.forest second.drawing.sound.forest.once (record { number = held.made; document = node_document v n; label = named DocumentFragment []; body = no_content }) (second.drawing.sound.forest.small held.made (omega arith)))
+
+  greater : v.made < held.made
+  greater = new-greater low held second.drawing v.made (passes_there may_be_parent held.forest v.made copy_holds.kind)
+
+  inner_there : 0 < occurs held.made begun.forest
+  inner_there = passes_there (is_kind DocumentFragment) begun.forest held.made (kind_inner (is_kind DocumentFragment))
+
+  inner_holds : IsHolder low begun held.made
+  inner_holds = record { fresh = second.drawing.begun; kind = kind_inner may_be_parent }
+
+  extended : Extends v begun
+  extended = extends-then v held begun (extends-then v copied held first.extends second.extends) third.extends
+
+  draws-filled : (fill : Trace → Trace) (filled : World) → Draws low fill begun filled → Draws low (λ t. doing_append held.made v.made (fill (doing_fragment (node_document v n) (doing_append v.made into (doing_clone false n t))))) v (append held.made v.made filled)
+  draws-filled fill filled f =
+      let holder = holder-extends low begun filled v.made f.extends (holder-extends low held begun v.made third.extends copy_holds) in
+      let comes : IsComing low filled v.made held.made = record {
+        there = f.extends.there held.made inner_there;
+        no_document = f.extends.kinds (is_kind Document) held.made inner_there ∙ kind_inner (is_kind Document);
+        no_doctype = f.extends.kinds (is_kind DocumentType) held.made inner_there ∙ kind_inner (is_kind DocumentType);
+        place = inr greater;
+      } in
+      draws-then low v filled (append held.made v.made filled) (λ t. fill (doing_fragment (node_document v n) (doing_append v.made into (doing_clone false n t)))) (doing_append held.made v.made)
+      (draws-then low v begun filled (λ t. doing_fragment (node_document v n) (doing_append v.made into (doing_clone false n t))) fill
+      (draws-then low v held begun (λ t. doing_append v.made into (doing_clone false n t)) (doing_fragment (node_document v n))
+      (draws-then low v copied held (doing_clone false n) (doing_append v.made into) first second) third) f)
+      (draws-append low filled f.drawing v.made held.made holder comes)
+
+  pub draws-copy : (fill : ℕ → Trace → Trace) (filled : ℕ → World → World) → ((inner : ℕ) (x : World) → IsDrawing low x → Extends v x → IsHolder low x inner → Draws low (fill inner) x (filled inner x)) → Draws low (doing_copy into n fill) v (copy_into into n filled v)
+  draws-copy fill filled each =
+      draws-as low v (append held.made v.made (filled held.made begun)) (λ t. doing_append held.made v.made (fill held.made (doing_fragment (node_document v n) (doing_append v.made into (doing_clone false n t))))) (doing_copy into n fill) (λ es. refl)
+      (draws-filled (fill held.made) (filled held.made begun) (each held.made begun third.drawing extended inner_holds))
+
+if_so : {A : Type 0} (b : Bool) (x y : A) → b ≡ true → (if b then x else y) ≡ x
+if_so b x y e = rw e refl
+
+if_not : {A : Type 0} (b : Bool) (x y : A) → b ≡ false → (if b then x else y) ≡ y
+if_not b x y e = rw e refl
+
+-- A path down: nodes that may be drawn, and none with data but the last.
+abbrev pub ArePath : ℕ → World → List ℕ → Type 0
+ArePath low v [] = Unit {0}
+ArePath low v (n ∷ []) = IsDrawable low v n
+ArePath low v (n ∷ m ∷ path) = IsDrawable low v n × (kind_passes is_character_data v.forest n ≡ false) × ArePath low v (m ∷ path)
+
+pub path-extends : (low : ℕ) (v u : World) → Extends v u → (path : List ℕ) → ArePath low v path → ArePath low u path
+path-extends low v u x [] h = tt
+path-extends low v u x (n ∷ []) h = drawable-extends low v u n x h
+path-extends low v u x (n ∷ m ∷ path) h = (drawable-extends low v u n x h.0, x.kinds is_character_data n (passes_there is_drawn v.forest n h.0.kind) ∙ h.1, path-extends low v u x (m ∷ path) h.2)
+
+-- some of a node's children go into a fragment
+module _ (low : ℕ) (moves : Bool) (v : World) (d : IsDrawing low v) (n : ℕ) (h : IsDrawable low v n) (ns : List ℕ) (among_children : (c : ℕ) → hits c ns ≤ hits c (children_of v.forest n)) where
+  draws-some : (inner : ℕ) (x : World) → IsDrawing low x → Extends v x → IsHolder low x inner → Draws low (doing_children moves inner ns) x (children_into moves inner ns x)
+  draws-some inner x dx e k = draws-children low moves inner ns x dx k (λ c i. drawable-extends low v x c e (child-drawable low v d n c h (let j = among_children c in omega arith)))
+
+pub draws-tail : (low : ℕ) (moves : Bool) (into offset : ℕ) (path : List ℕ) (v : World) → IsDrawing low v → IsHolder low v into → ArePath low v path → Draws low (doing_tail moves into offset path) v (tail_into moves into offset path v)
+draws-tail low moves into offset [] v d k p = draws-none low v d
+draws-tail low moves into offset (n ∷ []) v d k p = go (kind_passes is_character_data v.forest n) refl
+  where
+    count : ℕ
+    count = length (data_of v n) - offset
+
+    ns : List ℕ
+    ns = drop offset (children_of v.forest n)
+
+    go : (b : Bool) → kind_passes is_character_data v.forest n ≡ b → Draws low (doing_tail moves into offset (n ∷ [])) v (tail_into moves into offset (n ∷ []) v)
+    go true e =
+        subst (λ u. Draws low (doing_tail moves into offset (n ∷ [])) v u) (sym (if_so (kind_passes is_character_data v.forest n) _ _ e))
+        (draws-as low v (units_into moves into n offset count v) (doing_units moves into n offset count) (doing_tail moves into offset (n ∷ [])) (λ es. sym (if_so (kind_passes is_character_data v.forest n) _ _ e))
+        (draws-units low moves into n offset count v d k e))
+    go false e =
+        subst (λ u. Draws low (doing_tail moves into offset (n ∷ [])) v u) (sym (if_not (kind_passes is_character_data v.forest n) _ _ e))
+        (draws-as low v (copy_into into n (λ inner u. children_into moves inner ns u) v) (doing_copy into n (λ inner u. doing_children moves inner ns u)) (doing_tail moves into offset (n ∷ [])) (λ es. sym (if_not (kind_passes is_character_data v.forest n) _ _ e))
+        (draws-copy low into n v d k p e (λ inner u. doing_children moves inner ns u) (λ inner u. children_into moves inner ns u) (draws-some low moves v d n p ns (λ c. hits-drop c offset (children_of v.forest n)))))
+draws-tail low moves into offset (n ∷ m ∷ path) v d k p =
+    let ns = past m (children_of v.forest n) in
+    draws-as low v (tail_into moves into offset (n ∷ m ∷ path) v) (doing_copy into n (λ inner u. doing_children moves inner ns (doing_tail moves inner offset (m ∷ path) u))) (doing_tail moves into offset (n ∷ m ∷ path)) (λ es. refl)
+    (draws-copy low into n v d k p.0 p.1 (λ inner u. doing_children moves inner ns (doing_tail moves inner offset (m ∷ path) u)) (λ inner u. children_into moves inner ns (tail_into moves inner offset (m ∷ path) u))
+    (λ inner x dx e hx.
+    let a = draws-tail low moves inner offset (m ∷ path) x dx hx (path-extends low v x e (m ∷ path) p.2) in
+    let u = tail_into moves inner offset (m ∷ path) x in
+    let b = draws-some low moves v d n p.0 ns (λ c. hits-past c m (children_of v.forest n)) inner u a.drawing (extends-then v x u e a.extends) (holder-extends low x u inner a.extends hx) in
+    draws-then low x u (children_into moves inner ns u) (doing_tail moves inner offset (m ∷ path)) (doing_children moves inner ns) a b))
+
+pub draws-head : (low : ℕ) (moves : Bool) (into offset : ℕ) (path : List ℕ) (v : World) → IsDrawing low v → IsHolder low v into → ArePath low v path → Draws low (doing_head moves into offset path) v (head_into moves into offset path v)
+draws-head low moves into offset [] v d k p = draws-none low v d
+draws-head low moves into offset (n ∷ []) v d k p = go (kind_passes is_character_data v.forest n) refl
+  where
+    ns : List ℕ
+    ns = take offset (children_of v.forest n)
+
+    go : (b : Bool) → kind_passes is_character_data v.forest n ≡ b → Draws low (doing_head moves into offset (n ∷ [])) v (head_into moves into offset (n ∷ []) v)
+    go true e =
+        subst (λ u. Draws low (doing_head moves into offset (n ∷ [])) v u) (sym (if_so (kind_passes is_character_data v.forest n) _ _ e))
+        (draws-as low v (units_into moves into n 0 offset v) (doing_units moves into n 0 offset) (doing_head moves into offset (n ∷ [])) (λ es. sym (if_so (kind_passes is_character_data v.forest n) _ _ e))
+        (draws-units low moves into n 0 offset v d k e))
+    go false e =
+        subst (λ u. Draws low (doing_head moves into offset (n ∷ [])) v u) (sym (if_not (kind_passes is_character_data v.forest n) _ _ e))
+        (draws-as low v (copy_into into n (λ inner u. children_into moves inner ns u) v) (doing_copy into n (λ inner u. doing_children moves inner ns u)) (doing_head moves into offset (n ∷ [])) (λ es. sym (if_not (kind_passes is_character_data v.forest n) _ _ e))
+        (draws-copy low into n v d k p e (λ inner u. doing_children moves inner ns u) (λ inner u. children_into moves inner ns u) (draws-some low moves v d n p ns (λ c. hits-take c offset (children_of v.forest n)))))
+draws-head low moves into offset (n ∷ m ∷ path) v d k p =
+    let ns = up_to m (children_of v.forest n) in
+    draws-as low v (head_into moves into offset (n ∷ m ∷ path) v) (doing_copy into n (λ inner u. doing_head moves inner offset (m ∷ path) (doing_children moves inner ns u))) (doing_head moves into offset (n ∷ m ∷ path)) (λ es. refl)
+    (draws-copy low into n v d k p.0 p.1 (λ inner u. doing_head moves inner offset (m ∷ path) (doing_children moves inner ns u)) (λ inner u. head_into moves inner offset (m ∷ path) (children_into moves inner ns u))
+    (λ inner x dx e hx.
+    let u = children_into moves inner ns x in
+    let a = draws-some low moves v d n p.0 ns (λ c. hits-up_to c m (children_of v.forest n)) inner x dx e hx in
+    let b = draws-head low moves inner offset (m ∷ path) u a.drawing (holder-extends low x u inner a.extends hx) (path-extends low v u (extends-then v x u e a.extends) (m ∷ path) p.2) in
+    draws-then low x u (head_into moves inner offset (m ∷ path) u) (doing_children moves inner ns) (doing_head moves inner offset (m ∷ path)) a b))

@@ -1,0 +1,243 @@
+-- The part of a tree that lies from a point to the end of an ancestor's child, or from its start to the point, goes into a fragment:
+-- a sound world is left. DOM Standard, "Interface Range": extract, clone the contents.
+use Rattle.std.proofs.Common.{◌≡◌, ℕ, zero, suc, ◌-◌, ◌<◌, ◌≤◌, Bool, true, false, if◌then◌else◌, List, [], ◌∷◌, take, drop, length, Some, refl, sym, ◌∙◌, subst, arith, ⊎_elim}
+use Rattle.std.proofs.lemmas.Bool.{cases_lt, false≢true}
+use Rattle.dom_model.specs.declared.Kind.{Kind}
+use Rattle.dom_model.specs.declared.Kind.TheVariants.{Element, Text, ProcessingInstruction, Comment, Document, DocumentType, DocumentFragment}
+use Rattle.dom_model.specs.PlainLists.Lists.{hits}
+use Rattle.dom_model.specs.Forests.Kinds.{is_kind, is_character_data, may_be_parent, may_stand_in}
+use Rattle.dom_model.specs.Forests.Forest.{occurs, parent_of, children_of}
+use Rattle.dom_model.specs.Worlds.World.{World}
+use Rattle.dom_model.specs.MutationAlgorithms.PreRemoval.{past}
+use Rattle.dom_model.specs.MutationAlgorithms.Checks.{up_to, kind_passes, is_of_kind}
+use Rattle.dom_model.specs.MutationAlgorithms.Editing.{append}
+use Rattle.dom_model.specs.DataAndCopies.Clones.{clone_node}
+use Rattle.dom_model.specs.DataAndCopies.Data.{data_of}
+use Rattle.dom_model.specs.RangesAndContents.Contents.{units_into, children_into, copy_into, tail_into, head_into}
+use Rattle.dom_model.specs.Worlds.Sound.{IsSound}
+use Rattle.dom_model.proofs.Forests.Climbing.{hits-append, hits-first}
+use Rattle.dom_model.proofs.Forests.Indices.{child-parent, child-there}
+use Rattle.dom_model.proofs.Traversal.IteratorsStay.{hits-past}
+use Rattle.dom_model.proofs.BoundaryPoints.RootsKept.{hits-up_to}
+use Rattle.dom_model.proofs.Forests.Listed.{hits-other}
+use Rattle.dom_model.proofs.Soundness.SoundForests.{entry_there, child-fits}
+use Rattle.dom_model.proofs.Soundness.SoundAppending.{IsHolder, IsPlain, IsDrawn, holder_stays, plain_stays}
+use Rattle.dom_model.proofs.Soundness.SoundDrawing.{drawn_children, new_apart, IsFilled, filled-then, filled-of, filled_by_moves, holder_filled, plain_filled}
+use Rattle.dom_model.proofs.Soundness.SoundCopies.{filled_units, opened, drawn_opened, holder_inner, inner_new, filled_copy}
+
+-- Kinds.
+
+child_kinds : (parent k : Kind) → is_kind Document parent ≡ false → may_stand_in parent k ≡ true → (is_kind Document k ≡ false) × (is_kind DocumentType k ≡ false) × (is_kind DocumentFragment k ≡ false)
+child_kinds parent Element d h = (refl, refl, refl)
+child_kinds parent Text d h = (refl, refl, refl)
+child_kinds parent ProcessingInstruction d h = (refl, refl, refl)
+child_kinds parent Comment d h = (refl, refl, refl)
+child_kinds parent Document d h = absurd (false≢true h)
+child_kinds parent DocumentType d h = absurd (no_document parent d h)
+  where
+    no_document : (k : Kind) → is_kind Document k ≡ false → is_kind k Document ≡ true → ⊥
+    no_document Element d h = false≢true h
+    no_document Text d h = false≢true h
+    no_document ProcessingInstruction d h = false≢true h
+    no_document Comment d h = false≢true h
+    no_document Document d h = false≢true (sym d)
+    no_document DocumentType d h = false≢true h
+    no_document DocumentFragment d h = false≢true h
+child_kinds parent DocumentFragment d h = absurd (false≢true h)
+
+-- a child of a node that is no Document may stand wherever there may be children
+pub plain_child : (w : World) → IsSound w → (n c : ℕ) → is_of_kind Document w.forest n ≡ false → parent_of w.forest c ≡ Some n → 0 < occurs c w.forest → 0 < occurs n w.forest → IsPlain w c
+plain_child w s n c d e hc hn =
+    let ec = entry_there w.forest c hc in
+    let en = entry_there w.forest n hn in
+    let f = rw (ec.1, en.1) at (child-fits s.forest c n e hc) in
+    let d2 = rw en.1 at d in
+    let k = child_kinds en.0.value.label.kind ec.0.value.label.kind d2 f in
+    record { there = hc; no_document = rw ec.1 k.0; no_doctype = rw ec.1 k.1; no_fragment = rw ec.1 k.2 }
+
+pub other_kinds : (k : Kind) → is_character_data k ≡ false → is_kind DocumentType k ≡ false → may_be_parent k ≡ true
+other_kinds Element c d = refl
+other_kinds Text c d = absurd (false≢true (sym c))
+other_kinds ProcessingInstruction c d = absurd (false≢true (sym c))
+other_kinds Comment c d = absurd (false≢true (sym c))
+other_kinds Document c d = refl
+other_kinds DocumentType c d = absurd (false≢true (sym d))
+other_kinds DocumentFragment c d = refl
+
+pub may_hold_other : (w : World) (n : ℕ) → 0 < occurs n w.forest → kind_passes is_character_data w.forest n ≡ false → is_of_kind DocumentType w.forest n ≡ false → kind_passes may_be_parent w.forest n ≡ true
+may_hold_other w n h c d =
+    let e = entry_there w.forest n h in
+    let c2 = rw e.1 at c in
+    let d2 = rw e.1 at d in
+    rw e.1 (other_kinds e.0.value.label.kind c2 d2)
+
+-- Paths.
+
+-- the last node of a path may have data, of which an offset is within; those above it have children
+abbrev pub IsTail : World → ℕ → List ℕ → Type 0
+IsTail w offset [] = Unit {0}
+IsTail w offset (n ∷ []) = IsPlain w n × (kind_passes is_character_data w.forest n ≡ true → offset ≤ length (data_of w n))
+IsTail w offset (n ∷ m ∷ path) = IsPlain w n × (kind_passes may_be_parent w.forest n ≡ true) × IsTail w offset (m ∷ path)
+
+abbrev pub IsHead : World → List ℕ → Type 0
+IsHead w [] = Unit {0}
+IsHead w (n ∷ []) = IsPlain w n
+IsHead w (n ∷ m ∷ path) = IsPlain w n × (kind_passes may_be_parent w.forest n ≡ true) × IsHead w (m ∷ path)
+
+tail_stays : (w v : World) (offset : ℕ) (path : List ℕ) → IsDrawn w v [] → IsTail w offset path → IsTail v offset path
+tail_stays w v offset [] a t = tt
+tail_stays w v offset (n ∷ []) a t =
+    (plain_stays w v [] n a.extends t.0, λ k. subst (λ xs. offset ≤ length xs) (sym (a.extends.texts n t.0.there)) (t.1 (sym (a.extends.kinds is_character_data n t.0.there) ∙ k)))
+tail_stays w v offset (n ∷ m ∷ path) a t = (plain_stays w v [] n a.extends t.0, a.extends.kinds may_be_parent n t.0.there ∙ t.1, tail_stays w v offset (m ∷ path) a t.2)
+
+pub head_filled_stays : (w v : World) (moved path : List ℕ) → IsFilled w v moved → IsHead w path → IsHead v path
+head_filled_stays w v moved [] a t = tt
+head_filled_stays w v moved (n ∷ []) a t = plain_filled w v moved n a t
+head_filled_stays w v moved (n ∷ m ∷ path) a t = (plain_filled w v moved n a t.0, a.kinds may_be_parent n t.0.there ∙ t.1, head_filled_stays w v moved (m ∷ path) a t.2)
+
+head_drawn_stays : (w v : World) (moved path : List ℕ) → IsDrawn w v moved → IsHead w path → IsHead v path
+head_drawn_stays w v moved [] a t = tt
+head_drawn_stays w v moved (n ∷ []) a t = plain_stays w v moved n a.extends t
+head_drawn_stays w v moved (n ∷ m ∷ path) a t = (plain_stays w v moved n a.extends t.0, a.extends.kinds may_be_parent n t.0.there ∙ t.1, head_drawn_stays w v moved (m ∷ path) a t.2)
+
+-- a path of nodes that are there has no new number
+tail_old : (w : World) → IsSound w → (offset new : ℕ) → w.made ≤ new → (path : List ℕ) → IsTail w offset path → hits new path ≡ 0
+tail_old w s offset new l [] t = refl
+tail_old w s offset new l (n ∷ []) t = hits-other new n [] (new_apart w s n new l t.0.there)
+tail_old w s offset new l (n ∷ m ∷ path) t = hits-other new n (m ∷ path) (new_apart w s n new l t.0.there) ∙ tail_old w s offset new l (m ∷ path) t.2
+
+head_old : (w : World) → IsSound w → (new : ℕ) → w.made ≤ new → (path : List ℕ) → IsHead w path → hits new path ≡ 0
+head_old w s new l [] t = refl
+head_old w s new l (n ∷ []) t = hits-other new n [] (new_apart w s n new l t.there)
+head_old w s new l (n ∷ m ∷ path) t = hits-other new n (m ∷ path) (new_apart w s n new l t.0.there) ∙ head_old w s new l (m ∷ path) t.2
+
+hits-dropped : (x k : ℕ) (ns : List ℕ) → hits x (drop k ns) ≤ hits x ns
+hits-dropped x zero ns = omega arith
+hits-dropped x (suc k) [] = omega arith
+hits-dropped x (suc k) (n ∷ ns) = let i = hits-dropped x k ns in omega arith
+
+hits-taken : (x k : ℕ) (ns : List ℕ) → hits x (take k ns) ≤ hits x ns
+hits-taken x zero ns = omega arith
+hits-taken x (suc k) [] = omega arith
+hits-taken x (suc k) (n ∷ ns) = let i = hits-taken x k ns in omega arith
+
+-- Some children of a node go into a fragment, in a world that has all that the node's had.
+module _ (moves : Bool) (w v : World) (s : IsSound w) (sv : IsSound v) (n inner : ℕ) (there : (m : ℕ) → 0 < occurs m w.forest → 0 < occurs m v.forest) (kinds : (test : Kind → Bool) (m : ℕ) → 0 < occurs m w.forest → kind_passes test v.forest m ≡ kind_passes test w.forest m) (hn : IsPlain w n) (new : w.made ≤ inner) (holder : IsHolder v inner) (ns : List ℕ) (children : (m : ℕ) → hits m ns ≤ hits m (children_of w.forest n)) where
+  child_parent : (m : ℕ) → 0 < hits m ns → parent_of w.forest m ≡ Some n
+  child_parent m h = child-parent w.forest s.forest.once m n (let i = children m in omega arith)
+
+  listed_there : (m : ℕ) → 0 < hits m ns → 0 < occurs m w.forest
+  listed_there m h = child-there w.forest s.forest.once m n (let i = children m in omega arith)
+
+  listed_plain : (m : ℕ) → 0 < hits m ns → IsPlain v m
+  listed_plain m h =
+      let hm = listed_there m h in
+      let p = plain_child w s n m hn.no_document (child_parent m h) hm hn.there in
+      record {
+        there = there m hm;
+        no_document = kinds (is_kind Document) m hm ∙ p.no_document;
+        no_doctype = kinds (is_kind DocumentType) m hm ∙ p.no_doctype;
+        no_fragment = kinds (is_kind DocumentFragment) m hm ∙ p.no_fragment;
+      }
+
+  inner_unlisted : hits inner ns ≡ 0
+  inner_unlisted =
+      ⊎_elim
+      (λ (lt : 0 < hits inner ns). absurd (new_apart w s inner inner new (listed_there inner lt) refl))
+      (λ (le : hits inner ns ≤ 0). omega arith)
+      (cases_lt 0 (hits inner ns))
+
+  drawn_some : IsDrawn v (children_into moves inner ns v) ns
+  drawn_some = drawn_children moves inner ns v sv holder listed_plain inner_unlisted
+
+-- what some children leave that are drawn out after a path was
+filled_more : (f v u : World) (n : ℕ) (ns path : List ℕ) → IsFilled f v path → IsDrawn v u ns → ((m : ℕ) → 0 < hits m ns → 0 < occurs m f.forest → parent_of f.forest m ≡ Some n) → IsFilled f u (n ∷ path)
+filled_more f v u n ns path a b moved =
+    record {
+      sound = b.sound;
+      there = λ m h. b.extends.there m (a.there m h);
+      kinds = λ test m h. b.extends.kinds test m (a.there m h) ∙ a.kinds test m h;
+      parents = λ m h far.
+          let e = a.parents m h (λ x k. let z = far x k in let i = hits-append x (n ∷ []) path in omega arith) in
+          b.extends.parents m (a.there m h)
+          (⊎_elim
+          (λ (lt : 0 < hits m ns). absurd (let z = far n (moved m lt h) in let i = hits-first n path in omega arith))
+          (λ (le : hits m ns ≤ 0). omega arith)
+          (cases_lt 0 (hits m ns)))
+          ∙ e;
+      made = (let i = a.made in let j = b.made in omega arith);
+    }
+
+filled_same : (w : World) → IsSound w → (path : List ℕ) → IsFilled w w path
+filled_same w s path = record { sound = s; there = λ m h. h; kinds = λ test m h. refl; parents = λ m h far. refl; made = omega arith }
+
+-- some children of a node go into the fragment that goes into its copy
+filled_children : (moves : Bool) (into n : ℕ) (w : World) (s : IsSound w) (h : IsHolder w into) (p : IsPlain w n) (may : kind_passes may_be_parent w.forest n ≡ true) → (ns : List ℕ) → ((m : ℕ) → hits m ns ≤ hits m (children_of w.forest n)) → hits into (n ∷ []) ≡ 0 →
+    IsFilled w (copy_into into n (λ inner v. children_into moves inner ns v) w) (n ∷ [])
+filled_children moves into n w s h p may ns children off_path =
+    let o = drawn_opened into n w s h p may in
+    let inner = (append w.made into (clone_node false n w)).made in
+    let v = opened into n w s h p may in
+    let d = drawn_some moves w v s o.sound n inner o.extends.there o.extends.kinds p (inner_new into n w s h p may) (holder_inner into n w s h p may) ns children in
+    filled_copy into n w s h p may (children_into moves inner ns v) (n ∷ []) off_path
+    (filled_by_moves v (children_into moves inner ns v) ns (n ∷ []) d
+    (λ m k t.
+    let e = child_parent moves w v s o.sound n inner o.extends.there o.extends.kinds p (inner_new into n w s h p may) (holder_inner into n w s h p may) ns children m k in
+    let hm = listed_there moves w v s o.sound n inner o.extends.there o.extends.kinds p (inner_new into n w s h p may) (holder_inner into n w s h p may) ns children m k in
+    (n, o.extends.parents m hm refl ∙ e, hits-first n [])))
+
+pub tail_filled : (moves : Bool) (into offset : ℕ) (path : List ℕ) (w : World) → IsSound w → IsHolder w into → hits into path ≡ 0 → IsTail w offset path → IsFilled w (tail_into moves into offset path w) path
+tail_filled moves into offset [] w s h off_path t = filled_same w s []
+tail_filled moves into offset (n ∷ []) w s h off_path t = go (kind_passes is_character_data w.forest n) refl
+  where
+    go : (v : Bool) → kind_passes is_character_data w.forest n ≡ v → IsFilled w (if v then units_into moves into n offset (length (data_of w n) - offset) w else copy_into into n (λ inner x. children_into moves inner (drop offset (children_of w.forest n)) x) w) (n ∷ [])
+    go true e = filled-of w _ [] (n ∷ []) (λ u z. refl) (filled_units moves into n offset (length (data_of w n) - offset) w s h t.0.there e (t.1 e))
+    go false e = filled_children moves into n w s h t.0 (may_hold_other w n t.0.there e t.0.no_doctype) (drop offset (children_of w.forest n)) (λ m. hits-dropped m offset (children_of w.forest n)) off_path
+tail_filled moves into offset (n ∷ m ∷ path) w s h off_path t =
+    let o = drawn_opened into n w s h t.0 t.1 in
+    let inner = (append w.made into (clone_node false n w)).made in
+    let f = opened into n w s h t.0 t.1 in
+    let held_new = inner_new into n w s h t.0 t.1 in
+    let deep = tail_filled moves inner offset (m ∷ path) f o.sound (holder_inner into n w s h t.0 t.1) (tail_old w s offset inner held_new (m ∷ path) t.2) (tail_stays w f offset (m ∷ path) o t.2) in
+    let v = tail_into moves inner offset (m ∷ path) f in
+    let ns = past m (children_of w.forest n) in
+    let children = λ (x : ℕ). hits-past x m (children_of w.forest n) in
+    let there = λ (x : ℕ) (k : 0 < occurs x w.forest). deep.there x (o.extends.there x k) in
+    let kinds = λ (test : Kind → Bool) (x : ℕ) (k : 0 < occurs x w.forest). deep.kinds test x (o.extends.there x k) ∙ o.extends.kinds test x k in
+    let holder = holder_filled f v (m ∷ path) inner deep (holder_inner into n w s h t.0 t.1) in
+    let d = drawn_some moves w v s deep.sound n inner there kinds t.0 held_new holder ns children in
+    filled_copy into n w s h t.0 t.1 (children_into moves inner ns v) (n ∷ m ∷ path) off_path
+    (filled_more f v (children_into moves inner ns v) n ns (m ∷ path) deep d
+    (λ x k i.
+    let e = child_parent moves w v s deep.sound n inner there kinds t.0 held_new holder ns children x k in
+    let hx = listed_there moves w v s deep.sound n inner there kinds t.0 held_new holder ns children x k in
+    o.extends.parents x hx refl ∙ e))
+
+pub head_filled : (moves : Bool) (into offset : ℕ) (path : List ℕ) (w : World) → IsSound w → IsHolder w into → hits into path ≡ 0 → IsHead w path → IsFilled w (head_into moves into offset path w) path
+head_filled moves into offset [] w s h off_path t = filled_same w s []
+head_filled moves into offset (n ∷ []) w s h off_path t = go (kind_passes is_character_data w.forest n) refl
+  where
+    go : (v : Bool) → kind_passes is_character_data w.forest n ≡ v → IsFilled w (if v then units_into moves into n 0 offset w else copy_into into n (λ inner x. children_into moves inner (take offset (children_of w.forest n)) x) w) (n ∷ [])
+    go true e = filled-of w _ [] (n ∷ []) (λ u z. refl) (filled_units moves into n 0 offset w s h t.there e (omega arith))
+    go false e = filled_children moves into n w s h t (may_hold_other w n t.there e t.no_doctype) (take offset (children_of w.forest n)) (λ m. hits-taken m offset (children_of w.forest n)) off_path
+head_filled moves into offset (n ∷ m ∷ path) w s h off_path t =
+    let o = drawn_opened into n w s h t.0 t.1 in
+    let inner = (append w.made into (clone_node false n w)).made in
+    let f = opened into n w s h t.0 t.1 in
+    let held_new = inner_new into n w s h t.0 t.1 in
+    let ns = up_to m (children_of w.forest n) in
+    let children = λ (x : ℕ). hits-up_to x m (children_of w.forest n) in
+    let holder = holder_inner into n w s h t.0 t.1 in
+    let d = drawn_some moves w f s o.sound n inner o.extends.there o.extends.kinds t.0 held_new holder ns children in
+    let v = children_into moves inner ns f in
+    let unlisted = inner_unlisted moves w f s o.sound n inner o.extends.there o.extends.kinds t.0 held_new holder ns children in
+    let below = head_drawn_stays f v ns (m ∷ path) d (head_drawn_stays w f [] (m ∷ path) o t.2) in
+    let deep = head_filled moves inner offset (m ∷ path) v d.sound (holder_stays f v ns inner d.extends unlisted holder) (head_old w s inner held_new (m ∷ path) t.2) below in
+    filled_copy into n w s h t.0 t.1 (head_into moves inner offset (m ∷ path) v) (n ∷ m ∷ path) off_path
+    (filled-then f v (head_into moves inner offset (m ∷ path) v) (n ∷ []) (m ∷ path)
+    (filled_by_moves f v ns (n ∷ []) d
+    (λ x k i.
+    let e = child_parent moves w f s o.sound n inner o.extends.there o.extends.kinds t.0 held_new holder ns children x k in
+    let hx = listed_there moves w f s o.sound n inner o.extends.there o.extends.kinds t.0 held_new holder ns children x k in
+    (n, o.extends.parents x hx refl ∙ e, hits-first n [])))
+    deep)

@@ -1,0 +1,135 @@
+-- The parts of a sound world, and what a removal leaves of them. DOM Standard, "Mutation algorithms": remove.
+use Rattle.std.proofs.Common.{◌≡◌, ℕ, ◌<◌, ◌==◌, Bool, true, false, List, [], ◌∷◌, map, filter, Option, Some, None, IfSome, All, option_map, unwrap_or, refl, sym, subst}
+use Rattle.std.proofs.lemmas.List.Elements.{All-map, All-weaker, All-append, All-filter, All-nil}
+use Rattle.dom_model.specs.Forests.Forest.{Forest, occurs, one_at, cut, entry_in, HasNode, parent_of, ancestors, previous_of, next_of}
+use Rattle.dom_model.specs.Worlds.World.{Content, Point, Range, Walker, Registration, Mutation, World}
+use Rattle.dom_model.specs.BoundaryPoints.Points.{moved_range, map_ranges}
+use Rattle.dom_model.specs.MutationAlgorithms.PreRemoval.{pre_removed}
+use Rattle.dom_model.specs.MutationObservers.Observing.{registered_on, standing_on, transient_of}
+use Rattle.dom_model.specs.MutationAlgorithms.Editing.{queued, tree_record, tree_record_unless, taken_out, transients_made, removed_from, remove, remove_all}
+use Rattle.dom_model.specs.Worlds.Sound.{IsRange, IsIterator, IsWalker, IsRegistration, IsSound}
+use Rattle.dom_model.proofs.Forests.Changes.{seen, nothing, just}
+use Rattle.dom_model.proofs.Forests.Totals.{total-cut}
+use Rattle.dom_model.proofs.Forests.Entries.{HasNode-occurs, occurs-HasNode}
+use Rattle.dom_model.proofs.Soundness.SoundForests.{IsWood-cut}
+use Rattle.dom_model.proofs.RangesAndContents.RangesCut.{range-cut, iterator-cut}
+
+-- a live range, or none
+abbrev pub IsLive : Forest Content → Option Range → Type 0
+IsLive f r = IfSome r (IsRange f)
+
+-- what holds of each live range
+abbrev pub Lives : (Range → Type 0) → List (Option Range) → Type 0
+Lives P rs = All (λ (r : Option Range). IfSome r P) rs
+
+pub each-moved : (P Q : Range → Type 0) (move : Point → Point) → ((r : Range) → P r → Q (moved_range move r)) → (rs : List (Option Range)) → Lives P rs → Lives Q (map_ranges move rs)
+each-moved P Q move keeps rs h = All-map (λ r. IfSome r Q) (λ r. option_map (moved_range move) r) rs (All-weaker (λ r. IfSome r P) (λ r. IfSome (option_map (moved_range move) r) Q) each rs h)
+  where
+    each : (r : Option Range) → IfSome r P → IfSome (option_map (moved_range move) r) Q
+    each None k = tt
+    each (Some r) k = keeps r k
+
+pub each-kept : (P Q : Range → Type 0) → ((r : Range) → P r → Q r) → (rs : List (Option Range)) → Lives P rs → Lives Q rs
+each-kept P Q keeps rs h = All-weaker (λ r. IfSome r P) (λ r. IfSome r Q) each rs h
+  where
+    each : (r : Option Range) → IfSome r P → IfSome r Q
+    each None k = tt
+    each (Some r) k = keeps r k
+
+pub ranges-moved : (f g : Forest Content) (move : Point → Point) → ((r : Range) → IsRange f r → IsRange g (moved_range move r)) → (rs : List (Option Range)) → All (IsLive f) rs → All (IsLive g) (map_ranges move rs)
+ranges-moved f g move keeps rs h = each-moved (IsRange f) (IsRange g) move keeps rs h
+
+pub ranges-kept : (f g : Forest Content) → ((r : Range) → IsRange f r → IsRange g r) → (rs : List (Option Range)) → All (IsLive f) rs → All (IsLive g) rs
+ranges-kept f g keeps rs h = each-kept (IsRange f) (IsRange g) keeps rs h
+
+pub walkers-kept : (f g : Forest Content) → ((n : ℕ) → HasNode f n → HasNode g n) → (ks : List Walker) → All (IsWalker f) ks → All (IsWalker g) ks
+walkers-kept f g there ks h = All-weaker (IsWalker f) (IsWalker g) (λ k w. record { root = there k.root w.root; current = there k.current w.current }) ks h
+
+pub registrations-kept : (f g : Forest Content) → ((n : ℕ) → HasNode f n → HasNode g n) → (rs : List Registration) → All (IsRegistration f) rs → All (IsRegistration g) rs
+registrations-kept f g there rs h = All-weaker (IsRegistration f) (IsRegistration g) (λ r k. record { node = there r.node k.node; source = from r.source k.source }) rs h
+  where
+    from : (o : Option ℕ) → IfSome o (HasNode f) → IfSome o (HasNode g)
+    from None k = tt
+    from (Some n) k = there n k
+
+-- a change that is noted
+pub sound-queued : (m : Mutation) (w : World) → IsSound w → IsSound (queued m w)
+sound-queued m w s = record { forest = s.forest; ranges = s.ranges; iterators = s.iterators; walkers = s.walkers; registrations = s.registrations }
+
+pub sound-tree_record : (target : ℕ) (added removed : List ℕ) (previous next : Option ℕ) (w : World) → IsSound w → IsSound (tree_record target added removed previous next w)
+sound-tree_record target added removed previous next w s = record { forest = s.forest; ranges = s.ranges; iterators = s.iterators; walkers = s.walkers; registrations = s.registrations }
+
+pub sound-record_unless : (suppressed : Bool) (target : ℕ) (added removed : List ℕ) (previous next : Option ℕ) (w : World) → IsSound w → IsSound (tree_record_unless suppressed target added removed previous next w)
+sound-record_unless true target added removed previous next w s = s
+sound-record_unless false target added removed previous next w s = sound-tree_record target added removed previous next w s
+
+-- Transient registrations.
+
+standing-kept : (f : Forest Content) (ns : List ℕ) (rs : List Registration) → All (IsRegistration f) rs → All (IsRegistration f) (standing_on ns rs)
+standing-kept f [] rs h = All-nil (IsRegistration f)
+standing-kept f (n ∷ ns) rs h =
+    All-append (IsRegistration f) (registered_on n rs) (standing_on ns rs) (All-filter (λ (r : Registration). r.node == n) (IsRegistration f) rs h) (standing-kept f ns rs h)
+
+transient-sound : (f : Forest Content) (n : ℕ) → HasNode f n → (r : Registration) → IsRegistration f r → IsRegistration f (transient_of n r)
+transient-sound f n h r k = record { node = h; source = from r.source k.source }
+  where
+    from : (o : Option ℕ) → IfSome o (HasNode f) → HasNode f (unwrap_or o r.node)
+    from None i = k.node
+    from (Some m) i = i
+
+pub sound-transients : (n parent : ℕ) (w : World) → HasNode w.forest n → IsSound w → IsSound (transients_made n parent w)
+sound-transients n parent w h s =
+    record {
+      forest = s.forest;
+      ranges = s.ranges;
+      iterators = s.iterators;
+      walkers = s.walkers;
+      registrations =
+          All-append (IsRegistration w.forest) w.observing.registrations (map (transient_of n) asked) s.registrations
+          (All-map (IsRegistration w.forest) (transient_of n) asked
+          (All-weaker (IsRegistration w.forest) (λ r. IsRegistration w.forest (transient_of n r)) (transient-sound w.forest n h) asked
+          (All-filter (λ (r : Registration). r.options.subtree) (IsRegistration w.forest) standing (standing-kept w.forest (ancestors parent w.forest) w.observing.registrations s.registrations))));
+    }
+  where
+    standing : List Registration
+    standing = standing_on (ancestors parent w.forest) w.observing.registrations
+
+    asked : List Registration
+    asked = filter (λ (r : Registration). r.options.subtree) standing
+
+-- A removal.
+
+-- a node with a parent is there
+pub child_there : (f : Forest Content) (n p : ℕ) → parent_of f n ≡ Some p → 0 < occurs n f
+child_there f n p h =
+    elim (seen (entry_in f n)) [
+      | nothing e ↦ absurd (let k : None ≡ Some p = rw e at h in cc k)
+      | just a e ↦ occurs-HasNode f n (rw e refl)
+    ]
+
+pub there_after_cut : (f : Forest Content) (c n : ℕ) → HasNode f n → HasNode (cut c f) n
+there_after_cut f c n h = HasNode-occurs (cut c f) n (subst (λ k. 0 < k) (sym (total-cut (one_at n) c f)) (occurs-HasNode f n h))
+
+sound-taken_out : (n parent : ℕ) (w : World) → parent_of w.forest n ≡ Some parent → IsSound w → IsSound (taken_out n parent w)
+sound-taken_out n parent w e s =
+    let h = child_there w.forest n parent e in
+    record {
+      forest = IsWood-cut s.forest n h;
+      ranges = ranges-moved w.forest (cut n w.forest) _ (range-cut s.forest parent n h e) w.ranges s.ranges;
+      iterators = All-map (IsIterator (cut n w.forest)) (pre_removed w.forest n) w.iterators (All-weaker (IsIterator w.forest) (λ i. IsIterator (cut n w.forest) (pre_removed w.forest n i)) (iterator-cut s.forest parent n h e) w.iterators s.iterators);
+      walkers = walkers-kept w.forest (cut n w.forest) (there_after_cut w.forest n) w.walkers s.walkers;
+      registrations = registrations-kept w.forest (cut n w.forest) (there_after_cut w.forest n) w.observing.registrations s.registrations;
+    }
+
+pub sound-remove : (suppressed : Bool) (n : ℕ) (w : World) → IsSound w → IsSound (remove suppressed n w)
+sound-remove suppressed n w s = go (parent_of w.forest n) refl
+  where
+    go : (p : Option ℕ) → parent_of w.forest n ≡ p → IsSound (removed_from suppressed n p w)
+    go None e = s
+    go (Some parent) e =
+        sound-record_unless suppressed parent [] (n ∷ []) (previous_of w.forest n) (next_of w.forest n) (transients_made n parent (taken_out n parent w))
+        (sound-transients n parent (taken_out n parent w) (there_after_cut w.forest n n (HasNode-occurs w.forest n (child_there w.forest n parent e))) (sound-taken_out n parent w e s))
+
+pub sound-remove_all : (ns : List ℕ) (w : World) → IsSound w → IsSound (remove_all ns w)
+sound-remove_all [] w s = s
+sound-remove_all (n ∷ ns) w s = sound-remove_all ns (remove true n w) (sound-remove true n w s)

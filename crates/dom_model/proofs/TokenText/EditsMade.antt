@@ -1,0 +1,19 @@
+-- The primitive edits of a command leave the nesting, data and live ranges that the command leaves.
+pub mod EditsLeave
+pub mod EditsOfSteps
+pub mod EditsOfInsertions
+pub mod EditsOfTrees
+pub mod EditsOfSplitting
+pub mod EditsOfNormalizing
+pub mod EditsOfTextContent
+pub mod EditsOfDeletedContents
+pub mod EditsOfDrawnContents
+pub mod EditsOfInsertedNodes
+pub mod EditsOfSurrounding
+pub mod EditsOfAnswers
+pub mod EditsOfTreeCommands
+pub mod EditsOfRangeCommands
+pub mod EditsOfOtherCommands
+pub mod EditsOfCommands
+pub mod EditsOfEachCommand
+pub mod WhatEditsDoNotTell

@@ -1,0 +1,32 @@
+-- The primitive edits of every command leave what the command leaves, of every world that commands reach.
+use Rattle.std.proofs.Common.{◌≡◌, ℕ, List, ◌<◌, subst}
+use Rattle.std.specs.Prelude.{Ok}
+use Rattle.dom_model.specs.Worlds.World.{World, first_world}
+use Rattle.dom_model.specs.Commands.Command.{Command}
+use Rattle.dom_model.specs.Commands.Guards.{Bounds}
+use Rattle.dom_model.specs.Commands.Answer.{answer}
+use Rattle.dom_model.specs.TokenText.Edits.{all_on_world}
+use Rattle.dom_model.specs.TokenText.CommandEdits.{edits_of, world_past}
+use Rattle.dom_model.specs.Worlds.Sound.{IsSound}
+use Rattle.dom_model.specs.Forests.Forest.{occurs}
+use Rattle.dom_model.specs.RangesAndContents.Wrapping.{insert_node}
+use Rattle.dom_model.proofs.Soundness.SoundContents.{sound-extract}
+use Rattle.dom_model.proofs.Soundness.SoundPlacedNode.{Gives}
+use Rattle.dom_model.proofs.Soundness.SoundInsertedNode.{insert-next}
+use Rattle.dom_model.proofs.Soundness.SoundAnswers.{sound-reached}
+use Rattle.dom_model.proofs.TokenText.EditsMade.EditsOfSurrounding.{KeepSound}
+use Rattle.dom_model.proofs.TokenText.EditsMade.EditsOfCommands.{IsLeftAs, edits-leave_every}
+
+-- extracting and inserting a node leave sound worlds
+keeps_sound : KeepSound
+keeps_sound = record { extracts = λ r w s c. sound-extract r w s c; inserts = inserts }
+  where
+    inserts : (r n : ℕ) (w v : World) → IsSound w → 0 < occurs n w.forest → insert_node r n w ≡ Ok v → IsSound v
+    inserts r n w v s h e = (subst (Gives w) e (insert-next r n w s h)).sound
+
+pub edits-leave_each : (b : Bounds) (w : World) → IsSound w → (c : Command) → IsLeftAs (all_on_world (edits_of b w c) w) (answer b w c).world
+edits-leave_each b w s c = edits-leave_every keeps_sound b w s c
+
+-- after any commands
+pub edits-leave_reached : (b : Bounds) (cs : List Command) (c : Command) → let w = world_past b first_world cs in IsLeftAs (all_on_world (edits_of b w c) w) (answer b w c).world
+edits-leave_reached b cs c = edits-leave_each b (world_past b first_world cs) (sound-reached b cs) c

@@ -1,0 +1,2 @@
+-- What is left of commands and replies without some observers, or without all that watches the tree. Ours.
+pub mod Erasing

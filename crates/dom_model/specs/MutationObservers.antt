@@ -1,0 +1,3 @@
+-- What observers ask for, and what they are told. DOM Standard, "Mutation observers".
+pub mod Observing
+pub mod Records

@@ -1,0 +1,182 @@
+-- What observers are told: options as they are settled, registrations, queues and the pending list as readings of the one list of mutations.
+-- DOM Standard, "Mutation observers": observe, disconnect, takeRecords, queue a mutation record, notify mutation observers.
+-- Ours: only a registration that is not transient counts as already there, and notify is a command that ends every transient one.
+use Rattle.std.specs.Prelude.{ℕ, ◌==◌, Bool, true, false, not, ◌&&◌, ◌||◌, if◌then◌else◌, List, [], ◌∷◌, ◌++◌, map, filter, filter_map, flat_map, drop, length, Option, Some, None, is_some, is_none, unwrap_or, slice_index_or, slice_set, bytes_eq, Result, Ok, Err}
+use Rattle.std.specs.List.{list_any}
+use Rattle.dom_model.specs.declared.RecordType.{RecordType}
+use Rattle.dom_model.specs.declared.RecordType.TheVariants.{ChildList, Attributes, CharacterData}
+use Rattle.dom_model.specs.declared.DomError.{DomError}
+use Rattle.dom_model.specs.declared.DomError.TheVariants.{TypeError}
+use Rattle.dom_model.specs.PlainLists.Lists.{is_number, left_out}
+use Rattle.dom_model.specs.Worlds.World.{Options, Registration, Mutation, Observing}
+use Rattle.dom_model.specs.Commands.Command.{GivenOptions}
+use Rattle.dom_model.specs.Commands.Reply.{Record, Told}
+use Rattle.dom_model.specs.MutationAlgorithms.Checks.{first_refusal}
+
+-- Options.
+
+-- the member is given, and true
+abbrev pub is_on : Option Bool → Bool
+is_on given = unwrap_or given false
+
+-- attributes: as given; where it is not, on where one of its own options is given
+abbrev pub attributes_on : GivenOptions → Bool
+attributes_on g = unwrap_or g.attributes (is_some g.attribute_old_value || is_some g.attribute_filter)
+
+-- characterData: as given; where it is not, on where its own option is given
+abbrev pub character_data_on : GivenOptions → Bool
+character_data_on g = unwrap_or g.character_data (is_some g.character_data_old_value)
+
+-- what is refused: no type at all, and options of a type that is off
+abbrev pub options_refusal : GivenOptions → Option DomError
+options_refusal g = first_refusal (
+    (not (is_on g.child_list || (attributes_on g || character_data_on g)), TypeError)
+    ∷ ((is_on g.attribute_old_value || is_some g.attribute_filter) && not (attributes_on g), TypeError)
+    ∷ (is_on g.character_data_old_value && not (character_data_on g), TypeError)
+    ∷ [])
+
+abbrev pub options_of : GivenOptions → Options
+options_of g = record {
+  child_list = is_on g.child_list;
+  attributes = attributes_on g;
+  character_data = character_data_on g;
+  subtree = is_on g.subtree;
+  attribute_old_value = is_on g.attribute_old_value;
+  character_data_old_value = is_on g.character_data_old_value;
+  attribute_filter = g.attribute_filter;
+}
+
+abbrev pub settled_unless : Option DomError → Options → Result Options DomError
+settled_unless None options = Ok options
+settled_unless (Some e) options = Err e
+
+-- the options as they are settled, or their refusal
+abbrev pub settled : GivenOptions → Result Options DomError
+settled g = settled_unless (options_refusal g) (options_of g)
+
+-- Registrations.
+
+-- the observer's registration on the node, not a transient one
+abbrev pub is_registered : ℕ → ℕ → Registration → Bool
+is_registered o n r = (r.observer == o) && ((r.node == n) && is_none r.source)
+
+-- a transient one of the observer whose source stands on the node
+abbrev pub is_transient_from : ℕ → ℕ → Registration → Bool
+is_transient_from o n r = (r.observer == o) && is_number r.source n
+
+abbrev pub new_registration : ℕ → ℕ → Options → Registration
+new_registration o n options = record { node = n; observer = o; options = options; source = None }
+
+abbrev pub with_options : ℕ → ℕ → Options → Registration → Registration
+with_options o n options r = if is_registered o n r then record r { options = options } else r
+
+-- the observer's registration on the node gets the options, and the transient ones that come from it go; where it has none, one is added last
+abbrev pub registered : ℕ → ℕ → Options → List Registration → List Registration
+registered o n options rs =
+    if list_any (is_registered o n) rs
+    then map (with_options o n options) (filter (λ (r : Registration). not (is_transient_from o n r)) rs)
+    else rs ++ new_registration o n options ∷ []
+
+-- observe
+abbrev pub observed : ℕ → ℕ → Options → Observing → Observing
+observed o n options x = record x { registrations = registered o n options x.registrations }
+
+-- Mutations: whom they interest, and what those are told.
+
+abbrev pub name_passes : Option (List (List ℕ)) → Option (List ℕ) → Bool
+name_passes None name = true
+name_passes (Some names) None = false
+name_passes (Some names) (Some name) = list_any (bytes_eq name) names
+
+-- the type is on, and an attribute's name passes the filter
+abbrev pub type_passes : RecordType → Option (List ℕ) → Options → Bool
+type_passes ChildList name options = options.child_list
+type_passes Attributes name options = options.attributes && name_passes options.attribute_filter name
+type_passes CharacterData name options = options.character_data
+
+-- a registration that stands on an inclusive ancestor of the target makes its observer interested
+abbrev pub interests : Mutation → Registration → Bool
+interests m r = ((r.node == m.target) || r.options.subtree) && type_passes m.type m.name r.options
+
+abbrev pub asks_old_value : RecordType → Options → Bool
+asks_old_value ChildList options = false
+asks_old_value Attributes options = options.attribute_old_value
+asks_old_value CharacterData options = options.character_data_old_value
+
+-- the registrations that a mutation interests, from the target upwards
+abbrev pub interested : Mutation → List Registration
+interested m = filter (interests m) m.standing
+
+abbrev pub record_with : Mutation → Option (List ℕ) → Record
+record_with m old_value = record {
+  type = m.type;
+  target = m.target;
+  added = m.added;
+  removed = m.removed;
+  previous = m.previous;
+  next = m.next;
+  name = m.name;
+  old_value = old_value;
+}
+
+-- one record, however many registrations; with the old value where one of them asks for it
+abbrev pub record_by : Mutation → List Registration → Option Record
+record_by m [] = None
+record_by m (r ∷ rs) =
+    Some (record_with m (if list_any (λ (s : Registration). asks_old_value m.type s.options) (r ∷ rs) then m.old_value else None))
+
+-- what an observer is told of a mutation, where it interests it
+abbrev pub record_for : ℕ → Mutation → Option Record
+record_for o m = record_by m (filter (λ (r : Registration). r.observer == o) (interested m))
+
+-- Queues and the pending list.
+
+-- the place in the list of mutations up to which the observer's records were taken
+abbrev pub taken_up_to : ℕ → Observing → ℕ
+taken_up_to o x = slice_index_or x.places o 0
+
+-- an observer's queue: the records of the mutations after its place
+abbrev pub queue_of : ℕ → Observing → List Record
+queue_of o x = filter_map (record_for o) (drop (taken_up_to o x) x.mutations)
+
+abbrev pub observers_of : Mutation → List ℕ
+observers_of m = map (λ (r : Registration). r.observer) (interested m)
+
+-- each number where it first stands
+abbrev pub each_once : List ℕ → List ℕ
+each_once [] = []
+each_once (n ∷ ns) = n ∷ left_out n (each_once ns)
+
+-- the pending list: the observers that a mutation since the last notify interests, by the first such mutation, then by the first such registration
+abbrev pub pending_of : Observing → List ℕ
+pending_of x = each_once (flat_map observers_of (drop x.notified x.mutations))
+
+-- a new observer: nothing in the list is before it
+abbrev pub with_observer : Observing → Observing
+with_observer x = record x { places = x.places ++ length x.mutations ∷ [] }
+
+-- takeRecords: the observer's place moves to the end
+abbrev pub records_taken : ℕ → Observing → Observing
+records_taken o x = record x { places = slice_set x.places o (length x.mutations) }
+
+-- disconnect: all its registrations go, transient ones too, and its queue is emptied
+abbrev pub disconnected : ℕ → Observing → Observing
+disconnected o x = record (records_taken o x) { registrations = filter (λ (r : Registration). not (r.observer == o)) x.registrations }
+
+abbrev pub told_in : Observing → ℕ → Told
+told_in x o = record { observer = o; records = queue_of o x }
+
+abbrev pub has_records : Told → Bool
+has_records t = not (length t.records == 0)
+
+-- what notify tells: the pending observers whose queues are not empty, in order
+abbrev pub told : Observing → List Told
+told x = filter has_records (map (told_in x) (pending_of x))
+
+-- notify: the queues and the pending list are emptied, and every transient registration goes
+abbrev pub after_notify : Observing → Observing
+after_notify x = record x {
+  registrations = filter (λ (r : Registration). is_none r.source) x.registrations;
+  places = map (λ _. length x.mutations) x.places;
+  notified = length x.mutations;
+}

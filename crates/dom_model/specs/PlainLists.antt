@@ -1,0 +1,2 @@
+-- Plain words on lists of numbers.
+pub mod Lists

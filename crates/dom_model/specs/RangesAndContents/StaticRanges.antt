@@ -1,0 +1,30 @@
+-- Static ranges: their making, and whether they are valid as the tree stands. DOM Standard, "Interface StaticRange".
+-- A static range is never adjusted.
+use Rattle.std.specs.Prelude.{ℕ, nat_le, Bool, not, ◌&&◌, ◌||◌, [], ◌∷◌, ◌++◌, Option, slice_get}
+use Rattle.dom_model.specs.declared.Kind.TheVariants.{DocumentType}
+use Rattle.dom_model.specs.declared.DomError.{DomError}
+use Rattle.dom_model.specs.declared.DomError.TheVariants.{InvalidNodeTypeError}
+use Rattle.dom_model.specs.Forests.Forest.{Forest}
+use Rattle.dom_model.specs.Worlds.World.{Range, World}
+use Rattle.dom_model.specs.MutationAlgorithms.Checks.{first_refusal, is_of_kind}
+use Rattle.dom_model.specs.Forests.Lengths.{node_length}
+use Rattle.dom_model.specs.RangesAndContents.Ranges.{same_root, is_before}
+
+module _ {X : Type 0} where
+  -- the refusal of a doctype as either node
+  abbrev pub check_static : Forest X → ℕ → ℕ → Option DomError
+  check_static f start end = first_refusal ((is_of_kind DocumentType f start || is_of_kind DocumentType f end, InvalidNodeTypeError) ∷ [])
+
+  -- valid: of one root, both offsets within length, the start not after the end
+  abbrev pub is_valid_static : (X → ℕ) → Forest X → Range → Bool
+  is_valid_static measure f r =
+      same_root f r.start.node r.end.node
+      && ((nat_le r.start.offset (node_length measure f r.start.node) && nat_le r.end.offset (node_length measure f r.end.node))
+      && not (is_before f r.end r.start))
+
+abbrev pub static_at : World → ℕ → Option Range
+static_at w u = slice_get w.static_ranges u
+
+-- a new static range, with the next number
+abbrev pub made_static : Range → World → World
+made_static range w = record w { static_ranges = w.static_ranges ++ range ∷ [] }

@@ -1,0 +1,5 @@
+-- Filters, iterators and tree walkers. DOM Standard, "Traversal".
+pub mod Filters
+pub mod Iterators
+pub mod Walks
+pub mod WalkSteps
