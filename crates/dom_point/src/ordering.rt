@@ -1,0 +1,40 @@
+//! The order of boundary points (DOM Standard, "Boundary points").
+
+ghost use Rattle.std.specs.Prelude.{◌≡◌, if◌then◌else◌};
+ghost use Rattle.std.specs.declared.cmp.Ordering.TheVariants.{Less, Greater};
+ghost use Rattle.dom_model.specs.Forests.Forest.{HasNode, root_of};
+ghost use Rattle.dom_model.specs.BoundaryPoints.Points.{order_of};
+
+use crate::ancestors::meeting;
+use crate::point::Point;
+use crate::siblings::comes_before;
+use dom_tree::Tree;
+use std::cmp::Ordering;
+
+/// How two points of one root stand: as many steps as the nodes are deep, and as their ways lie apart where they part.
+pub fn order<X>(tree: &Tree<X>, a: Point, b: Point) -> Ordering
+    requires a_held { HasNode tree.now.forest a.node }
+    requires b_held { HasNode tree.now.forest b.node }
+    requires one_root { root_of tree.now.forest a.node ≡ root_of tree.now.forest b.node }
+    ensures { result ≡ order_of tree.now.forest a b }
+{
+    tree.sound();
+    let met = meeting(tree, a.node, b.node);
+    match (met.first, met.second) {
+        (None, None) => a.offset.cmp(&b.offset),
+        (None, Some(child)) => side(a.offset <= tree.index(child)),
+        (Some(child), None) => side(tree.index(child) < b.offset),
+        (Some(first), Some(second)) => side(comes_before(tree, first, second)),
+    }
+}
+
+// The order of two points that are not one, by whether the first stands ahead.
+fn side(is_ahead: bool) -> Ordering
+    ensures { result ≡ (if is_ahead then Less else Greater) }
+{
+    if is_ahead {
+        Ordering::Less
+    } else {
+        Ordering::Greater
+    }
+}
