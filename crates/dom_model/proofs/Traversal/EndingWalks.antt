@@ -1,5 +1,5 @@
 -- Walks that end: steps that go through a list of trees, and on, back or up from a node inside them, make at most two moves for each node.
-use Rattle.std.proofs.Common.{◌≡◌, ℕ, suc, ◌+◌, ◌*◌, ◌≤◌, Option, Some, None, refl, ap, ◌∙◌, subst, arith, ◌⊎◌, ⊎_elim}
+use Rattle.std.proofs.Common.{◌≡◌, ℕ, zero, suc, ◌+◌, ◌*◌, ◌≤◌, Option, Some, None, refl, ap, sym, ◌∙◌, subst, arith, ◌⊎◌, ⊎_elim}
 use Rattle.dom_model.specs.PlainLists.Lists.{head_of, last_of}
 use Rattle.dom_model.specs.Forests.Arena.{Entry, parent_in, children_in, next_in, previous_in}
 use Rattle.dom_model.specs.Forests.Forest.{Node, Forest, empty, node, occurs, size, tops}
@@ -8,25 +8,51 @@ use Rattle.dom_model.proofs.Forests.Standing.{top, inside, beyond, whereabouts, 
 use Rattle.dom_model.proofs.Traversal.WalksForward.{Finds, Finds-ended, Finds-more, Finds-at, Finds-leaving, Finds-same}
 use Rattle.dom_model.proofs.Traversal.WalksBackward.{last_again}
 
+-- a walk has come to its end after so many moves
+abbrev pub HasEnded : (Stand → Stand) → ℕ → Stand → Type 0
+HasEnded step moves (ended found) = Unit {0}
+HasEnded step zero (at n) = ⊥
+HasEnded step zero (leaving n) = ⊥
+HasEnded step (suc moves) (at n) = HasEnded step moves (step (at n))
+HasEnded step (suc moves) (leaving n) = HasEnded step moves (step (leaving n))
+
+pub HasEnded-more : (step : Stand → Stand) (moves more : ℕ) (stand : Stand) → HasEnded step moves stand → moves ≤ more → HasEnded step more stand
+HasEnded-more step moves more (ended found) h le = tt
+HasEnded-more step zero more (at n) h le = absurd h
+HasEnded-more step zero more (leaving n) h le = absurd h
+HasEnded-more step (suc moves) zero (at n) h le = absurd (omega arith)
+HasEnded-more step (suc moves) zero (leaving n) h le = absurd (omega arith)
+HasEnded-more step (suc moves) (suc more) (at n) h le = HasEnded-more step moves more (step (at n)) h (omega arith)
+HasEnded-more step (suc moves) (suc more) (leaving n) h le = HasEnded-more step moves more (step (leaving n)) h (omega arith)
+
+-- so has another walk whose steps go the same way
+pub HasEnded-agree : (s t : Stand → Stand) → ((stand : Stand) → s stand ≡ t stand) → (moves : ℕ) (stand : Stand) → HasEnded s moves stand → HasEnded t moves stand
+HasEnded-agree s t e moves (ended found) h = tt
+HasEnded-agree s t e zero (at n) h = absurd h
+HasEnded-agree s t e zero (leaving n) h = absurd h
+HasEnded-agree s t e (suc moves) (at n) h = HasEnded-agree s t e moves (t (at n)) (subst (λ next. HasEnded s moves next) (e (at n)) h)
+HasEnded-agree s t e (suc moves) (leaving n) h = HasEnded-agree s t e moves (t (leaving n)) (subst (λ next. HasEnded s moves next) (e (leaving n)) h)
+
 -- a walk from where it stands ends with so many moves, and with more
 pub record Ends (step : Stand → Stand) (stand : Stand) (moves : ℕ) : Type 0 where
   pub found : Option ℕ
   pub finds : Finds step stand moves found
+  pub ends : HasEnded step moves stand
 
 pub Ends-ended : (step : Stand → Stand) (moves : ℕ) (found : Option ℕ) → Ends step (ended found) moves
-Ends-ended step moves found = record { found = found; finds = Finds-ended step moves found }
+Ends-ended step moves found = record { found = found; finds = Finds-ended step moves found; ends = tt }
 
 pub Ends-more : {step : Stand → Stand} {stand : Stand} {moves more : ℕ} → Ends step stand moves → moves ≤ more → Ends step stand more
-Ends-more i h = record { found = i.found; finds = Finds-more i.finds h }
+Ends-more {step = step} {stand = stand} {moves = moves} {more = more} i h = record { found = i.found; finds = Finds-more i.finds h; ends = HasEnded-more step moves more stand i.ends h }
 
 pub Ends-at : {step : Stand → Stand} {n : ℕ} {next : Stand} {moves : ℕ} → step (at n) ≡ next → Ends step next moves → Ends step (at n) (suc moves)
-Ends-at e i = record { found = i.found; finds = Finds-at e i.finds }
+Ends-at {step = step} {moves = moves} e i = record { found = i.found; finds = Finds-at e i.finds; ends = subst (λ stand. HasEnded step moves stand) (sym e) i.ends }
 
 pub Ends-leaving : {step : Stand → Stand} {n : ℕ} {next : Stand} {moves : ℕ} → step (leaving n) ≡ next → Ends step next moves → Ends step (leaving n) (suc moves)
-Ends-leaving e i = record { found = i.found; finds = Finds-leaving e i.finds }
+Ends-leaving {step = step} {moves = moves} e i = record { found = i.found; finds = Finds-leaving e i.finds; ends = subst (λ stand. HasEnded step moves stand) (sym e) i.ends }
 
 pub Ends-same : {step : Stand → Stand} {stand other : Stand} {moves : ℕ} → other ≡ stand → Ends step stand moves → Ends step other moves
-Ends-same e i = record { found = i.found; finds = Finds-same e i.finds }
+Ends-same {step = step} {moves = moves} e i = record { found = i.found; finds = Finds-same e i.finds; ends = subst (λ s. HasEnded step moves s) (sym e) i.ends }
 
 -- ended, or as told
 pub data EndsOr (stand other : Stand) : Type 0 where

@@ -1,4 +1,4 @@
--- The moves that a walk by steps is allowed are always enough, whatever the walker's root is: with more moves it finds the same.
+-- The moves that a walk by steps is allowed are always enough, whatever the walker's root is: it has ended then, and with more moves it finds the same.
 use Rattle.std.proofs.Common.{◌≡◌, ℕ, ◌+◌, ◌*◌, ◌<◌, ◌≤◌, ◌==◌, Bool, true, false, ◌||◌, if◌then◌else◌, List, [], ◌∷◌, ◌++◌, Option, Some, None, refl, ap, sym, ◌∙◌, subst, arith, ◌⊎◌, inl, inr}
 use Rattle.dom_model.specs.declared.Verdict.{Verdict}
 use Rattle.dom_model.specs.declared.Verdict.TheVariants.{Accept, Skip, Reject}
@@ -21,7 +21,7 @@ use Rattle.dom_model.proofs.Forests.Below.{Below, below, size-tree, tree-there, 
 use Rattle.dom_model.proofs.Traversal.WalksForward.{Finds, Finds-found}
 use Rattle.dom_model.proofs.Forests.Mirrored.{IsOnce-mirrored, total-mirrored}
 use Rattle.dom_model.proofs.Traversal.WalksMirrored.{walked-agree, first-mirrored, moves-mirrored, child_step-mirrored, sibling_step-mirrored, child_steps-mirrored, sibling_steps-mirrored, last_child_step, last_child_by_steps, previous_sibling_step, previous_sibling_by_steps}
-use Rattle.dom_model.proofs.Traversal.EndingWalks.{Ends, Ends-ended, Ends-more, Ends-leaving, Ends-same, EndsOr, at_end, goes_on, Ends-or, IsOnward, through-ends, on_from-ends, Entered, passed_over, gone_into, IsReturning, back_from-ends, IsClimbing, climb-ends}
+use Rattle.dom_model.proofs.Traversal.EndingWalks.{HasEnded, HasEnded-more, HasEnded-agree, Ends, Ends-ended, Ends-more, Ends-leaving, Ends-same, EndsOr, at_end, goes_on, Ends-or, IsOnward, through-ends, on_from-ends, Entered, passed_over, gone_into, IsReturning, back_from-ends, IsClimbing, climb-ends}
 
 -- a stand that a test may end
 tested : (v : Bool) (found : Option ℕ) (stand : Stand) → EndsOr (if v then ended found else stand) stand
@@ -142,38 +142,56 @@ module _ {X : Type 0} (f : Forest X) (o : IsOnce f) (filter : Filter) (root curr
       at_top : Ends step (leaving up_top.root) 1
       at_top = Ends-leaving refl (Ends-or (w.leaves up_top.root) (Ends-same (ap (up_to_parent arrive) up_top.parent) (Ends-ended step 0 None)))
 
-  pub parent-enough : Finds (parent_step f filter root current) (leaving current) (moves_allowed f filter root current) (parent_by_steps f filter root current)
-  parent-enough =
-      same_found (parent_step f filter root current) (leaving current) (Ends-more (climbing-leaving (parent_step f filter root current) (parent_arrived f filter root current)
+  ended_allowed : (step : Stand → Stand) (stand : Stand) → Ends step stand (4 * nodes) → HasEnded step (moves_allowed f filter root current) stand
+  ended_allowed step stand e = let i = enough in HasEnded-more step (4 * nodes) (moves_allowed f filter root current) stand e.ends (omega arith)
+
+  parent-end : Ends (parent_step f filter root current) (leaving current) (4 * nodes)
+  parent-end =
+      Ends-more (climbing-leaving (parent_step f filter root current) (parent_arrived f filter root current)
       (record {
         leaves = λ n. tested (n == root) None (up_to_parent (parent_arrived f filter root current) (parent_of f n));
         up = λ n. tested (accepts f filter n) (Some n) (leaving n);
-      })) (omega arith))
+      })) (omega arith)
 
-  pub first_child-enough : Finds (first_child_step f filter root current) (at_or (head_of (children_of f current)) (ended None)) (moves_allowed f filter root current) (first_child_by_steps f filter root current)
-  first_child-enough =
-      same_found (first_child_step f filter root current) (at_or (head_of (children_of f current)) (ended None))
-      (onward-into (first_child_step f filter root current) (first_child_arrived f filter root current) (past_child f filter root current) (record {
+  pub parent-ends : HasEnded (parent_step f filter root current) (moves_allowed f filter root current) (leaving current)
+  parent-ends = ended_allowed (parent_step f filter root current) (leaving current) parent-end
+
+  pub parent-enough : Finds (parent_step f filter root current) (leaving current) (moves_allowed f filter root current) (parent_by_steps f filter root current)
+  parent-enough = same_found (parent_step f filter root current) (leaving current) parent-end
+
+  first_child-end : Ends (first_child_step f filter root current) (at_or (head_of (children_of f current)) (ended None)) (4 * nodes)
+  first_child-end =
+      onward-into (first_child_step f filter root current) (first_child_arrived f filter root current) (past_child f filter root current) (record {
         comes = λ n. come (verdict_on f filter n) n (head_of (children_of f n)) (past_child f filter root current n);
         leaves = λ n. refl;
         on = λ n. goes_on refl;
         up = λ n. tested ((n == root) || (n == current)) None (leaving n);
-      }) (ended None) (Ends-ended (first_child_step f filter root current) (2 * nodes) None))
+      }) (ended None) (Ends-ended (first_child_step f filter root current) (2 * nodes) None)
 
-  pub next_sibling-enough : (current == root) ≡ false → Finds (next_sibling_step f filter root current) (leaving current) (moves_allowed f filter root current) (next_sibling_by_steps f filter root current)
-  next_sibling-enough off =
-      rw off (same_found (next_sibling_step f filter root current) (leaving current)
-      (Ends-more (onward-leaving (next_sibling_step f filter root current) (next_sibling_arrived f filter root current) (past_sibling f filter root current) (record {
+  pub first_child-ends : HasEnded (first_child_step f filter root current) (moves_allowed f filter root current) (at_or (head_of (children_of f current)) (ended None))
+  first_child-ends = ended_allowed (first_child_step f filter root current) (at_or (head_of (children_of f current)) (ended None)) first_child-end
+
+  pub first_child-enough : Finds (first_child_step f filter root current) (at_or (head_of (children_of f current)) (ended None)) (moves_allowed f filter root current) (first_child_by_steps f filter root current)
+  first_child-enough = same_found (first_child_step f filter root current) (at_or (head_of (children_of f current)) (ended None)) first_child-end
+
+  next_sibling-end : Ends (next_sibling_step f filter root current) (leaving current) (4 * nodes)
+  next_sibling-end =
+      Ends-more (onward-leaving (next_sibling_step f filter root current) (next_sibling_arrived f filter root current) (past_sibling f filter root current) (record {
         comes = λ n. come (verdict_on f filter n) n (head_of (children_of f n)) (past_sibling f filter root current n);
         leaves = λ n. refl;
         on = λ n. goes_on refl;
         up = λ n. tested ((n == root) || accepts f filter n) None (leaving n);
-      })) (omega arith)))
+      })) (omega arith)
 
-  pub next-enough : Finds (next_step f filter root current) (at_or (head_of (children_of f current)) (leaving current)) (moves_allowed f filter root current) (next_by_steps f filter root current)
-  next-enough =
-      same_found (next_step f filter root current) (at_or (head_of (children_of f current)) (leaving current))
-      (onward-into (next_step f filter root current) leaving (past_node f filter root current) onward (leaving current) (onward-leaving (next_step f filter root current) leaving (past_node f filter root current) onward))
+  pub next_sibling-ends : HasEnded (next_sibling_step f filter root current) (moves_allowed f filter root current) (leaving current)
+  next_sibling-ends = ended_allowed (next_sibling_step f filter root current) (leaving current) next_sibling-end
+
+  pub next_sibling-enough : (current == root) ≡ false → Finds (next_sibling_step f filter root current) (leaving current) (moves_allowed f filter root current) (next_sibling_by_steps f filter root current)
+  next_sibling-enough off = rw off (same_found (next_sibling_step f filter root current) (leaving current) next_sibling-end)
+
+  next-end : Ends (next_step f filter root current) (at_or (head_of (children_of f current)) (leaving current)) (4 * nodes)
+  next-end =
+      onward-into (next_step f filter root current) leaving (past_node f filter root current) onward (leaving current) (onward-leaving (next_step f filter root current) leaving (past_node f filter root current) onward)
     where
       onward : IsOnward (entry_in f) (next_step f filter root current) leaving (past_node f filter root current)
       onward =
@@ -184,19 +202,30 @@ module _ {X : Type 0} (f : Forest X) (o : IsOnce f) (filter : Filter) (root curr
             up = λ n. goes_on refl;
           }
 
-  pub previous-enough : (current == root) ≡ false → Finds (previous_step f filter root current) (leaving current) (moves_allowed f filter root current) (previous_by_steps f filter root current)
-  previous-enough off =
-      rw off (same_found (previous_step f filter root current) (leaving current)
-      (Ends-more (returning-leaving (previous_step f filter root current) (previous_arrived f filter root current) (back_past_node f filter root current) (record {
+  pub next-ends : HasEnded (next_step f filter root current) (moves_allowed f filter root current) (at_or (head_of (children_of f current)) (leaving current))
+  next-ends = ended_allowed (next_step f filter root current) (at_or (head_of (children_of f current)) (leaving current)) next-end
+
+  pub next-enough : Finds (next_step f filter root current) (at_or (head_of (children_of f current)) (leaving current)) (moves_allowed f filter root current) (next_by_steps f filter root current)
+  next-enough = same_found (next_step f filter root current) (at_or (head_of (children_of f current)) (leaving current)) next-end
+
+  previous-end : Ends (previous_step f filter root current) (leaving current) (4 * nodes)
+  previous-end =
+      Ends-more (returning-leaving (previous_step f filter root current) (previous_arrived f filter root current) (back_past_node f filter root current) (record {
         comes = λ n. come_back (verdict_on f filter n) n (last_of (children_of f n)) (back_past_node f filter root current n);
         leaves = λ n. refl;
         back = λ n. tested_back (previous_in (entry_in f) n) (n == root) (up_to_parent (previous_arrived f filter root current) (parent_of f n));
         up = λ n. arrived n (accepts f filter n);
-      })) (omega arith)))
+      })) (omega arith)
     where
       arrived : (n : ℕ) (v : Bool) → EndsOr (if v then ended (Some n) else (if n == root then ended None else leaving n)) (leaving n)
       arrived n true = at_end (Some n) refl
       arrived n false = tested (n == root) None (leaving n)
+
+  pub previous-ends : HasEnded (previous_step f filter root current) (moves_allowed f filter root current) (leaving current)
+  previous-ends = ended_allowed (previous_step f filter root current) (leaving current) previous-end
+
+  pub previous-enough : (current == root) ≡ false → Finds (previous_step f filter root current) (leaving current) (moves_allowed f filter root current) (previous_by_steps f filter root current)
+  previous-enough off = rw off (same_found (previous_step f filter root current) (leaving current) previous-end)
 
 -- the same walk by other steps that go the same way
 other_steps : (s t : Stand → Stand) → ((stand : Stand) → s stand ≡ t stand) → (start other : Stand) → start ≡ other → (moves more : ℕ) → moves ≡ more → (found : Option ℕ) → Finds s start moves found → Finds t other more found
@@ -222,6 +251,19 @@ module _ {X : Type 0} (f : Forest X) (o : IsOnce f) (filter : Filter) (root curr
       (moves_allowed (mirrored f) filter root current) (moves_allowed f filter root current) (moves-mirrored f o filter root current)
       (previous_sibling_by_steps f filter root current)
       (Finds-found (next_sibling-enough (mirrored f) (IsOnce-mirrored f o) filter root current there-mirrored off) (sibling_steps-mirrored f o filter root current))
+
+  pub last_child-ends : HasEnded (last_child_step f filter root current) (moves_allowed f filter root current) (at_or (last_of (children_of f current)) (ended None))
+  last_child-ends =
+      subst (λ moves. HasEnded (last_child_step f filter root current) moves (at_or (last_of (children_of f current)) (ended None))) (moves-mirrored f o filter root current)
+      (subst (λ (m : Option ℕ). HasEnded (last_child_step f filter root current) (moves_allowed (mirrored f) filter root current) (at_or m (ended None))) (first-mirrored f o filter current)
+      (HasEnded-agree (first_child_step (mirrored f) filter root current) (last_child_step f filter root current) (child_step-mirrored f o filter root current) (moves_allowed (mirrored f) filter root current)
+      (at_or (head_of (children_of (mirrored f) current)) (ended None)) (first_child-ends (mirrored f) (IsOnce-mirrored f o) filter root current there-mirrored)))
+
+  pub previous_sibling-ends : HasEnded (previous_sibling_step f filter root current) (moves_allowed f filter root current) (leaving current)
+  previous_sibling-ends =
+      subst (λ moves. HasEnded (previous_sibling_step f filter root current) moves (leaving current)) (moves-mirrored f o filter root current)
+      (HasEnded-agree (next_sibling_step (mirrored f) filter root current) (previous_sibling_step f filter root current) (sibling_step-mirrored f o filter root current) (moves_allowed (mirrored f) filter root current)
+      (leaving current) (next_sibling-ends (mirrored f) (IsOnce-mirrored f o) filter root current there-mirrored))
 
 -- no more moves than four for each node there is
 pub moves-bounded : {X : Type 0} (f : Forest X) (filter : Filter) (root current : ℕ) → moves_allowed f filter root current ≤ 4 * size f

@@ -1,0 +1,80 @@
+-- What a course comes to, step by step.
+use Rattle.std.proofs.Common.{◌≡◌, ◌≢◌, ℕ, ◌*◌, Bool, true, false, if◌then◌else◌, Option, Some, None, refl, ap, sym, ◌∙◌, subst}
+use Rattle.dom_model.specs.declared.Verdict.{Verdict}
+use Rattle.dom_model.specs.declared.Verdict.TheVariants.{Accept, Skip, Reject}
+use Rattle.dom_model.specs.Forests.Forest.{Forest, Grove, HasNode, size, parent_of, IsForest}
+use Rattle.dom_model.specs.Worlds.World.{Filter}
+use Rattle.dom_model.specs.Traversal.Filters.{verdict_on}
+use Rattle.dom_model.specs.Traversal.WalkSteps.{Stand, at, leaving, ended, at_or, come_to, up_to_parent}
+use Rattle.dom_model.proofs.Traversal.WalksEnd.{Leads, LeadsOn, Leads-here, Leads-then, LeadsOn-then, LeadsOn-at, LeadsOn-leaving}
+use Rattle.dom_traverse.specs.declared.course.Side.{Side}
+use Rattle.dom_traverse.specs.declared.course.Side.TheVariants.{First, Last}
+use Rattle.dom_traverse.specs.declared.course.Course.{Course}
+use Rattle.dom_traverse.specs.Courses.{child_on, sibling_on, way_into, blocks, stops, come_up_to, past_in, course_step, Ending, LeadsTo, GoesOnTo}
+use Rattle.dom_traverse.proofs.Neighbors.{first-there, last-there, next-there, previous-there}
+
+module _ {X : Type 0} {g : Grove X} (s : IsForest g) where
+  pub child_on-there : (side : Side) (n m : ℕ) → HasNode g.forest n → child_on side g.forest n ≡ Some m → HasNode g.forest m
+  child_on-there First n m h e = first-there s n m e
+  child_on-there Last n m h e = last-there s n m h e
+
+  pub sibling_on-there : (side : Side) (n m : ℕ) → HasNode g.forest n → sibling_on side g.forest n ≡ Some m → HasNode g.forest m
+  sibling_on-there First n m h e = next-there s n m e
+  sibling_on-there Last n m h e = previous-there s n m h e
+
+  pub entered-there : (side : Side) (n m : ℕ) (v : Verdict) → HasNode g.forest n → way_into v (child_on side g.forest n) ≡ Some m → HasNode g.forest m
+  entered-there side n m Accept h e = absurd (cc e)
+  entered-there side n m Skip h e = child_on-there side n m h e
+  entered-there side n m Reject h e = absurd (cc e)
+
+come_into : (v : Verdict) (n : ℕ) (child : Option ℕ) (onwards : Stand) → v ≢ Accept → come_to v n child onwards ≡ at_or (way_into v child) onwards
+come_into Accept n child onwards h = absurd (h refl)
+come_into Skip n child onwards h = refl
+come_into Reject n child onwards h = refl
+
+module _ {X : Type 0} (f : Forest X) (filter : Filter) (c : Course) where
+  -- past a node
+  pub past-over : (n : ℕ) → blocks c.limit c.root n ≡ true → past_in f filter c n ≡ ended None
+  past-over n h = ap (λ v. if v then ended None else at_or (sibling_on c.side f n) (up_to_parent (come_up_to f filter c) (parent_of f n))) h
+
+  past-on : (n : ℕ) → blocks c.limit c.root n ≡ false → past_in f filter c n ≡ at_or (sibling_on c.side f n) (up_to_parent (come_up_to f filter c) (parent_of f n))
+  past-on n h = ap (λ v. if v then ended None else at_or (sibling_on c.side f n) (up_to_parent (come_up_to f filter c) (parent_of f n))) h
+
+  pub past-sibling : (n m : ℕ) → blocks c.limit c.root n ≡ false → sibling_on c.side f n ≡ Some m → past_in f filter c n ≡ at m
+  past-sibling n m h e = past-on n h ∙ ap (λ (o : Option ℕ). at_or o (up_to_parent (come_up_to f filter c) (parent_of f n))) e
+
+  past-up : (n : ℕ) (p : Option ℕ) → blocks c.limit c.root n ≡ false → sibling_on c.side f n ≡ None → parent_of f n ≡ p → past_in f filter c n ≡ up_to_parent (come_up_to f filter c) p
+  past-up n p h e d = past-on n h ∙ ap (λ (o : Option ℕ). at_or o (up_to_parent (come_up_to f filter c) (parent_of f n))) e ∙ ap (up_to_parent (come_up_to f filter c)) d
+
+  pub past-none : (n : ℕ) → blocks c.limit c.root n ≡ false → sibling_on c.side f n ≡ None → parent_of f n ≡ None → past_in f filter c n ≡ ended None
+  past-none n h e d = past-up n None h e d
+
+  pub past-stop : (n p : ℕ) → blocks c.limit c.root n ≡ false → sibling_on c.side f n ≡ None → parent_of f n ≡ Some p → stops c.limit f filter c.root c.current p ≡ true → past_in f filter c n ≡ ended None
+  past-stop n p h e d k = past-up n (Some p) h e d ∙ ap (λ v. if v then ended None else leaving p) k
+
+  -- up to the parent, and past it
+  pub past-parent : (n p : ℕ) → blocks c.limit c.root n ≡ false → sibling_on c.side f n ≡ None → parent_of f n ≡ Some p → stops c.limit f filter c.root c.current p ≡ false → GoesOnTo f filter c (past_in f filter c n) (past_in f filter c p)
+  past-parent n p h e d k =
+      subst (λ stand. GoesOnTo f filter c stand (past_in f filter c p)) (sym (past-up n (Some p) h e d ∙ ap (λ v. if v then ended None else leaving p) k))
+      (LeadsOn-leaving (course_step f filter c) (4 * size f) p (past_in f filter c p) refl)
+
+  -- where the walk already stands
+  pub stays : (stand other : Stand) → stand ≡ other → LeadsTo f filter c stand other
+  stays stand other e = Leads-here (course_step f filter c) (4 * size f) stand other e
+
+  -- from a node that is not accepted
+  into : (n : ℕ) (v : Verdict) (o : Option ℕ) → v ≡ verdict_on f filter n → v ≢ Accept → o ≡ way_into v (child_on c.side f n) → course_step f filter c (at n) ≡ at_or o (past_in f filter c n)
+  into n v o e ne d =
+      ap (λ w. come_to w n (child_on c.side f n) (past_in f filter c n)) (sym e)
+      ∙ come_into v n (child_on c.side f n) (past_in f filter c n) ne
+      ∙ ap (λ (i : Option ℕ). at_or i (past_in f filter c n)) (sym d)
+
+  pub goes_into : (n m : ℕ) (v : Verdict) (o : Option ℕ) → v ≡ verdict_on f filter n → v ≢ Accept → o ≡ way_into v (child_on c.side f n) → o ≡ Some m → GoesOnTo f filter c (at n) (at m)
+  goes_into n m v o e ne d k = LeadsOn-at (course_step f filter c) (4 * size f) n (at m) (into n v o e ne d ∙ ap (λ (i : Option ℕ). at_or i (past_in f filter c n)) k)
+
+  pub goes_past : (n : ℕ) (v : Verdict) (o : Option ℕ) → v ≡ verdict_on f filter n → v ≢ Accept → o ≡ way_into v (child_on c.side f n) → o ≡ None → GoesOnTo f filter c (at n) (past_in f filter c n)
+  goes_past n v o e ne d k = LeadsOn-at (course_step f filter c) (4 * size f) n (past_in f filter c n) (into n v o e ne d ∙ ap (λ (i : Option ℕ). at_or i (past_in f filter c n)) k)
+
+  -- an accepted node ends the walk
+  pub accepted-here : (n : ℕ) → verdict_on f filter n ≡ Accept → GoesOnTo f filter c (at n) (ended (Some n))
+  accepted-here n e = LeadsOn-at (course_step f filter c) (4 * size f) n (ended (Some n)) (ap (λ w. come_to w n (child_on c.side f n) (past_in f filter c n)) e)

@@ -1,0 +1,29 @@
+-- What an iterator's place tells, and when a root loses its reference.
+use Rattle.std.proofs.Common.{◌≡◌, ℕ, ◌==◌, Bool, true, false, not, ◌&&◌, refl, sym, ◌∙◌}
+use Rattle.std.proofs.lemmas.Bool.{false≢true}
+use Rattle.dom_model.specs.PlainLists.Lists.{among}
+use Rattle.dom_model.specs.Forests.Forest.{Forest, HasNode, ancestors, inclusive_descendants}
+use Rattle.dom_model.specs.Worlds.World.{Iterator}
+use Rattle.dom_model.proofs.Forests.Totals.{IsOnce}
+use Rattle.dom_traverse.specs.Standing.{StandsInside}
+use Rattle.dom_traverse.proofs.Descendants.{among-inside, hits-inside, inside-there}
+
+module _ {X : Type 0} (f : Forest X) (o : IsOnce f) where
+  pub reference-there : (i : Iterator) → StandsInside f i → HasNode f i.reference
+  reference-there i h = inside-there f o i.reference i.root h.inside
+
+  pub reference-under : (i : Iterator) → StandsInside f i → among i.root (ancestors i.reference f) ≡ true
+  reference-under i h = hits-inside f o i.reference i.root h.inside
+
+  -- where the reference is lost, the root stands over the node
+  pub lost-under : (n : ℕ) (i : Iterator) → (among i.reference (inclusive_descendants f n) && (not (n == i.root) && among n (inclusive_descendants f i.root))) ≡ true → among i.root (ancestors n f) ≡ true
+  lost-under n i h = sym (among-inside f o n i.root) ∙ last (among i.reference (inclusive_descendants f n)) (not (n == i.root)) h
+    where
+      last : (a b : Bool) {c : Bool} → (a && (b && c)) ≡ true → c ≡ true
+      last true true h = h
+      last true false h = absurd (false≢true h)
+      last false b h = absurd (false≢true h)
+
+-- three tests in turn
+pub all_three : (a b c r : Bool) → a ≡ true → b ≡ true → r ≡ c → r ≡ (a && (b && c))
+all_three a b c r i j k = rw (i, j) k

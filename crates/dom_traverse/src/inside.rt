@@ -1,0 +1,53 @@
+//! Tree order inside a node: whether a node stands there, what comes before one, and what comes after all of it (DOM Standard, "Trees").
+
+ghost use Rattle.std.specs.Prelude.{◌≡◌, ℕ, true};
+ghost use Rattle.dom_model.specs.PlainLists.Lists.{among, before, head_of};
+ghost use Rattle.dom_model.specs.Forests.Forest.{HasNode, ancestors, inclusive_descendants};
+ghost use Rattle.dom_model.specs.MutationAlgorithms.PreRemoval.{following_outside};
+
+use dom_tree::{NodeId, Tree};
+
+// Whether the number is that of an inclusive descendant of `top`.
+pub(crate) fn is_inside<X>(tree: &Tree<X>, top: NodeId, node: NodeId) -> bool
+    requires { HasNode tree.now.forest top }
+    ensures { result ≡ among node (inclusive_descendants tree.now.forest top) }
+{
+    tree.sound();
+    match tree.first(top) {
+        None => node == top,
+        Some(_) => tree.holds(node) && tree.is_ancestor(top, node),
+    }
+}
+
+// The node that precedes in tree order, among the inclusive descendants of `top`.
+pub(crate) fn previous_inside<X>(tree: &Tree<X>, top: NodeId, node: NodeId) -> Option<NodeId>
+    requires held { HasNode tree.now.forest node }
+    requires under { among top (ancestors node tree.now.forest) ≡ true }
+    ensures { result ≡ before node (inclusive_descendants tree.now.forest top) }
+{
+    tree.sound();
+    if node == top {
+        return None;
+    }
+    match tree.prev(node) {
+        Some(sibling) => Some(tree.last_inside(sibling)),
+        None => tree.parent(node),
+    }
+}
+
+// The node that follows all inclusive descendants of `node` in tree order, among those of `top`.
+pub(crate) fn past_inside<X>(tree: &Tree<X>, top: NodeId, node: NodeId) -> Option<NodeId>
+    requires held { HasNode tree.now.forest node }
+    requires under { among top (ancestors node tree.now.forest) ≡ true }
+    ensures { result ≡ head_of (following_outside node (inclusive_descendants tree.now.forest node) (inclusive_descendants tree.now.forest top)) }
+{
+    tree.sound();
+    let mut here = node;
+    while here != top {
+        if let Some(next) = tree.next(here) {
+            return Some(next);
+        }
+        here = tree.parent(here).unwrap();
+    }
+    None
+}

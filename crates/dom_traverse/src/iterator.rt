@@ -1,0 +1,169 @@
+//! One node iterator (DOM Standard, "Interface NodeIterator").
+
+ghost use Rattle.std.specs.Prelude.{◌≡◌, ℕ, ◌==◌, true, not, ◌&&◌, find, reverse};
+ghost use Rattle.std.specs.List.{list_any};
+ghost use Rattle.dom_model.specs.PlainLists.Lists.{among};
+ghost use Rattle.dom_model.specs.MutationAlgorithms.Discarding.{nodes_of_iterator};
+ghost use Rattle.dom_model.specs.Forests.Forest.{HasNode, ancestors, inclusive_descendants};
+ghost use Rattle.dom_model.specs.MutationAlgorithms.Checks.{up_to};
+ghost use Rattle.dom_model.specs.Traversal.Filters.{accepts};
+ghost use Rattle.dom_model.specs.Traversal.Iterators.{next_found, previous_found, moved_to_next, moved_to_previous};
+ghost use Rattle.dom_model.specs.MutationAlgorithms.PreRemoval.{past, pre_removed};
+ghost use Rattle.dom_traverse.specs.Standing.{StandsInside};
+
+use crate::filter::Filter;
+use crate::inside::{is_inside, past_inside, previous_inside};
+use dom_tree::{NodeId, Tree};
+use std::marker::Model;
+
+// A root, a reference inside it, whether the pointer is before the reference, and a filter.
+#[derive(Drop)]
+pub struct NodeIterator {
+    pub root: NodeId,
+    pub reference: NodeId,
+    pub before: bool,
+    pub filter: Filter,
+}
+
+impl Model for NodeIterator {
+    ghost use Rattle.dom_model.specs.Worlds.World.{Iterator};
+
+    ghost Value = { Iterator };
+
+    ghost view = { λ i. record { root = i.root; reference = i.reference; before = i.before; filter = i.filter } };
+}
+
+// The first accepted node that follows `node` inside the root.
+fn next_accepted<X>(
+    tree: &Tree<X>,
+    filter: &Filter,
+    root: NodeId,
+    node: NodeId,
+) -> Option<NodeId>
+    requires held { HasNode tree.now.forest node }
+    requires under { among root (ancestors node tree.now.forest) ≡ true }
+    ensures { result ≡ find (accepts tree.now.forest filter.now) (past node (inclusive_descendants tree.now.forest root)) }
+{
+    tree.sound();
+    let mut here = node;
+    while let Some(next) = tree.next_inside(root, here) {
+        if filter.accepts(tree, next) {
+            return Some(next);
+        }
+        here = next;
+    }
+    None
+}
+
+// The first accepted node that precedes `node` inside the root, the nearest first.
+fn previous_accepted<X>(
+    tree: &Tree<X>,
+    filter: &Filter,
+    root: NodeId,
+    node: NodeId,
+) -> Option<NodeId>
+    requires held { HasNode tree.now.forest node }
+    requires under { among root (ancestors node tree.now.forest) ≡ true }
+    ensures { result ≡ find (accepts tree.now.forest filter.now) (reverse (up_to node (inclusive_descendants tree.now.forest root))) }
+{
+    tree.sound();
+    let mut here = node;
+    while let Some(previous) = previous_inside(tree, root, here) {
+        if filter.accepts(tree, previous) {
+            return Some(previous);
+        }
+        here = previous;
+    }
+    None
+}
+
+impl NodeIterator {
+    // To the next node that the filter accepts, where there is one.
+    pub fn next<X>(&mut self, tree: &Tree<X>) -> Option<NodeId>
+        requires { StandsInside tree.now.forest self.old }
+        ensures found { result ≡ next_found tree.now.forest self.old }
+        ensures moved { self.new ≡ moved_to_next tree.now.forest self.old }
+    {
+        let found = self.found_next(tree)?;
+        self.reference = found;
+        self.before = false;
+        Some(found)
+    }
+
+    // To the previous node that the filter accepts, where there is one.
+    pub fn previous<X>(&mut self, tree: &Tree<X>) -> Option<NodeId>
+        requires { StandsInside tree.now.forest self.old }
+        ensures found { result ≡ previous_found tree.now.forest self.old }
+        ensures moved { self.new ≡ moved_to_previous tree.now.forest self.old }
+    {
+        let found = self.found_previous(tree)?;
+        self.reference = found;
+        self.before = true;
+        Some(found)
+    }
+
+    // The first accepted node from the pointer on.
+    fn found_next<X>(&self, tree: &Tree<X>) -> Option<NodeId>
+        requires { StandsInside tree.now.forest self.now }
+        ensures { result ≡ next_found tree.now.forest self.now }
+    {
+        tree.sound();
+        if self.before && self.filter.accepts(tree, self.reference) {
+            return Some(self.reference);
+        }
+        next_accepted(tree, &self.filter, self.root, self.reference)
+    }
+
+    // The first accepted node from the pointer back.
+    fn found_previous<X>(&self, tree: &Tree<X>) -> Option<NodeId>
+        requires { StandsInside tree.now.forest self.now }
+        ensures { result ≡ previous_found tree.now.forest self.now }
+    {
+        tree.sound();
+        if !self.before && self.filter.accepts(tree, self.reference) {
+            return Some(self.reference);
+        }
+        previous_accepted(tree, &self.filter, self.root, self.reference)
+    }
+
+    // Before a node is removed: a reference inside it steps off, on where the pointer is before it, or else back.
+    pub fn removing<X>(&mut self, tree: &Tree<X>, node: NodeId)
+        requires { HasNode tree.now.forest node }
+        ensures { self.new ≡ pre_removed tree.now.forest node self.old }
+    {
+        tree.sound();
+        if !self.loses(tree, node) {
+            return;
+        }
+        let root = self.root;
+        if self.before {
+            if let Some(following) = past_inside(tree, root, node) {
+                self.reference = following;
+                return;
+            }
+            self.before = false;
+        }
+        if let Some(preceding) = previous_inside(tree, root, node) {
+            self.reference = preceding;
+        }
+    }
+
+    // Whether the root loses the reference with the node.
+    fn loses<X>(&self, tree: &Tree<X>, node: NodeId) -> bool
+        requires { HasNode tree.now.forest node }
+        ensures { result ≡ (among self.now.reference (inclusive_descendants tree.now.forest node) && (not (node == self.now.root) && among node (inclusive_descendants tree.now.forest self.now.root))) }
+    {
+        tree.sound();
+        is_inside(tree, node, self.reference)
+            && node != self.root
+            && tree.is_ancestor(self.root, node)
+    }
+
+    // Whether the root or the reference is an inclusive descendant of a node.
+    pub fn stands_in<X>(&self, tree: &Tree<X>, top: NodeId) -> bool
+        requires { HasNode tree.now.forest top }
+        ensures { result ≡ list_any (λ m. among m (inclusive_descendants tree.now.forest top)) (nodes_of_iterator self.now) }
+    {
+        is_inside(tree, top, self.root) || is_inside(tree, top, self.reference)
+    }
+}

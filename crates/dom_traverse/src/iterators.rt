@@ -1,0 +1,160 @@
+//! The node iterators of a session, by number (DOM Standard, "Interface NodeIterator").
+
+ghost use Rattle.std.specs.Prelude.{◌≡◌, ℕ, ◌<◌, [], ◌∷◌, ◌++◌, length, slice_get, slice_set, IfSome, IfOk, OnOk, OnErr, IsTrue, ◌↔◌};
+ghost use Rattle.std.specs.List.{list_any, flat_map};
+ghost use Rattle.std.specs.Option.{ForSome};
+ghost use Rattle.dom_model.specs.PlainLists.Lists.{among};
+ghost use Rattle.dom_model.specs.Forests.Forest.{HasNode, inclusive_descendants};
+ghost use Rattle.dom_model.specs.Traversal.Iterators.{new_iterator, next_found, previous_found, moved_to_next, moved_to_previous};
+ghost use Rattle.dom_model.specs.MutationAlgorithms.PreRemoval.{pre_removed_all};
+ghost use Rattle.dom_model.specs.MutationAlgorithms.Discarding.{nodes_of_iterator};
+ghost use Rattle.dom_traverse.specs.Standing.{StandsInside};
+
+use crate::filter::Filter;
+use crate::iterator::NodeIterator;
+use dom_tree::{NodeId, Tree};
+use std::alloc::{AllocError, Global};
+use std::marker::Model;
+
+/// The number by which callers name an iterator: the first that is made has 0.
+#[derive(Clone, Copy, Debug, PartialEq, Eq)]
+pub struct IterId {
+    number: u32,
+}
+
+impl Model for IterId {
+    ghost use Rattle.std.specs.Prelude.{ℕ, ◌<◌, ◌^◌};
+
+    ghost Value = { ℕ };
+
+    ghost view = { λ i. i.number };
+
+    ghost invariant = { λ i. i.number < 2 ^ 32 };
+
+    ghost inverse = { λ n. record { number = n } };
+}
+
+impl IterId {
+    /// The id of a number, whether or not there is such an iterator.
+    pub fn new(number: u32) -> IterId
+        ensures { result ≡ number }
+    {
+        IterId { number }
+    }
+
+    /// The number itself.
+    pub fn number(self) -> u32
+        ensures { result ≡ self }
+    {
+        self.number
+    }
+}
+
+/// Node iterators, each over the inclusive descendants of its root.
+#[derive(Drop)]
+pub struct Iters {
+    iterators: Vec<NodeIterator>,
+}
+
+impl Model for Iters {
+    ghost use Rattle.std.specs.Prelude.{List};
+    ghost use Rattle.dom_model.specs.Worlds.World.{Iterator};
+
+    ghost Value = { List Iterator };
+
+    ghost view = { λ i. i.iterators.items };
+}
+
+impl Iters {
+    /// No iterators.
+    pub fn new(alloc: Global) -> Iters
+        ensures { result ≡ [] }
+    {
+        Iters {
+            iterators: Vec::new(alloc),
+        }
+    }
+
+    /// Makes an iterator that stands before its root (`createNodeIterator`).
+    pub fn make(&mut self, root: NodeId, filter: Filter) -> Result<IterId, AllocError>
+        requires room { length self.old < 4294967295 }
+        ensures number { IfOk result (λ id. id ≡ length self.old) }
+        ensures made { OnOk result (self.new ≡ self.old ++ new_iterator root filter ∷ []) }
+        ensures unchanged { OnErr result (self.new ≡ self.old) }
+    {
+        let id = IterId::new(self.iterators.len() as u32);
+        self.iterators.push(NodeIterator {
+            root,
+            reference: root,
+            before: true,
+            filter,
+        })?;
+        Ok(id)
+    }
+
+    /// How many iterators were ever made.
+    pub fn made(&self) -> u64
+        ensures { result ≡ length self.now }
+    {
+        self.iterators.len() as u64
+    }
+
+    /// Whether there is such an iterator.
+    pub fn holds(&self, id: IterId) -> bool
+        ensures { IsTrue result ↔ (id < length self.now) }
+    {
+        (id.number() as usize) < self.iterators.len()
+    }
+
+    /// `root`, `referenceNode` and `pointerBeforeReferenceNode`.
+    pub fn state(&self, id: IterId) -> (NodeId, NodeId, bool)
+        requires { id < length self.now }
+        ensures { IfSome (slice_get self.now id) (λ i. result ≡ (i.root, i.reference, i.before)) }
+    {
+        let iterator = &self.iterators[id.number() as usize];
+        (iterator.root, iterator.reference, iterator.before)
+    }
+
+    /// `nextNode()`.
+    pub fn next<X>(&mut self, tree: &Tree<X>, id: IterId) -> Option<NodeId>
+        requires held { id < length self.old }
+        requires inside { ForSome (slice_get self.old id) (StandsInside tree.now.forest) }
+        ensures found { IfSome (slice_get self.old id) (λ i. result ≡ next_found tree.now.forest i) }
+        ensures moved { IfSome (slice_get self.old id) (λ i. self.new ≡ slice_set self.old id (moved_to_next tree.now.forest i)) }
+    {
+        self.iterators[id.number() as usize].next(tree)
+    }
+
+    /// `previousNode()`.
+    pub fn previous<X>(&mut self, tree: &Tree<X>, id: IterId) -> Option<NodeId>
+        requires held { id < length self.old }
+        requires inside { ForSome (slice_get self.old id) (StandsInside tree.now.forest) }
+        ensures found { IfSome (slice_get self.old id) (λ i. result ≡ previous_found tree.now.forest i) }
+        ensures moved { IfSome (slice_get self.old id) (λ i. self.new ≡ slice_set self.old id (moved_to_previous tree.now.forest i)) }
+    {
+        self.iterators[id.number() as usize].previous(tree)
+    }
+
+    /// The pre-removing steps of every iterator, before a node is taken from its parent.
+    pub fn removing<X>(&mut self, tree: &Tree<X>, node: NodeId)
+        requires { HasNode tree.now.forest node }
+        ensures { self.new ≡ pre_removed_all tree.now.forest node self.old }
+    {
+        for iterator in self.iterators.iter_mut() {
+            iterator.removing(tree, node);
+        }
+    }
+
+    /// Whether some iterator has its root or its reference among the inclusive descendants of a node.
+    pub fn refers<X>(&self, tree: &Tree<X>, top: NodeId) -> bool
+        requires { HasNode tree.now.forest top }
+        ensures { result ≡ list_any (λ m. among m (inclusive_descendants tree.now.forest top)) (flat_map nodes_of_iterator self.now) }
+    {
+        for iterator in &self.iterators {
+            if iterator.stands_in(tree, top) {
+                return true;
+            }
+        }
+        false
+    }
+}

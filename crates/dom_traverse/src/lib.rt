@@ -1,0 +1,12 @@
+//! Filters, node iterators and tree walkers (DOM Standard, "Traversal"). A walk goes step by step, over no more nodes than it passes.
+#![tactic(auto)]
+
+mod course;
+mod filter;
+mod inside;
+mod iterator;
+mod iterators;
+
+pub use dom_model::{Move, Verdict};
+pub use filter::{Filter, Rule};
+pub use iterators::{IterId, Iters};
