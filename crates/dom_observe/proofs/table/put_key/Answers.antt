@@ -1,0 +1,31 @@
+-- A node that has keys gets one more, and another its first.
+use Rattle.std.proofs.Common.{◌≡◌, ℕ, ◌==◌, ◌++◌, [], ◌∷◌, if◌then◌else◌, ap, sym, ◌∙◌}
+use Rattle.std.proofs.lemmas.Result.{err_from_is_err_and}
+use Rattle.std.proofs.Common.{nat_eq}
+use Rattle.indexmap.specs.IndexMap.{insert_entry}
+use Rattle.dom_observe.specs.Watchers.{on}
+use Rattle.dom_observe.specs.Registrations.{listed}
+use Rattle.dom_observe.proofs.Keys.{listed-set_value, on-set_value, on-insert_entry}
+use Rattle.dom_observe.proofs.table.put_key.Goals as goal
+
+pub returns-in_err-push-in-Some-clause-err : goal.returns-in_err-push-in-Some-clause-err
+returns-in_err-push-in-Some-clause-err c =
+    let p = err_from_is_err_and c.from_residual.result c.from_residual.ensures.1 in
+    let written = c.get_mut.follows.holds c.push.new.self in
+    rw (p.1) (ap listed written.0 ∙ listed-set_value c.number-number.result c.args.nodes.now.entries c.in-Some.keys.now c.push.new.self (sym c.in-Some.ensures.value) c.in_err-push-in-Some.ensures.items)
+
+pub returns-in_ok-push-in-Some-clause-ok : goal.returns-in_ok-push-in-Some-clause-ok
+returns-in_ok-push-in-Some-clause-ok c = λ n.
+    let written = c.get_mut.follows.holds c.push.new.self in
+    ap (λ es. on n (listed es)) written.0
+    ∙ on-set_value n c.number-number.result c.args.key c.args.nodes.now.entries c.in-Some.keys.now c.push.new.self (sym c.in-Some.ensures.value) c.in_ok-push-in-Some.ensures.items
+    ∙ ap (λ k. on n (listed c.args.nodes.now.entries) ++ (if n == k then c.args.key ∷ [] else [])) c.number-number.ensures
+
+pub returns-in_ok-insert-in-None-clause-ok : goal.returns-in_ok-insert-in-None-clause-ok
+returns-in_ok-insert-in-None-clause-ok c = λ n.
+    let same = c.get_mut.follows.holds-at-none in
+    let added : c.insert.new.self.entries ≡ insert_entry nat_eq c.args.nodes.now.entries c.number-number.result c.in_ok-keys-in-None.keys =
+        c.in_ok-insert-in-None.ensures.entries ∙ ap (λ m. insert_entry nat_eq m.entries c.number-number.result c.in_ok-keys-in-None.keys) same in
+    ap (λ es. on n (listed es)) added
+    ∙ on-insert_entry n c.number-number.result c.args.key c.args.nodes.now.entries c.in_ok-keys-in-None.keys (sym c.in-None.ensures.value) c.in_ok-keys-in-None.ensures.items
+    ∙ ap (λ k. on n (listed c.args.nodes.now.entries) ++ (if n == k then c.args.key ∷ [] else [])) c.number-number.ensures

@@ -1,0 +1,97 @@
+-- The registrations in the code's table, as those of the definitions.
+use Rattle.std.specs.Prelude.{◌≡◌, ◌≢◌, ◌<◌, [], ◌∷◌, ◌++◌, filter, ℕ, ◌==◌, Bool, not, ◌&&◌, ◌||◌, List, map, filter_map, Option, option_map, None, Some, is_none, is_some, Vec, if◌then◌else◌, false, true}
+use Rattle.std.specs.Option.{option_map_or}
+use Rattle.std.specs.List.{AllByRecursion}
+use Rattle.slab.specs.Slab.{Slab, get}
+use Rattle.dom_model.specs.declared.RecordType.{RecordType}
+use Rattle.dom_model.specs.Worlds.World as model
+use Rattle.dom_model.specs.MutationObservers.Observing.{transient_of}
+use Rattle.dom_model.specs.MutationObservers.Records.{is_registered, is_transient_from, type_passes}
+use Rattle.dom_observe.specs.Watchers.{on}
+use Rattle.dom_observe.specs.declared.registration.Registration.{Registration}
+use Rattle.dom_observe.specs.declared.registration.Ended.{Ended}
+use Rattle.dom_observe.specs.declared.registration.Ended.TheVariants.{Transient, Of, From}
+
+abbrev pub plain : Registration → model.Registration
+plain r = record { node = r.node; observer = r.observer; options = r.options; source = r.source }
+
+-- a mutation of this type, target and name interests the observer by the registration
+abbrev pub concerns : RecordType → ℕ → Option (List ℕ) → model.Registration → Bool
+concerns what target name r = ((r.node == target) || r.options.subtree) && type_passes what name r.options
+
+-- a step leaves the registration
+abbrev pub spares : Ended → model.Registration → Bool
+spares Transient r = is_none r.source
+spares (Of o) r = not (r.observer == o)
+spares (From o n) r = not (is_transient_from o n r)
+
+-- the registration under a key
+abbrev pub at : Slab Registration → ℕ → Option model.Registration
+at slab key = option_map plain (get slab key)
+
+-- the registrations under keys, in their order
+abbrev pub found : Slab Registration → List ℕ → List model.Registration
+found slab keys = filter_map (at slab) keys
+
+-- the keys that each node has
+abbrev pub listed : {A : Type 0} → List (ℕ × Vec ℕ A) → List (ℕ × List ℕ)
+listed entries = map (λ e. (e.0, e.1.items)) entries
+
+-- what a step leaves of what stood under a key
+abbrev pub left_by : Ended → Option model.Registration → Option model.Registration
+left_by ended None = None
+left_by ended (Some r) = if spares ended r then Some r else None
+
+-- a table, as what stands under each key
+
+-- something stands under the key
+abbrev pub is_live : (ℕ → Option model.Registration) → ℕ → Bool
+is_live under key = is_some (under key)
+
+abbrev pub AllLive : (ℕ → Option model.Registration) → List ℕ → Type 0
+AllLive under keys = AllByRecursion (λ key. is_live under key ≡ true) keys
+
+-- the observer's registration on the node stands under the key
+abbrev pub own_at : (ℕ → Option model.Registration) → ℕ → ℕ → ℕ → Bool
+own_at under o n key = option_map_or (is_registered o n) (under key) false
+
+abbrev pub with_new_options : model.Options → model.Registration → model.Registration
+with_new_options options r = record r { options = options }
+
+-- a registration of one of the first observers stands under the key
+pub record Stands (under : ℕ → Option model.Registration) (made key : ℕ) : Type 0 where
+  pub registration : model.Registration
+  pub is : under key ≡ Some registration
+  pub observer : registration.observer < made
+
+-- and it is on the node; it is a transient one only where there may be transient ones
+pub record StandsOn (under : ℕ → Option model.Registration) (made : ℕ) (transient : Bool) (n key : ℕ) : Type 0 where
+  pub registration : model.Registration
+  pub is : under key ≡ Some registration
+  pub observer : registration.observer < made
+  pub node : registration.node ≡ n
+  pub source : transient ≡ false → registration.source ≡ None
+
+-- so does each key that a node has
+abbrev pub AllStand : (ℕ → Option model.Registration) → ℕ → Bool → List (ℕ × List ℕ) → Type 0
+AllStand under made transient lists = (n : ℕ) → AllByRecursion (StandsOn under made transient n) (on n lists)
+
+-- a registration came in last among those of its node, under a key that was vacant
+pub record Added (under : ℕ → Option model.Registration) (lists : List (ℕ × List ℕ)) (r : model.Registration) (under' : ℕ → Option model.Registration) (lists' : List (ℕ × List ℕ)) : Type 0 where
+  pub key : ℕ
+  pub vacant : under key ≡ None
+  pub here : under' key ≡ Some r
+  pub others : (other : ℕ) → other ≢ key → under' other ≡ under other
+  pub keys : (n : ℕ) → on n lists' ≡ on n lists ++ (if n == r.node then key ∷ [] else [])
+
+-- what stands under the key gives the node a transient registration, where it has subtree
+abbrev pub transient_of_any : ℕ → Option model.Registration → Option model.Registration
+transient_of_any node None = None
+transient_of_any node (Some r) = if r.options.subtree then Some (transient_of node r) else None
+
+abbrev pub transient_under : (ℕ → Option model.Registration) → ℕ → ℕ → Option model.Registration
+transient_under under node key = transient_of_any node (under key)
+
+-- the registrations of a node n, with transient ones of those with subtree where it is the node that leaves
+abbrev pub with_added_transients : ℕ → List model.Registration → ℕ → List model.Registration → List model.Registration
+with_added_transients node standing n rs = rs ++ (if node == n then map (transient_of node) (filter (λ (r : model.Registration). r.options.subtree) standing) else [])

@@ -1,0 +1,16 @@
+//! Mutation observers: who watches which nodes, and the records that wait for them (DOM Standard, "Mutation observers").
+#![tactic(auto)]
+
+mod adding;
+mod observer_id;
+mod observers;
+mod options;
+mod record;
+mod registration;
+mod table;
+
+pub use dom_model::RecordType;
+pub use observer_id::ObserverId;
+pub use observers::Observers;
+pub use options::{Options, RawOptions, settle};
+pub use record::{Mutation, Record};

@@ -1,0 +1,185 @@
+//! The observers of a tree: their registrations, their queues and the pending list.
+
+ghost use Rattle.std.specs.Prelude.{◌≡◌, ℕ, ◌+◌, ◌<◌, [], length, slice_get, IfOk, OnOk, OnErr, nat_lt};
+ghost use Rattle.dom_model.specs.Forests.Forest.{HasNode, ancestors};
+ghost use Rattle.dom_model.specs.Worlds.World.{Observing};
+ghost use Rattle.dom_model.specs.MutationObservers.Observing.{with_transients};
+ghost use Rattle.dom_model.specs.MutationObservers.Records.{queue_of, observed, with_observer, records_taken, disconnected};
+ghost use Rattle.dom_observe.specs.Watchers.{Watches};
+
+use crate::adding::{add, add_transients, standing};
+use crate::observer_id::ObserverId;
+use crate::options::Options;
+use crate::record::Record;
+use crate::registration::{Ended, Registration};
+use crate::table::{end, keys_on, own_key, set_options, sweep};
+use dom_tree::{NodeId, Tree};
+use indexmap::{IndexMap, IndexSet};
+use slab::Slab;
+use std::alloc::{AllocError, Global};
+use std::marker::Model;
+use std::mem;
+
+/// Observers, who is registered on which node, and the records that wait for them.
+///
+/// It takes memory for each registration and for each record, and none for a node that nobody observes.
+#[derive(Drop)]
+pub struct Observers {
+    table: Slab<Registration>,
+    // the keys of the registrations on a node; no entry where there is none
+    nodes: IndexMap<u32, Vec<usize>>,
+    queues: Vec<Vec<Record>>,
+    pending: IndexSet<ObserverId>,
+    // whether there may be a transient registration
+    transient: bool,
+    alloc: Global,
+}
+
+impl Model for Observers {
+    ghost use Rattle.dom_observe.specs.Watchers.{Watchers};
+
+    ghost Value = { Watchers };
+
+    ghost use Rattle.dom_observe.specs.Kept.{nodes_of, queues_of, IsKept};
+
+    ghost view = { λ o. record {
+      nodes = nodes_of o.table o.nodes.entries;
+      queues = queues_of o.queues.items;
+      pending = o.pending.keys;
+    } };
+
+    ghost invariant = { λ o. IsKept o.table o.nodes.entries (queues_of o.queues.items) o.pending.keys o.transient };
+}
+
+impl Observers {
+    /// No observer.
+    pub fn new(alloc: Global) -> Observers
+        ensures { result ≡ record { nodes = []; queues = []; pending = [] } }
+    {
+        Observers {
+            table: Slab::new(alloc),
+            nodes: IndexMap::new(alloc),
+            queues: Vec::new(alloc),
+            pending: IndexSet::new(alloc),
+            transient: false,
+            alloc,
+        }
+    }
+
+    /// Makes an observer, with nothing to observe yet.
+    pub fn make(&mut self) -> Result<ObserverId, AllocError>
+        requires room { length self.old.queues < 4294967295 }
+        ensures number { IfOk result (λ id. id ≡ length self.old.queues) }
+        ensures ok { OnOk result ((x : Observing) → Watches self.old x → Watches self.new (with_observer x)) }
+        ensures err { OnErr result (self.new ≡ self.old) }
+    {
+        let id = ObserverId::new(self.queues.len() as u32);
+        self.queues.push(Vec::new(self.alloc))?;
+        Ok(id)
+    }
+
+    /// How many observers were made.
+    pub fn made(&self) -> usize
+        ensures { result ≡ length self.now.queues }
+    {
+        self.queues.len()
+    }
+
+    /// Whether there is such an observer.
+    pub fn holds(&self, observer: ObserverId) -> bool
+        ensures { result ≡ nat_lt observer (length self.now.queues) }
+    {
+        (observer.number() as usize) < self.queues.len()
+    }
+
+    /// Whether nothing is observed.
+    pub fn is_idle(&self) -> bool
+        ensures { (x : Observing) → Watches self.now x → result ≡ true → x.registrations ≡ [] }
+    {
+        self.nodes.is_empty()
+    }
+
+    /// The observer at an index of the pending list.
+    pub fn pending(&self, index: usize) -> Option<ObserverId>
+        ensures { result ≡ slice_get self.now.pending index }
+    {
+        self.pending.get_index(index).copied()
+    }
+
+    /// Registers an observer on a node ("observe"): in place of its registration there, or as a new one.
+    pub fn observe(
+        &mut self,
+        observer: ObserverId,
+        node: NodeId,
+        options: Options,
+    ) -> Result<(), AllocError>
+        requires held { observer < length self.old.queues }
+        ensures ok { OnOk result ((x : Observing) → Watches self.old x → Watches self.new (observed observer node options x)) }
+        ensures err { OnErr result (self.new ≡ self.old) }
+    {
+        let own = own_key(&self.table, keys_on(&self.nodes, node), observer, node);
+        match own {
+            Some(key) => {
+                end(&mut self.table, Ended::From(observer, node));
+                sweep(&self.table, &mut self.nodes);
+                set_options(&mut self.table, key, options);
+                Ok(())
+            }
+            None => {
+                let registration = Registration {
+                    node,
+                    observer,
+                    options,
+                    source: None,
+                };
+                add(&mut self.table, &mut self.nodes, registration, self.alloc)
+            }
+        }
+    }
+
+    /// Ends all that the observer observes, and empties its queue ("disconnect").
+    pub fn disconnect(&mut self, observer: ObserverId)
+        requires held { observer < length self.old.queues }
+        ensures { (x : Observing) → Watches self.old x → Watches self.new (disconnected observer x) }
+    {
+        end(&mut self.table, Ended::Of(observer));
+        sweep(&self.table, &mut self.nodes);
+        self.queues[observer.number() as usize].clear();
+    }
+
+    /// Takes the records of an observer out of its queue ("takeRecords").
+    pub fn take(&mut self, observer: ObserverId) -> Vec<Record>
+        requires held { observer < length self.old.queues }
+        ensures records { (x : Observing) → Watches self.old x → result.items ≡ queue_of observer x }
+        ensures taken { (x : Observing) → Watches self.old x → Watches self.new (records_taken observer x) }
+    {
+        mem::replace(&mut self.queues[observer.number() as usize], Vec::new(self.alloc))
+    }
+
+    /// Leaves transient registrations on a node that is taken from its parent, of those with subtree on the parent's inclusive
+    /// ancestors ("remove").
+    ///
+    /// After an error some of them may be missing.
+    pub fn transients<X>(
+        &mut self,
+        tree: &Tree<X>,
+        parent: NodeId,
+        node: NodeId,
+    ) -> Result<(), AllocError>
+        requires { HasNode tree.now.forest parent }
+        ensures { OnOk result ((x : Observing) → Watches self.old x → Watches self.new (with_transients node (ancestors parent tree.now.forest) x)) }
+    {
+        let standing = standing(&self.nodes, tree, parent, self.alloc)?;
+        if standing.is_empty() {
+            return Ok(());
+        }
+        self.transient = true;
+        add_transients(
+            &mut self.table,
+            &mut self.nodes,
+            standing.as_slice(),
+            node,
+            self.alloc,
+        )
+    }
+}

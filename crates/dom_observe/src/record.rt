@@ -1,0 +1,136 @@
+//! Mutations, and the records that observers get of them (DOM Standard, "Interface MutationRecord").
+
+ghost use Rattle.std.specs.Prelude.{◌≡◌, IfOk, None, if◌then◌else◌};
+ghost use Rattle.dom_model.specs.MutationObservers.Records.{record_with};
+ghost use Rattle.dom_observe.specs.Names.{name_of, text_of};
+
+use dom_model::RecordType;
+use dom_tree::NodeId;
+use dom_units::Units;
+use std::alloc::{AllocError, Global};
+use std::marker::Model;
+
+/// What an observer is told of a mutation; `what` is the record's type.
+#[derive(Debug, Drop)]
+pub struct Record {
+    pub what: RecordType,
+    pub target: NodeId,
+    pub added: Vec<NodeId>,
+    pub removed: Vec<NodeId>,
+    pub previous: Option<NodeId>,
+    pub next: Option<NodeId>,
+    pub name: Option<String>,
+    pub old_value: Option<Units>,
+}
+
+impl Model for Record {
+    ghost use Rattle.dom_model.specs.Commands.Reply.{Record as PlainRecord};
+    ghost use Rattle.dom_observe.specs.Names.{name_of};
+
+    ghost Value = { PlainRecord };
+
+    ghost view = { λ r. record {
+      type = r.what;
+      target = r.target;
+      added = r.added.items;
+      removed = r.removed.items;
+      previous = r.previous;
+      next = r.next;
+      name = name_of r.name;
+      old_value = r.old_value;
+    } };
+}
+
+/// A change of the tree; `what` is the type of its records.
+///
+/// A contract sees it with no registrations: those that stand are found when it is queued.
+#[derive(Debug, Drop)]
+pub struct Mutation {
+    pub what: RecordType,
+    pub target: NodeId,
+    pub added: Vec<NodeId>,
+    pub removed: Vec<NodeId>,
+    pub previous: Option<NodeId>,
+    pub next: Option<NodeId>,
+    pub name: Option<String>,
+    pub old_value: Option<Units>,
+}
+
+impl Model for Mutation {
+    ghost use Rattle.std.specs.Prelude.{[]};
+    ghost use Rattle.dom_model.specs.Worlds.World.{Mutation as PlainMutation};
+    ghost use Rattle.dom_observe.specs.Names.{name_of};
+
+    ghost Value = { PlainMutation };
+
+    ghost view = { λ m. record {
+      type = m.what;
+      target = m.target;
+      name = name_of m.name;
+      old_value = m.old_value;
+      added = m.added.items;
+      removed = m.removed.items;
+      previous = m.previous;
+      next = m.next;
+      standing = [];
+    } };
+}
+
+// A copy of a name.
+fn copied_name(alloc: Global, name: &Option<String>) -> Result<Option<String>, AllocError>
+    ensures { IfOk result (λ copy. name_of copy ≡ name_of name.now) }
+{
+    match name {
+        None => Ok(None),
+        Some(name) => Ok(Some(String::from_str(alloc, name.as_str())?)),
+    }
+}
+
+// A copy of a value, where it is asked for.
+fn copied_value(
+    alloc: Global,
+    value: &Option<Units>,
+    asked: bool,
+) -> Result<Option<Units>, AllocError>
+    ensures { IfOk result (λ copy. copy ≡ (if asked then value.now else None)) }
+{
+    if !asked {
+        return Ok(None);
+    }
+    match value {
+        None => Ok(None),
+        Some(value) => Ok(Some(value.try_clone(alloc)?)),
+    }
+}
+
+impl Mutation {
+    // A record of it, in memory of its own; with the old value where it is asked for.
+    pub(crate) fn record(&self, alloc: Global, with_old_value: bool) -> Result<Record, AllocError>
+        ensures { IfOk result (λ made. made ≡ record_with self.now (if with_old_value then self.now.old_value else None)) }
+    {
+        let name = copied_name(alloc, &self.name)?;
+        let old_value = copied_value(alloc, &self.old_value, with_old_value)?;
+        let added = Vec::from_slice(alloc, self.added.as_slice())?;
+        let removed = Vec::from_slice(alloc, self.removed.as_slice())?;
+        Ok(Record {
+            what: self.what,
+            target: self.target,
+            added,
+            removed,
+            previous: self.previous,
+            next: self.next,
+            name,
+            old_value,
+        })
+    }
+
+    // The name of the attribute that changed.
+    pub(crate) fn name(&self) -> Option<&str>
+        ensures { text_of result ≡ self.now.name }
+    {
+        match &self.name {
+            None => None,
+            Some(name) => Some(name.as_str()),
+        }
+    }
+}

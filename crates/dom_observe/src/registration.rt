@@ -1,0 +1,91 @@
+//! Registered observers, and which of them a step ends (DOM Standard, "registered observer", "transient registered observer").
+
+ghost use Rattle.std.specs.Prelude.{◌≡◌, IfOk, option_map, is_none, not, ◌==◌, ◌||◌, ◌&&◌};
+ghost use Rattle.dom_model.specs.PlainLists.Lists.{is_number};
+ghost use Rattle.dom_model.specs.MutationObservers.Records.{type_passes, asks_old_value};
+ghost use Rattle.dom_observe.specs.Names.{text_of};
+
+use crate::observer_id::ObserverId;
+use crate::options::Options;
+use dom_model::RecordType;
+use dom_tree::NodeId;
+use std::alloc::{AllocError, Global};
+
+// An observer on a node; a transient registration has the node of its source.
+#[derive(Debug, Drop)]
+pub struct Registration {
+    pub node: NodeId,
+    pub observer: ObserverId,
+    pub options: Options,
+    pub source: Option<NodeId>,
+}
+
+// Which registrations a step ends.
+#[derive(Clone, Copy, Debug)]
+pub enum Ended {
+    // every transient one
+    Transient,
+    // all of an observer
+    Of(ObserverId),
+    // the transient ones of an observer that come from its registration on a node
+    From(ObserverId, NodeId),
+}
+
+// What is asked of the registrations that stand above a target.
+#[derive(Clone, Copy, Debug)]
+pub struct Question<'a> {
+    pub what: RecordType,
+    pub target: NodeId,
+    pub name: Option<&'a str>,
+}
+
+impl Registration {
+    ghost use Rattle.dom_model.specs.MutationObservers.Records.{is_registered};
+    ghost use Rattle.dom_model.specs.MutationObservers.Observing.{transient_of};
+    ghost use Rattle.dom_observe.specs.Registrations.{plain, concerns};
+
+    // Whether it is the observer's on the node, and not a transient one.
+    pub fn is_own(&self, observer: ObserverId, node: NodeId) -> bool
+        ensures { result ≡ is_registered observer node (plain self.now) }
+    {
+        self.observer == observer && (self.node == node && self.source.is_none())
+    }
+
+    // Whether a mutation interests its observer by it.
+    pub fn concerns(&self, question: &Question<'_>) -> bool
+        ensures { result ≡ concerns question.now.what question.now.target (text_of question.now.name) (plain self.now) }
+    {
+        (self.node == question.target || self.options.subtree)
+            && self.options.asks(question.what, question.name)
+    }
+
+    // The transient registration that a node gets from it.
+    pub fn transient(&self, alloc: Global, node: NodeId) -> Result<Registration, AllocError>
+        ensures { IfOk result (λ made. plain made ≡ transient_of node (plain self.now)) }
+    {
+        let options = self.options.try_clone(alloc)?;
+        Ok(Registration {
+            node,
+            observer: self.observer,
+            options,
+            source: Some(self.source.unwrap_or(self.node)),
+        })
+    }
+}
+
+impl Ended {
+    ghost use Rattle.dom_observe.specs.Registrations.{plain, spares};
+
+    // Whether the step leaves the registration.
+    pub fn spares(self, registration: &Registration) -> bool
+        ensures { result ≡ spares self (plain registration.now) }
+    {
+        match self {
+            Ended::Transient => registration.source.is_none(),
+            Ended::Of(observer) => registration.observer != observer,
+            Ended::From(observer, node) => {
+                !(registration.observer == observer && registration.source == Some(node))
+            }
+        }
+    }
+}

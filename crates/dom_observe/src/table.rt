@@ -1,0 +1,130 @@
+//! The table of registrations, and the keys that each node has in it.
+
+ghost use Rattle.std.specs.Prelude.{◌≡◌, ◌≢◌, ℕ, ◌==◌, ◌++◌, [], ◌∷◌, not, length, filter, find, IfOk, OnOk, OnErr, is_some, option_map, nat_eq, if◌then◌else◌, IsSome};
+ghost use Rattle.indexmap.specs.IndexMap.{IsUnique};
+ghost use Rattle.slab.specs.Slab.{get};
+ghost use Rattle.dom_observe.specs.Watchers.{on};
+ghost use Rattle.dom_observe.specs.Registrations.{plain, spares, at, listed, is_live, left_by, own_at, with_new_options};
+
+use crate::observer_id::ObserverId;
+use crate::options::Options;
+use crate::registration::{Ended, Registration};
+use dom_tree::NodeId;
+use indexmap::IndexMap;
+use slab::Slab;
+use std::alloc::{AllocError, Global};
+
+// Takes out the registrations that a step ends.
+pub fn end(table: &mut Slab<Registration>, ended: Ended)
+    ensures { (key : ℕ) → at table.new key ≡ left_by ended (at table.old key) }
+{
+    table.retain(
+        |_key: usize, registration: &mut Registration| -> bool
+            ensures { (result ≡ spares ended (plain registration.old)) × (registration.new ≡ registration.old) }
+        { ended.spares(registration) },
+    );
+}
+
+// Whether there is a registration under the key.
+fn is_live(table: &Slab<Registration>, key: usize) -> bool
+    ensures { result ≡ is_live (at table.now) key }
+{
+    match table.get(key) {
+        Some(_) => true,
+        None => false,
+    }
+}
+
+// Takes out the keys under which nothing is left, and answers whether any is left.
+fn prune(table: &Slab<Registration>, keys: &mut Vec<usize>) -> bool
+    ensures kept { keys.new.items ≡ filter (is_live (at table.now)) keys.old.items }
+    ensures any { result ≡ not (length keys.new.items == 0) }
+{
+    keys.retain(|key| is_live(table, *key));
+    !keys.is_empty()
+}
+
+// Takes out the keys under which nothing is left, and the nodes that have none.
+pub fn sweep(table: &Slab<Registration>, nodes: &mut IndexMap<u32, Vec<usize>>)
+    requires { IsUnique nat_eq nodes.old }
+    ensures swept { (n : ℕ) → on n (listed nodes.new.entries) ≡ filter (is_live (at table.now)) (on n (listed nodes.old.entries)) }
+    ensures unique { IsUnique nat_eq nodes.new }
+{
+    nodes.retain(
+        |_node: &u32, keys: &mut Vec<usize>| -> bool
+            ensures { (keys.new.items ≡ filter (is_live (at table.entry.now)) keys.old.items) × (result ≡ not (length keys.new.items == 0)) }
+        { prune(table, keys) },
+    );
+}
+
+// The keys of a node.
+pub fn keys_on(nodes: &IndexMap<u32, Vec<usize>>, node: NodeId) -> &[usize]
+    ensures { result.now ≡ on node (listed nodes.now.entries) }
+{
+    match nodes.get(&node.number()) {
+        Some(keys) => keys.as_slice(),
+        None => &[],
+    }
+}
+
+// Puts a key last among those of a node.
+pub fn put_key(
+    nodes: &mut IndexMap<u32, Vec<usize>>,
+    node: NodeId,
+    key: usize,
+    alloc: Global,
+) -> Result<(), AllocError>
+    requires { IsUnique nat_eq nodes.old }
+    ensures ok { OnOk result ((n : ℕ) → on n (listed nodes.new.entries) ≡ on n (listed nodes.old.entries) ++ (if n == node then key ∷ [] else [])) }
+    ensures err { OnErr result (listed nodes.new.entries ≡ listed nodes.old.entries) }
+    ensures unique { IsUnique nat_eq nodes.new }
+{
+    let number = node.number();
+    match nodes.get_mut(&number) {
+        Some(keys) => keys.push(key)?,
+        None => {
+            let keys = vec![in alloc; key]?;
+            nodes.insert(number, keys)?;
+        }
+    }
+    Ok(())
+}
+
+// Whether the observer's registration on the node is under the key.
+fn is_own(
+    table: &Slab<Registration>,
+    key: usize,
+    observer: ObserverId,
+    node: NodeId,
+) -> bool
+    ensures { result ≡ own_at (at table.now) observer node key }
+{
+    match table.get(key) {
+        Some(registration) => registration.is_own(observer, node),
+        None => false,
+    }
+}
+
+// The first of the keys under which the observer's registration on the node is.
+pub fn own_key(
+    table: &Slab<Registration>,
+    keys: &[usize],
+    observer: ObserverId,
+    node: NodeId,
+) -> Option<usize>
+    ensures { result ≡ find (own_at (at table.now) observer node) keys.now }
+{
+    keys.iter()
+        .copied()
+        .find(|key| is_own(table, *key, observer, node))
+}
+
+// Puts other options in place of those of a registration.
+pub fn set_options(table: &mut Slab<Registration>, key: usize, options: Options)
+    ensures changed { at table.new key ≡ option_map (with_new_options options) (at table.old key) }
+    ensures others { (other : ℕ) → other ≢ key → at table.new other ≡ at table.old other }
+{
+    if let Some(registration) = table.get_mut(key) {
+        registration.options = options;
+    }
+}
