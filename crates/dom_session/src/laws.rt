@@ -1,22 +1,97 @@
 //! Laws of whole lists of commands. They follow from the definitions that `Session::apply` meets one command at a time; nothing here runs.
 
-ghost use Rattle.std.specs.Prelude.{◌≡◌, ℕ, Bool, true, List};
-ghost use Rattle.dom_model.specs.Worlds.World.{first_world};
+ghost use Rattle.std.specs.Prelude.{◌≡◌, ℕ, ◌≤◌, Bool, true, List, [], ◌∷◌, ◌++◌, map, length, remove, option_map};
+ghost use Rattle.dom_model.specs.Worlds.World.{World, first_world};
 ghost use Rattle.dom_model.specs.Commands.Command.{Command};
+ghost use Rattle.dom_model.specs.Commands.Reply.{is_refusal};
 ghost use Rattle.dom_model.specs.Commands.Guards.{Bounds};
+ghost use Rattle.dom_model.specs.Commands.Answer.{answer};
+ghost use Rattle.dom_model.specs.RangesAndContents.Ranges.{end_of, range_at};
+ghost use Rattle.dom_model.specs.TokenText.Tokens.{texts_of, unmarked, tokens_among, gap_among};
+ghost use Rattle.dom_model.specs.TokenText.CommandEdits.{world_past, texts_after, ranges_along, marks_along, commands_among};
+ghost use Rattle.dom_model.specs.Commands.Table.{Row};
+ghost use Rattle.dom_model.specs.Commands.Line.{command_within};
+ghost use Rattle.dom_model.specs.Commands.Output.{whole_lines, last_piece, line_step, world_after, replies_from, due};
+ghost use Rattle.dom_model.specs.Worlds.Counts.{counts_of, asked, plus, of_each, AreAtMost};
+ghost use Rattle.dom_model.specs.Worlds.Sound.{IsSound};
+ghost use Rattle.dom_model.specs.Erasure.DiscardsAlike.{replies_to_discards};
 ghost use Rattle.dom_model.specs.Erasure.Erasing.{replies_to, makes_no_discard, without_observers, replies_without_observers, makes_no_edit_by_range, without_watchers, replies_without_watchers};
 
 /// A law: observers do not feel one another. Without what some of them observe, disconnect and take, every other reply stays as it
-/// is, and of the replies to `notify` and `pending` the parts of the others stay. A `discard` may feel an observer and is left out
-/// (DOM Standard, "Mutation observers").
+/// is, and of the replies to `notify` and `pending` the parts of the others stay. A `discard` may feel an observer: the list has none, or
+/// each is answered alike in both lists (DOM Standard, "Mutation observers").
 pub fn observers_apart()
-    ensures { (erased : ℕ → Bool) → (b : Bounds) → (cs : List Command) → makes_no_discard cs ≡ true →
+    ensures without_discard { (erased : ℕ → Bool) → (b : Bounds) → (cs : List Command) → makes_no_discard cs ≡ true →
+        replies_to b first_world (without_observers erased cs) ≡ replies_without_observers erased cs (replies_to b first_world cs) }
+    ensures with_discard { (erased : ℕ → Bool) → (b : Bounds) → (cs : List Command) →
+        replies_to_discards (without_observers erased cs) (replies_to b first_world (without_observers erased cs)) ≡ replies_to_discards cs (replies_to b first_world cs) →
         replies_to b first_world (without_observers erased cs) ≡ replies_without_observers erased cs (replies_to b first_world cs) }
 {}
 
 /// A law: the tree does not feel what only watches it. Without the commands of live ranges, static ranges, iterators and walkers,
-/// where none of them is an edit by a range, every other reply stays as it is (DOM Standard, "Ranges", "Traversal").
+/// where none of them is an edit by a range, every other reply stays as it is. A `discard` may feel a watcher: the list has none, or each
+/// is answered alike in both lists (DOM Standard, "Ranges", "Traversal").
 pub fn watchers_apart()
-    ensures { (b : Bounds) → (cs : List Command) → makes_no_edit_by_range cs ≡ true → makes_no_discard cs ≡ true →
+    ensures without_discard { (b : Bounds) → (cs : List Command) → makes_no_edit_by_range cs ≡ true → makes_no_discard cs ≡ true →
         replies_to b first_world (without_watchers cs) ≡ replies_without_watchers cs (replies_to b first_world cs) }
+    ensures with_discard { (b : Bounds) → (cs : List Command) → makes_no_edit_by_range cs ≡ true →
+        replies_to_discards (without_watchers cs) (replies_to b first_world (without_watchers cs)) ≡ replies_to_discards cs (replies_to b first_world cs) →
+        replies_to b first_world (without_watchers cs) ≡ replies_without_watchers cs (replies_to b first_world cs) }
+{}
+
+/// A law: lines leave the world that the commands among them leave, so that what holds after any commands holds after any lines (ours).
+pub fn lines_are_their_commands()
+    ensures { (table : List Row) → (b : Bounds) → (w : World) → (lines : List (List ℕ)) →
+        world_after table b w lines ≡ world_past b w (commands_among (map (command_within table b.line) lines)) }
+{}
+
+/// A law: every world that commands reach is sound. The forest is one; both ends of each live range stand in one tree, within their
+/// nodes' lengths, and the start not after the end; each iterator's reference stands inside its root; what walkers and registrations
+/// name is there (DOM Standard, "Boundary points", "Live ranges", "Traversal").
+pub fn worlds_stay_sound()
+    ensures { (b : Bounds) → (cs : List Command) → IsSound (world_past b first_world cs) }
+{}
+
+/// A law: a refused command leaves the world as it is, whatever the world (ours; the standard's exceptions come before the steps that
+/// change anything).
+pub fn refused_commands_leave()
+    ensures { (b : Bounds) → (w : World) → (c : Command) → is_refusal (answer b w c).reply ≡ true → (answer b w c).world ≡ w }
+{}
+
+/// A law: a refused command can be left out of a list of commands, and every other reply stays as it is; and so a line that is refused,
+/// by its form or by its command. Of the bytes of the input a refused line goes with its newline, and of the output its reply (ours).
+pub fn refused_commands_can_go()
+    ensures commands { (b : Bounds) → (cs : List Command) → (c : Command) → (ds : List Command) → is_refusal (answer b (world_past b first_world cs) c).reply ≡ true →
+        replies_to b first_world (cs ++ ds) ≡ remove (replies_to b first_world (cs ++ c ∷ ds)) (length cs) }
+    ensures lines { (table : List Row) → (b : Bounds) → (before : List (List ℕ)) → (line : List ℕ) → (after : List (List ℕ)) →
+        is_refusal (line_step table b (world_after table b first_world before) line).reply ≡ true →
+        replies_from table b first_world (before ++ after) ≡ remove (replies_from table b first_world (before ++ line ∷ after)) (length before) }
+    ensures bytes { (table : List Row) → (b : Bounds) → (front : List ℕ) → (line : List ℕ) → (rest : List ℕ) → last_piece front ≡ [] → whole_lines line ≡ [] →
+        is_refusal (line_step table b (world_after table b first_world (whole_lines front)) line).reply ≡ true →
+        due table b (front ++ rest) true ≡ remove (due table b (front ++ (line ++ 10 ∷ rest)) true) (length (whole_lines front)) }
+{}
+
+/// A law: no command gives out more numbers than it asks for, and after any commands no kind of object has more numbers than the limit
+/// (ours; the first world has a Document, whose number the limit must allow).
+pub fn numbers_stay_within()
+    ensures as_asked { (b : Bounds) → (cs : List Command) → (c : Command) →
+        AreAtMost (counts_of (answer b (world_past b first_world cs) c).world) (plus (counts_of (world_past b first_world cs)) (asked (world_past b first_world cs) c)) }
+    ensures limited { (b : Bounds) → (cs : List Command) → 1 ≤ b.numbers → AreAtMost (counts_of (world_past b first_world cs)) (of_each b.numbers) }
+{}
+
+/// A law: each end of each live range stands where its marker stands. In the token texts of a world that commands reach a marker stands
+/// in the gap of each end; then each command of a list makes its edits on the texts, one command after another, and the texts are never
+/// looked up again in a world. Afterwards, for each live range and each of its two ends, the gap in which the marker stands is that
+/// end's gap, and a range that was released or never made has no marker; and without markers each node's tokens, from its open to its
+/// close, are those of the world. The live ranges are as the markers stand after each command of the list (DOM Standard, "Live ranges",
+/// in the words of texts).
+pub fn ends_stay_with_their_markers()
+    ensures gaps { (b : Bounds) → (before : List Command) → (cs : List Command) → (r : ℕ) → (side : Bool) →
+        gap_among r side (texts_after b (world_past b first_world before) (texts_of (world_past b first_world before)) cs)
+        ≡ option_map (end_of side) (range_at (world_past b (world_past b first_world before) cs) r) }
+    ensures tokens { (b : Bounds) → (before : List Command) → (cs : List Command) → (n : ℕ) →
+        unmarked (tokens_among n (texts_after b (world_past b first_world before) (texts_of (world_past b first_world before)) cs))
+        ≡ unmarked (tokens_among n (texts_of (world_past b (world_past b first_world before) cs))) }
+    ensures along { (b : Bounds) → (before : List Command) → (cs : List Command) →
+        marks_along b (world_past b first_world before) (texts_of (world_past b first_world before)) cs ≡ ranges_along b (world_past b first_world before) cs }
 {}

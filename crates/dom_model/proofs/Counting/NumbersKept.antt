@@ -1,5 +1,5 @@
 -- In a sound world no command gives out more numbers than it asks for, so after any commands the counts are within the limit.
-use Rattle.std.proofs.Common.{◌≡◌, ℕ, List, [], ◌∷◌, Some, subst}
+use Rattle.std.proofs.Common.{◌≡◌, ℕ, ◌≤◌, List, [], ◌∷◌, Some, subst, arith}
 use Rattle.dom_model.specs.Worlds.World.{Range, World, first_world}
 use Rattle.dom_model.specs.Commands.Command.{Command, CloneContents}
 use Rattle.dom_model.specs.Commands.Guards.{Bounds}
@@ -10,7 +10,7 @@ use Rattle.dom_model.specs.Worlds.Counts.{counts_of, asked, plus, of_each, AreAt
 use Rattle.dom_model.specs.Worlds.Sound.{IsRange, IsSound}
 use Rattle.dom_model.proofs.Soundness.SoundWorlds.{IsLive}
 use Rattle.dom_model.proofs.Soundness.SoundRangeSteps.{live_range}
-use Rattle.dom_model.proofs.Soundness.SoundAnswers.{sound-answer, sound-first}
+use Rattle.dom_model.proofs.Soundness.SoundAnswers.{sound-answer, sound-first, sound-reached}
 use Rattle.dom_model.proofs.Counting.CopiesOfContents.{HasEnds, IsInOrder}
 use Rattle.dom_model.proofs.Counting.CommandsCounted.{Needed}
 use Rattle.dom_model.proofs.Commands.RefusalsLeave.{counts-as_asked, numbers-kept}
@@ -39,3 +39,11 @@ within_from b w (c ∷ cs) s h = within_from b (answer b w c).world cs (sound-an
 -- after any commands no kind of object has more numbers than the limit
 pub within-reached : (b : Bounds) (cs : List Command) → AreAtMost (counts_of first_world) (of_each b.numbers) → AreAtMost (counts_of (world_past b first_world cs)) (of_each b.numbers)
 within-reached b cs h = within_from b first_world cs sound-first h
+
+-- and each of the commands gives out no more than it asks for
+pub asked-reached : (b : Bounds) (cs : List Command) (c : Command) → let w = world_past b first_world cs in AreAtMost (counts_of (answer b w c).world) (plus (counts_of w) (asked w c))
+asked-reached b cs c = sound-as_asked b (world_past b first_world cs) c (sound-reached b cs)
+
+-- from the first world, of which the Document has the only number
+pub within-limit : (b : Bounds) (cs : List Command) → 1 ≤ b.numbers → AreAtMost (counts_of (world_past b first_world cs)) (of_each b.numbers)
+within-limit b cs h = within-reached b cs (record { nodes = h; ranges = omega arith; iterators = omega arith; walkers = omega arith; observers = omega arith; static_ranges = omega arith })

@@ -71,17 +71,21 @@ module _ (erased : ℕ → Bool) where
   untouched Pending e r = absurd (cc e)
   untouched c e r = refl
 
+  -- a command that is not erased, and discards nothing
+  pub other-follows : (b : Bounds) (c : Command) (x y : World) → Without erased true x y → discards c ≡ false → is_by_observer erased c ≡ false → Follows erased true c (answer b x c) (answer b y c)
+  other-follows b c x y h d e = go (concerns_watchers c) refl
+    where
+      go : (v : Bool) → concerns_watchers c ≡ v → Follows erased true c (answer b x c) (answer b y c)
+      go true f = let k = watcher_answer-left erased b c x y h f in record { reply = k.reply ∙ sym (untouched c f (answer b x c).reply); world = k.world }
+      go false f = command-left erased true b c x y h d e f
+
   one_more : (b : Bounds) (c : Command) (cs : List Command) (x y : World) → Without erased true x y → discards c ≡ false → ((x y : World) → Without erased true x y → IsApart b cs x y) → IsApart b (c ∷ cs) x y
   one_more b c cs x y h d i = by_test (is_by_observer erased c) refl
     where
-      not_erased : (v : Bool) → concerns_watchers c ≡ v → is_by_observer erased c ≡ false → Follows erased true c (answer b x c) (answer b y c)
-      not_erased true f e = let k = watcher_answer-left erased b c x y h f in record { reply = k.reply ∙ sym (untouched c f (answer b x c).reply); world = k.world }
-      not_erased false f e = command-left erased true b c x y h d e f
-
       by_test : (v : Bool) → is_by_observer erased c ≡ v → replies_to b y (cond (not v) (c ∷ without_observers erased cs) (without_observers erased cs)) ≡ (if v then replies_without_observers erased cs (replies_to b (answer b x c).world cs) else left_by_observers erased c (answer b x c).reply ∷ replies_without_observers erased cs (replies_to b (answer b x c).world cs))
       by_test true e = i _ _ (command-erased b c x y h e)
       by_test false e =
-          let told = not_erased (concerns_watchers c) refl e in
+          let told = other-follows b c x y h d e in
           ap (λ (r : Reply). r ∷ replies_to b (answer b y c).world (without_observers erased cs)) told.reply
           ∙ ap (λ (rs : List Reply). left_by_observers erased c (answer b x c).reply ∷ rs) (i _ _ told.world)
 

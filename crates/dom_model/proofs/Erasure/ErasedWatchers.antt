@@ -96,7 +96,7 @@ ruleset steps = (
   impossible,
 )
 
-watcher-alone : (b : Bounds) (c : Command) (x y : World) → Unwatched x y → only_watches c ≡ true → Unwatched (answer b x c).world y
+pub watcher-alone : (b : Bounds) (c : Command) (x y : World) → Unwatched x y → only_watches c ≡ true → Unwatched (answer b x c).world y
 watcher-alone b (CreateIterator root filter) x _ (without o v h) e =
     guarded-alone (no_node root x ∷ no_room b (length x.iterators) 1 ∷ []) x _ _ (without o v h) (without o v h)
 watcher-alone b (CreateWalker root filter) x _ (without o v h) e =
@@ -119,12 +119,12 @@ whole_reply (Done a) = ap Done (whole_answer a)
 whole_reply (Dom e) = refl
 whole_reply (Own e) = refl
 
-whole : (c : Command) (r : Reply) → left_by_observers none c r ≡ r
+pub whole : (c : Command) (r : Reply) → left_by_observers none c r ≡ r
 whole Notify r = whole_reply r
 whole Pending r = whole_reply r
 whole c r = refl
 
-by_none : (c : Command) → is_by_observer none c ≡ false
+pub by_none : (c : Command) → is_by_observer none c ≡ false
 by_none (Disconnect o) = refl
 by_none c = refl
 

@@ -1,6 +1,6 @@
 -- Worlds on the way of extracting or cloning contents: what is new stands under what is new, with rising numbers, so that each node that is
 -- appended there may be. DOM Standard, "Interface Range": extract, clone the contents.
-use Rattle.std.proofs.Common.{◌≡◌, ℕ, zero, suc, ◌<◌, ◌≤◌, Bool, true, false, if◌then◌else◌, List, [], ◌∷◌, Option, Some, None, refl, sym, ◌∙◌, subst, arith, ◌⊎◌, inl, inr, ⊎_elim}
+use Rattle.std.proofs.Common.{◌≡◌, ℕ, zero, suc, ◌<◌, ◌≤◌, Bool, true, false, if◌then◌else◌, List, [], ◌∷◌, Option, Some, None, refl, ap, sym, ◌∙◌, subst, arith, ◌⊎◌, inl, inr, ⊎_elim}
 use Rattle.std.proofs.lemmas.Bool.{cases_lt, false≢true}
 use Rattle.dom_model.specs.declared.Kind.{Kind}
 use Rattle.dom_model.specs.declared.Kind.TheVariants.{Document, DocumentType}
@@ -11,6 +11,7 @@ use Rattle.dom_model.specs.Forests.Forest.{Node, Forest, occurs, one_at, parent_
 use Rattle.dom_model.specs.Worlds.World.{Content, World}
 use Rattle.dom_model.specs.MutationAlgorithms.Checks.{entry_has, kind_passes, is_of_kind}
 use Rattle.dom_model.specs.MutationAlgorithms.Editing.{is_fragment, nodes_of, append}
+use Rattle.dom_model.specs.DataAndCopies.Data.{content_in, data_of}
 use Rattle.dom_model.specs.DataAndCopies.Clones.{renumbered, with_copies}
 use Rattle.dom_model.specs.Worlds.Sound.{IsSound}
 use Rattle.dom_model.specs.TokenText.Tokens.{Edit}
@@ -18,14 +19,15 @@ use Rattle.dom_model.specs.TokenText.Edits.{Trace, doing_append, append_edits}
 use Rattle.dom_model.proofs.PlainLists.Numbers.{same_or, same, apart}
 use Rattle.dom_model.proofs.Forests.Changes.{seen, nothing, just}
 use Rattle.dom_model.proofs.Forests.Totals.{total-beside}
-use Rattle.dom_model.proofs.Forests.Entries.{occurs-HasNode}
 use Rattle.dom_model.proofs.Forests.Paths.{parent-path, root-path}
 use Rattle.dom_model.proofs.Forests.Indices.{child-parent}
-use Rattle.dom_model.proofs.Worlds.Measured.{kind-beside}
+use Rattle.dom_model.proofs.Worlds.Measured.{kind-beside, entry-beside}
+use Rattle.dom_model.proofs.MutationAlgorithms.Extending.{put_by_insert}
 use Rattle.dom_model.proofs.Soundness.SoundInserting.{IsInsertable, sound-insert}
 use Rattle.dom_model.proofs.DataAndCopies.CopiesPlaced.{parent-copies}
 use Rattle.dom_model.proofs.MutationAlgorithms.Appended.{IsAppended, appended, made-appended}
 use Rattle.dom_model.proofs.RangesAndContents.LiveRangesKept.{is_live, append-live}
+pub use Rattle.dom_model.proofs.TokenText.EditsMade.FittingEdits.{passes_there}
 use Rattle.dom_model.proofs.TokenText.EditsMade.EditsLeave.{Comes, Follows, follows-none, follows-then, follows-doing}
 use Rattle.dom_model.proofs.TokenText.EditsMade.EditsOfTrees.{leave-append}
 
@@ -54,6 +56,10 @@ extends-then v u x a b =
       made = (let i = a.made in let j = b.made in omega arith);
     }
 
+-- each node that was there has the data that it had
+abbrev pub KeepsData : World → World → Type 0
+KeepsData v u = (m : ℕ) → 0 < occurs m v.forest → data_of u m ≡ data_of v m
+
 -- a step of a trace, and of a world, that goes on so
 pub record Draws (low : ℕ) (step : Trace → Trace) (v u : World) : Type 0 where
   pub follows : Follows step v u
@@ -76,13 +82,6 @@ pub draws-if : (low : ℕ) (b : Bool) (v u x : World) (step other : Trace → Tr
 draws-if low true v u x step other h k = h
 draws-if low false v u x step other h k = k
 
-pub passes_there : (test : Kind → Bool) (f : Forest Content) (n : ℕ) → kind_passes test f n ≡ true → 0 < occurs n f
-passes_there test f n h =
-    elim (seen (entry_in f n)) [
-      | nothing e ↦ absurd (let k = rw e at h in false≢true k)
-      | just a e ↦ occurs-HasNode f n (rw e refl)
-    ]
-
 -- one test of a kind that answers for another
 pub passes_too : (test other : Kind → Bool) (answer : Bool) → ((k : Kind) → test k ≡ true → other k ≡ answer) → (f : Forest Content) (n : ℕ) → kind_passes test f n ≡ true → kind_passes other f n ≡ answer
 passes_too test other answer each f n h = go (entry_in f n) h
@@ -102,6 +101,9 @@ module _ (low : ℕ) (v : World) (d : IsDrawing low v) (document : ℕ) (g : For
         live = λ r. refl;
         made = omega arith;
       }
+
+  pub data-copies : KeepsData v (with_copies document g v)
+  data-copies m h = ap (λ o. (content_in o).text) (entry-beside v.forest (renumbered document v.made g) m h)
 
   pub drawing-copies : IsSound (with_copies document g v) → IsDrawing low (with_copies document g v)
   drawing-copies s = record { sound = s; begun = (let b = d.begun in omega arith); rising = λ n q l e. told n q l (parent-copies document v.made v.forest g n q e) }
@@ -205,6 +207,9 @@ module _ (low : ℕ) (v : World) (d : IsDrawing low v) where
 
     change : IsAppended v.forest after_append.forest into (nodes_of v n)
     change = appended n into v d.sound may_come
+
+    pub data-append : KeepsData v after_append
+    data-append m h = let i = put_by_insert false n into None v d.sound may_come in i.extends.texts m h
 
     pub draws-append : Draws low (doing_append n into) v after_append
     draws-append =

@@ -5,14 +5,14 @@ use Rattle.dom_model.specs.declared.Kind.{Kind}
 use Rattle.dom_model.specs.declared.Kind.TheVariants.{Element, Text, ProcessingInstruction, Comment, Document, DocumentType, DocumentFragment}
 use Rattle.dom_model.specs.PlainLists.Lists.{hits}
 use Rattle.dom_model.specs.Forests.Kinds.{is_kind, is_character_data, may_be_parent, may_stand_in}
-use Rattle.dom_model.specs.Forests.Forest.{Forest, occurs, parent_of, children_of}
+use Rattle.dom_model.specs.Forests.Forest.{Forest, empty, node, occurs, parent_of, children_of}
 use Rattle.dom_model.specs.Worlds.World.{Content, World, no_content}
 use Rattle.dom_model.specs.MutationAlgorithms.PreRemoval.{past}
 use Rattle.dom_model.specs.MutationAlgorithms.Checks.{up_to, entry_has, kind_passes, is_of_kind}
 use Rattle.dom_model.specs.MutationAlgorithms.Editing.{node_document, append}
 use Rattle.dom_model.specs.Commands.Making.{named}
 use Rattle.dom_model.specs.DataAndCopies.Data.{data_of}
-use Rattle.dom_model.specs.DataAndCopies.Clones.{document_of_clone, clone_node}
+use Rattle.dom_model.specs.DataAndCopies.Clones.{original, document_of_clone, clone_node}
 use Rattle.dom_model.specs.RangesAndContents.Contents.{new_fragment, units_into, children_into, copy_into, tail_into, head_into}
 use Rattle.dom_model.specs.TokenText.Edits.{Trace, doing_append, doing_clone, doing_fragment, doing_units, doing_children, doing_copy, doing_tail, doing_head}
 use Rattle.dom_model.proofs.Forests.Indices.{child-parent, child-there}
@@ -20,7 +20,7 @@ use Rattle.dom_model.proofs.Forests.Paths.{parent-path}
 use Rattle.dom_model.proofs.Forests.OneMoreRoot.{entry-new}
 use Rattle.dom_model.proofs.Soundness.SoundForests.{IsWood, entry_there, child-fits}
 use Rattle.dom_model.proofs.DataAndCopies.CopiesPlaced.{kind-clone}
-use Rattle.dom_model.proofs.RangesAndContents.Drawing.{IsDrawing, Extends, extends-then, Draws, draws-none, draws-then, draws-as, passes_there, IsHolder, holder-extends, IsComing, draws-append}
+use Rattle.dom_model.proofs.RangesAndContents.Drawing.{IsDrawing, Extends, extends-then, KeepsData, Draws, draws-none, draws-then, draws-as, passes_there, data-copies, IsHolder, holder-extends, IsComing, data-append, draws-append}
 use Rattle.dom_model.proofs.RangesAndContents.DrawnPieces.{draws-fragment, draws-clone, new-greater, is_drawn, IsDrawable, drawable-extends, coming, draws-units, draws-children}
 
 -- Kinds.
@@ -120,7 +120,7 @@ child-drawable low v d n c h k =
 
 -- A copy goes into a fragment, and what fills a further fragment into the copy.
 
-module _ (low into n : ℕ) (v : World) (d : IsDrawing low v) (k : IsHolder low v into) (h : IsDrawable low v n) (no_data : kind_passes is_character_data v.forest n ≡ false) where
+module _ (low into n : ℕ) (v : World) (d : IsDrawing low v) (k : IsHolder low v into) (drawable : IsDrawable low v n) (no_data : kind_passes is_character_data v.forest n ≡ false) where
   abbrev copied : World
   copied = clone_node false n v
 
@@ -131,10 +131,10 @@ module _ (low into n : ℕ) (v : World) (d : IsDrawing low v) (k : IsHolder low 
   begun = new_fragment (node_document v n) held
 
   n_there : 0 < occurs n v.forest
-  n_there = passes_there is_drawn v.forest n h.kind
+  n_there = passes_there is_drawn v.forest n drawable.kind
 
   n_holds : kind_passes may_be_parent v.forest n ≡ true
-  n_holds = let e = entry_there v.forest n n_there in rw e.1 (drawn-holds e.0.value.label.kind (rw e.1 at h.kind) (rw e.1 at no_data))
+  n_holds = let e = entry_there v.forest n n_there in rw e.1 (drawn-holds e.0.value.label.kind (rw e.1 at drawable.kind) (rw e.1 at no_data))
 
   kind_copied : (test : Kind → Bool) → kind_passes test copied.forest v.made ≡ kind_passes test v.forest n
   kind_copied test = kind-clone test (document_of_clone v n) v.made false n v.forest d.sound.forest.once (d.sound.forest.small v.made (omega arith)) n_there
@@ -145,7 +145,7 @@ module _ (low into n : ℕ) (v : World) (d : IsDrawing low v) (k : IsHolder low 
   second : Draws low (doing_append v.made into) copied held
   second =
       draws-append low copied first.drawing into v.made (holder-extends low v copied into first.extends k)
-      (coming low copied into v.made (kind_copied is_drawn ∙ h.kind) (inr (new-greater low v d into (passes_there may_be_parent v.forest into k.kind))))
+      (coming low copied into v.made (kind_copied is_drawn ∙ drawable.kind) (inr (new-greater low v d into (passes_there may_be_parent v.forest into k.kind))))
 
   third : Draws low (doing_fragment (node_document v n)) held begun
   third = draws-fragment low held second.drawing (node_document v n)
@@ -170,6 +170,15 @@ module _ (low into n : ℕ) (v : World) (d : IsDrawing low v) (k : IsHolder low 
   extended : Extends v begun
   extended = extends-then v held begun (extends-then v copied held first.extends second.extends) third.extends
 
+  extended_data : KeepsData v begun
+  extended_data m h =
+      let a = first.extends.there m h in
+      let b = second.extends.there m a in
+      data-copies low held second.drawing (node_document v n) (node (record { number = 0; document = node_document v n; label = named DocumentFragment []; body = no_content }) empty empty) m b
+      ∙ data-append low copied first.drawing into v.made (holder-extends low v copied into first.extends k)
+      (coming low copied into v.made (kind_copied is_drawn ∙ drawable.kind) (inr (new-greater low v d into (passes_there may_be_parent v.forest into k.kind)))) m a
+      ∙ data-copies low v d (document_of_clone v n) (original false n v.forest) m h
+
   draws-filled : (fill : Trace → Trace) (filled : World) → Draws low fill begun filled → Draws low (λ t. doing_append held.made v.made (fill (doing_fragment (node_document v n) (doing_append v.made into (doing_clone false n t))))) v (append held.made v.made filled)
   draws-filled fill filled f =
       let holder = holder-extends low begun filled v.made f.extends (holder-extends low held begun v.made third.extends copy_holds) in
@@ -185,10 +194,10 @@ module _ (low into n : ℕ) (v : World) (d : IsDrawing low v) (k : IsHolder low 
       (draws-then low v copied held (doing_clone false n) (doing_append v.made into) first second) third) f)
       (draws-append low filled f.drawing v.made held.made holder comes)
 
-  pub draws-copy : (fill : ℕ → Trace → Trace) (filled : ℕ → World → World) → ((inner : ℕ) (x : World) → IsDrawing low x → Extends v x → IsHolder low x inner → Draws low (fill inner) x (filled inner x)) → Draws low (doing_copy into n fill) v (copy_into into n filled v)
+  pub draws-copy : (fill : ℕ → Trace → Trace) (filled : ℕ → World → World) → ((inner : ℕ) (x : World) → IsDrawing low x → Extends v x → KeepsData v x → IsHolder low x inner → Draws low (fill inner) x (filled inner x)) → Draws low (doing_copy into n fill) v (copy_into into n filled v)
   draws-copy fill filled each =
       draws-as low v (append held.made v.made (filled held.made begun)) (λ t. doing_append held.made v.made (fill held.made (doing_fragment (node_document v n) (doing_append v.made into (doing_clone false n t))))) (doing_copy into n fill) (λ es. refl)
-      (draws-filled (fill held.made) (filled held.made begun) (each held.made begun third.drawing extended inner_holds))
+      (draws-filled (fill held.made) (filled held.made begun) (each held.made begun third.drawing extended extended_data inner_holds))
 
 if_so : {A : Type 0} (b : Bool) (x y : A) → b ≡ true → (if b then x else y) ≡ x
 if_so b x y e = rw e refl
@@ -202,6 +211,19 @@ ArePath low v [] = Unit {0}
 ArePath low v (n ∷ []) = IsDrawable low v n
 ArePath low v (n ∷ m ∷ path) = IsDrawable low v n × (kind_passes is_character_data v.forest n ≡ false) × ArePath low v (m ∷ path)
 
+-- an offset within the data of the last node, where that has data
+abbrev pub IsWithin : ℕ → World → List ℕ → Type 0
+IsWithin offset v [] = Unit {0}
+IsWithin offset v (n ∷ []) = kind_passes is_character_data v.forest n ≡ true → offset ≤ length (data_of v n)
+IsWithin offset v (n ∷ m ∷ path) = IsWithin offset v (m ∷ path)
+
+within-kept : (low offset : ℕ) (v u : World) → Extends v u → KeepsData v u → (path : List ℕ) → ArePath low v path → IsWithin offset v path → IsWithin offset u path
+within-kept low offset v u x kept [] p h = tt
+within-kept low offset v u x kept (n ∷ []) p h =
+    λ k. let hn = passes_there is_drawn v.forest n p.kind in
+    subst (λ (xs : List ℕ). offset ≤ length xs) (sym (kept n hn)) (h (sym (x.kinds is_character_data n hn) ∙ k))
+within-kept low offset v u x kept (n ∷ m ∷ path) p h = within-kept low offset v u x kept (m ∷ path) p.2 h
+
 pub path-extends : (low : ℕ) (v u : World) → Extends v u → (path : List ℕ) → ArePath low v path → ArePath low u path
 path-extends low v u x [] h = tt
 path-extends low v u x (n ∷ []) h = drawable-extends low v u n x h
@@ -212,9 +234,9 @@ module _ (low : ℕ) (moves : Bool) (v : World) (d : IsDrawing low v) (n : ℕ) 
   draws-some : (inner : ℕ) (x : World) → IsDrawing low x → Extends v x → IsHolder low x inner → Draws low (doing_children moves inner ns) x (children_into moves inner ns x)
   draws-some inner x dx e k = draws-children low moves inner ns x dx k (λ c i. drawable-extends low v x c e (child-drawable low v d n c h (let j = among_children c in omega arith)))
 
-pub draws-tail : (low : ℕ) (moves : Bool) (into offset : ℕ) (path : List ℕ) (v : World) → IsDrawing low v → IsHolder low v into → ArePath low v path → Draws low (doing_tail moves into offset path) v (tail_into moves into offset path v)
-draws-tail low moves into offset [] v d k p = draws-none low v d
-draws-tail low moves into offset (n ∷ []) v d k p = go (kind_passes is_character_data v.forest n) refl
+pub draws-tail : (low : ℕ) (moves : Bool) (into offset : ℕ) (path : List ℕ) (v : World) → IsDrawing low v → IsHolder low v into → ArePath low v path → IsWithin offset v path → Draws low (doing_tail moves into offset path) v (tail_into moves into offset path v)
+draws-tail low moves into offset [] v d k p within = draws-none low v d
+draws-tail low moves into offset (n ∷ []) v d k p within = go (kind_passes is_character_data v.forest n) refl
   where
     count : ℕ
     count = length (data_of v n) - offset
@@ -226,17 +248,17 @@ draws-tail low moves into offset (n ∷ []) v d k p = go (kind_passes is_charact
     go true e =
         subst (λ u. Draws low (doing_tail moves into offset (n ∷ [])) v u) (sym (if_so (kind_passes is_character_data v.forest n) _ _ e))
         (draws-as low v (units_into moves into n offset count v) (doing_units moves into n offset count) (doing_tail moves into offset (n ∷ [])) (λ es. sym (if_so (kind_passes is_character_data v.forest n) _ _ e))
-        (draws-units low moves into n offset count v d k e))
+        (draws-units low moves into n offset count v d k e (within e)))
     go false e =
         subst (λ u. Draws low (doing_tail moves into offset (n ∷ [])) v u) (sym (if_not (kind_passes is_character_data v.forest n) _ _ e))
         (draws-as low v (copy_into into n (λ inner u. children_into moves inner ns u) v) (doing_copy into n (λ inner u. doing_children moves inner ns u)) (doing_tail moves into offset (n ∷ [])) (λ es. sym (if_not (kind_passes is_character_data v.forest n) _ _ e))
-        (draws-copy low into n v d k p e (λ inner u. doing_children moves inner ns u) (λ inner u. children_into moves inner ns u) (draws-some low moves v d n p ns (λ c. hits-drop c offset (children_of v.forest n)))))
-draws-tail low moves into offset (n ∷ m ∷ path) v d k p =
+        (draws-copy low into n v d k p e (λ inner u. doing_children moves inner ns u) (λ inner u. children_into moves inner ns u) (λ inner x dx e _ kx. draws-some low moves v d n p ns (λ c. hits-drop c offset (children_of v.forest n)) inner x dx e kx)))
+draws-tail low moves into offset (n ∷ m ∷ path) v d k p within =
     let ns = past m (children_of v.forest n) in
     draws-as low v (tail_into moves into offset (n ∷ m ∷ path) v) (doing_copy into n (λ inner u. doing_children moves inner ns (doing_tail moves inner offset (m ∷ path) u))) (doing_tail moves into offset (n ∷ m ∷ path)) (λ es. refl)
     (draws-copy low into n v d k p.0 p.1 (λ inner u. doing_children moves inner ns (doing_tail moves inner offset (m ∷ path) u)) (λ inner u. children_into moves inner ns (tail_into moves inner offset (m ∷ path) u))
-    (λ inner x dx e hx.
-    let a = draws-tail low moves inner offset (m ∷ path) x dx hx (path-extends low v x e (m ∷ path) p.2) in
+    (λ inner x dx e kept hx.
+    let a = draws-tail low moves inner offset (m ∷ path) x dx hx (path-extends low v x e (m ∷ path) p.2) (within-kept low offset v x e kept (m ∷ path) p.2 within) in
     let u = tail_into moves inner offset (m ∷ path) x in
     let b = draws-some low moves v d n p.0 ns (λ c. hits-past c m (children_of v.forest n)) inner u a.drawing (extends-then v x u e a.extends) (holder-extends low x u inner a.extends hx) in
     draws-then low x u (children_into moves inner ns u) (doing_tail moves inner offset (m ∷ path)) (doing_children moves inner ns) a b))
@@ -252,16 +274,16 @@ draws-head low moves into offset (n ∷ []) v d k p = go (kind_passes is_charact
     go true e =
         subst (λ u. Draws low (doing_head moves into offset (n ∷ [])) v u) (sym (if_so (kind_passes is_character_data v.forest n) _ _ e))
         (draws-as low v (units_into moves into n 0 offset v) (doing_units moves into n 0 offset) (doing_head moves into offset (n ∷ [])) (λ es. sym (if_so (kind_passes is_character_data v.forest n) _ _ e))
-        (draws-units low moves into n 0 offset v d k e))
+        (draws-units low moves into n 0 offset v d k e (omega arith)))
     go false e =
         subst (λ u. Draws low (doing_head moves into offset (n ∷ [])) v u) (sym (if_not (kind_passes is_character_data v.forest n) _ _ e))
         (draws-as low v (copy_into into n (λ inner u. children_into moves inner ns u) v) (doing_copy into n (λ inner u. doing_children moves inner ns u)) (doing_head moves into offset (n ∷ [])) (λ es. sym (if_not (kind_passes is_character_data v.forest n) _ _ e))
-        (draws-copy low into n v d k p e (λ inner u. doing_children moves inner ns u) (λ inner u. children_into moves inner ns u) (draws-some low moves v d n p ns (λ c. hits-take c offset (children_of v.forest n)))))
+        (draws-copy low into n v d k p e (λ inner u. doing_children moves inner ns u) (λ inner u. children_into moves inner ns u) (λ inner x dx e _ kx. draws-some low moves v d n p ns (λ c. hits-take c offset (children_of v.forest n)) inner x dx e kx)))
 draws-head low moves into offset (n ∷ m ∷ path) v d k p =
     let ns = up_to m (children_of v.forest n) in
     draws-as low v (head_into moves into offset (n ∷ m ∷ path) v) (doing_copy into n (λ inner u. doing_head moves inner offset (m ∷ path) (doing_children moves inner ns u))) (doing_head moves into offset (n ∷ m ∷ path)) (λ es. refl)
     (draws-copy low into n v d k p.0 p.1 (λ inner u. doing_head moves inner offset (m ∷ path) (doing_children moves inner ns u)) (λ inner u. head_into moves inner offset (m ∷ path) (children_into moves inner ns u))
-    (λ inner x dx e hx.
+    (λ inner x dx e _ hx.
     let u = children_into moves inner ns x in
     let a = draws-some low moves v d n p.0 ns (λ c. hits-up_to c m (children_of v.forest n)) inner x dx e hx in
     let b = draws-head low moves inner offset (m ∷ path) u a.drawing (holder-extends low x u inner a.extends hx) (path-extends low v u (extends-then v x u e a.extends) (m ∷ path) p.2) in

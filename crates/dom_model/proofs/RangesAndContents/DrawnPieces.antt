@@ -1,108 +1,41 @@
 -- Pieces of contents as they go into a fragment: some units of a node, a child, a copy that is filled, and what stands beside a path.
 -- DOM Standard, "Interface Range": extract, clone the contents.
-use Rattle.std.proofs.Common.{◌≡◌, ℕ, ◌+◌, ◌<◌, ◌≤◌, Bool, true, false, List, [], ◌∷◌, ◌++◌, length, take, drop, Option, Some, None, refl, ap, sym, ◌∙◌, subst, arith, ◌⊎◌, inl, inr, ⊎_elim, All, length-append, length-drop}
-use Rattle.std.proofs.lemmas.Bool.{cases_lt, false≢true, le-ltb}
-use Rattle.std.proofs.lemmas.List.{length-take}
+use Rattle.std.proofs.Common.{◌≡◌, ℕ, ◌<◌, ◌≤◌, Bool, true, false, List, [], ◌∷◌, length, None, refl, sym, ◌∙◌, subst, arith, ◌⊎◌, inl, inr, ⊎_elim}
+use Rattle.std.proofs.lemmas.Bool.{cases_lt, false≢true}
 use Rattle.dom_model.specs.declared.Kind.{Kind}
 use Rattle.dom_model.specs.declared.Kind.TheVariants.{Element, Text, ProcessingInstruction, Comment, Document, DocumentType, DocumentFragment}
 use Rattle.dom_model.specs.PlainLists.Lists.{hits}
 use Rattle.dom_model.specs.Forests.Kinds.{is_kind, is_character_data, may_be_parent}
-use Rattle.dom_model.specs.Forests.Arena.{Entry}
-use Rattle.dom_model.specs.Forests.Forest.{Node, Forest, empty, node, occurs, entry_in, with_node, map_nodes, KindsFit}
-use Rattle.dom_model.specs.Worlds.World.{Content, Point, World, no_content}
-use Rattle.dom_model.specs.BoundaryPoints.Points.{after_splice, map_ranges}
+use Rattle.dom_model.specs.Forests.Forest.{Node, Forest, empty, node, occurs, map_nodes, KindsFit}
+use Rattle.dom_model.specs.Worlds.World.{Content, World, no_content}
 use Rattle.dom_model.specs.Forests.Texts.{substring, spliced}
-use Rattle.dom_model.specs.MutationAlgorithms.Checks.{entry_has, kind_passes}
+use Rattle.dom_model.specs.MutationAlgorithms.Checks.{kind_passes}
 use Rattle.dom_model.specs.MutationAlgorithms.Editing.{is_fragment, node_document, append}
 use Rattle.dom_model.specs.Commands.Making.{named}
-use Rattle.dom_model.specs.Forests.Lengths.{unit_count, length_in, node_length}
-use Rattle.dom_model.specs.DataAndCopies.Data.{data_of, with_data, cut_count, replace_units, replace_data, data_record}
+use Rattle.dom_model.specs.DataAndCopies.Data.{data_of, with_data, cut_count, replace_data}
 use Rattle.dom_model.specs.DataAndCopies.Clones.{original, document_of_clone, clone_node}
 use Rattle.dom_model.specs.RangesAndContents.Contents.{new_fragment, clone_with, cut_if, units_into, child_into, children_into}
-use Rattle.dom_model.specs.Worlds.Sound.{IsBoundary, IsSound}
 use Rattle.dom_model.specs.TokenText.Edits.{making, copies_edits, clone_edits, replace_data_edits, doing_append, doing_replace_data, doing_clone, doing_clone_with, doing_fragment, doing_cut_if, doing_units, doing_child, doing_children}
 use Rattle.dom_model.proofs.PlainLists.Numbers.{same_or, same, apart}
-use Rattle.dom_model.proofs.Forests.Changes.{change_at}
-use Rattle.dom_model.proofs.Worlds.SameShape.{IsAlike, bare_node, occurs-alike, parent-alike, kind-alike, map-alike, with_node-alike, fits-alike}
-use Rattle.dom_model.proofs.Worlds.Measured.{data_kind, entry-with_node}
-use Rattle.dom_model.proofs.RangesAndContents.RangesSpliced.{range-alike}
-use Rattle.dom_model.proofs.Soundness.SoundWorlds.{IsLive, ranges-kept}
+use Rattle.dom_model.proofs.Worlds.SameShape.{IsAlike, occurs-alike, parent-alike, kind-alike, map-alike, with_node-alike, fits-alike}
 use Rattle.dom_model.proofs.Soundness.SoundMaking.{sound-made_node, sound-copies, sound-clone_node, fits-original}
-use Rattle.dom_model.proofs.Soundness.SoundData.{length-data, changed, alike, length-other, sound-changed, sound-data_record, sound-replace_data}
+use Rattle.dom_model.proofs.Soundness.SoundData.{sound-replace_data}
 use Rattle.dom_model.proofs.RangesAndContents.LiveRangesKept.{replace_data-live}
 use Rattle.dom_model.proofs.DataAndCopies.CopiesPlaced.{kind-clone, kind-copy}
 use Rattle.dom_model.proofs.TokenText.EditsMade.EditsLeave.{follows-doing}
 use Rattle.dom_model.proofs.TokenText.EditsMade.EditsOfSteps.{leave-making, leave-copies, leave-replace_data}
-use Rattle.dom_model.proofs.TokenText.EditsMade.EditsOfInsertions.{ranges-stay}
-use Rattle.dom_model.proofs.RangesAndContents.Drawing.{IsDrawing, Extends, extends-then, Draws, draws-none, draws-then, draws-as, passes_there, passes_too, extends-copies, drawing-copies, IsHolder, holder-extends, IsComing, draws-append}
-
--- Units are cut.
-
--- past the end there is nothing to be cut
-length-past : (at count : ℕ) (units : List ℕ) → length units < at → length (spliced at count [] units) ≡ length units
-length-past at count units h =
-    let a = length-append (take at units ++ []) (drop (at + count) units) in
-    let b = length-append (take at units) [] in
-    let c = length-take at units in
-    let d = length-drop (at + count) units in
-    omega arith
-
-sound-cut_past : (n offset count : ℕ) (w : World) → IsSound w → kind_passes is_character_data w.forest n ≡ true → length (data_of w n) < offset → IsSound (replace_units n offset count [] w)
-sound-cut_past n offset count w s k past_end =
-    sound-changed change keeps n w s (map_ranges (after_splice n offset count 0) w.ranges)
-    (subst (λ rs. All (IsLive (changed change keeps n w s)) rs) (sym (ranges-stay w.forest (after_splice n offset count 0) stays w.ranges s.ranges))
-    (ranges-kept w.forest (changed change keeps n w s) (range-alike (alike change keeps n w s) lengths) w.ranges s.ranges))
-  where
-    change : Node Content → Node Content
-    change = with_data (spliced offset count [] (data_of w n))
-
-    keeps : (x : Node Content) → bare_node (change x) ≡ bare_node x
-    keeps x = refl
-
-    whole : node_length unit_count w.forest n ≡ length (data_of w n)
-    whole = length-data w.forest n k
-
-    itself : node_length unit_count (with_node n change w.forest) n ≡ node_length unit_count w.forest n
-    itself = ap (length_in unit_count) (entry-with_node change (λ x. refl) n n None w.forest) ∙ go (entry_in w.forest n) k ∙ length-past offset count (data_of w n) past_end ∙ sym whole
-      where
-        go : (o : Option (Entry (Node Content))) → entry_has is_character_data o ≡ true → length_in unit_count (change_at change n n o) ≡ length (spliced offset count [] (data_of w n))
-        go None k = absurd (false≢true k)
-        go (Some e) k = elim (same_or n n) [ same _ t ↦ rw (t, data_kind e.value.label.kind k, k) refl | apart ne t ↦ absurd (ne refl) ]
-
-    lengths : (m : ℕ) → node_length unit_count (with_node n change w.forest) m ≡ node_length unit_count w.forest m
-    lengths m =
-        elim (same_or m n) [
-          | same e t ↦ subst (λ x. node_length unit_count (with_node n change w.forest) x ≡ node_length unit_count w.forest x) (sym e) itself
-          | apart ne t ↦ length-other change keeps n w s m t
-        ]
-
-    stays : (q : Point) → IsBoundary w.forest q → after_splice n offset count 0 q ≡ q
-    stays q b =
-        elim (same_or q.node n) [
-          | same e t ↦
-              let j : q.offset ≤ node_length unit_count w.forest n = subst (λ m. q.offset ≤ node_length unit_count w.forest m) e b.within in
-              let l = whole in
-              rw (t, le-ltb offset q.offset (omega arith)) refl
-          | apart ne t ↦ rw t refl
-        ]
-
-sound-cut : (n offset count : ℕ) (w : World) → IsSound w → kind_passes is_character_data w.forest n ≡ true → IsSound (replace_data n offset count [] w)
-sound-cut n offset count w s k =
-    ⊎_elim
-    (λ (lt : length (data_of w n) < offset). sound-cut_past n offset (cut_count (length (data_of w n)) offset count) (data_record n w) (sound-data_record n w s) k lt)
-    (λ (le : offset ≤ length (data_of w n)). sound-replace_data n offset count [] w s k le)
-    (cases_lt (length (data_of w n)) offset)
+use Rattle.dom_model.proofs.RangesAndContents.Drawing.{IsDrawing, Extends, extends-then, Draws, draws-none, draws-then, draws-as, passes_there, passes_too, extends-copies, data-copies, drawing-copies, IsHolder, holder-extends, IsComing, data-append, draws-append}
 
 module _ (low : ℕ) (v : World) (d : IsDrawing low v) where
   -- Data.
 
-  draws-cut : (n offset count : ℕ) → kind_passes is_character_data v.forest n ≡ true → Draws low (doing_replace_data n offset count []) v (replace_data n offset count [] v)
-  draws-cut n offset count k =
+  draws-cut : (n offset count : ℕ) → kind_passes is_character_data v.forest n ≡ true → offset ≤ length (data_of v n) → Draws low (doing_replace_data n offset count []) v (replace_data n offset count [] v)
+  draws-cut n offset count k within =
       let a : IsAlike v.forest (replace_data n offset count [] v).forest = with_node-alike (with_data (spliced offset (cut_count (length (data_of v n)) offset count) [] (data_of v n))) (λ x. refl) n v.forest in
       record {
-        follows = follows-doing v (replace_data n offset count []) (replace_data_edits n offset count []) (leave-replace_data n offset count [] v);
+        follows = follows-doing v (replace_data n offset count []) (replace_data_edits n offset count []) (leave-replace_data n offset count [] v d.sound k within);
         drawing = record {
-          sound = sound-cut n offset count v d.sound k;
+          sound = sound-replace_data n offset count [] v d.sound k within;
           begun = d.begun;
           rising = λ m q l e. d.rising m q l (sym (parent-alike a m) ∙ e);
         };
@@ -114,9 +47,9 @@ module _ (low : ℕ) (v : World) (d : IsDrawing low v) where
         };
       }
 
-  draws-cut_if : (moves : Bool) (n offset count : ℕ) → kind_passes is_character_data v.forest n ≡ true → Draws low (doing_cut_if moves n offset count) v (cut_if moves n offset count v)
-  draws-cut_if false n offset count k = draws-none low v d
-  draws-cut_if true n offset count k = draws-cut n offset count k
+  draws-cut_if : (moves : Bool) (n offset count : ℕ) → kind_passes is_character_data v.forest n ≡ true → offset ≤ length (data_of v n) → Draws low (doing_cut_if moves n offset count) v (cut_if moves n offset count v)
+  draws-cut_if false n offset count k within = draws-none low v d
+  draws-cut_if true n offset count k within = draws-cut n offset count k within
 
   -- New nodes and copies.
 
@@ -124,7 +57,7 @@ module _ (low : ℕ) (v : World) (d : IsDrawing low v) where
   draws-fragment document =
       let x : Node Content = record { number = 0; document = document; label = named DocumentFragment []; body = no_content } in
       record {
-        follows = follows-doing v (new_fragment document) (making document (named DocumentFragment []) no_content) (leave-making document (named DocumentFragment []) no_content v);
+        follows = follows-doing v (new_fragment document) (making document (named DocumentFragment []) no_content) (leave-making document (named DocumentFragment []) no_content v d.sound);
         drawing = drawing-copies low v d document (node x empty empty) (sound-made_node document (named DocumentFragment []) no_content v d.sound);
         extends = extends-copies low v d document (node x empty empty);
       }
@@ -132,7 +65,7 @@ module _ (low : ℕ) (v : World) (d : IsDrawing low v) where
   pub draws-clone : (deep : Bool) (n : ℕ) → Draws low (doing_clone deep n) v (clone_node deep n v)
   draws-clone deep n =
       record {
-        follows = follows-doing v (clone_node deep n) (clone_edits deep n) (leave-copies (document_of_clone v n) (original deep n v.forest) v);
+        follows = follows-doing v (clone_node deep n) (clone_edits deep n) (leave-copies (document_of_clone v n) (original deep n v.forest) v d.sound (fits-original deep n v.forest d.sound.forest.kinds));
         drawing = drawing-copies low v d (document_of_clone v n) (original deep n v.forest) (sound-clone_node deep n v d.sound);
         extends = extends-copies low v d (document_of_clone v n) (original deep n v.forest);
       }
@@ -144,7 +77,7 @@ module _ (low : ℕ) (v : World) (d : IsDrawing low v) where
   draws-clone_with units n =
       let fits : KindsFit None (cut_copy units n) = fits-alike (map-alike (with_data units) (λ x. refl) (original false n v.forest)) (fits-original false n v.forest d.sound.forest.kinds) in
       record {
-        follows = follows-doing v (clone_with units n) (λ w. copies_edits (node_document w n) (map_nodes (with_data units) (original false n w.forest)) w) (leave-copies (node_document v n) (cut_copy units n) v);
+        follows = follows-doing v (clone_with units n) (λ w. copies_edits (node_document w n) (map_nodes (with_data units) (original false n w.forest)) w) (leave-copies (node_document v n) (cut_copy units n) v d.sound fits);
         drawing = drawing-copies low v d (node_document v n) (cut_copy units n) (sound-copies (node_document v n) (cut_copy units n) v d.sound fits);
         extends = extends-copies low v d (node_document v n) (cut_copy units n);
       }
@@ -228,8 +161,8 @@ module _ (low : ℕ) (v : World) (into n : ℕ) (kind : kind_passes is_drawn v.f
 -- Some units go into a fragment, and a child, and children.
 
 module _ (low : ℕ) (moves : Bool) (into : ℕ) where
-  pub draws-units : (n offset count : ℕ) (v : World) → IsDrawing low v → IsHolder low v into → kind_passes is_character_data v.forest n ≡ true → Draws low (doing_units moves into n offset count) v (units_into moves into n offset count v)
-  draws-units n offset count v d k has_data =
+  pub draws-units : (n offset count : ℕ) (v : World) → IsDrawing low v → IsHolder low v into → kind_passes is_character_data v.forest n ≡ true → offset ≤ length (data_of v n) → Draws low (doing_units moves into n offset count) v (units_into moves into n offset count v)
+  draws-units n offset count v d k has_data within =
       let units = substring offset count (data_of v n) in
       let first = clone_with units n v in
       let a = draws-clone_with low v d units n in
@@ -237,9 +170,13 @@ module _ (low : ℕ) (moves : Bool) (into : ℕ) where
       let copied : kind_passes is_drawn first.forest v.made ≡ true =
       kind-copy is_drawn (node_document v n) v.made false (with_data units) (λ x. refl) n v.forest d.sound.forest.once (d.sound.forest.small v.made (omega arith)) hn
       ∙ passes_too is_character_data is_drawn true data-drawn v.forest n has_data in
-      let b = draws-append low first a.drawing into v.made (holder-extends low v first into a.extends k) (coming low first into v.made copied (inr (new-greater low v d into (passes_there may_be_parent v.forest into k.kind)))) in
+      let ki = holder-extends low v first into a.extends k in
+      let ci = coming low first into v.made copied (inr (new-greater low v d into (passes_there may_be_parent v.forest into k.kind))) in
+      let b = draws-append low first a.drawing into v.made ki ci in
       let second = append v.made into first in
-      let c = draws-cut_if low second b.drawing moves n offset count ((extends-then v first second a.extends b.extends).kinds is_character_data n hn ∙ has_data) in
+      let same_data : data_of second n ≡ data_of v n =
+      data-append low first a.drawing into v.made ki ci n (a.extends.there n hn) ∙ data-copies low v d (node_document v n) (map_nodes (with_data units) (original false n v.forest)) n hn in
+      let c = draws-cut_if low second b.drawing moves n offset count ((extends-then v first second a.extends b.extends).kinds is_character_data n hn ∙ has_data) (subst (λ (xs : List ℕ). offset ≤ length xs) (sym same_data) within) in
       draws-as low v (cut_if moves n offset count second) (λ t. doing_cut_if moves n offset count (doing_append v.made into (doing_clone_with units n t))) (doing_units moves into n offset count) (λ es. refl)
       (draws-then low v second (cut_if moves n offset count second) (λ t. doing_append v.made into (doing_clone_with units n t)) (doing_cut_if moves n offset count)
       (draws-then low v first second (doing_clone_with units n) (doing_append v.made into) a b) c)

@@ -28,7 +28,7 @@ use Rattle.dom_model.proofs.Soundness.SoundAppending.{IsPlain}
 use Rattle.dom_model.proofs.Soundness.SoundPaths.{IsTail, IsHead}
 use Rattle.dom_model.proofs.RangesAndContents.Drawing.{passes_too}
 use Rattle.dom_model.proofs.RangesAndContents.DrawnPieces.{IsDrawable}
-use Rattle.dom_model.proofs.RangesAndContents.DrawnPaths.{ArePath, kind-drawn}
+use Rattle.dom_model.proofs.RangesAndContents.DrawnPaths.{ArePath, IsWithin, kind-drawn}
 
 -- what stands below something is no Document and no fragment
 below_kinds : (parent k : Kind) → may_stand_in parent k ≡ true → (is_kind Document k ≡ false) × (is_kind DocumentFragment k ≡ false)
@@ -237,6 +237,22 @@ path-end : (low : ℕ) (v : World) (ns : List ℕ) (n : ℕ) → AreInner low v 
 path-end low v [] n h k = k
 path-end low v (m ∷ []) n h k = (h.0, h.1, k)
 path-end low v (m ∷ l ∷ ns) n h k = (h.0, h.1, path-end low v (l ∷ ns) n h.2 k)
+
+within-end : (offset : ℕ) (v : World) (ns : List ℕ) (n : ℕ) → (kind_passes is_character_data v.forest n ≡ true → offset ≤ length (data_of v n)) → IsWithin offset v (ns ++ n ∷ [])
+within-end offset v [] n h = h
+within-end offset v (m ∷ []) n h = h
+within-end offset v (m ∷ l ∷ ns) n h = within-end offset v (l ∷ ns) n h
+
+-- an offset within the data of a node, on the path down to it
+pub path-within : (v : World) (common n offset : ℕ) → 0 < occurs n v.forest → (kind_passes is_character_data v.forest n ≡ true → offset ≤ length (data_of v n)) → IsWithin offset v (path_below v.forest common n)
+path-within v common n offset h within =
+    let i = ancestors-there n v.forest h in
+    elim (same_or n common) [
+      | same _ t ↦ (let u : path_below v.forest common n ≡ [] = ap (λ ns. reverse (up_to common ns)) i.1 ∙ (rw t refl) in subst (λ ns. IsWithin offset v ns) (sym u) tt)
+      | apart ne t ↦
+          let u : path_below v.forest common n ≡ reverse (up_to common i.0) ++ n ∷ [] = ap (λ ns. reverse (up_to common ns)) i.1 ∙ (rw t (reverse-first n (up_to common i.0))) in
+          subst (λ ns. IsWithin offset v ns) (sym u) (within-end offset v (reverse (up_to common i.0)) n within)
+    ]
 
 -- each node with a parent is old
 module _ (low : ℕ) (v : World) (s : IsSound v) (old : (c q : ℕ) → parent_of v.forest c ≡ Some q → c < low) where

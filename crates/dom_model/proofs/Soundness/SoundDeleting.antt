@@ -47,7 +47,7 @@ removed_parents (n ∷ ns) w o m z =
     one None = (refl, o)
     one (Some p) = (parent-cut w.forest o n m ∙ (rw far refl), IsOnce-cut n w.forest o)
 
-sound-remove_each : (ns : List ℕ) (w : World) → IsSound w → IsSound (remove_each ns w)
+pub sound-remove_each : (ns : List ℕ) (w : World) → IsSound w → IsSound (remove_each ns w)
 sound-remove_each [] w s = s
 sound-remove_each (n ∷ ns) w s = sound-remove_each ns (remove false n w) (sound-remove false n w s)
 
@@ -75,7 +75,7 @@ module _ (r : ℕ) (range : Range) (w : World) (s : IsSound w) (h : IsRange w.fo
   abbrev first : World
   first = cut_from range.start.node range.start.offset w
 
-  one : IsFilled w first []
+  pub one : IsFilled w first []
   one = filled_cut_from range.start.node range.start.offset w s (offset_of_start w range h)
 
   abbrev tops : List ℕ
@@ -84,13 +84,13 @@ module _ (r : ℕ) (range : Range) (w : World) (s : IsSound w) (h : IsRange w.fo
   abbrev second : World
   second = remove_each tops first
 
-  sound-second : IsSound second
+  pub sound-second : IsSound second
   sound-second = sound-remove_each tops first one.sound
 
   abbrev third : World
   third = cut_up_to range.end.node range.end.offset second
 
-  three : IsFilled second third []
+  pub three : IsFilled second third []
   three = filled_cut_up_to range.end.node range.end.offset second sound-second
 
   -- a child ahead of the place is not removed
@@ -121,24 +121,27 @@ module _ (r : ℕ) (range : Range) (w : World) (s : IsSound w) (h : IsRange w.fo
       let t = child_there second.forest c (new_place w.forest range).node (b ∙ a ∙ e) in
       three.parents c t (λ u k. refl) ∙ b ∙ a ∙ e
 
+  pub place_left : IsRange third.forest (collapsed_at (new_place w.forest range))
+  place_left =
+      range_at_point third.forest (new_place w.forest range)
+      (place_stays w.forest third.forest w.made third.made s.forest three.sound.forest (new_place w.forest range) kind_left place.within parent_left)
+
   pub sound-deleted_between : IsSound (deleted_between r range w)
-  sound-deleted_between =
-      sound-with_range r (collapsed_at (new_place w.forest range)) third three.sound
-      (range_at_point third.forest (new_place w.forest range)
-      (place_stays w.forest third.forest w.made third.made s.forest three.sound.forest (new_place w.forest range) kind_left place.within parent_left))
+  sound-deleted_between = sound-with_range r (collapsed_at (new_place w.forest range)) third three.sound place_left
+
+-- a range within the data of one node
+pub in_data : (range : Range) (w : World) → is_in_one_data w range ≡ true → kind_passes is_character_data w.forest range.start.node ≡ true
+in_data range w e = elim (same_or range.start.node range.end.node) [
+  | same d t ↦ (let j = rw t at e in j)
+  | apart ne t ↦ absurd (let j = rw t at e in false≢true j)
+]
 
 pub sound-deleted : (r : ℕ) (range : Range) (w : World) → IsSound w → IsRange w.forest range → IsSound (deleted r range w)
 sound-deleted r range w s h = go (is_collapsed range) (is_in_one_data w range) refl
   where
-    in_data : is_in_one_data w range ≡ true → kind_passes is_character_data w.forest range.start.node ≡ true
-    in_data e = elim (same_or range.start.node range.end.node) [
-      | same d t ↦ (let j = rw t at e in j)
-      | apart ne t ↦ absurd (let j = rw t at e in false≢true j)
-    ]
-
     go : (c v : Bool) → is_in_one_data w range ≡ v → IsSound (if c then w else if v then replace_data range.start.node range.start.offset (range.end.offset - range.start.offset) [] w else deleted_between r range w)
     go true v e = s
-    go false true e = sound-replace_data range.start.node range.start.offset (range.end.offset - range.start.offset) [] w s (in_data e) (offset_of_start w range h (in_data e))
+    go false true e = sound-replace_data range.start.node range.start.offset (range.end.offset - range.start.offset) [] w s (in_data range w e) (offset_of_start w range h (in_data range w e))
     go false false e = sound-deleted_between r range w s h e
 
 pub sound-for_range : (o : Option Range) (w : World) (act : Range → World) → IsSound w → IsLive w.forest o → ((range : Range) → IsRange w.forest range → IsSound (act range)) → IsSound (for_range o w act)

@@ -53,7 +53,7 @@ abbrev pub AreUpTo : ℕ → ℕ → Range → Type 0
 AreUpTo n base r = IsUpTo n base r.start × IsUpTo n base r.end
 
 -- both facts hold of each live range
-lives-both : (P Q R : Range → Type 0) → ((r : Range) → P r → Q r → R r) → (rs : List (Option Range)) → Lives P rs → Lives Q rs → Lives R rs
+pub lives-both : (P Q R : Range → Type 0) → ((r : Range) → P r → Q r → R r) → (rs : List (Option Range)) → Lives P rs → Lives Q rs → Lives R rs
 lives-both P Q R join rs h g k d l = each (slice_index_or rs k d) (h k d l) (g k d l)
   where
     each : (o : Option Range) → IfSome o P → IfSome o Q → IfSome o R
@@ -146,13 +146,13 @@ module _ (v : World) (t p base first : ℕ) (ts : List ℕ) (j : AreJoinable v t
       let b = place-second first m (ts ++ j.behind) (λ d. later_apart m h (sym d)) in
       omega arith
 
-  text_first : is_of_kind Text v.forest first ≡ true
+  pub text_first : is_of_kind Text v.forest first ≡ true
   text_first = j.texts first (hits-first first ts)
 
   bare_of : (m : ℕ) → is_of_kind Text v.forest m ≡ true → children_of v.forest m ≡ []
   bare_of m h = data-childless j.sound.forest m (text_has_data v m h)
 
-  index_first : index_of v.forest first ≡ index_of v.forest t + 1
+  pub index_first : index_of v.forest first ≡ index_of v.forest t + 1
   index_first =
       let a = index-child v.forest first p (is_child first first_in) in
       let b = index-child v.forest t p (is_child t t_in) in

@@ -65,7 +65,7 @@ document_kind Document h = refl
 document_kind DocumentType h = absurd (false≢true h)
 document_kind DocumentFragment h = refl
 
-document_is_no_doctype : (f : Forest Content) (n : ℕ) → is_of_kind Document f n ≡ true → is_of_kind DocumentType f n ≡ false
+pub document_is_no_doctype : (f : Forest Content) (n : ℕ) → is_of_kind Document f n ≡ true → is_of_kind DocumentType f n ≡ false
 document_is_no_doctype f n h = go (entry_in f n) h
   where
     go : (o : Option (Entry (Node Content))) → entry_has (is_kind Document) o ≡ true → entry_has (is_kind DocumentType) o ≡ false

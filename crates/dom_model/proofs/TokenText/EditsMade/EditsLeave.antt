@@ -1,17 +1,18 @@
--- What primitive edits leave of a world: its trees, its live ranges and the next node number. The edits leave another world where they
--- leave these as they are there. Iterators, walkers, observers and static ranges are not told by edits.
+-- What primitive edits leave of a world: its trees, its live ranges and the next node number. The edits leave another world where each of
+-- them fits, and they leave these as they are there. Iterators, walkers, observers and static ranges are not told by edits.
 use Rattle.std.proofs.Common.{◌≡◌, ℕ, List, [], ◌∷◌, ◌++◌, Option, Some, None, refl, ap, sym, ◌∙◌, subst}
 use Rattle.dom_model.specs.Forests.Forest.{parent_of}
-use Rattle.dom_model.specs.Worlds.World.{Point, World, first_world}
+use Rattle.dom_model.specs.Worlds.World.{Point, World}
 use Rattle.dom_model.specs.TokenText.Tokens.{Edit, Removal, Insertion, Splice, Parting, Merge, EndSet, Making, RangeMaking, Release, Discard}
 use Rattle.dom_model.specs.TokenText.Edits.{removal_from, parting_from, merge_from, on_world, all_on_world, Trace, begun, doing}
+use Rattle.dom_model.proofs.TokenText.Marked.MarkedEnds.{IsReady}
+use Rattle.dom_model.proofs.TokenText.Marked.MarkedEdits.{Fits, AllFit}
+pub use Rattle.dom_model.proofs.TokenText.EditsMade.FittingEdits.{laid}
+use Rattle.dom_model.proofs.TokenText.EditsMade.FittingEdits.{ready-laid, fits-laid, AllFit-append}
 
--- the trees, the live ranges and the next number alone
-abbrev pub laid : World → World
-laid w = record first_world { forest = w.forest; made = w.made; ranges = w.ranges }
-
--- the edits leave the second world of the first
+-- the edits fit the first world, and leave the second
 pub record Leave (es : List Edit) (w v : World) : Type 0 where
+  pub fits : AllFit (laid w) es
   pub left : all_on_world es (laid w) ≡ laid v
 
 -- An edit reads nothing else.
@@ -51,17 +52,17 @@ edits-append [] fs w = refl
 edits-append (e ∷ es) fs w = edits-append es fs (on_world e w)
 
 pub leave-none : (w v : World) → laid w ≡ laid v → Leave [] w v
-leave-none w v e = record { left = e }
+leave-none w v e = record { fits = tt; left = e }
 
-pub leave-edit : (e : Edit) (w v : World) → laid (on_world e w) ≡ laid v → Leave (e ∷ []) w v
-leave-edit e w v h = record { left = edit-laid e w ∙ h }
+pub leave-edit : (e : Edit) (w v : World) → IsReady w → Fits w e → laid (on_world e w) ≡ laid v → Leave (e ∷ []) w v
+leave-edit e w v ready fits h = record { fits = (ready-laid w ready, fits-laid w e fits, tt); left = edit-laid e w ∙ h }
 
 pub leave-then : (es fs : List Edit) (w v u : World) → Leave es w v → Leave fs v u → Leave (es ++ fs) w u
-leave-then es fs w v u h k = record { left = edits-append es fs (laid w) ∙ ap (all_on_world fs) h.left ∙ k.left }
+leave-then es fs w v u h k = record { fits = AllFit-append es fs (laid w) h.fits (subst (λ x. AllFit x fs) (sym h.left) k.fits); left = edits-append es fs (laid w) ∙ ap (all_on_world fs) h.left ∙ k.left }
 
 -- worlds that are laid alike are left alike
 pub leave-alike : (es : List Edit) (w w' v v' : World) → laid w ≡ laid w' → laid v ≡ laid v' → Leave es w v → Leave es w' v'
-leave-alike es w w' v v' d e h = record { left = ap (all_on_world es) (sym d) ∙ h.left ∙ e }
+leave-alike es w w' v v' d e h = record { fits = subst (λ x. AllFit x es) d h.fits; left = ap (all_on_world es) (sym d) ∙ h.left ∙ e }
 
 -- What it says of the world after the edits.
 

@@ -1,6 +1,6 @@
--- The primitive edits of a command leave what the command leaves, from every sound world: the nesting, the data, the live ranges and the next
--- node number. For all commands but those that adopt or set attributes they leave node documents and attributes too: the forest itself.
-use Rattle.std.proofs.Common.{◌≡◌, ℕ, ◌==◌, Bool, true, false, ◌||◌, if◌then◌else◌, List, [], ◌∷◌, Option, refl, ap, sym, ◌∙◌}
+-- The primitive edits of a command fit every sound world, and leave what the command leaves: the nesting, the data, the live ranges and the
+-- next node number. For all commands but those that adopt or set attributes they leave node documents and attributes too: the forest itself.
+use Rattle.std.proofs.Common.{◌≡◌, ℕ, ◌==◌, Bool, true, false, ◌||◌, if◌then◌else◌, List, [], ◌∷◌, Option, refl, ap, sym, ◌∙◌, subst}
 use Rattle.std.proofs.lemmas.Bool.{false≢true}
 use Rattle.dom_model.specs.declared.Kind.TheVariants.{Element, Document}
 use Rattle.dom_model.specs.declared.DomError.TheVariants.{NotSupportedError}
@@ -22,6 +22,7 @@ use Rattle.dom_model.specs.TokenText.Edits.{all_on_world, remove_edits}
 use Rattle.dom_model.specs.TokenText.CommandEdits.{unless_refused, command_edits, edits_of}
 use Rattle.dom_model.specs.Worlds.Sound.{IsSound}
 use Rattle.dom_model.proofs.PlainLists.Numbers.{same_or, same, apart}
+use Rattle.dom_model.proofs.TokenText.Marked.MarkedEdits.{AllFit}
 use Rattle.dom_model.proofs.TokenText.EditsMade.EditsLeave.{laid, Leave, leave-laid}
 use Rattle.dom_model.proofs.TokenText.EditsMade.EditsOfSteps.{leave-remove}
 use Rattle.dom_model.proofs.TokenText.EditsMade.EditsOfSurrounding.{KeepSound}
@@ -129,12 +130,13 @@ left-toggled n name force w = go (has_attribute w n name) (is_toggled_on force (
 
 -- Commands.
 
--- the edits leave the step's world but for node documents and attributes
-record StepIsLeft (es : List Edit) (w : World) (step : Step) : Type 0 where
-  left : IsLeftAs (all_on_world (unless_refused step.reply es) w) step.world
+-- the edits fit the world, and leave the step's world but for node documents and attributes
+pub record StepIsLeft (es : List Edit) (w : World) (step : Step) : Type 0 where
+  pub fits : AllFit (laid w) (unless_refused step.reply es)
+  pub left : IsLeftAs (all_on_world (unless_refused step.reply es) w) step.world
 
 left-refused : (es : List Edit) (w : World) (r : Reply) → IsRefusal r → StepIsLeft es w (refused r w)
-left-refused es w r k = record { left = left-laid (all_on_world (unless_refused r es) w) w (ap (λ fs. laid (all_on_world fs w)) (k es)) }
+left-refused es w r k = record { fits = subst (λ fs. AllFit (laid w) fs) (sym (k es)) tt; left = left-laid (all_on_world (unless_refused r es) w) w (ap (λ fs. laid (all_on_world fs w)) (k es)) }
 
 left-guarded : (es : List Edit) (cs : List (Bool × Reply)) (w : World) (step : Step) → AreRefusals cs → StepIsLeft es w step → StepIsLeft es w (guarded cs w step)
 left-guarded es cs w step r k = holds-guarded (λ x. StepIsLeft es w x) cs w step (left-refused es w) r (λ h. k)
@@ -142,42 +144,39 @@ left-guarded es cs w step r k = holds-guarded (λ x. StepIsLeft es w x) cs w ste
 any : (es : List Edit) → ◌≡◌ {A = List Edit} [] []
 any es = refl
 
-left-adopt : (b : Bounds) (d n : ℕ) (w : World) → StepIsLeft (remove_edits n w) w (answer b w (AdoptNode d n))
-left-adopt b d n w =
+left-adopt : (b : Bounds) (d n : ℕ) (w : World) → IsSound w → StepIsLeft (remove_edits n w) w (answer b w (AdoptNode d n))
+left-adopt b d n w s =
     left-guarded (remove_edits n w) (no_node d w ∷ no_node n w ∷ wrong_kind (is_kind Document) d w ∷ throws (is_of_kind Document w.forest n) NotSupportedError ∷ []) w (gives n (adopt n d w)) (any, (any, (any, (any, tt))))
-    (record { left = adopted_left })
+    (record { fits = (let k = leave-remove false n w s in k.fits); left = adopted_left })
   where
     out : World
     out = remove false n w
 
     removed : IsLeftAs (all_on_world (remove_edits n w) w) out
-    removed = left-laid (all_on_world (remove_edits n w) w) out (leave-laid (remove_edits n w) w out (leave-remove false n w))
+    removed = left-laid (all_on_world (remove_edits n w) w) out (leave-laid (remove_edits n w) w out (leave-remove false n w s))
 
     adopted_left : IsLeftAs (all_on_world (remove_edits n w) w) (adopt n d w)
     adopted_left = let k = removed in record { forest = k.forest ∙ sym (plain-adopted n d out.forest); ranges = k.ranges; made = k.made }
 
-left-of_all : (b : Bounds) (w : World) (c : Command) → Leave (edits_of b w c) w (answer b w c).world → IsLeftAs (all_on_world (edits_of b w c) w) (answer b w c).world
-left-of_all b w c h = left-laid (all_on_world (edits_of b w c) w) (answer b w c).world (leave-laid (edits_of b w c) w (answer b w c).world h)
+left-of_all : (b : Bounds) (w : World) (c : Command) → Leave (edits_of b w c) w (answer b w c).world → StepIsLeft (command_edits c w) w (answer b w c)
+left-of_all b w c h = record { fits = h.fits; left = left-laid (all_on_world (edits_of b w c) w) (answer b w c).world (leave-laid (edits_of b w c) w (answer b w c).world h) }
 
 -- of every command but the surrounding of contents
-pub edits-leave : (b : Bounds) (w : World) → IsSound w → (c : Command) → surrounds c ≡ false → IsLeftAs (all_on_world (edits_of b w c) w) (answer b w c).world
-edits-leave b w s (AdoptNode d n) f = let k = left-adopt b d n w in k.left
+pub edits-leave : (b : Bounds) (w : World) → IsSound w → (c : Command) → surrounds c ≡ false → StepIsLeft (command_edits c w) w (answer b w c)
+edits-leave b w s (AdoptNode d n) f = left-adopt b d n w s
 edits-leave b w s (SetAttribute e name value) f =
-    let k = left-guarded [] (no_node e w ∷ wrong_kind (is_kind Element) e w ∷ bad_name (is_attribute_name name) ∷ []) w (does (set_attribute e name value w)) (any, (any, (any, tt))) (record { left = left-set e name value w }) in
-    k.left
+    left-guarded [] (no_node e w ∷ wrong_kind (is_kind Element) e w ∷ bad_name (is_attribute_name name) ∷ []) w (does (set_attribute e name value w)) (any, (any, (any, tt))) (record { fits = tt; left = left-set e name value w })
 edits-leave b w s (RemoveAttribute e name) f =
-    let k = left-guarded [] (no_node e w ∷ wrong_kind (is_kind Element) e w ∷ []) w (does (remove_attribute e name w)) (any, (any, tt)) (record { left = left-removed e name w }) in
-    k.left
+    left-guarded [] (no_node e w ∷ wrong_kind (is_kind Element) e w ∷ []) w (does (remove_attribute e name w)) (any, (any, tt)) (record { fits = tt; left = left-removed e name w })
 edits-leave b w s (ToggleAttribute e name force) f =
     let step : Step = record { reply = Done (Flag (is_toggled_on force (has_attribute w e name))); world = toggle_attribute e name force w } in
-    let k = left-guarded [] (no_node e w ∷ wrong_kind (is_kind Element) e w ∷ bad_name (is_attribute_name name) ∷ []) w step (any, (any, (any, tt))) (record { left = left-toggled e name force w }) in
-    k.left
+    left-guarded [] (no_node e w ∷ wrong_kind (is_kind Element) e w ∷ bad_name (is_attribute_name name) ∷ []) w step (any, (any, (any, tt))) (record { fits = tt; left = left-toggled e name force w })
 edits-leave b w s c f = left-of_all b w c (edits-leave_all b w s c refl f)
 
 -- and of every command, where extracting and inserting a node leave sound worlds
-pub edits-leave_every : KeepSound → (b : Bounds) (w : World) → IsSound w → (c : Command) → IsLeftAs (all_on_world (edits_of b w c) w) (answer b w c).world
+pub edits-leave_every : KeepSound → (b : Bounds) (w : World) → IsSound w → (c : Command) → StepIsLeft (command_edits c w) w (answer b w c)
 edits-leave_every keeps b w s c = go (surrounds c) refl
   where
-    go : (v : Bool) → surrounds c ≡ v → IsLeftAs (all_on_world (edits_of b w c) w) (answer b w c).world
+    go : (v : Bool) → surrounds c ≡ v → StepIsLeft (command_edits c w) w (answer b w c)
     go true e = left-of_all b w c (edits-leave_surrounding b w s keeps c e)
     go false e = edits-leave b w s c e

@@ -1,6 +1,6 @@
 -- The edits of extracting and of cloning the contents of a live range leave what these leave, and the contents that are drawn leave a sound
 -- world. DOM Standard, "Interface Range": extractContents, cloneContents.
-use Rattle.std.proofs.Common.{◌≡◌, ℕ, ◌+◌, ◌-◌, ◌<◌, ◌≤◌, ◌==◌, Bool, true, false, ◌&&◌, ◌||◌, if◌then◌else◌, List, [], ◌∷◌, filter, Option, Some, None, is_some, unwrap_or, refl, ap, sym, ◌∙◌, subst, arith, ◌⊎◌, inl, inr, ⊎_elim}
+use Rattle.std.proofs.Common.{◌≡◌, ℕ, ◌+◌, ◌-◌, ◌<◌, ◌≤◌, ◌==◌, Bool, true, false, ◌&&◌, ◌||◌, if◌then◌else◌, List, [], ◌∷◌, length, filter, Option, Some, None, is_some, unwrap_or, refl, ap, sym, ◌∙◌, subst, arith, ◌⊎◌, inl, inr, ⊎_elim}
 use Rattle.std.proofs.lemmas.Bool.{cases_lt, false≢true}
 use Rattle.std.specs.List.{list_any}
 use Rattle.dom_model.specs.declared.DomError.TheVariants.{HierarchyRequestError}
@@ -15,6 +15,7 @@ use Rattle.dom_model.specs.MutationAlgorithms.Checks.{first_refusal, entry_has, 
 use Rattle.dom_model.specs.MutationAlgorithms.Editing.{node_document}
 use Rattle.dom_model.specs.Forests.Lengths.{unit_count, node_length}
 use Rattle.dom_model.specs.Commands.Making.{named}
+use Rattle.dom_model.specs.DataAndCopies.Data.{data_of}
 use Rattle.dom_model.specs.RangesAndContents.Ranges.{is_collapsed, is_less, range_at, collapsed_at, with_range}
 use Rattle.dom_model.specs.RangesAndContents.Contents.{for_range, is_in_one_data, new_place, new_fragment, common_of, path_below, contained_in, contained_children, units_into, children_into, tail_into, parts_into, contents_drawn, check_draw, check_extract, extracted, extract, clone_contents}
 use Rattle.dom_model.specs.TokenText.Tokens.{point}
@@ -29,13 +30,16 @@ use Rattle.dom_model.proofs.Worlds.Parts.{ancestors-part, path-there}
 use Rattle.dom_model.proofs.Soundness.SoundWorlds.{IsLive, child_there}
 use Rattle.dom_model.proofs.Soundness.SoundRangeSteps.{live_range}
 use Rattle.dom_model.proofs.DataAndCopies.CopiesPlaced.{parent-copies}
-use Rattle.dom_model.proofs.RangesAndContents.LiveRangesKept.{is_live}
+use Rattle.dom_model.proofs.RangesAndContents.LiveRangesKept.{is_live, live-there}
+use Rattle.dom_model.proofs.Soundness.SoundDeleting.{offset_of_start}
+use Rattle.dom_model.proofs.Soundness.SoundContents.{sound-extracted}
+use Rattle.dom_model.proofs.TokenText.EditsMade.EditsOfSteps.{range-of_sound}
 use Rattle.dom_model.proofs.TokenText.EditsMade.EditsLeave.{Leave, leave-none, Comes, comes-then}
 use Rattle.dom_model.proofs.TokenText.EditsMade.EditsOfDeletedContents.{follows-ends}
-use Rattle.dom_model.proofs.RangesAndContents.Drawing.{IsDrawing, extends-then, Draws, draws-none, draws-then, draws-as, passes_there, IsHolder, holder-extends}
+use Rattle.dom_model.proofs.RangesAndContents.Drawing.{IsDrawing, data-copies, extends-then, Draws, draws-none, draws-then, draws-as, passes_there, IsHolder, holder-extends}
 use Rattle.dom_model.proofs.RangesAndContents.DrawnPieces.{is_drawn, IsDrawable, drawable-extends, draws-fragment, draws-units, draws-children}
 use Rattle.dom_model.proofs.RangesAndContents.DrawnPaths.{ArePath, path-extends, kind-drawn, hits-filter, draws-tail, draws-head}
-use Rattle.dom_model.proofs.RangesAndContents.PathsToEnds.{common-above, path-down}
+use Rattle.dom_model.proofs.RangesAndContents.PathsToEnds.{common-above, path-down, path-within}
 
 -- A live range of a sound world is in order.
 
@@ -156,6 +160,13 @@ module _ (w : World) (s : IsSound w) (range : Range) (h : IsRange w.forest range
   end_path : ArePath w.made grown (path_below grown.forest (common_of grown range) range.end.node)
   end_path = path-down w.made grown first.drawing.sound old (common_of grown range) range.end.node (there range.end.node he) (same_kind (is_kind DocumentType) range.end.node he ∙ h.ends.kind) above.1
 
+  -- and its start is within the data of its node
+  start_data : data_of grown range.start.node ≡ data_of w range.start.node
+  start_data = data-copies w.made w at_start document (node (record { number = 0; document = document; label = named DocumentFragment []; body = no_content }) empty empty) range.start.node hs
+
+  start_within : kind_passes is_character_data grown.forest range.start.node ≡ true → range.start.offset ≤ length (data_of grown range.start.node)
+  start_within k = subst (λ (xs : List ℕ). range.start.offset ≤ length xs) (sym start_data) (offset_of_start w range h (sym (same_kind is_character_data range.start.node hs) ∙ k))
+
   contained-same : (n : ℕ) → 0 < occurs n w.forest → contained_in grown range n ≡ contained_in w range n
   contained-same n k =
       let root = root-more w.forest s.forest.once fragment fresh in
@@ -193,7 +204,7 @@ module _ (w : World) (s : IsSound w) (range : Range) (h : IsRange w.forest range
         let ns = contained_children grown range in
         let u = tail_into moves w.made range.start.offset start_down grown in
         let x = children_into moves w.made ns u in
-        let a = draws-tail w.made moves w.made range.start.offset start_down grown first.drawing holds start_path in
+        let a = draws-tail w.made moves w.made range.start.offset start_down grown first.drawing holds start_path (path-within grown (common_of grown range) range.start.node range.start.offset (there range.start.node hs) start_within) in
         let ku = holder-extends w.made grown u w.made a.extends holds in
         let b = draws-children w.made moves w.made ns u a.drawing ku (λ c k. drawable-extends w.made grown u c a.extends (contained_drawable c k)) in
         let e = extends-then grown u x a.extends b.extends in
@@ -213,7 +224,8 @@ module _ (w : World) (s : IsSound w) (range : Range) (h : IsRange w.forest range
     draws-rest moves true u e = draws-none w.made grown first.drawing
     draws-rest moves false true e =
         let k = second-too (range.start.node == range.end.node) (kind_passes is_character_data w.forest range.start.node) e in
-        draws-units w.made moves w.made range.start.node range.start.offset (range.end.offset - range.start.offset) grown first.drawing holds (same_kind is_character_data range.start.node hs ∙ k)
+        let has_data = same_kind is_character_data range.start.node hs ∙ k in
+        draws-units w.made moves w.made range.start.node range.start.offset (range.end.offset - range.start.offset) grown first.drawing holds has_data (start_within has_data)
     draws-rest moves false false e = draws-parts moves
 
     -- the contents are drawn
@@ -247,19 +259,22 @@ check-range w r range e c = ap (λ o. for_range o None (λ range. check_draw w r
 pub leave-extract : (r : ℕ) (w : World) → IsSound w → check_extract r w ≡ None → Leave (extract_edits r w) w (extract r w)
 leave-extract r w s c = go (range_at w r) refl
   where
-    part : (range : Range) → range_at w r ≡ Some range → (v : Bool) → Leave (if v then drawn_trace true range w else doing_ends r (collapsed_at (new_place w.forest range)) (drawn_trace true range w)).edits w (if v then contents_drawn true range w else with_range r (collapsed_at (new_place w.forest range)) (contents_drawn true range w))
-    part range e true = let k = comes-drawn w s range (sound-range w r range s e) (check-range w r range e c) true in k.left
-    part range e false =
+    part : (range : Range) → range_at w r ≡ Some range → (v : Bool) → (is_collapsed range || is_in_one_data w range) ≡ v → Leave (if v then drawn_trace true range w else doing_ends r (collapsed_at (new_place w.forest range)) (drawn_trace true range w)).edits w (if v then contents_drawn true range w else with_range r (collapsed_at (new_place w.forest range)) (contents_drawn true range w))
+    part range e true x = let k = comes-drawn w s range (sound-range w r range s e) (check-range w r range e c) true in k.left
+    part range e false x =
         let h = sound-range w r range s e in
         let d = check-range w r range e c in
         let u = contents_drawn true range w in
         let place = collapsed_at (new_place w.forest range) in
-        let k = comes-then w (drawn_trace true range w) u (with_range r place u) (doing_ends r place) (follows-ends r place u (live-contents_drawn w s range h d true r ∙ ap is_some e)) (comes-drawn w s range h d true) in
+        let live = live-contents_drawn w s range h d true r ∙ ap is_some e in
+        let old = live-there r u live in
+        let all = subst (λ v. IsSound (if v then u else with_range r place u)) x (sound-extracted r range w s h d) in
+        let k = comes-then w (drawn_trace true range w) u (with_range r place u) (doing_ends r place) (follows-ends r place u (sound-contents_drawn w s range h d true) (range-of_sound r old.0 place u old.1 all) live) (comes-drawn w s range h d true) in
         k.left
 
     go : (o : Option Range) → range_at w r ≡ o → Leave (for_range o [] (λ range. (extracted_trace r range w).edits)) w (for_range o w (λ range. extracted r range w))
     go None e = leave-none w w refl
-    go (Some range) e = part range e (is_collapsed range || is_in_one_data w range)
+    go (Some range) e = part range e (is_collapsed range || is_in_one_data w range) refl
 
 pub leave-clone_contents : (r : ℕ) (w : World) → IsSound w → check_extract r w ≡ None → Leave (clone_contents_edits r w) w (clone_contents r w)
 leave-clone_contents r w s c = go (range_at w r) refl

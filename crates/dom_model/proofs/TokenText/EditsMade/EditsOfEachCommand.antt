@@ -1,4 +1,4 @@
--- The primitive edits of every command leave what the command leaves, of every world that commands reach.
+-- The primitive edits of every command fit every world that commands reach, and leave what the command leaves.
 use Rattle.std.proofs.Common.{◌≡◌, ℕ, List, ◌<◌, subst}
 use Rattle.std.specs.Prelude.{Ok}
 use Rattle.dom_model.specs.Worlds.World.{World, first_world}
@@ -14,6 +14,8 @@ use Rattle.dom_model.proofs.Soundness.SoundContents.{sound-extract}
 use Rattle.dom_model.proofs.Soundness.SoundPlacedNode.{Gives}
 use Rattle.dom_model.proofs.Soundness.SoundInsertedNode.{insert-next}
 use Rattle.dom_model.proofs.Soundness.SoundAnswers.{sound-reached}
+use Rattle.dom_model.proofs.TokenText.Marked.MarkedEdits.{AllFit}
+use Rattle.dom_model.proofs.TokenText.EditsMade.EditsLeave.{laid}
 use Rattle.dom_model.proofs.TokenText.EditsMade.EditsOfSurrounding.{KeepSound}
 use Rattle.dom_model.proofs.TokenText.EditsMade.EditsOfCommands.{IsLeftAs, edits-leave_every}
 
@@ -25,7 +27,11 @@ keeps_sound = record { extracts = λ r w s c. sound-extract r w s c; inserts = i
     inserts r n w v s h e = (subst (Gives w) e (insert-next r n w s h)).sound
 
 pub edits-leave_each : (b : Bounds) (w : World) → IsSound w → (c : Command) → IsLeftAs (all_on_world (edits_of b w c) w) (answer b w c).world
-edits-leave_each b w s c = edits-leave_every keeps_sound b w s c
+edits-leave_each b w s c = let k = edits-leave_every keeps_sound b w s c in k.left
+
+-- the edits fit: each node, gap and offset that one names is there
+pub edits-fit_each : (b : Bounds) (w : World) → IsSound w → (c : Command) → AllFit (laid w) (edits_of b w c)
+edits-fit_each b w s c = let k = edits-leave_every keeps_sound b w s c in k.fits
 
 -- after any commands
 pub edits-leave_reached : (b : Bounds) (cs : List Command) (c : Command) → let w = world_past b first_world cs in IsLeftAs (all_on_world (edits_of b w c) w) (answer b w c).world

@@ -18,14 +18,16 @@ use Rattle.dom_model.proofs.Forests.Totals.{total-beside}
 use Rattle.dom_model.proofs.Forests.Entries.{occurs-HasNode}
 use Rattle.dom_model.proofs.Worlds.SameShape.{with_node-alike, occurs-alike}
 use Rattle.dom_model.proofs.MutationAlgorithms.Extending.{put_by_insert}
-use Rattle.dom_model.proofs.Soundness.SoundEditing.{may_come_before}
+use Rattle.dom_model.proofs.Soundness.SoundEditing.{may_come_before, sound-pre_insert}
+use Rattle.dom_model.proofs.Soundness.SoundPlacedNode.{Gives}
+use Rattle.dom_model.proofs.Soundness.SoundInsertedNode.{insert-next}
 use Rattle.dom_model.proofs.RangesAndContents.LiveRangesKept.{is_live, remove-live, pre_insert-live, split-live, with_range-live}
 use Rattle.dom_model.proofs.MutationAlgorithms.Loosened.{loosened-remove}
 use Rattle.dom_model.proofs.Soundness.SoundWorlds.{sound-remove}
 use Rattle.dom_model.proofs.Soundness.SoundData.{length-data}
 use Rattle.dom_model.proofs.Soundness.SoundSplitting.{text_has_data, new_text, there-old, there-parted, forest_is, after_parting, split_off_is, sound-split}
 use Rattle.dom_model.proofs.TokenText.EditsMade.EditsLeave.{Leave, leave-none, Comes, comes-then, Follows, follows-none, follows-then, follows-doing}
-use Rattle.dom_model.proofs.TokenText.EditsMade.EditsOfSteps.{leave-remove}
+use Rattle.dom_model.proofs.TokenText.EditsMade.EditsOfSteps.{range-of_sound, leave-remove}
 use Rattle.dom_model.proofs.TokenText.EditsMade.EditsOfTrees.{leave-pre_insert}
 use Rattle.dom_model.proofs.TokenText.EditsMade.EditsOfSplitting.{leave-split}
 use Rattle.dom_model.proofs.TokenText.EditsMade.EditsOfDeletedContents.{follows-ends}
@@ -87,16 +89,16 @@ unrefused (Some e) w v step h = absurd (cc h)
 
 -- The node leaves its parent and comes in, and the range goes around it where it is collapsed.
 
-follows-end : (r : ℕ) (p : Point) (v : World) → Follows (doing_end_if_collapsed r p) v (end_if_collapsed r p v)
-follows-end r p v = go (range_at v r) refl
+follows-end : (r : ℕ) (p : Point) (v : World) → IsSound v → IsSound (end_if_collapsed r p v) → Follows (doing_end_if_collapsed r p) v (end_if_collapsed r p v)
+follows-end r p v s k = go (range_at v r) refl k
   where
-    part : (range : Range) → range_at v r ≡ Some range → (b : Bool) → Follows (λ t. if b then doing_ends r (record range { end = p }) t else t) v (if b then with_range r (record range { end = p }) v else v)
-    part range e true = follows-ends r (record range { end = p }) v (ap is_some e)
-    part range e false = follows-none v
+    part : (range : Range) → range_at v r ≡ Some range → (b : Bool) → IsSound (if b then with_range r (record range { end = p }) v else v) → Follows (λ t. if b then doing_ends r (record range { end = p }) t else t) v (if b then with_range r (record range { end = p }) v else v)
+    part range e true h = follows-ends r (record range { end = p }) v s (range-of_sound r range (record range { end = p }) v e h) (ap is_some e)
+    part range e false h = follows-none v
 
-    go : (o : Option Range) → range_at v r ≡ o → Follows (λ t. for_range o t (λ range. if is_collapsed range then doing_ends r (record range { end = p }) t else t)) v (for_range o v (λ range. if is_collapsed range then with_range r (record range { end = p }) v else v))
-    go None e = follows-none v
-    go (Some range) e = part range e (is_collapsed range)
+    go : (o : Option Range) → range_at v r ≡ o → IsSound (for_range o v (λ range. if is_collapsed range then with_range r (record range { end = p }) v else v)) → Follows (λ t. for_range o t (λ range. if is_collapsed range then doing_ends r (record range { end = p }) t else t)) v (for_range o v (λ range. if is_collapsed range then with_range r (record range { end = p }) v else v))
+    go None e h = follows-none v
+    go (Some range) e h = part range e (is_collapsed range) h
 
 end-forest : (r : ℕ) (p : Point) (v : World) → (end_if_collapsed r p v).forest ≡ v.forest
 end-forest r p v = go (range_at v r)
@@ -148,15 +150,15 @@ module _ (r n parent : ℕ) (reference : Option ℕ) (w : World) (s : IsSound w)
   there-out : (m : ℕ) → 0 < occurs m w.forest → 0 < occurs m out.forest
   there-out m h = let k = loosened-remove false n w s hn in subst (λ x. 0 < x) (sym (k.numbers m)) h
 
-  follows-placed : (v : World) → IsDone (placed_at r n parent reference w) v → Follows (doing_placed r n parent reference) w v
-  follows-placed v h =
+  follows-placed : (v : World) → IsDone (placed_at r n parent reference w) v → IsSound v → Follows (doing_placed r n parent reference) w v
+  follows-placed v h sv =
       let c = checked-placed v h in
       let u = pre_insert n parent reference out in
-      let first : Follows (doing_remove n) w out = follows-doing w (remove false n) (remove_edits n) (leave-remove false n w) in
+      let first : Follows (doing_remove n) w out = follows-doing w (remove false n) (remove_edits n) (leave-remove false n w s) in
       let second : Follows (doing_pre_insert n parent reference) out u = follows-doing out (pre_insert n parent reference) (pre_insert_edits n parent reference) (leave-pre_insert n parent reference out (sound-remove false n w s) (there-out n hn) c.0) in
       subst (λ x. Follows (doing_placed r n parent reference) w x) c.1
       (λ a es l. follows-then w u (end_if_collapsed r past_it u) (λ t. doing_pre_insert n parent reference (doing_remove n t)) (doing_end_if_collapsed r past_it)
-      (follows-then w out u (doing_remove n) (doing_pre_insert n parent reference) first second) (follows-end r past_it u) a es l)
+      (follows-then w out u (doing_remove n) (doing_pre_insert n parent reference) first second) (follows-end r past_it u (sound-pre_insert n parent reference out (sound-remove false n w s) (there-out n hn) c.0) (subst IsSound (sym c.1) sv)) a es l)
 
   -- what is there, and what is a live range, stays
   there-placed : (v : World) → IsDone (placed_at r n parent reference w) v → (m : ℕ) → 0 < occurs m w.forest → 0 < occurs m v.forest
@@ -191,12 +193,12 @@ module _ (r n : ℕ) (p : Point) (w v : World) (s : IsSound w) (b : IsBoundary w
   is_apart : IsApart (is_text w p.node) w p
   is_apart = apart-if (is_text w p.node) w p s b refl
 
-  follows-inserted : Follows (doing_insert_at r n p) w v
-  follows-inserted a es l =
+  follows-inserted : IsSound v → Follows (doing_insert_at r n p) w v
+  follows-inserted sv a es l =
       let t : Trace = record { world = w; edits = es } in
       let k = is_apart in
       let c = k.follows a es l in
-      let placed = comes-then a (doing_split_at p t) apart_world v (doing_placed r n (parent_at w p) reference) (follows-placed r n (parent_at w p) reference apart_world k.sound (k.there n hn) v done-placed) c in
+      let placed = comes-then a (doing_split_at p t) apart_world v (doing_placed r n (parent_at w p) reference) (follows-placed r n (parent_at w p) reference apart_world k.sound (k.there n hn) v done-placed sv) c in
       subst (λ (x : World). Comes a (doing_placed r n (parent_at w p) (reference_child x n (reference_after w p)) (doing_split_at p t)) v) (sym c.there) placed
 
   there-inserted : (m : ℕ) → 0 < occurs m w.forest → 0 < occurs m v.forest
@@ -219,12 +221,16 @@ kept-insert_node r n w v s hn h = go (range_at w r) refl h
         let k = sound-range w r range s e in
         record { there = there-inserted r n range.start w v s k.starts hn i; live = live-inserted r n range.start w v s k.starts hn i }
 
+-- inserting a node leaves a sound world
+pub sound-inserted : (r n : ℕ) (w v : World) → IsSound w → 0 < occurs n w.forest → IsDone (insert_node r n w) v → IsSound v
+sound-inserted r n w v s hn h = (subst (Gives w) h (insert-next r n w s hn)).sound
+
 pub follows-insert_node : (r n : ℕ) (w v : World) → IsSound w → 0 < occurs n w.forest → IsDone (insert_node r n w) v → Follows (doing_insert_node r n) w v
 follows-insert_node r n w v s hn h = go (range_at w r) refl h
   where
     go : (o : Option Range) → range_at w r ≡ o → IsDone (for_range o (Ok w) (λ range. inserted_at r n range.start w)) v → Follows (λ t. for_range o t (λ range. doing_insert_at r n range.start t)) w v
     go None e i = subst (λ x. Follows (λ t. t) w x) (done-same w v i) (follows-none w)
-    go (Some range) e i = let k = sound-range w r range s e in follows-inserted r n range.start w v s k.starts hn i
+    go (Some range) e i = let k = sound-range w r range s e in follows-inserted r n range.start w v s k.starts hn i (sound-inserted r n w v s hn h)
 
 pub leave-insert_node : (r n : ℕ) (w v : World) → IsSound w → 0 < occurs n w.forest → IsDone (insert_node r n w) v → Leave (insert_node_edits r n w) w v
 leave-insert_node r n w v s hn h = let k = follows-insert_node r n w v s hn h w [] (leave-none w w refl) in k.left

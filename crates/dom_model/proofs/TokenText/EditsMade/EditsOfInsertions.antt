@@ -22,6 +22,8 @@ use Rattle.dom_model.proofs.Worlds.Measured.{length-parent, length-entered}
 use Rattle.dom_model.proofs.Worlds.SameShape.{children-alike}
 use Rattle.dom_model.proofs.Soundness.SoundWorlds.{IsLive, child_there}
 use Rattle.dom_model.proofs.Soundness.SoundPlacing.{IsPlaceable, ArePlaceable, IsChildOf, gap_before-none, gap-apart, placed-forest, apart_from, passes, renamed, after_adoption, occurs_placed, index_placed, all_placeable, child_placed, sound-put_one}
+use Rattle.dom_model.proofs.TokenText.Marked.MarkedEdits.{Fits, fits_insertion}
+use Rattle.dom_model.proofs.TokenText.EditsMade.FittingEdits.{ready-sound, holder-no_data}
 use Rattle.dom_model.proofs.TokenText.EditsMade.EditsLeave.{laid, Leave, leave-none, leave-edit, leave-then}
 
 -- the child of an index
@@ -32,6 +34,10 @@ get-place n (x ∷ xs) h =
       | same e t ↦ rw t (ap (λ k. Some k) e)
       | apart ne t ↦ (let k = rw t at h in let e : 1 + place_in n xs ≡ suc (place_in n xs) = omega arith in rw (t, e) (get-place n xs (omega arith)))
     ]
+
+place-within : (n : ℕ) (ns : List ℕ) → place_in n ns ≤ length ns
+place-within n [] = omega arith
+place-within n (x ∷ xs) = elim (same_or x n) [ same e t ↦ rw t (omega arith) | apart ne t ↦ rw t (omega (arith, place-within n xs)) ]
 
 -- Ends of live ranges that a map leaves.
 
@@ -74,6 +80,19 @@ module _ (parent n : ℕ) (child : Option ℕ) (w : World) (s : IsSound w) (hp :
           omega arith
       go (Some d) c e = let i = index_placed parent n (Some d) w s hp k d c refl in omega arith
 
+  -- and no later than last
+  index-within : index_before w parent child ≤ length (children_of w.forest parent)
+  index-within = go child c
+    where
+      go : (b : Option ℕ) → IsChildOf w.forest parent b → index_before w parent b ≤ length (children_of w.forest parent)
+      go None c = omega arith
+      go (Some d) c = let i = index-child w.forest d parent c in let j = place-within d (children_of w.forest parent) in omega arith
+
+  pub come_in-fits : Fits w (Insertion n (point parent (index_before w parent child)))
+  come_in-fits =
+      fits_insertion n (point parent (index_before w parent child)) k.there k.root hp (apart_from parent n child w s hp k)
+      (holder-no_data w.forest parent (passes parent n child w s hp k)) index-within
+
   pub come_in-edit : on_world (Insertion n (point parent (index_before w parent child))) w ≡ come_in
   come_in-edit = go child c refl
     where
@@ -106,5 +125,5 @@ leave-insertions parent child (n ∷ ns) w s hp k c =
     ∙ ap (put_all parent child ns) (gap-apart parent n child (length ns) w s hp k.0 c) in
     subst (λ u. Leave (insertions parent (index_before w parent child) (n ∷ ns)) w u) (sym all)
     (leave-then (Insertion n (point parent (index_before w parent child)) ∷ []) (insertions parent (suc (index_before w parent child)) ns) w v (put_all parent child ns (gap_before parent child (length ns) v))
-    (leave-edit (Insertion n (point parent (index_before w parent child))) w v (ap laid (come_in-edit parent n child w s hp k.0 c)))
+    (leave-edit (Insertion n (point parent (index_before w parent child))) w v (ready-sound w s) (come_in-fits parent n child w s hp k.0 c) (ap laid (come_in-edit parent n child w s hp k.0 c)))
     behind)

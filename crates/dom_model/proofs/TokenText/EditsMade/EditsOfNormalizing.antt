@@ -7,7 +7,7 @@ use Rattle.std.proofs.lemmas.List.Elements.{All-head, All-tail}
 use Rattle.dom_model.specs.declared.Kind.TheVariants.{Text}
 use Rattle.dom_model.specs.PlainLists.Lists.{hits}
 use Rattle.dom_model.specs.Forests.Arena.{Entry}
-use Rattle.dom_model.specs.Forests.Kinds.{is_kind}
+use Rattle.dom_model.specs.Forests.Kinds.{is_kind, is_character_data}
 use Rattle.dom_model.specs.Forests.Forest.{Node, Forest, occurs, cut, with_node, entry_in, parent_of, index_of, inclusive_descendants}
 use Rattle.dom_model.specs.Forests.Texts.{spliced}
 use Rattle.dom_model.specs.Worlds.World.{Content, Point, Range, World}
@@ -15,22 +15,27 @@ use Rattle.dom_model.specs.BoundaryPoints.Points.{after_splice, after_merge, aft
 use Rattle.dom_model.specs.MutationAlgorithms.Checks.{is_of_kind}
 use Rattle.dom_model.specs.Forests.Lengths.{unit_count, node_length}
 use Rattle.dom_model.specs.MutationAlgorithms.Editing.{removed_from, remove}
+use Rattle.dom_model.specs.RangesAndContents.Ranges.{end_of}
 use Rattle.dom_model.specs.DataAndCopies.Data.{content_in, data_of, with_data, following_texts, joined_data, merge_ends, remove_each, join_following, normalize_text, is_descendant, text_descendants, normalize_each, normalize}
 use Rattle.dom_model.specs.TokenText.Tokens.{Merge}
 use Rattle.dom_model.specs.TokenText.Edits.{merge_from, on_world, remove_edits, merges, normalize_text_edits, normalize_each_edits, normalize_edits}
-use Rattle.dom_model.specs.Worlds.Sound.{IsRange, IsSound}
+use Rattle.dom_model.specs.Worlds.Sound.{IsBoundary, IsRange, IsSound}
 use Rattle.dom_model.proofs.PlainLists.Numbers.{same_or, same, apart}
 use Rattle.dom_model.proofs.Forests.Climbing.{hits-append, hits-first}
 use Rattle.dom_model.proofs.Forests.Changes.{change_at}
 use Rattle.dom_model.proofs.DataAndCopies.ChangedNodes.{cut-with_node, data-twice, data-same}
-use Rattle.dom_model.proofs.Worlds.SameShape.{with_node-alike, parent-alike, index-alike, inside-alike}
+use Rattle.dom_model.proofs.Worlds.SameShape.{IsAlike, with_node-alike, occurs-alike, parent-alike, kind-alike, index-alike, inside-alike}
 use Rattle.dom_model.proofs.Worlds.Measured.{entry-with_node}
 use Rattle.dom_model.proofs.Soundness.SoundForests.{entry_there}
 use Rattle.dom_model.proofs.Soundness.SoundWorlds.{Lives, each-kept}
-use Rattle.dom_model.proofs.Soundness.SoundData.{length-data}
+use Rattle.dom_model.proofs.Soundness.SoundData.{length-data, length-other}
 use Rattle.dom_model.proofs.Soundness.SoundSplitting.{text_has_data}
-use Rattle.dom_model.proofs.Soundness.SoundJoining.{AreUpTo, AreJoinable, first_in, t_apart, is_child, is_there, merged_is, content_left, joinable_left, in_either_order, further, moved, left}
+use Rattle.dom_model.proofs.Soundness.SoundJoining.{lives-both, AreUpTo, AreJoinable, first_in, t_apart, index_first, text_first, is_child, is_there, merged_is, content_left, joinable_left, in_either_order, further, moved, left}
 use Rattle.dom_model.proofs.Soundness.SoundNormalizing.{kept-one, below_parent, base, count, joint, joinable, no_count, others, joined-same, filter-passed}
+use Rattle.dom_model.proofs.Forests.Entries.{occurs-HasNode}
+use Rattle.dom_model.proofs.TokenText.Marked.MarkedEnds.{IsPoint, IsReady}
+use Rattle.dom_model.proofs.TokenText.Marked.MarkedEdits.{Fits, fits_merge}
+use Rattle.dom_model.proofs.TokenText.EditsMade.FittingEdits.{ready-lives}
 use Rattle.dom_model.proofs.TokenText.EditsMade.EditsLeave.{laid, Leave, leave-none, leave-edit, leave-then, leave-alike}
 use Rattle.dom_model.proofs.TokenText.EditsMade.EditsOfSteps.{leave-remove}
 
@@ -139,8 +144,44 @@ module _ (v : World) (t p first : ℕ) (ts units : List ℕ) (j : AreJoinable v 
       ∙ ap (λ f. laid (record v { forest = f; ranges = map_ranges (after_removal (inclusive_descendants v.forest first) p (index_of v.forest first)) merged })) (cut-with_node t (with_data (units ++ more)) (λ x. refl) first v.forest)
       ∙ sym (ap (λ o. laid (with_text_of t (units ++ more) (removed_from false first o (moved v t p (length units) first ts j)))) par_first)
 
+  -- the world with the Text's own data alone
+  before_alike : IsAlike v.forest before.forest
+  before_alike = with_node-alike (with_data units) (λ x. refl) t v.forest
+
+  length-own : node_length unit_count before.forest t ≡ length units
+  length-own = length-data before.forest t (kind-alike before_alike is_character_data t ∙ text_has_data v t j.text) ∙ ap length (data-itself t units v t_there)
+
+  before_point : (q : Point) → IsBoundary v.forest q → (q.node ≡ t → q.offset ≤ length units) → IsPoint before q
+  before_point q b up =
+      record {
+        there = subst (λ x. 0 < x) (sym (occurs-alike before_alike q.node)) (occurs-HasNode v.forest q.node b.there);
+        within = elim (same_or q.node t) [
+          | same e u ↦ (let a : node_length unit_count before.forest q.node ≡ node_length unit_count before.forest t = ap (node_length unit_count before.forest) e in let l = length-own in let i = up e in omega arith)
+          | apart ne u ↦ (let l = length-other (with_data units) (λ x. refl) t v j.sound q.node u in let i = b.within in omega arith)
+        ];
+      }
+
+  before_ready : IsReady before
+  before_ready =
+      ready-lives (λ r. IsRange v.forest r × AreUpTo t (length units) r) before (λ n. subst (λ k. k ≤ 1) (sym (occurs-alike before_alike n)) (j.sound.forest.once n))
+      (lives-both (IsRange v.forest) (AreUpTo t (length units)) (λ r. IsRange v.forest r × AreUpTo t (length units) r) (λ r a b. (a, b)) v.ranges j.sound.ranges j.up_to)
+      each
+    where
+      each : (side : Bool) (range : Range) → IsRange v.forest range × AreUpTo t (length units) range → IsPoint before (end_of side range)
+      each true range h = before_point range.start h.0.starts h.1.0
+      each false range h = before_point range.end h.0.ends h.1.1
+
+  merge_fits : Fits before (Merge t first)
+  merge_fits =
+      fits_merge t first p
+      (parent-alike before_alike t ∙ is_child v t p (length units) first ts j t (hits-first t (first ∷ (ts ++ j.behind))))
+      (parent-alike before_alike first ∙ par_first)
+      (index-alike before_alike first ∙ index_first v t p (length units) first ts j ∙ ap (λ k. k + 1) (sym (index-alike before_alike t)))
+      (kind-alike before_alike is_character_data t ∙ text_has_data v t j.text)
+      (kind-alike before_alike is_character_data first ∙ text_has_data v first (text_first v t p (length units) first ts j))
+
   leave-merge : Leave (Merge t first ∷ []) before (with_text_of t (units ++ more) after)
-  leave-merge = leave-edit (Merge t first) before (with_text_of t (units ++ more) after) (edit-left ∙ step-left)
+  leave-merge = leave-edit (Merge t first) before (with_text_of t (units ++ more) after) before_ready merge_fits (edit-left ∙ step-left)
 
   data_after : (ns : List ℕ) → joined_data after ns ≡ joined_data v ns
   data_after [] = refl
@@ -228,7 +269,7 @@ leave-normalize_text : (n t : ℕ) (w : World) → IsSound w → is_of_kind Text
 leave-normalize_text n t w s text below = go (length (data_of w t) == 0)
   where
     go : (v : Bool) → Leave (if v then remove_edits t w else merges t (following_texts w t)) w (if v then remove false t w else join_following t (following_texts w t) w)
-    go true = leave-remove false t w
+    go true = leave-remove false t w s
     go false = let i = below_parent w.forest s.forest.once n t below in leave-join t i.1 w s text i.0 i.2
 
 leave-normalize_one : (n t : ℕ) (w : World) → IsSound w → is_of_kind Text w.forest t ≡ true → Leave (if is_descendant w n t then normalize_text_edits t w else []) w (if is_descendant w n t then normalize_text t w else w)

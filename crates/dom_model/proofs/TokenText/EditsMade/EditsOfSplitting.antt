@@ -1,8 +1,9 @@
 -- The edits of a split leave what the split leaves: with a parent one parting, without one a new Text and a splice.
 -- DOM Standard, "Interface Text": split.
-use Rattle.std.proofs.Common.{◌≡◌, ℕ, ◌+◌, ◌-◌, ◌<◌, ◌≤◌, true, [], ◌∷◌, ◌++◌, length, Option, Some, None, refl, ap, sym, ◌∙◌, subst, arith, length-drop}
+use Rattle.std.proofs.Common.{◌≡◌, ℕ, ◌+◌, ◌-◌, ◌<◌, ◌≤◌, true, List, [], ◌∷◌, ◌++◌, length, Option, Some, None, refl, ap, sym, ◌∙◌, subst, arith, length-drop}
 use Rattle.std.proofs.lemmas.Bool.Decides.{nat_tests}
 use Rattle.dom_model.specs.declared.Kind.TheVariants.{Text}
+use Rattle.dom_model.specs.Forests.Kinds.{is_character_data}
 use Rattle.dom_model.specs.Forests.Forest.{Forest, empty, node, occurs, parent_of, children_of, next_of, index_of}
 use Rattle.dom_model.specs.Worlds.World.{Content, World}
 use Rattle.dom_model.specs.BoundaryPoints.Points.{map_ranges, after_split}
@@ -17,9 +18,12 @@ use Rattle.dom_model.proofs.Forests.Siblings.{place-next}
 use Rattle.dom_model.proofs.PlainLists.Places.{place_before}
 use Rattle.dom_model.proofs.Forests.Indices.{index-child}
 use Rattle.dom_model.proofs.Forests.OneMoreRoot.{index-more}
-use Rattle.dom_model.proofs.Worlds.Measured.{entry-beside}
+use Rattle.dom_model.proofs.Worlds.Measured.{entry-beside, kind-beside}
 use Rattle.dom_model.proofs.Soundness.SoundPlacing.{IsChildOf}
-use Rattle.dom_model.proofs.Soundness.SoundSplitting.{new_text, made, sm, there-old, hp, par-made, placeable, before_child, placed, after_parting, forest_is, index-kept, split_off_is, length_after}
+use Rattle.dom_model.proofs.Soundness.SoundSplitting.{text_has_data, new_text, made, sm, there-old, hp, par-made, placeable, before_child, placed, after_parting, forest_is, index-kept, split_off_is, length_after}
+use Rattle.dom_model.proofs.Soundness.SoundMaking.{sound-made_node}
+use Rattle.dom_model.proofs.TokenText.Marked.MarkedEdits.{fits_parting}
+use Rattle.dom_model.proofs.TokenText.EditsMade.FittingEdits.{ready-sound}
 use Rattle.dom_model.proofs.TokenText.EditsMade.EditsLeave.{laid, Leave, leave-edit, leave-then}
 use Rattle.dom_model.proofs.TokenText.EditsMade.EditsOfSteps.{leave-making, leave-replace_data}
 use Rattle.dom_model.proofs.TokenText.EditsMade.EditsOfInsertions.{come_in-edit}
@@ -82,7 +86,7 @@ module _ (n parent offset : ℕ) (w : World) (s : IsSound w) (hn : 0 < occurs n 
       ∙ ap (λ v. laid (replace_data n offset count [] v)) (sym (split_off_is n parent offset w s hn text par within))
 
   leave-parted : Leave (Parting (point n offset) w.made ∷ []) w (replace_data n offset count [] (split_off n offset w.made (Some parent) grown))
-  leave-parted = leave-edit (Parting (point n offset) w.made) w _ (ap (λ p. laid (parting_from (point n offset) w.made p w)) par ∙ same-left)
+  leave-parted = leave-edit (Parting (point n offset) w.made) w _ (ready-sound w s) (fits_parting (point n offset) w.made parent par (text_has_data w n text) within (s.forest.small w.made (omega arith))) (ap (λ p. laid (parting_from (point n offset) w.made p w)) par ∙ same-left)
 
 pub leave-split : (n offset : ℕ) (w : World) → IsSound w → 0 < occurs n w.forest → is_of_kind Text w.forest n ≡ true → offset ≤ length (data_of w n) → Leave (split_edits n offset w) w (split n offset w)
 leave-split n offset w s hn text within = go (parent_of w.forest n) refl
@@ -96,8 +100,10 @@ leave-split n offset w s hn text within = go (parent_of w.forest n) refl
         let es : replace_data_edits n offset (length (tail_of w n offset)) [] w ≡ replace_data_edits n offset (length (tail_of w n offset)) [] fresh =
         ap (λ xs. Splice n offset (cut_count (length xs) offset (length (tail_of w n offset))) [] ∷ []) (sym same_data) in
         leave-then (making (node_document w n) (named Text []) (with_text (tail_of w n offset)) w) (replace_data_edits n offset (length (tail_of w n offset)) [] w) w fresh (replace_data n offset (length (tail_of w n offset)) [] fresh)
-        (leave-making (node_document w n) (named Text []) (with_text (tail_of w n offset)) w)
-        (subst (λ fs. Leave fs fresh (replace_data n offset (length (tail_of w n offset)) [] fresh)) (sym es) (leave-replace_data n offset (length (tail_of w n offset)) [] fresh))
+        (leave-making (node_document w n) (named Text []) (with_text (tail_of w n offset)) w s)
+        (subst (λ fs. Leave fs fresh (replace_data n offset (length (tail_of w n offset)) [] fresh)) (sym es) (leave-replace_data n offset (length (tail_of w n offset)) [] fresh (sound-made_node (node_document w n) (named Text []) (with_text (tail_of w n offset)) w s)
+        (kind-beside w.forest (node (new_text n offset w) empty empty) n hn is_character_data ∙ text_has_data w n text)
+        (subst (λ (xs : List ℕ). offset ≤ length xs) (sym same_data) within)))
 
     go : (p : Option ℕ) → parent_of w.forest n ≡ p → Leave (split_edits_by p n offset w) w (replace_data n offset (length (tail_of w n offset)) [] (split_off n offset w.made p fresh))
     go None e = alone

@@ -13,7 +13,9 @@ use Rattle.dom_model.specs.TokenText.Edits.{begun, append_edits, replace_all_edi
 use Rattle.dom_model.specs.Worlds.Sound.{IsSound}
 use Rattle.dom_model.proofs.Forests.Indices.{child-there}
 use Rattle.dom_model.proofs.MutationAlgorithms.Loosened.{loosened-remove_all}
-use Rattle.dom_model.proofs.Soundness.SoundEditing.{sound-replace_all}
+use Rattle.dom_model.proofs.Soundness.SoundEditing.{sound-pre_insert, sound-replace_all}
+use Rattle.dom_model.proofs.Soundness.SoundWorlds.{IsLive}
+use Rattle.dom_model.proofs.RangesAndContents.RangesSet.{range_selected}
 use Rattle.dom_model.proofs.RangesAndContents.LiveRangesKept.{is_live, live-there, append-live, replace_all-live, with_range-live}
 use Rattle.dom_model.proofs.TokenText.EditsMade.EditsLeave.{Leave, Comes, Follows, comes-begun, comes-then, follows-doing}
 use Rattle.dom_model.proofs.TokenText.EditsMade.EditsOfTrees.{leave-pre_insert, leave-replace_all}
@@ -113,13 +115,16 @@ module _ (keeps : KeepSound) (r n : ℕ) (range : Range) (w : World) (s : IsSoun
         (comes-then w _ first second (doing (replace_all None n) (replace_all_edits None n)) (follows-doing first (replace_all None n) (replace_all_edits None n) (leave-replace_all None n first sound_first tt))
         (comes-then w (begun w) w first (doing (extract r) (extract_edits r)) (follows-doing w (extract r) (extract_edits r) (leave-extract r w s clear)) (comes-begun w))))
 
-    follows-select : (o : Option Range) (v : World) → IsDone (selected r o fourth) v → Follows (doing_selected r o) fourth v
-    follows-select None v h = absurd (cc h)
-    follows-select (Some ends) v h = subst (λ x. Follows (doing_ends r ends) fourth x) (done-same (with_range r ends fourth) v h) (follows-ends r ends fourth live_fourth)
+    sound_fourth : IsSound fourth
+    sound_fourth = sound-pre_insert w.made n None third sound_third fragment_third checked
+
+    follows-select : (o : Option Range) (v : World) → IsLive fourth.forest o → IsDone (selected r o fourth) v → Follows (doing_selected r o) fourth v
+    follows-select None v k h = absurd (cc h)
+    follows-select (Some ends) v k h = subst (λ x. Follows (doing_ends r ends) fourth x) (done-same (with_range r ends fourth) v h) (follows-ends r ends fourth sound_fourth k live_fourth)
 
     comes-selected : (v : World) → IsDone (try_select r n fourth) v → Comes w (doing_surround r n w) v
     comes-selected v h =
-        comes-then w _ fourth v (doing_select r n) (λ a es l. follows-select (around fourth.forest n) v h a es l) comes_fourth
+        comes-then w _ fourth v (doing_select r n) (λ a es l. follows-select (around fourth.forest n) v (range_selected sound_fourth.forest n) h a es l) comes_fourth
 
   leave-surrounded : (v : World) → IsDone (surrounded r n range w) v → Leave (surround_edits r n w) w v
   leave-surrounded v h =

@@ -1,16 +1,16 @@
 -- The edits of setting text content leave what that leaves. DOM Standard, "Interface Node": textContent, string replace all.
-use Rattle.std.proofs.Common.{◌≡◌, ℕ, ◌<◌, true, List, [], ◌∷◌, ◌++◌, Option, Some, None, refl, ap, ◌∙◌, arith}
+use Rattle.std.proofs.Common.{◌≡◌, ℕ, ◌<◌, true, List, [], ◌∷◌, ◌++◌, length, Option, Some, None, refl, ap, ◌∙◌, arith}
 use Rattle.dom_model.specs.declared.Kind.{Kind}
 use Rattle.dom_model.specs.declared.Kind.TheVariants.{Element, Text, ProcessingInstruction, Comment, Document, DocumentType, DocumentFragment}
-use Rattle.dom_model.specs.Forests.Kinds.{is_kind, may_be_parent}
+use Rattle.dom_model.specs.Forests.Kinds.{is_kind, is_character_data, may_be_parent}
 use Rattle.dom_model.specs.Forests.Arena.{Entry}
 use Rattle.dom_model.specs.Forests.Forest.{Node, occurs, entry_in}
 use Rattle.dom_model.specs.Worlds.World.{Content, World}
 use Rattle.dom_model.specs.MutationAlgorithms.Checks.{entry_has, kind_passes}
 use Rattle.dom_model.specs.MutationAlgorithms.Editing.{node_document, replace_all}
 use Rattle.dom_model.specs.Commands.Making.{made_node, named, with_text}
-use Rattle.dom_model.specs.DataAndCopies.Data.{by_kind, string_replace_all, set_text_content_by, set_text_content}
-use Rattle.dom_model.specs.TokenText.Edits.{making, replace_all_edits, string_replace_all_edits, set_text_content_edits_by, set_text_content_edits}
+use Rattle.dom_model.specs.DataAndCopies.Data.{data_of, by_kind, set_data, string_replace_all, set_text_content_by, set_text_content}
+use Rattle.dom_model.specs.TokenText.Edits.{making, set_data_edits, replace_all_edits, string_replace_all_edits, set_text_content_edits_by, set_text_content_edits}
 use Rattle.dom_model.specs.Worlds.Sound.{IsSound}
 use Rattle.dom_model.proofs.Forests.Climbing.{hits-ancestors}
 use Rattle.dom_model.proofs.Forests.OneMoreRoot.{more-there, new-there, children-new, entry-new}
@@ -19,7 +19,7 @@ use Rattle.dom_model.proofs.Worlds.Measured.{kind-beside}
 use Rattle.dom_model.proofs.Soundness.SoundMaking.{sound-made_node}
 use Rattle.dom_model.proofs.Soundness.SoundInserting.{IsInsertable}
 use Rattle.dom_model.proofs.TokenText.EditsMade.EditsLeave.{Leave, leave-none, leave-then}
-use Rattle.dom_model.proofs.TokenText.EditsMade.EditsOfSteps.{leave-making}
+use Rattle.dom_model.proofs.TokenText.EditsMade.EditsOfSteps.{leave-making, leave-replace_data}
 use Rattle.dom_model.proofs.TokenText.EditsMade.EditsOfTrees.{leave-replace_all}
 
 -- a new Text may come in wherever there may be children
@@ -61,25 +61,28 @@ module _ (n document : ℕ) (text : List ℕ) (w : World) (s : IsSound w) (hn : 
   leave-new_text : Leave (making document (named Text []) (with_text text) w ++ replace_all_edits (Some w.made) n with_more) w (replace_all (Some w.made) n with_more)
   leave-new_text =
       leave-then (making document (named Text []) (with_text text) w) (replace_all_edits (Some w.made) n with_more) w with_more (replace_all (Some w.made) n with_more)
-      (leave-making document (named Text []) (with_text text) w)
+      (leave-making document (named Text []) (with_text text) w s)
       (leave-replace_all (Some w.made) n with_more sound_more new_text-insertable)
 
 leave-string_replace_all : (text : List ℕ) (n : ℕ) (w : World) → IsSound w → 0 < occurs n w.forest → kind_passes may_be_parent w.forest n ≡ true → Leave (string_replace_all_edits text n w) w (string_replace_all text n w)
 leave-string_replace_all [] n w s h k = leave-replace_all None n w s tt
 leave-string_replace_all (u ∷ us) n w s h k = leave-new_text n (node_document w n) (u ∷ us) w s h k
 
-leave-text_by : (k : Kind) (n : ℕ) (text : List ℕ) (w : World) → IsSound w → 0 < occurs n w.forest → kind_passes may_be_parent w.forest n ≡ may_be_parent k → Leave (set_text_content_edits_by k n text w) w (set_text_content_by k n text w)
-leave-text_by Element n text w s h k = leave-string_replace_all text n w s h k
-leave-text_by Text n text w s h k = record { left = refl }
-leave-text_by ProcessingInstruction n text w s h k = record { left = refl }
-leave-text_by Comment n text w s h k = record { left = refl }
-leave-text_by Document n text w s h k = leave-none w w refl
-leave-text_by DocumentType n text w s h k = leave-none w w refl
-leave-text_by DocumentFragment n text w s h k = leave-string_replace_all text n w s h k
+leave-text : (n : ℕ) (text : List ℕ) (w : World) → IsSound w → kind_passes is_character_data w.forest n ≡ true → Leave (set_data_edits n text w) w (set_data n text w)
+leave-text n text w s d = leave-replace_data n 0 (length (data_of w n)) text w s d (omega arith)
+
+leave-text_by : (k : Kind) (n : ℕ) (text : List ℕ) (w : World) → IsSound w → 0 < occurs n w.forest → kind_passes may_be_parent w.forest n ≡ may_be_parent k → kind_passes is_character_data w.forest n ≡ is_character_data k → Leave (set_text_content_edits_by k n text w) w (set_text_content_by k n text w)
+leave-text_by Element n text w s h k d = leave-string_replace_all text n w s h k
+leave-text_by Text n text w s h k d = leave-text n text w s d
+leave-text_by ProcessingInstruction n text w s h k d = leave-text n text w s d
+leave-text_by Comment n text w s h k d = leave-text n text w s d
+leave-text_by Document n text w s h k d = leave-none w w refl
+leave-text_by DocumentType n text w s h k d = leave-none w w refl
+leave-text_by DocumentFragment n text w s h k d = leave-string_replace_all text n w s h k
 
 pub leave-set_text_content : (n : ℕ) (text : List ℕ) (w : World) → IsSound w → 0 < occurs n w.forest → Leave (set_text_content_edits n text w) w (set_text_content n text w)
 leave-set_text_content n text w s h = go (entry_in w.forest n) refl
   where
     go : (o : Option (Entry (Node Content))) → entry_in w.forest n ≡ o → Leave (by_kind [] (λ k. set_text_content_edits_by k n text w) o) w (by_kind w (λ k. set_text_content_by k n text w) o)
     go None e = leave-none w w refl
-    go (Some a) e = leave-text_by a.value.label.kind n text w s h (ap (entry_has may_be_parent) e)
+    go (Some a) e = leave-text_by a.value.label.kind n text w s h (ap (entry_has may_be_parent) e) (ap (entry_has is_character_data) e)

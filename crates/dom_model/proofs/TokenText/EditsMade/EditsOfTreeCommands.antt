@@ -1,5 +1,5 @@
 -- The edits of the commands that make nodes, edit the tree and change data leave the worlds that these leave.
-use Rattle.std.proofs.Common.{◌≡◌, ℕ, Bool, true, false, not, List, [], ◌∷◌, length, Option, Some, None, refl}
+use Rattle.std.proofs.Common.{◌≡◌, ℕ, Bool, true, false, not, List, [], ◌∷◌, length, Option, Some, None, refl, arith}
 use Rattle.std.proofs.lemmas.Bool.{false≢true}
 use Rattle.dom_model.specs.declared.Kind.TheVariants.{Element, Text, ProcessingInstruction, Comment, Document, DocumentFragment}
 use Rattle.dom_model.specs.declared.DomError.TheVariants.{InvalidCharacterError, NotFoundError, NotSupportedError}
@@ -24,6 +24,7 @@ use Rattle.dom_model.specs.TokenText.Edits.{making, pre_insert_edits, append_edi
 use Rattle.dom_model.specs.TokenText.CommandEdits.{command_edits}
 use Rattle.dom_model.specs.Worlds.Sound.{IsSound}
 use Rattle.dom_model.proofs.Soundness.SoundEditing.{MayComeIn, may_come_in}
+use Rattle.dom_model.proofs.Soundness.SoundMaking.{fits-original}
 use Rattle.dom_model.proofs.Soundness.SoundSplitting.{text_has_data}
 use Rattle.dom_model.proofs.Soundness.SoundGuards.{there_unless, passes_unless}
 use Rattle.dom_model.proofs.Soundness.SoundTreeSteps.{offset_within}
@@ -74,14 +75,15 @@ ruleset excluded = (impossible)
 module _ (b : Bounds) (w : World) (s : IsSound w) where
   leaves-made : (cs : List (Bool × Reply)) (document : ℕ) (label : Label) (body : Content) → AreRefusals cs → StepLeaves (making document label body w) w (guarded cs w (makes document label body w))
   leaves-made cs document label body r =
-      leaves-guarded (making document label body w) cs w (makes document label body w) r (λ h. leaves-done (making document label body w) (Number w.made) w _ (leave-making document label body w))
+      leaves-guarded (making document label body w) cs w (makes document label body w) r (λ h. leaves-done (making document label body w) (Number w.made) w _ (leave-making document label body w s))
 
   leaves-data : (x offset count : ℕ) (text : List ℕ) → StepLeaves (replace_data_edits x offset count text w) w (answer b w (ReplaceData x offset count text))
   leaves-data x offset count text =
       let es = replace_data_edits x offset count text w in
       leaves-guarded es (no_node x w ∷ wrong_kind is_character_data x w ∷ []) w (checked (check_offset w x offset) w (does (replace_data x offset count text w))) (plain, (plain, tt))
-      (λ h. leaves-checked es (check_offset w x offset) w (does (replace_data x offset count text w))
-      (λ k. leaves-done es Nothing w (replace_data x offset count text w) (leave-replace_data x offset count text w)))
+      (λ h. let d = passes_unless (kind_passes is_character_data w.forest x) h.1.0 in
+      leaves-checked es (check_offset w x offset) w (does (replace_data x offset count text w))
+      (λ k. leaves-done es Nothing w (replace_data x offset count text w) (leave-replace_data x offset count text w s d (offset_within b w s x offset d k))))
 
   comes : (p : ℕ) (o : Option ℕ) → (no_node_given o w).0 ≡ false → check_replace_children w p o ≡ None → MayComeIn w.forest o p
   comes p None h k = tt
@@ -106,19 +108,19 @@ module _ (b : Bounds) (w : World) (s : IsSound w) where
       (λ h. leaves-checked (replace_edits c n p w) (check_replace w.forest p n c) w (gives c (replace c n p w)) (λ k. leaves-done (replace_edits c n p w) (Number c) w (replace c n p w) (leave-replace c n p w s (there_unless w.forest n h.1.0) k)))
   tree-leaves (RemoveChild p c) e =
       leaves-guarded (remove_edits c w) (no_node p w ∷ no_node c w ∷ throws (not (is_number (parent_of w.forest c) p)) NotFoundError ∷ []) w (gives c (remove false c w)) (plain, (plain, (plain, tt)))
-      (λ h. leaves-done (remove_edits c w) (Number c) w (remove false c w) (leave-remove false c w))
+      (λ h. leaves-done (remove_edits c w) (Number c) w (remove false c w) (leave-remove false c w s))
   tree-leaves (Remove n) e =
       leaves-guarded (remove_edits n w) (no_node n w ∷ wrong_kind is_child_node n w ∷ []) w (does (remove false n w)) (plain, (plain, tt))
-      (λ h. leaves-done (remove_edits n w) Nothing w (remove false n w) (leave-remove false n w))
+      (λ h. leaves-done (remove_edits n w) Nothing w (remove false n w) (leave-remove false n w s))
   tree-leaves (ReplaceChildren p n) e =
       leaves-guarded (replace_all_edits n p w) (no_node p w ∷ no_node_given n w ∷ wrong_kind may_be_parent p w ∷ []) w (checked (check_replace_children w p n) w (does (replace_all n p w))) (plain, (given-refusal n w, (plain, tt)))
       (λ h. leaves-checked (replace_all_edits n p w) (check_replace_children w p n) w (does (replace_all n p w)) (λ k. leaves-done (replace_all_edits n p w) Nothing w (replace_all n p w) (leave-replace_all n p w s (comes p n h.1.0 k))))
   tree-leaves (ImportNode d n deep) e =
       leaves-guarded (import_edits d deep n w) (no_node d w ∷ no_node n w ∷ wrong_kind (is_kind Document) d w ∷ no_room_for_copies b w ∷ throws (is_of_kind Document w.forest n) NotSupportedError ∷ []) w (gives w.made (import_node d deep n w)) (plain, (plain, (plain, (plain, (plain, tt)))))
-      (λ h. leaves-done (import_edits d deep n w) (Number w.made) w (import_node d deep n w) (leave-copies d (original deep n w.forest) w))
+      (λ h. leaves-done (import_edits d deep n w) (Number w.made) w (import_node d deep n w) (leave-copies d (original deep n w.forest) w s (fits-original deep n w.forest s.forest.kinds)))
   tree-leaves (CloneNode n deep) e =
       leaves-guarded (clone_edits deep n w) (no_node n w ∷ no_room_for_copies b w ∷ []) w (gives w.made (clone_node deep n w)) (plain, (plain, tt))
-      (λ h. leaves-done (clone_edits deep n w) (Number w.made) w (clone_node deep n w) (leave-copies (document_of_clone w n) (original deep n w.forest) w))
+      (λ h. leaves-done (clone_edits deep n w) (Number w.made) w (clone_node deep n w) (leave-copies (document_of_clone w n) (original deep n w.forest) w s (fits-original deep n w.forest s.forest.kinds)))
   tree-leaves (Normalize n) e =
       leaves-guarded (normalize_edits n w) (no_node n w ∷ []) w (does (normalize n w)) (plain, tt)
       (λ h. leaves-done (normalize_edits n w) Nothing w (normalize n w) (leave-normalize n w s))
@@ -127,7 +129,7 @@ module _ (b : Bounds) (w : World) (s : IsSound w) where
       (λ h. leaves-done (set_text_content_edits n text w) Nothing w (set_text_content n text w) (leave-set_text_content n text w s (there_unless w.forest n h.0)))
   tree-leaves (SetData x text) e =
       leaves-guarded (set_data_edits x text w) (no_node x w ∷ wrong_kind is_character_data x w ∷ []) w (does (set_data x text w)) (plain, (plain, tt))
-      (λ h. leaves-done (set_data_edits x text w) Nothing w (set_data x text w) (leave-replace_data x 0 (length (data_of w x)) text w))
+      (λ h. leaves-done (set_data_edits x text w) Nothing w (set_data x text w) (leave-replace_data x 0 (length (data_of w x)) text w s (passes_unless (kind_passes is_character_data w.forest x) h.1.0) (omega arith)))
   tree-leaves (AppendData x text) e = leaves-data x (length_at w x) 0 text
   tree-leaves (InsertData x offset text) e = leaves-data x offset 0 text
   tree-leaves (DeleteData x offset count) e = leaves-data x offset count []

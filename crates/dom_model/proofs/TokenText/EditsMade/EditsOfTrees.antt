@@ -7,7 +7,7 @@ use Rattle.dom_model.specs.MutationAlgorithms.Checks.{check_insert, check_replac
 use Rattle.dom_model.specs.MutationAlgorithms.Editing.{remove, remove_all, is_fragment, nodes_of, emptied_fragment, freed, put_all, gap_before, insert_nodes, insert, reference_child, pre_insert, append, replace, added_by, insert_if_any, replaced_record, replace_all, previous_to}
 use Rattle.dom_model.specs.TokenText.Edits.{removals, remove_edits, freed_edits, index_before, insertions, insert_edits, pre_insert_edits, append_edits, replace_edits, insert_edits_if_any, replace_all_edits}
 use Rattle.dom_model.specs.Worlds.Sound.{IsSound}
-use Rattle.dom_model.proofs.Forests.Indices.{child-there}
+use Rattle.dom_model.proofs.Forests.Indices.{child-once, child-parent, child-there}
 use Rattle.dom_model.proofs.MutationAlgorithms.Loosened.{loosened-remove_all}
 use Rattle.dom_model.proofs.Soundness.SoundWorlds.{sound-remove, sound-remove_all}
 use Rattle.dom_model.proofs.Soundness.SoundPlacing.{gap_before-none}
@@ -19,12 +19,17 @@ use Rattle.dom_model.proofs.TokenText.EditsMade.EditsOfInsertions.{leave-inserti
 
 -- Insert.
 
-leave-freed : (n : ℕ) (nodes : List ℕ) (w : World) → Leave (freed_edits n nodes w) w (freed n nodes w)
-leave-freed n nodes w = go (is_fragment w n)
+leave-freed : (n : ℕ) (w : World) → IsSound w → Leave (freed_edits n (nodes_of w n) w) w (freed n (nodes_of w n) w)
+leave-freed n w s = go (is_fragment w n)
   where
-    go : (v : Bool) → Leave (if v then removals nodes else remove_edits n w) w (if v then emptied_fragment n nodes w else remove false n w)
-    go true = leave-alike (removals nodes) w w (remove_all nodes w) (emptied_fragment n nodes w) refl refl (leave-remove_all nodes w)
-    go false = leave-remove false n w
+    ns : List ℕ
+    ns = children_of w.forest n
+
+    go : (v : Bool) → Leave (if v then removals (if v then ns else n ∷ []) else remove_edits n w) w (if v then emptied_fragment n (if v then ns else n ∷ []) w else remove false n w)
+    go true =
+        leave-alike (removals ns) w w (remove_all ns w) (emptied_fragment n ns w) refl refl
+        (leave-remove_all n ns w s (λ m. child-once w.forest s.forest.once m n) (λ m h. child-parent w.forest s.forest.once m n h))
+    go false = leave-remove false n w s
 
 -- nothing comes in with a fragment without children, and it leaves nothing behind
 empty-freed : (n : ℕ) (w : World) → nodes_of w n ≡ [] → laid (freed n [] w) ≡ laid w
@@ -41,7 +46,7 @@ leave-insert suppressed n parent child w s k =
     let u = put_all parent child (nodes_of w n) (gap_before parent child (length (nodes_of w n)) v) in
     leave-alike (insert_edits n parent child w) w w u (insert suppressed n parent child w) refl (go (nodes_of w n) refl)
     (leave-then (freed_edits n (nodes_of w n) w) (insertions parent (index_before v parent child) (nodes_of w n)) w v u
-    (leave-freed n (nodes_of w n) w)
+    (leave-freed n w s)
     (leave-insertions parent child (nodes_of w n) v r.sound r.parent_there r.placeable r.before_child))
   where
     go : (ns : List ℕ) → nodes_of w n ≡ ns → laid (put_all parent child ns (gap_before parent child (length ns) (freed n ns w))) ≡ laid (insert_nodes suppressed n parent child ns w)
@@ -63,7 +68,7 @@ leave-replace child n parent w s h c =
     let u = insert true n parent reference v in
     leave-alike (replace_edits child n parent w) w w u (replace child n parent w) refl refl
     (leave-then (remove_edits child w) (insert_edits n parent reference v) w v u
-    (leave-remove true child w)
+    (leave-remove true child w s)
     (leave-insert true n parent reference v (sound-remove true child w s) (may_come_instead child n parent w s h c)))
 
 replaced-laid : (parent : ℕ) (added removed : List ℕ) (w : World) → laid w ≡ laid (replaced_record parent added removed w)
@@ -74,7 +79,7 @@ replaced-laid parent (a ∷ others) removed w = refl
 pub leave-replace_all : (n : Option ℕ) (parent : ℕ) (w : World) → IsSound w → MayComeIn w.forest n parent → Leave (replace_all_edits n parent w) w (replace_all n parent w)
 leave-replace_all n parent w s k =
     leave-alike (replace_all_edits n parent w) w w (insert_if_any n parent v) (replace_all n parent w) refl (replaced-laid parent (added_by w n) ns (insert_if_any n parent v))
-    (leave-then (removals ns) (insert_edits_if_any n parent v) w v (insert_if_any n parent v) (leave-remove_all ns w) (go n k))
+    (leave-then (removals ns) (insert_edits_if_any n parent v) w v (insert_if_any n parent v) (leave-remove_all parent ns w s (λ m. child-once w.forest s.forest.once m parent) (λ m h. child-parent w.forest s.forest.once m parent h)) (go n k))
   where
     ns : List ℕ
     ns = children_of w.forest parent

@@ -28,7 +28,7 @@ closed_up-free n (text ∷ texts) h =
     let a : opened n text ≡ 0 = omega arith in
     rw (has_open-none n text a, closed_up-free n texts (omega arith)) refl
 
-tokens_among-free : (n : ℕ) (texts : List (List Token)) → tallies (is_open n) texts ≡ 0 → tokens_among n texts ≡ []
+pub tokens_among-free : (n : ℕ) (texts : List (List Token)) → tallies (is_open n) texts ≡ 0 → tokens_among n texts ≡ []
 tokens_among-free n [] h = refl
 tokens_among-free n (text ∷ texts) h =
     let a : opened n text ≡ 0 = omega arith in
