@@ -1,7 +1,7 @@
 -- Entries by number, through a table from numbers to slots.
 use Rattle.std.proofs.Common.{◌≡◌, ℕ, ◌<◌, ◌==◌, true, false, if◌then◌else◌, List, [], ◌∷◌, map, Option, Some, None, option_map, IsSome, refl, ap, sym, ◌∙◌, subst, arith, ◌⊎◌, inl, inr, ⊎_elim}
 use Rattle.std.proofs.lemmas.Bool.{ne_eqb, eq-eqb}
-use Rattle.dom_model.specs.PlainLists.Lists.{hits, is_number, entered, left_out, head_of, last_of, after, before_from}
+use Rattle.dom_model.specs.PlainLists.Lists.{hits, is_number, entered, left_out, head_of, last_of, after, before_from, place_in}
 use Rattle.dom_model.specs.Forests.Arena.{Entry, held, names, parent_in, children_in, siblings_in, list_under, next_in, previous_in, IsLinked}
 use Rattle.dom_model.specs.Forests.Forest.{Node}
 use Rattle.dom_tree.specs.Spelled.{number_at, renumbered, entry_in_slot, by_number, IsTabled}
@@ -34,6 +34,10 @@ before_from-map f s passed (x ∷ xs) h =
       | true ↦ refl
       | false ↦ before_from-map f s (Some x) xs (λ y k. h y (omega arith))
     ])
+
+pub place_in-map : (f : ℕ → ℕ) (s : ℕ) (l : List ℕ) → ((x : ℕ) → 0 < hits x l → (f x == f s) ≡ (x == s)) → place_in (f s) (map f l) ≡ place_in s l
+place_in-map f s [] h = refl
+place_in-map f s (x ∷ xs) h = rw (h x (hits-first x xs), place_in-map f s xs (λ y k. h y (omega arith))) refl
 
 pub left_out-map : (f : ℕ → ℕ) (s : ℕ) (l : List ℕ) → ((x : ℕ) → 0 < hits x l → (f x == f s) ≡ (x == s)) → left_out (f s) (map f l) ≡ map f (left_out s l)
 left_out-map f s [] h = refl
@@ -157,5 +161,12 @@ module _ {X : Type 0} where
   previous_in-map at sl t l n s e =
       let d = t.named n s e in
       let k = before_from-map (number_at at) s None (siblings_in at s) (λ x h. same_test at sl t x s (sibling-held at l s x h) d.0) in
+      let k2 = rw d.1 at k in
+      rw (siblings_in-map at sl t l n s e) k2
+
+  pub place_in-slot : (at : (ℕ → Option (Entry (Node X)))) (sl : ℕ → Option ℕ) → IsTabled at sl → IsLinked at → (n s : ℕ) → sl n ≡ Some s → place_in n (siblings_in (by_number at sl) n) ≡ place_in s (siblings_in at s)
+  place_in-slot at sl t l n s e =
+      let d = t.named n s e in
+      let k = place_in-map (number_at at) s (siblings_in at s) (λ x h. same_test at sl t x s (sibling-held at l s x h) d.0) in
       let k2 = rw d.1 at k in
       rw (siblings_in-map at sl t l n s e) k2
