@@ -28,13 +28,15 @@ impl Model for Slot {
 }
 
 impl Slot {
-    pub(crate) fn at(index: usize) -> Slot
+    /// The slot of a number, whether or not a store has it.
+    pub fn at(index: usize) -> Slot
         ensures { result ≡ index }
     {
         Slot { index }
     }
 
-    pub(crate) fn number(self) -> usize
+    /// The number itself.
+    pub fn number(self) -> usize
         ensures { result ≡ self }
     {
         self.index

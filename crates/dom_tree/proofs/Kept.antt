@@ -2,9 +2,9 @@
 use Rattle.std.proofs.Common.{◌≡◌, ℕ, ◌<◌, ◌≤◌, ◌^◌, false, List, length, map, Option, Some, None, option_map, IsSome, refl, ap, sym, ◌∙◌, subst, arith}
 use Rattle.std.proofs.lemmas.Bool.{false≢true}
 use Rattle.std.specs.Option.{ForSome}
-use Rattle.dom_model.specs.PlainLists.Lists.{hits, among}
-use Rattle.dom_model.specs.Forests.Arena.{Arena, Entry, entry_at, held, parent_in, children_in, next_in, previous_in, unlinked, linked, StandsUnder, itself, below, IsSound}
-use Rattle.dom_model.specs.Forests.Forest.{Node, Forest, occurs, one_at, size, tree_at, without, entry_in, HasNode, parent_of, children_of, next_of, previous_of, ancestors, cut, put, KindsFit}
+use Rattle.dom_model.specs.PlainLists.Lists.{hits, among, place_in}
+use Rattle.dom_model.specs.Forests.Arena.{Arena, Entry, entry_at, held, parent_in, children_in, siblings_in, next_in, previous_in, unlinked, linked, StandsUnder, itself, below, IsSound}
+use Rattle.dom_model.specs.Forests.Forest.{Node, Forest, occurs, one_at, size, tree_at, without, entry_in, HasNode, parent_of, children_of, next_of, previous_of, index_of, ancestors, cut, put, KindsFit}
 use Rattle.dom_tree.specs.Spelled.{number_at, renumbered, slot_in, slot_for, numbered, shown, Spells, IsTabled, IsKept}
 use Rattle.dom_tree.specs.Standing.{MayStand}
 use Rattle.dom_model.proofs.Forests.Totals.{total-cut, total-put, total-tree_at}
@@ -15,7 +15,7 @@ use Rattle.dom_tree.proofs.Spelling.{once_in, Spells-cut, Spells-put}
 use Rattle.dom_model.proofs.Forests.KindsFitting.{KindsFit-cut, KindsFit-without, KindsFit-under, KindsFit-placed_under}
 use Rattle.dom_model.proofs.Forests.Climbing.{hits-ancestors, climbs, hits-self, not_among-hits}
 use Rattle.dom_tree.proofs.Stores.{linked-at, unlinked-at}
-use Rattle.dom_tree.proofs.Numbering.{parent-held, slot-there, by_number-slot, parent_in-map, children_in-map, next_in-map, previous_in-map}
+use Rattle.dom_tree.proofs.Numbering.{parent-held, slot-there, by_number-slot, parent_in-map, children_in-map, next_in-map, previous_in-map, place_in-slot}
 use Rattle.dom_tree.proofs.Renumbering.{IsTabled-linked, IsTabled-unlinked, by_number-linked, by_number-unlinked}
 
 -- a store and a table that spell a forest
@@ -79,6 +79,9 @@ module _ {X : Type 0} {a : Arena (Node X)} {table : List (Option ℕ)} {live : �
 
   pub previous-slot : IsSound a → (n s : ℕ) → slot_in table n ≡ Some s → previous_of (shown a table) n ≡ option_map (number_at (entry_at a)) (previous_in (entry_at a) s)
   previous-slot l n s e = ap (λ (at : ℕ → Option (Entry (Node X))). previous_in at n) entries ∙ previous_in-map (entry_at a) (slot_in table) k.tabled l.linked n s e
+
+  pub index-slot : IsSound a → (n s : ℕ) → slot_in table n ≡ Some s → index_of (shown a table) n ≡ place_in s (siblings_in (entry_at a) s)
+  index-slot l n s e = ap (λ (at : ℕ → Option (Entry (Node X))). place_in n (siblings_in at n)) entries ∙ place_in-slot (entry_at a) (slot_in table) k.tabled l.linked n s e
 
   pub slot-node : (n : ℕ) → HasNode (shown a table) n → IsSome (slot_in table n)
   slot-node n h = slot-there (entry_at a) (slot_in table) n (let e = entry-numbered n in rw e at h)

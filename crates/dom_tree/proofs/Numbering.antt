@@ -6,7 +6,7 @@ use Rattle.dom_model.specs.Forests.Arena.{Entry, held, names, parent_in, childre
 use Rattle.dom_model.specs.Forests.Forest.{Node}
 use Rattle.dom_tree.specs.Spelled.{number_at, renumbered, entry_in_slot, by_number, IsTabled}
 use Rattle.dom_model.proofs.PlainLists.Numbers.{same_or, same, apart}
-use Rattle.dom_model.proofs.PlainLists.Mapped.{after-map, before_from-map}
+use Rattle.dom_model.proofs.PlainLists.Mapped.{after-map, before_from-map, place_in-map}
 use Rattle.dom_model.proofs.Forests.Changes.{seen, nothing, just}
 
 module _ {X : Type 0} where
@@ -93,5 +93,12 @@ module _ {X : Type 0} where
   previous_in-map at sl t l n s e =
       let d = t.named n s e in
       let k = before_from-map (number_at at) s None (siblings_in at s) (λ x h. same_test at sl t x s (sibling-held at l s x h) d.0) in
+      let k2 = rw d.1 at k in
+      rw (siblings_in-map at sl t l n s e) k2
+
+  pub place_in-slot : (at : (ℕ → Option (Entry (Node X)))) (sl : ℕ → Option ℕ) → IsTabled at sl → IsLinked at → (n s : ℕ) → sl n ≡ Some s → place_in n (siblings_in (by_number at sl) n) ≡ place_in s (siblings_in at s)
+  place_in-slot at sl t l n s e =
+      let d = t.named n s e in
+      let k = place_in-map (number_at at) s (siblings_in at s) (λ x h. same_test at sl t x s (sibling-held at l s x h) d.0) in
       let k2 = rw d.1 at k in
       rw (siblings_in-map at sl t l n s e) k2

@@ -4,7 +4,7 @@ use Rattle.std.proofs.lemmas.Bool.{cases_lt, le-ltb, false≢true}
 use Rattle.std.proofs.lemmas.List.{get_or-set_same, get_or-set_other, get_or_past, length-set, get_or_append_left}
 use Rattle.std.proofs.Math.Seq.{get_or-append_seam}
 use Rattle.dom_model.specs.PlainLists.Lists.{hits, entered, left_out}
-use Rattle.dom_model.specs.Forests.Arena.{Arena, Entry, entry_at, held, names, parent_in, children_in, with_parent, with_children, altered, linked, unlinked, added, added_from, next_slot, next_from, alone, IsLinked, IsSound}
+use Rattle.dom_model.specs.Forests.Arena.{Arena, Entry, entry_at, held, names, parent_in, children_in, with_parent, with_children, altered, linked, unlinked, added, added_from, taken, next_slot, next_from, alone, IsLinked, IsSound}
 use Rattle.dom_model.proofs.PlainLists.Numbers.{same_or, same, apart}
 use Rattle.dom_model.proofs.Forests.Changes.{seen, nothing, just, cut_at, link_at}
 use Rattle.dom_model.proofs.Forests.Lying.{left_out-absent}
@@ -99,3 +99,20 @@ module _ {T : Type 0} where
           get_or_past (a.slots ++ Some (alone v) ∷ []) k None (omega (arith, length-append a.slots (Some (alone v) ∷ []))) ∙ sym past)
           (cases_lt k (length a.slots))
       old (i ∷ rest) ne = get_or-set_other a.slots i k (Some (alone v)) None ne
+
+  pub taken-at : (a : Arena T) (n k : ℕ) → entry_at (taken a n) k ≡ (if k == n then None else entry_at a k)
+  taken-at a n k =
+      elim (same_or k n) [
+        | same e t ↦
+            rw (t, e) (⊎_elim
+            (λ (lt : n < length a.slots). get_or-set_same a.slots n None None lt)
+            (λ (le : length a.slots ≤ n). get_or_past (slice_set a.slots n None) n None (rw (length-set a.slots n None) le))
+            (cases_lt n (length a.slots)))
+        | apart ne t ↦ rw t (get_or-set_other a.slots n k None None ne)
+      ]
+
+  pub taken-here : (a : Arena T) (n : ℕ) → entry_at (taken a n) n ≡ None
+  taken-here a n = taken-at a n n ∙ (elim (same_or n n) [ same _ t ↦ rw t refl | apart ne t ↦ absurd (ne refl) ])
+
+  pub taken-other : (a : Arena T) (n k : ℕ) → (k ≡ n → ⊥) → entry_at (taken a n) k ≡ entry_at a k
+  taken-other a n k ne = taken-at a n k ∙ (elim (same_or k n) [ same e t ↦ absurd (ne e) | apart _ t ↦ rw t refl ])

@@ -1,5 +1,8 @@
 pub mod Bodies
 pub mod Lends
 pub mod Lengths
+pub mod Numberings
+pub mod Outside
+pub mod Slots
 pub mod Spelled
 pub mod Standing

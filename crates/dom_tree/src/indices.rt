@@ -4,7 +4,8 @@ ghost use Rattle.std.specs.Prelude.{◌≡◌, IfSome};
 ghost use Rattle.dom_model.specs.Forests.Forest.{HasNode, index_of};
 
 use crate::node_id::NodeId;
-use crate::tree::Tree;
+use crate::tree::{Tree, slot_of};
+use crate::upkeep::number_all;
 
 impl<X> Tree<X> {
     /// The number of preceding siblings, where it is known without counting.
@@ -12,7 +13,13 @@ impl<X> Tree<X> {
         requires { HasNode self.now.forest id }
         ensures { IfSome result (λ i. i ≡ index_of self.now.forest id) }
     {
-        let _ = id;
+        let slot = slot_of(&self.table, id);
+        self.links.sound();
+        let parent = self.links.parent(slot)?;
+        let index = self.links.value(slot).index;
+        if index < self.links.value(parent).sure {
+            return Some(index);
+        }
         None
     }
 
@@ -21,6 +28,8 @@ impl<X> Tree<X> {
         requires { HasNode self.old.forest parent }
         ensures { self.new ≡ self.old }
     {
-        let _ = parent;
+        let slot = slot_of(&self.table, parent);
+        self.links.sound();
+        number_all(&mut self.links, slot);
     }
 }

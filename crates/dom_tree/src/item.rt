@@ -5,21 +5,24 @@ use dom_kinds::Label;
 use std::marker::Model;
 
 /// A node as its slot holds it, with the number that callers know it by.
+///
+/// `index` is its place among its siblings where it is below the parent's `sure`, the number of first children whose `index` is right.
 #[derive(Drop)]
 pub struct Item<X> {
     pub number: NodeId,
     pub document: NodeId,
     pub label: Label,
     pub body: X,
+    pub index: usize,
+    pub sure: usize,
 }
 
 impl<X> Model for Item<X> {
-    ghost use Rattle.dom_model.specs.Forests.Forest.{Node};
-    ghost use Rattle.dom_model.specs.Forests.ForestCode.{node_code};
+    ghost use Rattle.dom_tree.specs.Slots.{Kept, kept_code};
 
-    ghost Value = { Node X };
+    ghost Value = { Kept X };
 
-    ghost coded = { node_code X.code };
+    ghost coded = { kept_code X.code };
 
-    ghost view = { λ i. record { number = i.number; document = i.document; label = i.label; body = i.body } };
+    ghost view = { λ i. record { node = record { number = i.number; document = i.document; label = i.label; body = i.body }; index = i.index; sure = i.sure } };
 }

@@ -2,10 +2,15 @@
 #![tactic(auto)]
 
 mod body;
+mod discarding;
 mod indices;
 mod item;
 mod node_id;
+mod slot_number;
+#[cfg(test)]
+mod tests;
 mod tree;
+mod upkeep;
 mod walks;
 
 pub use body::Body;

@@ -8,10 +8,13 @@ ghost use Rattle.dom_model.specs.Forests.Arena.{IsHeld, entry_at};
 ghost use Rattle.dom_model.specs.Forests.Forest.{empty, node, beside, size, entry_in, HasNode, parent_of, children_of, next_of, previous_of, ancestors, put, cut, with_node, in_document, IsForest};
 ghost use Rattle.dom_tree.specs.Bodies.{lends_item_body};
 ghost use Rattle.dom_tree.specs.Spelled.{slot_in, slot_for, number_at};
+ghost use Rattle.dom_tree.specs.Slots.{nodes_of};
 ghost use Rattle.dom_tree.specs.Standing.{MayStand};
 
 use crate::item::Item;
 use crate::node_id::NodeId;
+use crate::slot_number::SlotNumber;
+use crate::upkeep::{number_cut, number_put};
 use dom_kinds::Label;
 use dom_links::{Links, Slot};
 use std::alloc::{AllocError, Global};
@@ -20,36 +23,37 @@ use std::marker::Model;
 /// A forest of nodes, each a root or among the children of one parent. A node keeps its number wherever it stands.
 #[derive(Drop)]
 pub struct Tree<X> {
-    links: Links<Item<X>>,
-    table: Vec<Option<Slot>>,
-    live: u64,
+    pub(crate) links: Links<Item<X>>,
+    pub(crate) table: Vec<Option<SlotNumber>>,
+    pub(crate) live: u64,
 }
 
 impl<X> Model for Tree<X> {
     ghost use Rattle.std.specs.Prelude.{length};
     ghost use Rattle.dom_model.specs.Forests.Forest.{Grove};
     ghost use Rattle.dom_model.specs.Forests.ForestCode.{grove_code};
-    ghost use Rattle.dom_tree.specs.Spelled.{shown, IsKept};
+    ghost use Rattle.dom_tree.specs.Spelled.{shown};
+    ghost use Rattle.dom_tree.specs.Slots.{nodes_of, IsTree};
 
     ghost Value = { Grove X };
 
     ghost coded = { grove_code X.code };
 
-    ghost view = { λ t. record { forest = shown t.links t.table.items; made = length t.table.items } };
+    ghost view = { λ t. record { forest = shown (nodes_of t.links) t.table.items; made = length t.table.items } };
 
-    ghost invariant = { λ t. IsKept t.links t.table.items t.live };
+    ghost invariant = { λ t. IsTree t.links t.table.items t.live };
 }
 
-// The slot of a number that the table has.
-fn slot_of(table: &[Option<Slot>], id: NodeId) -> Slot
+/// The slot of a number that the table has.
+pub(crate) fn slot_of(table: &[Option<SlotNumber>], id: NodeId) -> Slot
     requires { IsSome (slot_in table.now id) }
     ensures { slot_in table.now id ≡ Some result }
 {
-    table[id.number() as usize].unwrap()
+    table[id.number() as usize].unwrap().slot()
 }
 
 // The slot of a number, where there is one.
-fn slot_of_any(table: &[Option<Slot>], id: Option<NodeId>) -> Option<Slot>
+fn slot_of_any(table: &[Option<SlotNumber>], id: Option<NodeId>) -> Option<Slot>
     requires { ForSome id (λ n. IsSome (slot_in table.now n)) }
     ensures { slot_for table.now id ≡ result }
 {
@@ -61,16 +65,16 @@ fn slot_of_any(table: &[Option<Slot>], id: Option<NodeId>) -> Option<Slot>
 
 // The number of the node in a slot.
 fn number_of<X>(links: &Links<Item<X>>, slot: Slot) -> NodeId
-    requires { IsHeld links.now slot }
-    ensures { result ≡ number_at (entry_at links.now) slot }
+    requires { IsHeld (nodes_of links.now) slot }
+    ensures { result ≡ number_at (entry_at (nodes_of links.now)) slot }
 {
     links.value(slot).number
 }
 
 // The numbers in place of the slots.
 fn named<X>(links: &Links<Item<X>>, slot: Option<Slot>) -> Option<NodeId>
-    requires { ForSome slot (λ s. IsHeld links.now s) }
-    ensures { result ≡ option_map (number_at (entry_at links.now)) slot }
+    requires { ForSome slot (λ s. IsHeld (nodes_of links.now) s) }
+    ensures { result ≡ option_map (number_at (entry_at (nodes_of links.now))) slot }
 {
     match slot {
         Some(slot) => Some(number_of(links, slot)),
@@ -82,7 +86,7 @@ fn named<X>(links: &Links<Item<X>>, slot: Option<Slot>) -> Option<NodeId>
 fn body_in<X>(links: &mut Links<Item<X>>, slot: Slot) -> &mut X
     requires { IsHeld links.old slot }
     ensures* writes_back { sem 𝓛 (lends_item_body X.row links.entry slot result) }
-    ensures value { IfSome (entry_at links.old slot) (λ e. result.now ≡ e.value.body) }
+    ensures value { IfSome (entry_at links.old slot) (λ e. result.now ≡ e.value.node.body) }
 {
     let item = links.value_mut(slot);
     &mut item.body
@@ -108,12 +112,14 @@ impl<X: Drop> Tree<X> {
             document: document.unwrap_or(id),
             label,
             body,
+            index: 0,
+            sure: 0,
         };
         self.links.sound();
         let Ok(slot) = self.links.add(item) else {
             return Err(AllocError);
         };
-        self.table.push(Some(slot)).unwrap();
+        self.table.push(Some(SlotNumber::of(slot))).unwrap();
         self.live += 1;
         Ok(id)
     }
@@ -275,6 +281,7 @@ impl<X> Tree<X> {
         let next = slot_of_any(&self.table, before);
         self.links.sound();
         self.links.link(above, below, next);
+        number_put(&mut self.links, above, below, &next);
     }
 
     /// Takes a child from its parent: it becomes a root, with all that stands under it.
@@ -284,6 +291,7 @@ impl<X> Tree<X> {
     {
         let slot = slot_of(&self.table, child);
         self.links.sound();
+        number_cut(&mut self.links, slot);
         self.links.unlink(slot);
     }
 

@@ -1,9 +1,9 @@
 //! Walks over the tree: ancestors and tree order (DOM Standard, "Trees").
 
-ghost use Rattle.std.specs.Prelude.{◌≡◌, ℕ, nat_lt, length, slice_get, Some, IfSome, true};
+ghost use Rattle.std.specs.Prelude.{◌≡◌, ℕ, ◌+◌, ◌-◌, ◌<◌, nat_lt, length, slice_get, Some, IsSome, IfSome, true};
 ghost use Rattle.dom_model.specs.PlainLists.Lists.{among, after, last_of, place_in};
 ghost use Rattle.dom_model.specs.Forests.Arena.{siblings_in};
-ghost use Rattle.dom_model.specs.Forests.Forest.{HasNode, entry_in, children_of, index_of, root_of, ancestors, numbers, inclusive_descendants, adopted};
+ghost use Rattle.dom_model.specs.Forests.Forest.{HasNode, entry_in, parent_of, children_of, index_of, root_of, ancestors, numbers, inclusive_descendants, adopted};
 ghost use Rattle.dom_tree.specs.Lengths.{length_of};
 
 use crate::body::Body;
@@ -103,14 +103,119 @@ impl<X> Tree<X> {
         ensures { result ≡ nat_lt (place_in a (numbers self.now.forest)) (place_in b (numbers self.now.forest)) }
     {
         self.sound();
-        let mut here = a;
-        while let Some(next) = self.next_in_order(here) {
+        let a_depth = self.depth(a);
+        let b_depth = self.depth(b);
+        let left = self.climbed(a, a_depth.saturating_sub(b_depth));
+        let right = self.climbed(b, b_depth.saturating_sub(a_depth));
+        if left == right {
+            return a_depth < b_depth;
+        }
+        self.stands_ahead(left, right)
+    }
+
+    // How many ancestors a node has.
+    fn depth(&self, id: NodeId) -> u64
+        requires { HasNode self.now.forest id }
+        ensures { 1 + result ≡ length (ancestors id self.now.forest) }
+    {
+        self.sound();
+        let most = self.live();
+        let mut here = id;
+        for depth in 0..most {
+            match self.parent(here) {
+                Some(parent) => here = parent,
+                None => return depth,
+            }
+        }
+        most
+    }
+
+    // The ancestor that is so many steps up.
+    fn climbed(&self, id: NodeId, steps: u64) -> NodeId
+        requires held { HasNode self.now.forest id }
+        requires deep { steps < length (ancestors id self.now.forest) }
+        ensures held { HasNode self.now.forest result }
+        ensures above { among result (ancestors id self.now.forest) ≡ true }
+        ensures steps { length (ancestors result self.now.forest) + steps ≡ length (ancestors id self.now.forest) }
+    {
+        self.sound();
+        let mut here = id;
+        for _climbed in 0..steps {
+            here = self.parent(here).unwrap();
+        }
+        here
+    }
+
+    // Whether one node precedes another of the same depth.
+    fn stands_ahead(&self, a: NodeId, b: NodeId) -> bool
+        requires a_held { HasNode self.now.forest a }
+        requires b_held { HasNode self.now.forest b }
+        requires apart { ¬ (a ≡ b) }
+        requires one_root { root_of self.now.forest a ≡ root_of self.now.forest b }
+        requires one_depth { length (ancestors a self.now.forest) ≡ length (ancestors b self.now.forest) }
+        ensures { result ≡ nat_lt (place_in a (numbers self.now.forest)) (place_in b (numbers self.now.forest)) }
+    {
+        self.sound();
+        let mut left = a;
+        let mut right = b;
+        loop {
+            let left_parent = self.parent(left);
+            let right_parent = self.parent(right);
+            if left_parent == right_parent {
+                return self.comes_before(left, right);
+            }
+            left = left_parent.unwrap();
+            right = right_parent.unwrap();
+        }
+    }
+
+    /// Whether `a` comes before `b` among the children of their parent. It looks no further than from one to the other.
+    pub fn comes_before(&self, a: NodeId, b: NodeId) -> bool
+        requires a_held { HasNode self.now.forest a }
+        requires b_held { HasNode self.now.forest b }
+        requires one_parent { parent_of self.now.forest a ≡ parent_of self.now.forest b }
+        requires child { IsSome (parent_of self.now.forest a) }
+        ensures { result ≡ nat_lt (index_of self.now.forest a) (index_of self.now.forest b) }
+    {
+        if a == b {
+            return false;
+        }
+        if let Some(a_index) = self.kept_index(a)
+            && let Some(b_index) = self.kept_index(b)
+        {
+            return a_index < b_index;
+        }
+        self.is_ahead(a, b)
+    }
+
+    // Whether one child comes before another, by a search from it to both sides in step.
+    fn is_ahead(&self, a: NodeId, b: NodeId) -> bool
+        requires a_held { HasNode self.now.forest a }
+        requires b_held { HasNode self.now.forest b }
+        requires apart { ¬ (a ≡ b) }
+        requires one_parent { parent_of self.now.forest a ≡ parent_of self.now.forest b }
+        requires child { IsSome (parent_of self.now.forest a) }
+        ensures { result ≡ nat_lt (index_of self.now.forest a) (index_of self.now.forest b) }
+    {
+        self.sound();
+        let mut forward = a;
+        let mut backward = a;
+        loop {
+            let Some(next) = self.next(forward) else {
+                return false;
+            };
             if next == b {
                 return true;
             }
-            here = next;
+            let Some(prev) = self.prev(backward) else {
+                return true;
+            };
+            if prev == b {
+                return false;
+            }
+            forward = next;
+            backward = prev;
         }
-        false
     }
 
     // How many siblings there are, the node itself among them; 0 for a root.
@@ -133,24 +238,56 @@ impl<X> Tree<X> {
         self.sound();
         let count = self.siblings(id);
         let mut here = id;
-        for index in 0..count {
+        for passed in 0..count {
+            if let Some(index) = self.kept_index(here) {
+                return passed + index;
+            }
             match self.prev(here) {
                 Some(prev) => here = prev,
-                None => return index,
+                None => return passed,
             }
         }
         count
     }
 
-    /// The child at an index.
+    /// The child at an index. It walks from the nearer end.
     pub fn child_at(&self, id: NodeId, index: usize) -> Option<NodeId>
         requires { HasNode self.now.forest id }
         ensures { result ≡ slice_get (children_of self.now.forest id) index }
     {
+        let count = self.count(id);
+        if index >= count {
+            return None;
+        }
+        if index < count / 2 {
+            return self.child_from_first(id, index);
+        }
+        self.child_from_last(id, count - 1 - index)
+    }
+
+    // The child so many steps after the first.
+    fn child_from_first(&self, id: NodeId, steps: usize) -> Option<NodeId>
+        requires { HasNode self.now.forest id }
+        ensures { result ≡ slice_get (children_of self.now.forest id) steps }
+    {
         self.sound();
         let mut child = self.first(id)?;
-        for _passed in 0..index {
+        for _passed in 0..steps {
             child = self.next(child)?;
+        }
+        Some(child)
+    }
+
+    // The child so many steps before the last.
+    fn child_from_last(&self, id: NodeId, steps: usize) -> Option<NodeId>
+        requires held { HasNode self.now.forest id }
+        requires within { steps < length (children_of self.now.forest id) }
+        ensures { result ≡ slice_get (children_of self.now.forest id) (length (children_of self.now.forest id) - 1 - steps) }
+    {
+        self.sound();
+        let mut child = self.last(id)?;
+        for _passed in 0..steps {
+            child = self.prev(child)?;
         }
         Some(child)
     }

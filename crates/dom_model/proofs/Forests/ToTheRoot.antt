@@ -46,7 +46,7 @@ module _ {X : Type 0} where
             (cases_lt 0 (occurs n kids))
       ]
 
-  rooted-parent : (o : Option (Entry (Node X))) → 0 < rooted o → parent_in o ≡ None
+  pub rooted-parent : (o : Option (Entry (Node X))) → 0 < rooted o → parent_in o ≡ None
   rooted-parent None h = refl
   rooted-parent (Some e) h = go e.parent h
     where

@@ -1,6 +1,6 @@
 -- A list mapped, and a question asked of it before or after.
 use Rattle.std.proofs.Common.{◌≡◌, ℕ, ◌<◌, ◌==◌, true, false, if◌then◌else◌, List, [], ◌∷◌, map, Option, Some, option_map, refl, ap, arith}
-use Rattle.dom_model.specs.PlainLists.Lists.{hits, is_number, entered, left_out, head_of, last_of, after, before_from}
+use Rattle.dom_model.specs.PlainLists.Lists.{hits, is_number, entered, left_out, head_of, last_of, after, before_from, place_in}
 use Rattle.dom_model.proofs.Forests.Climbing.{hits-first}
 
 pub head_of-map : (f : ℕ → ℕ) (l : List ℕ) → head_of (map f l) ≡ option_map f (head_of l)
@@ -27,6 +27,10 @@ before_from-map f s passed (x ∷ xs) h =
       | true ↦ refl
       | false ↦ before_from-map f s (Some x) xs (λ y k. h y (omega arith))
     ])
+
+pub place_in-map : (f : ℕ → ℕ) (s : ℕ) (l : List ℕ) → ((x : ℕ) → 0 < hits x l → (f x == f s) ≡ (x == s)) → place_in (f s) (map f l) ≡ place_in s l
+place_in-map f s [] h = refl
+place_in-map f s (x ∷ xs) h = rw (h x (hits-first x xs), place_in-map f s xs (λ y k. h y (omega arith))) refl
 
 pub left_out-map : (f : ℕ → ℕ) (s : ℕ) (l : List ℕ) → ((x : ℕ) → 0 < hits x l → (f x == f s) ≡ (x == s)) → left_out (f s) (map f l) ≡ map f (left_out s l)
 left_out-map f s [] h = refl

@@ -53,7 +53,7 @@ place-last n (x ∷ xs) h e =
     ends [] z = refl
     ends (y ∷ ys) z = absurd (cc z)
 
-place-front : (n : ℕ) (xs ys : List ℕ) → 0 < hits n xs → place_in n (xs ++ ys) ≡ place_in n xs
+pub place-front : (n : ℕ) (xs ys : List ℕ) → 0 < hits n xs → place_in n (xs ++ ys) ≡ place_in n xs
 place-front n [] ys h = absurd (omega arith)
 place-front n (x ∷ xs) ys h =
     elim (same_or x n) [
@@ -61,7 +61,7 @@ place-front n (x ∷ xs) ys h =
       | apart ne t ↦ (let w = rw t at h in rw t (ap (λ i. 1 + i) (place-front n xs ys (omega arith))))
     ]
 
-place-behind : (n : ℕ) (xs ys : List ℕ) → hits n xs ≡ 0 → place_in n (xs ++ ys) ≡ length xs + place_in n ys
+pub place-behind : (n : ℕ) (xs ys : List ℕ) → hits n xs ≡ 0 → place_in n (xs ++ ys) ≡ length xs + place_in n ys
 place-behind n [] ys h = omega arith
 place-behind n (x ∷ xs) ys h =
     elim (same_or x n) [

@@ -2,7 +2,7 @@
 use Rattle.std.proofs.Common.{refl}
 use Rattle.dom_model.specs.Forests.Forest.{Node, with_node}
 use Rattle.dom_tree.specs.Bodies.{with_body}
-use Rattle.dom_tree.proofs.Reading.{slot-held, alter-done, keeps-shown, part-read}
+use Rattle.dom_tree.proofs.Trees.{slot-held, alter-done, keeps-shown, part-read}
 use Rattle.dom_tree.proofs.tree.Tree.body_mut.Goals as goal
 
 pub slot_of-slot-requires : goal.slot_of-slot-requires

@@ -1,5 +1,5 @@
 -- As many by slot as by number.
-use Rattle.dom_tree.proofs.Reading.{slot-held, count-read}
+use Rattle.dom_tree.proofs.Trees.{slot-held, count-read}
 use Rattle.dom_tree.proofs.tree.Tree.count.Goals as goal
 
 pub slot_of-slot-requires : goal.slot_of-slot-requires

@@ -2,7 +2,7 @@
 use Rattle.std.proofs.Common.{◌≡◌, None, is_some, sym, ap, ◌∙◌}
 use Rattle.std.proofs.lemmas.List.{get_or_past}
 use Rattle.dom_tree.specs.Spelled.{slot_in}
-use Rattle.dom_tree.proofs.Reading.{holds-read}
+use Rattle.dom_tree.proofs.Trees.{holds-read}
 use Rattle.dom_tree.proofs.tree.Tree.holds.Goals as goal
 
 pub returns-in-Some : goal.returns-in-Some

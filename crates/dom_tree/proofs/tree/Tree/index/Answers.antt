@@ -5,13 +5,17 @@ use Rattle.dom_tree.proofs.tree.Tree.index.Goals as goal
 
 pub returns-in-None : goal.returns-in-None
 returns-in-None g c =
-    omega (arith, c.loop-index.invariant.counted, index-first c.sound.ensures c.loop-index.here c.loop-index.invariant.there (sym c.prev.ensures ∙ c.in-None.is))
+    omega (arith, c.loop-passed.invariant.counted, index-first c.sound.ensures c.loop-passed.here c.loop-passed.invariant.there (sym c.prev.ensures ∙ c.in-None.is))
 
-pub loop-index-preserved : goal.loop-index-preserved
-loop-index-preserved g c =
-    let i = index-step c.sound.ensures c.loop-index.here c.in-Some.prev c.loop-index.invariant.there (sym c.prev.ensures ∙ c.in-Some.is) in
-    record { there = i.1.1; beside = i.1.0 ∙ c.loop-index.invariant.beside; counted = omega (arith, i.0, c.loop-index.invariant.counted) }
+pub loop-passed-preserved : goal.loop-passed-preserved
+loop-passed-preserved g c =
+    let i = index-step c.sound.ensures c.loop-passed.here c.in-Some-prev.prev c.loop-passed.invariant.there (sym c.prev.ensures ∙ c.in-Some-prev.is) in
+    record { there = i.1.1; beside = i.1.0 ∙ c.loop-passed.invariant.beside; counted = omega (arith, i.0, c.loop-passed.invariant.counted) }
 
 pub returns : goal.returns
 returns g c =
-    omega (arith, c.loop-index.invariant.counted, c.siblings-count.ensures, index-within c.args.self.now.forest c.args.id, c.loop-index-test.false)
+    omega (arith, c.loop-passed.invariant.counted, c.siblings-count.ensures, index-within c.args.self.now.forest c.args.id, c.loop-passed-test.false)
+
+pub overflow_add-result : goal.overflow_add-result
+overflow_add-result g c =
+    omega (arith, c.in-Some.ensures, c.loop-passed.invariant.counted, c.siblings-count.ensures, index-within c.args.self.now.forest c.args.id)

@@ -1,6 +1,6 @@
 -- The value in the slot is the node's.
 use Rattle.dom_model.specs.Forests.Forest.{Node}
-use Rattle.dom_tree.proofs.Reading.{slot-held, value-read}
+use Rattle.dom_tree.proofs.Trees.{slot-held, value-read}
 use Rattle.dom_tree.proofs.tree.Tree.label.Goals as goal
 
 pub slot_of-requires : goal.slot_of-requires

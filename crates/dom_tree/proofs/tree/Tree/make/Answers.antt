@@ -1,32 +1,36 @@
 -- A node stored and named in the table is one more root.
 use Rattle.std.proofs.Common.{◌≡◌, [], ◌∷◌, ◌++◌, length, Some, None, ap, ◌∙◌, unwrap_or}
 use Rattle.dom_model.specs.Forests.Arena.{added, next_slot, entry_at}
-use Rattle.dom_model.specs.Forests.Forest.{Node}
-use Rattle.dom_tree.proofs.Making.{made-is, made-keeps, made-shown}
+use Rattle.dom_tree.specs.Slots.{Kept}
+use Rattle.dom_tree.proofs.Trees.{made-is, made-keeps, made-shown, fresh-small}
 use Rattle.dom_tree.proofs.tree.Tree.make.Goals as goal
 
 pub invariant_of-self-2 : goal.invariant_of-self-2
 invariant_of-self-2 g c =
-    let x : Node g.row.X.Denot = record { number = c.new-id.result; document = c.unwrap_or.result; label = c.args.label; body = c.args.body } in
+    let x : Kept g.row.X.Denot = record { node = record { number = c.new-id.result; document = c.unwrap_or.result; label = c.args.label; body = c.args.body }; index = 0; sure = 0 } in
     let added_is : c.add.new.self ≡ added c.self.inside.links x = c.in-Ok.ensures.added in
     let fresh : entry_at c.self.inside.links c.in-Ok.slot ≡ None = c.in-Ok.ensures.fresh in
     let slot_is : c.in-Ok.slot ≡ next_slot c.self.inside.links = c.in-Ok.ensures.slot in
     let pushed = c.push.ensures.items in
-    let table_is : c.push.new.self.items ≡ c.self.inside.table.items ++ Some c.in-Ok.slot ∷ [] = rw (c.unwrap.ensures, c.in_ok-reserve.ensures.items) at pushed in
+    let table_is : c.push.new.self.items ≡ c.self.inside.table.items ++ Some c.in-Ok.slot ∷ [] = rw (c.unwrap.ensures, c.in_ok-reserve.ensures.items, c.of.ensures) at pushed in
     let number_is : c.new-id.result ≡ length c.self.inside.table.items = c.new-id.ensures ∙ c.len.ensures ∙ c.in_ok-reserve.ensures.len ∙ c.self.inside.table.ok.0 in
     let done = made-keeps c.self.invariant c.self.view_is c.sound.ensures x c.add.new.self c.push.new.self.items c.in-Ok.slot number_is fresh c.requires.room added_is slot_is table_is in
     done.kept
 
 pub returns-clause-made : goal.returns-clause-made
 returns-clause-made g c =
-    let x : Node g.row.X.Denot = record { number = c.new-id.result; document = c.unwrap_or.result; label = c.args.label; body = c.args.body } in
+    let x : Kept g.row.X.Denot = record { node = record { number = c.new-id.result; document = c.unwrap_or.result; label = c.args.label; body = c.args.body }; index = 0; sure = 0 } in
     let added_is : c.add.new.self ≡ added c.self.inside.links x = c.in-Ok.ensures.added in
     let fresh : entry_at c.self.inside.links c.in-Ok.slot ≡ None = c.in-Ok.ensures.fresh in
     let slot_is : c.in-Ok.slot ≡ next_slot c.self.inside.links = c.in-Ok.ensures.slot in
     let pushed = c.push.ensures.items in
-    let table_is : c.push.new.self.items ≡ c.self.inside.table.items ++ Some c.in-Ok.slot ∷ [] = rw (c.unwrap.ensures, c.in_ok-reserve.ensures.items) at pushed in
+    let table_is : c.push.new.self.items ≡ c.self.inside.table.items ++ Some c.in-Ok.slot ∷ [] = rw (c.unwrap.ensures, c.in_ok-reserve.ensures.items, c.of.ensures) at pushed in
     let number_is : c.new-id.result ≡ length c.self.inside.table.items = c.new-id.ensures ∙ c.len.ensures ∙ c.in_ok-reserve.ensures.len ∙ c.self.inside.table.ok.0 in
     let done = made-keeps c.self.invariant c.self.view_is c.sound.ensures x c.add.new.self c.push.new.self.items c.in-Ok.slot number_is fresh c.requires.room added_is slot_is table_is in
     let m = number_is ∙ made-is c.self.invariant c.self.view_is in
-    made-shown c.self.invariant c.self.view_is x _ c.add.new.self c.push.new.self.items c.in-Ok.slot
+    let y : Kept g.row.X.Denot = record { node = record { number = c.args.self.now.made; document = unwrap_or c.args.document c.args.self.now.made; label = c.args.label; body = c.args.body }; index = 0; sure = 0 } in
+    made-shown c.self.invariant c.self.view_is x y c.add.new.self c.push.new.self.items c.in-Ok.slot
     (λ i. record { number = m i; document = (c.unwrap_or.ensures ∙ ap (λ n. unwrap_or c.args.document n) m) i; label = c.args.label; body = c.args.body }) table_is done
+
+pub of-requires : goal.of-requires
+of-requires g c = fresh-small c.self.invariant c.self.view_is c.sound.ensures c.in-Ok.slot c.in-Ok.ensures.slot c.requires.room

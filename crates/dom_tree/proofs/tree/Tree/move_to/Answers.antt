@@ -1,7 +1,7 @@
 -- The node document alone is written.
 use Rattle.std.proofs.Common.{refl}
 use Rattle.dom_model.specs.Forests.Forest.{with_node, in_document}
-use Rattle.dom_tree.proofs.Reading.{slot-held, write-done, keeps-shown}
+use Rattle.dom_tree.proofs.Trees.{slot-held, write-done, keeps-shown}
 use Rattle.dom_tree.proofs.tree.Tree.move_to.Goals as goal
 
 pub slot_of-slot-requires : goal.slot_of-slot-requires

@@ -1,43 +1,34 @@
--- Each step goes one place further.
-use Rattle.std.proofs.Common.{◌≡◌, ◌+◌, refl, sym, ap, ◌∙◌, arith}
-use Rattle.std.proofs.lemmas.Bool.{eqb-true, eqb-false, lt-ltb, le-ltb}
-use Rattle.dom_model.specs.PlainLists.Lists.{place_in}
-use Rattle.dom_model.specs.Forests.Forest.{numbers}
-use Rattle.dom_model.proofs.Forests.TreeOrder.Preceding.{order-step, order-end, order-same, order-within, lt-step}
+-- The higher one, or the ancestors of one depth, decide.
+use Rattle.std.proofs.Common.{◌≡◌, ◌+◌, ◌-◌, ◌≤◌, ◌<◌, length, true, sym, ap, ◌∙◌, subst, arith, ◌⊎◌, inl, inr, ⊎_elim}
+use Rattle.std.proofs.lemmas.Bool.{cases_lt, eqb-true, eqb-false}
+use Rattle.dom_model.specs.PlainLists.Lists.{among}
+use Rattle.dom_model.specs.Forests.Forest.{ancestors}
+use Rattle.dom_tree.proofs.TreeOrder.{root-through, settled-order, settled-above}
 use Rattle.dom_tree.proofs.tree.Tree.precedes.Goals as goal
-
-pub loop-next-init : goal.loop-next-init
-loop-next-init g c = record { there = c.requires.a_held; root = refl; same = refl }
-
-pub next_in_order-requires : goal.next_in_order-requires
-next_in_order-requires g c = c.loop-next.invariant.there
 
 pub returns-then-eq : goal.returns-then-eq
 returns-then-eq g c =
-    let i = order-step c.sound.ensures c.loop-next.here c.in-Some.next c.loop-next.invariant.there c.in-Some.ensures in
-    let e : c.in-Some.next ≡ c.args.b = eqb-true c.in-Some.next c.args.b (sym c.eq.ensures ∙ c.if-eq.true) in
-    let p : place_in c.args.b (numbers c.args.self.now.forest) ≡ 1 + place_in c.loop-next.here (numbers c.args.self.now.forest) = ap (λ n. place_in n (numbers c.args.self.now.forest)) (sym e) ∙ i.0 in
-    sym (lt-ltb (place_in c.loop-next.here (numbers c.args.self.now.forest)) (place_in c.args.b (numbers c.args.self.now.forest)) (omega (arith, p))) ∙ c.loop-next.invariant.same
+    let f = c.args.self.now.forest in
+    let d : c.climbed-left.result ≡ c.climbed-right.result = eqb-true c.climbed-left.result c.climbed-right.result (sym c.eq.ensures ∙ c.if-eq.true) in
+    let cx : length (ancestors c.climbed-left.result f) + (c.depth-a_depth.result - c.depth-b_depth.result) ≡ length (ancestors c.args.a f) = ap (λ k. length (ancestors c.climbed-left.result f) + k) (sym c.saturating_sub.ensures) ∙ c.climbed-left.ensures.steps in
+    let cy : length (ancestors c.climbed-left.result f) + (c.depth-b_depth.result - c.depth-a_depth.result) ≡ length (ancestors c.args.b f) = ap (λ m. length (ancestors m f) + (c.depth-b_depth.result - c.depth-a_depth.result)) d ∙ ap (λ k. length (ancestors c.climbed-right.result f) + k) (sym c.saturating_sub-2.ensures) ∙ c.climbed-right.ensures.steps in
+    settled-above c.sound.ensures c.args.a c.args.b c.climbed-left.result c.requires.a_held c.requires.b_held c.climbed-left.ensures.above (subst (λ m. among m (ancestors c.args.b f) ≡ true) (sym d) c.climbed-right.ensures.above) c.depth-a_depth.result c.depth-b_depth.result c.depth-a_depth.ensures c.depth-b_depth.ensures cx cy
 
-pub loop-next-smaller : goal.loop-next-smaller
-loop-next-smaller g c =
-    let i = order-step c.sound.ensures c.loop-next.here c.in-Some.next c.loop-next.invariant.there c.in-Some.ensures in
-    omega (arith, i.0, order-within c.sound.ensures c.in-Some.next i.1.1)
-
-pub loop-next-preserved : goal.loop-next-preserved
-loop-next-preserved g c =
-    let i = order-step c.sound.ensures c.loop-next.here c.in-Some.next c.loop-next.invariant.there c.in-Some.ensures in
-    let ne = eqb-false c.in-Some.next c.args.b (sym c.eq.ensures ∙ c.if-eq.false) in
-    record {
-      there = i.1.1;
-      root = i.1.0 ∙ c.loop-next.invariant.root;
-      same =
-          lt-step (place_in c.loop-next.here (numbers c.args.self.now.forest)) (place_in c.args.b (numbers c.args.self.now.forest)) (place_in c.in-Some.next (numbers c.args.self.now.forest)) i.0
-          (order-same c.sound.ensures c.in-Some.next c.args.b i.1.1 c.requires.b_held ne)
-          ∙ c.loop-next.invariant.same;
-    }
+pub stands_ahead-requires-clause-one_root : goal.stands_ahead-requires-clause-one_root
+stands_ahead-requires-clause-one_root g c =
+    root-through c.sound.ensures c.climbed-left.result c.args.a c.requires.a_held c.climbed-left.ensures.above
+    ∙ c.requires.one_root
+    ∙ sym (root-through c.sound.ensures c.climbed-right.result c.args.b c.requires.b_held c.climbed-right.ensures.above)
 
 pub returns : goal.returns
 returns g c =
-    let e = order-end c.sound.ensures c.loop-next.here c.args.b c.loop-next.invariant.there (sym c.requires.one_root ∙ sym c.loop-next.invariant.root) c.requires.b_held (rw c.in_default.is at c.next_in_order.ensures) in
-    sym (le-ltb (place_in c.loop-next.here (numbers c.args.self.now.forest)) (place_in c.args.b (numbers c.args.self.now.forest)) e) ∙ c.loop-next.invariant.same
+    let f = c.args.self.now.forest in
+    let ne = eqb-false c.climbed-left.result c.climbed-right.result (sym c.eq.ensures ∙ c.if-eq.false) in
+    let e : length (ancestors c.climbed-left.result f) ≡ length (ancestors c.climbed-right.result f) = omega (arith, c.depth-a_depth.ensures, c.depth-b_depth.ensures, c.climbed-left.ensures.steps, c.climbed-right.ensures.steps, c.saturating_sub.ensures, c.saturating_sub-2.ensures) in
+    let one : (length (ancestors c.climbed-left.result f) ≡ length (ancestors c.args.a f)) ⊎ (length (ancestors c.climbed-right.result f) ≡ length (ancestors c.args.b f)) =
+    ⊎_elim
+    (λ (lt : c.depth-a_depth.result < c.depth-b_depth.result). inl (omega (arith, c.climbed-left.ensures.steps, c.saturating_sub.ensures)))
+    (λ (le : c.depth-b_depth.result ≤ c.depth-a_depth.result). inr (omega (arith, c.climbed-right.ensures.steps, c.saturating_sub-2.ensures)))
+    (cases_lt c.depth-a_depth.result c.depth-b_depth.result) in
+    c.stands_ahead.ensures
+    ∙ settled-order c.sound.ensures c.args.a c.args.b c.climbed-left.result c.climbed-right.result c.requires.a_held c.requires.b_held c.climbed-left.ensures.held c.climbed-right.ensures.held c.climbed-left.ensures.above c.climbed-right.ensures.above e ne one

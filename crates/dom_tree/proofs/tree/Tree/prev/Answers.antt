@@ -1,5 +1,5 @@
 -- What the links say by slot, by number.
-use Rattle.dom_tree.proofs.Reading.{slot-held, previous-named, previous-read}
+use Rattle.dom_tree.proofs.Trees.{slot-held, previous-named, previous-read}
 use Rattle.dom_tree.proofs.tree.Tree.prev.Goals as goal
 
 pub slot_of-slot-requires : goal.slot_of-slot-requires

@@ -2,7 +2,7 @@
 use Rattle.std.proofs.Common.{◌≡◌, Some}
 use Rattle.std.specs.Prelude.{slice_get}
 use Rattle.dom_model.specs.Forests.Forest.{children_of}
-use Rattle.dom_tree.proofs.tree.Tree.child_at.Given as goal
+use Rattle.dom_tree.proofs.tree.Tree.child_from_first.Given as goal
 
 abbrev pub invariant-loop-passed : goal.invariant-loop-passed
 invariant-loop-passed g l = slice_get (children_of l.self.forest l.fn.id) l._passed ≡ Some l.child

@@ -1,0 +1,60 @@
+-- What a slot holds: a node, and what is kept of its index among its siblings.
+use Rattle.std.specs.Prelude.{◌≡◌, ℕ, refl, ◌<◌, ◌≤◌, min, List, length, map, Option, Some, None, option_map}
+use Rattle.std.specs.Coded.{Coded, code_by, coded×, coded_ℕ}
+use Rattle.dom_model.specs.PlainLists.Lists.{hits, place_in}
+use Rattle.dom_model.specs.Forests.Arena.{Arena, Entry, entry_at, children_in, with_value, altered}
+use Rattle.dom_model.specs.Forests.Forest.{Node}
+use Rattle.dom_model.specs.Forests.ForestCode.{node_code}
+use Rattle.dom_tree.specs.Spelled.{IsKept}
+
+-- a node, its kept index, and how many of its first children have a right one
+pub record Kept (X : Type 0) : Type 0 where
+  pub node : Node X
+  pub index : ℕ
+  pub sure : ℕ
+
+abbrev pub kept_code : {X : Type 0} → Coded X → Coded (Kept X)
+kept_code {X} c =
+    code_by (Node X × (ℕ × ℕ)) (coded× (node_code c) (coded× coded_ℕ coded_ℕ)) (λ k. (k.node, (k.index, k.sure))) (λ p. record { node = p.0; index = p.1.0; sure = p.1.1 }) (λ _. refl)
+
+module _ {X : Type 0} where
+  abbrev pub with_index : ℕ → Kept X → Kept X
+  with_index i k = record k { index = i }
+
+  abbrev pub with_sure : ℕ → Kept X → Kept X
+  with_sure n k = record k { sure = n }
+
+  abbrev pub index_in : Option (Entry (Kept X)) → ℕ
+  index_in None = 0
+  index_in (Some e) = e.value.index
+
+  abbrev pub sure_in : Option (Entry (Kept X)) → ℕ
+  sure_in None = 0
+  sure_in (Some e) = e.value.sure
+
+  -- the entry of the node alone
+  abbrev pub node_entry : Entry (Kept X) → Entry (Node X)
+  node_entry e = record { value = e.value.node; parent = e.parent; children = e.children }
+
+  -- the store of the nodes alone
+  abbrev pub nodes_of : Arena (Kept X) → Arena (Node X)
+  nodes_of a = record { slots = map (option_map node_entry) a.slots; free = a.free }
+
+  -- a slot's kept index set
+  abbrev pub indexed : Arena (Kept X) → ℕ → ℕ → Arena (Kept X)
+  indexed a slot i = altered (λ (e : Entry (Kept X)). with_value (with_index i e.value) e) a slot
+
+  -- a slot's count of children with a right index set
+  abbrev pub assured : Arena (Kept X) → ℕ → ℕ → Arena (Kept X)
+  assured a slot n = altered (λ (e : Entry (Kept X)). with_value (with_sure n e.value) e) a slot
+
+  -- The kept index of a child is its place where either is below its parent's count, and else both are beyond that.
+  abbrev pub IsCounted : (ℕ → Option (Entry (Kept X))) → Type 0
+  IsCounted at =
+      (p c : ℕ) → 0 < hits c (children_in (at p)) → min (index_in (at c)) (sure_in (at p)) ≡ min (place_in c (children_in (at p))) (sure_in (at p))
+
+  -- what a tree keeps of its store, its table and its count of nodes
+  pub record IsTree (a : Arena (Kept X)) (table : List (Option ℕ)) (live : ℕ) : Type 0 where
+    pub kept : IsKept (nodes_of a) table live
+    pub counted : IsCounted (entry_at a)
+    pub room : length a.slots ≤ length table
