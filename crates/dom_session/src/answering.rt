@@ -34,7 +34,7 @@ pub fn answered(
             tree, numbers, alloc, document, name,
         ),
         Command::CreateText(document, text) => create_text(tree, numbers, alloc, document, text),
-        Command::AppendChild(parent, node) => Ok(append_child(tree, numbers, parent, node)),
-        Command::Tree(top) => print_tree(tree, numbers, alloc, top),
+        Command::AppendChild(parent, node) => Ok(append_child(tree, parent, node)),
+        Command::Tree(top) => print_tree(tree, alloc, top),
     }
 }

@@ -6,10 +6,10 @@ ghost use Rattle.dom_model.specs.PlainLists.Lists.{among};
 ghost use Rattle.dom_model.specs.Forests.Forest.{HasNode, children_of, ancestors, IsForest};
 ghost use Rattle.dom_model.specs.MutationAlgorithms.Checks.{is_of_kind, count_kind, has_kind, holds_too_much, document_refuses, check_insert};
 ghost use Rattle.dom_model.specs.Commands.Command.{AppendChild};
+ghost use Rattle.dom_model.specs.Commands.Guards.{Bounds};
 ghost use Rattle.dom_model.specs.Commands.Reply.{is_refusal};
 ghost use Rattle.dom_session.specs.Views.{reply_view};
 ghost use Rattle.dom_session.specs.Stands.{IsStep, IsSessionForest};
-ghost use Rattle.dom_session.specs.Limiting.{numbered};
 ghost use Rattle.dom_session.specs.Appending.{detached, appended};
 
 use crate::content::Content;
@@ -158,9 +158,9 @@ fn append(tree: &mut Tree<Content>, parent: NodeId, node: NodeId)
 }
 
 /// Appends a node to a parent's children.
-pub fn append_child(tree: &mut Tree<Content>, numbers: u64, parent: NodeId, node: NodeId) -> Reply
+pub fn append_child(tree: &mut Tree<Content>, parent: NodeId, node: NodeId) -> Reply
     requires { IsSessionForest tree.old.forest }
-    ensures step { IsStep tree.old tree.new (numbered numbers) (AppendChild parent node) result }
+    ensures step { (b : Bounds) → IsStep tree.old tree.new b (AppendChild parent node) result }
     ensures refused { is_refusal (reply_view result) ≡ true → tree.new ≡ tree.old }
 {
     if !tree.holds(parent) || !tree.holds(node) {

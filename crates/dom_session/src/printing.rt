@@ -3,10 +3,10 @@
 ghost use Rattle.std.specs.Prelude.{◌≡◌, ℕ, ◌++◌, IfOk, IfSome, OnOk};
 ghost use Rattle.dom_model.specs.Forests.Forest.{HasNode, entry_in};
 ghost use Rattle.dom_model.specs.Commands.Answer.{tree_rows};
+ghost use Rattle.dom_model.specs.Commands.Guards.{Bounds};
 ghost use Rattle.dom_model.specs.Commands.Command.{Tree as TreeCommand};
 ghost use Rattle.dom_session.specs.Views.{reply_view};
 ghost use Rattle.dom_session.specs.Stands.{IsStep};
-ghost use Rattle.dom_session.specs.Limiting.{numbered};
 ghost use Rattle.dom_session.specs.Printing.{row_at, waiting_for};
 
 use crate::content::Content;
@@ -75,13 +75,8 @@ fn rows_of(tree: &Tree<Content>, alloc: Global, top: NodeId) -> Result<Vec<TreeR
 }
 
 /// Prints a node and all that stands below it.
-pub fn print_tree(
-    tree: &Tree<Content>,
-    numbers: u64,
-    alloc: Global,
-    top: NodeId,
-) -> Result<Reply, AllocError>
-    ensures { IfOk result (IsStep tree.now tree.now (numbered numbers) (TreeCommand top)) }
+pub fn print_tree(tree: &Tree<Content>, alloc: Global, top: NodeId) -> Result<Reply, AllocError>
+    ensures { IfOk result (λ reply. (b : Bounds) → IsStep tree.now tree.now b (TreeCommand top) reply) }
 {
     if !tree.holds(top) {
         return Ok(Reply::Own(OwnError::NoSuchObject));

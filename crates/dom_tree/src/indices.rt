@@ -12,7 +12,7 @@ impl<X> Tree<X> {
         requires { HasNode self.now.forest id }
         ensures { IfSome result (λ i. i ≡ index_of self.now.forest id) }
     {
-        let _ = (&self, id);
+        let _ = id;
         None
     }
 

@@ -31,4 +31,4 @@ returns c =
     let numbers_is : rule_of c.default_value-numbers.result ≡ numbers_rule = search (rules, numbers_parser) in
     IfOk-weaker c.arg-2.result _ _ (λ command added.
     added.shape (search rules)
-    ∙ ap₂ with_rule (c.in_ok-arg.ensures.shape (search rules) ∙ ap₂ with_rule c.new-5.ensures.app line_is) numbers_is) c.arg-2.ensures
+    ∙ ap₂ with_rule (c.in_ok-arg.ensures.shape (search rules) ∙ ap₂ with_rule (c.program.ensures) line_is) numbers_is) c.arg-2.ensures
