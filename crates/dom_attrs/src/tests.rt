@@ -18,7 +18,7 @@ fn made(alloc: Global, pairs: &[(&str, &str)]) -> Result<Attrs, AllocError> {
 
 // That these are the attributes, in order; the values are ASCII.
 fn expect(rt: &impl Abort, attrs: &Attrs, pairs: &[(&str, &str)]) {
-    assert_eq!(rt; attrs.len(), pairs.len());
+    assert!(rt; attrs.len() == pairs.len());
     let mut index = 0;
     for (name, value) in pairs {
         match attrs.at(index) {
@@ -41,28 +41,50 @@ fn expect(rt: &impl Abort, attrs: &Attrs, pairs: &[(&str, &str)]) {
 }
 
 #[test]
-fn set_and_taken_out(rt: HostRuntime) -> Result<(), Fail> {
+fn none_at_first(rt: HostRuntime) {
+    let mut attrs = Attrs::new(rt.alloc());
+    assert!(rt; attrs.is_empty() && attrs.get("k").is_none());
+    assert!(rt; attrs.remove("k").is_none());
+}
+
+// Each is set over those before it; only the third finds its name, with the empty text.
+#[test]
+fn set_in_place_or_last(rt: HostRuntime) -> Result<(), Fail> {
     let alloc = rt.alloc();
     let mut attrs = Attrs::new(alloc);
-    assert!(rt; attrs.is_empty());
-    assert!(rt; attrs.get("k").is_none());
-    assert!(rt; attrs.remove("k").is_none());
-    let none = attrs.set(String::from_str(alloc, "k")?, Units::new(alloc))?;
-    assert!(rt; none.is_none());
-    assert!(rt; !attrs.is_empty());
-    let none = attrs.set(String::from_str(alloc, "a")?, Units::from_str(alloc, "1")?)?;
-    assert!(rt; none.is_none());
-    let old = attrs.set(String::from_str(alloc, "k")?, Units::from_str(alloc, "2")?)?;
-    assert!(rt; old.ok_or("old")?.is_empty());
-    expect(&rt, &attrs, &[("k", "2"), ("a", "1")]);
-    let none = attrs.set(String::from_str(alloc, "")?, Units::from_str(alloc, "3")?)?;
-    assert!(rt; none.is_none());
-    expect(&rt, &attrs, &[("k", "2"), ("a", "1"), ("", "3")]);
+    for (name, value, is_there, pairs) in [
+        ("k", "", false, [("k", "")].as_slice()),
+        ("a", "1", false, [("k", ""), ("a", "1")].as_slice()),
+        ("k", "2", true, [("k", "2"), ("a", "1")].as_slice()),
+        (
+            "",
+            "3",
+            false,
+            [("k", "2"), ("a", "1"), ("", "3")].as_slice(),
+        ),
+    ] {
+        let old = attrs.set(
+            String::from_str(alloc, name)?,
+            Units::from_str(alloc, value)?,
+        )?;
+        match old {
+            None => assert!(rt; !is_there, "{name}"),
+            Some(old) => assert!(rt; is_there && old.is_empty(), "{name}"),
+        }
+        assert!(rt; !attrs.is_empty());
+        expect(&rt, &attrs, pairs);
+    }
+    Ok(())
+}
+
+#[test]
+fn taken_out(rt: HostRuntime) -> Result<(), Fail> {
+    let mut attrs = made(rt.alloc(), &[("k", "2"), ("a", "1"), ("", "3")])?;
     let gone = attrs.remove("k").ok_or("k")?;
-    assert_eq!(rt; gone.units(), [50].as_slice());
+    assert!(rt; gone.units() == [50].as_slice());
     expect(&rt, &attrs, &[("a", "1"), ("", "3")]);
     assert!(rt; attrs.get("k").is_none());
-    assert_eq!(rt; attrs.get("").ok_or("empty name")?.units(), [51].as_slice());
+    assert!(rt; attrs.get("").ok_or("empty name")?.units() == [51].as_slice());
     Ok(())
 }
 
@@ -74,7 +96,7 @@ fn the_order_stays(rt: HostRuntime) -> Result<(), Fail> {
         &[("b", "1"), ("a", "2"), ("d", "3"), ("c", "4"), ("é", "5")],
     )?;
     let gone = attrs.remove("a").ok_or("a")?;
-    assert_eq!(rt; gone.units(), [50].as_slice());
+    assert!(rt; gone.units() == [50].as_slice());
     expect(
         &rt,
         &attrs,
@@ -89,7 +111,7 @@ fn the_order_stays(rt: HostRuntime) -> Result<(), Fail> {
     );
     let copy = attrs.try_clone(alloc)?;
     let gone = attrs.remove("b").ok_or("b")?;
-    assert_eq!(rt; gone.units(), [49].as_slice());
+    assert!(rt; gone.units() == [49].as_slice());
     expect(
         &rt,
         &attrs,
@@ -137,7 +159,7 @@ fn refused_growth(rt: HostRuntime) -> Result<(), Fail> {
             Ok(_) => assert!(rt; attrs.get(name).is_some()),
             Err(_) => {
                 assert!(rt; attrs.get(name).is_none());
-                assert_eq!(rt; attrs.len(), before);
+                assert!(rt; attrs.len() == before);
             }
         }
     }
@@ -153,11 +175,11 @@ fn twenty_thousand(rt: HostRuntime) -> Result<(), Fail> {
         let value = Units::from_units(alloc, &[number])?;
         assert!(rt; attrs.set(name, value)?.is_none());
     }
-    assert_eq!(rt; attrs.len(), 20_000);
+    assert!(rt; attrs.len() == 20_000);
     for number in 0..20_000u16 {
         let name = format!(in alloc; "data-{number}")?;
         let value = attrs.get(name.as_str()).ok_or("lost")?;
-        assert_eq!(rt; value.units(), [number].as_slice());
+        assert!(rt; value.units() == [number].as_slice());
     }
     let copy = attrs.try_clone(alloc)?;
     assert!(rt; copy.same(&attrs));

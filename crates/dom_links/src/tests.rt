@@ -27,23 +27,19 @@ fn added<T: Drop>(rt: &impl Abort, links: &mut Links<T>, value: T) -> Slot {
 
 fn taken<T>(rt: &impl Abort, links: &mut Links<T>, slot: Slot) -> T {
     assert!(rt; links.holds(slot));
-    assert_eq!(rt; links.parent(slot), None);
-    assert_eq!(rt; links.count(slot), 0);
+    assert!(rt; links.parent(slot).is_none() && links.count(slot) == 0);
     links.take(slot)
 }
 
 /// Links a child that has no children of its own.
 fn put(rt: &impl Abort, links: &mut Links<u32>, parent: Slot, child: Slot, before: Option<Slot>) {
-    assert!(rt; parent != child);
-    assert!(rt; links.holds(parent));
-    assert!(rt; links.holds(child));
-    assert_eq!(rt; links.parent(child), None);
-    assert!(rt; links.count(child) == 0);
+    assert!(rt; parent != child && links.holds(parent) && links.holds(child));
+    assert!(rt; links.parent(child).is_none() && links.count(child) == 0);
     links.sound();
     match before {
         Some(next) => {
             assert!(rt; links.holds(next));
-            assert_eq!(rt; links.parent(next), Some(parent));
+            assert!(rt; links.parent(next) == Some(parent));
             links.link(parent, child, Some(next));
         }
         None => links.link(parent, child, None),
@@ -55,30 +51,27 @@ fn cut(rt: &impl Abort, links: &mut Links<u32>, child: Slot) {
     assert!(rt; links.parent(child).is_some());
     links.unlink(child);
     assert!(rt; links.holds(child));
-    assert_eq!(rt; links.parent(child), None);
-    assert_eq!(rt; links.next(child), None);
-    assert_eq!(rt; links.prev(child), None);
+    assert!(rt; links.parent(child).is_none());
+    assert!(rt; links.next(child).is_none() && links.prev(child).is_none());
 }
 
 /// The children of a parent, from the first on and from the last back.
 fn has_children(rt: &impl Abort, links: &Links<u32>, parent: Slot, children: &[Slot]) {
     assert!(rt; links.holds(parent));
-    assert_eq!(rt; links.count(parent), children.len());
+    assert!(rt; links.count(parent) == children.len());
     let mut at = links.first(parent);
     for child in children {
-        assert_eq!(rt; at, Some(*child));
-        assert!(rt; links.holds(*child));
-        assert_eq!(rt; links.parent(*child), Some(parent));
+        assert!(rt; at == Some(*child) && links.holds(*child));
+        assert!(rt; links.parent(*child) == Some(parent));
         at = links.next(*child);
     }
-    assert_eq!(rt; at, None);
+    assert!(rt; at.is_none());
     at = links.last(parent);
     for child in children.iter().rev() {
-        assert_eq!(rt; at, Some(*child));
-        assert!(rt; links.holds(*child));
+        assert!(rt; at == Some(*child) && links.holds(*child));
         at = links.prev(*child);
     }
-    assert_eq!(rt; at, None);
+    assert!(rt; at.is_none());
 }
 
 #[test]
@@ -110,22 +103,18 @@ fn taken_slots_come_again(rt: HostRuntime) {
     let a = added(&rt, &mut links, 1);
     let b = added(&rt, &mut links, 2);
     let c = added(&rt, &mut links, 3);
-    assert_eq!(rt; taken(&rt, &mut links, a), 1);
-    assert_eq!(rt; taken(&rt, &mut links, b), 2);
-    assert!(rt; !links.holds(a));
-    assert!(rt; !links.holds(b));
-    assert!(rt; links.holds(c));
-    assert_eq!(rt; added(&rt, &mut links, 4), b);
-    assert_eq!(rt; added(&rt, &mut links, 5), a);
+    assert!(rt; taken(&rt, &mut links, a) == 1);
+    assert!(rt; taken(&rt, &mut links, b) == 2);
+    assert!(rt; !links.holds(a) && !links.holds(b) && links.holds(c));
+    assert!(rt; added(&rt, &mut links, 4) == b);
+    assert!(rt; added(&rt, &mut links, 5) == a);
     let d = added(&rt, &mut links, 6);
-    assert_ne!(rt; d, a);
-    assert_ne!(rt; d, b);
-    assert_ne!(rt; d, c);
+    assert!(rt; d != a && d != b && d != c);
     assert!(rt; links.holds(a));
-    assert_eq!(rt; *links.value(a), 5);
+    assert!(rt; *links.value(a) == 5);
     *links.value_mut(a) = 7;
     assert!(rt; links.holds(a));
-    assert_eq!(rt; *links.value(a), 7);
+    assert!(rt; *links.value(a) == 7);
 }
 
 #[test]
@@ -142,7 +131,7 @@ fn a_thousand_children(rt: HostRuntime) -> Result<(), Fail> {
     let mut value = 0u32;
     for slot in &slots {
         assert!(rt; links.holds(*slot));
-        assert_eq!(rt; *links.value(*slot), value);
+        assert!(rt; *links.value(*slot) == value);
         value = value.wrapping_add(1);
         cut(&rt, &mut links, *slot);
     }
@@ -151,7 +140,7 @@ fn a_thousand_children(rt: HostRuntime) -> Result<(), Fail> {
         assert!(rt; taken(&rt, &mut links, *slot) < 1000);
     }
     let last = slots.pop();
-    assert_eq!(rt; Some(added(&rt, &mut links, 1)), last);
+    assert!(rt; Some(added(&rt, &mut links, 1)) == last);
     Ok(())
 }
 
@@ -186,7 +175,7 @@ fn a_refused_add_hands_the_value_back(rt: HostRuntime) {
     let mut links = Links::new(rt.alloc());
     for value in 0..1000u32 {
         if let Err(refused) = links.add(value) {
-            assert_eq!(rt; refused.value, value);
+            assert!(rt; refused.value == value);
             assert!(rt; links.add(refused.value).is_ok());
         }
     }
@@ -213,11 +202,11 @@ fn each_value_is_dropped_once(rt: HostRuntime) -> Result<(), Fail> {
         );
     }
     let value = taken(&rt, &mut links, first);
-    assert_eq!(rt; drops.get(), 0);
+    assert!(rt; drops.get() == 0);
     drop(value);
-    assert_eq!(rt; drops.get(), 1);
+    assert!(rt; drops.get() == 1);
     drop(links);
-    assert_eq!(rt; drops.get(), 5);
+    assert!(rt; drops.get() == 5);
     Ok(())
 }
 
@@ -268,6 +257,6 @@ fn through_a_pointer(alloc: Global) -> Option<(u32, u32, u32)> {
 
 #[test]
 fn puts_reads_changes_and_takes(rt: HostRuntime) -> Result<(), Fail> {
-    assert_eq!(rt; through_a_pointer(rt.alloc()), Some((5, 7, 1)));
+    assert!(rt; through_a_pointer(rt.alloc()) == Some((5, 7, 1)));
     Ok(())
 }

@@ -64,6 +64,7 @@ fn gives_help(rt: HostRuntime) -> Result<(), Fail> {
     assert_eq!(rt; status, 0);
     assert_eq!(rt; errors.is_empty(), true);
     let written = String::from_utf8(writer.into_inner())?;
+    assert!(rt; written.as_str().starts_with("Keeps documents"));
     assert!(rt; written.as_str().contains("--line <BYTES>"));
     assert!(rt; written.as_str().contains("--numbers <N>"));
     Ok(())
