@@ -1,8 +1,8 @@
 #!/usr/bin/env bash
 # Instructions of `order` in a tree of 1,000 nodes and in one of 100,000 of the same depth.
 # usage, at the top of the repository, after `rt test` in crates/dom_point: bench/order_cost.sh
-# - near: points of leaves three apart, of neighbouring groups, and of the root, eight calls; the counts must be equal but for a tenth;
-# - far: points of leaves half a group apart, and of their group, four calls; equal too where indices are kept.
+# - near: points of leaves three apart, of neighbouring groups, and of the root, eight calls;
+# - far: points of leaves half a group apart, and of their group, four calls. Both counts must be equal but for a tenth.
 set -euo pipefail
 tests=$PWD/crates/dom_point/out/dom_point_tests
 work=$(mktemp -d)
@@ -22,5 +22,5 @@ for which in near far; do
     small=$(counted $which points_among_a_thousand_nodes)
     large=$(counted $which points_among_a_hundred_thousand_nodes)
     echo "$which: $small among 1,000 nodes, $large among 100,000"
-    [ $which = far ] || [ $((large * 10)) -le $((small * 11)) ] || { echo "more than a tenth apart" >&2; exit 1; }
+    [ $((large * 10)) -le $((small * 11)) ] || { echo "more than a tenth apart" >&2; exit 1; }
 done

@@ -5,7 +5,6 @@ mod ancestors;
 mod laws;
 mod ordering;
 mod point;
-mod siblings;
 #[cfg(test)]
 mod tests;
 

@@ -7,7 +7,6 @@ ghost use Rattle.dom_model.specs.BoundaryPoints.Points.{order_of};
 
 use crate::ancestors::meeting;
 use crate::point::Point;
-use crate::siblings::comes_before;
 use dom_tree::Tree;
 use std::cmp::Ordering;
 
@@ -24,7 +23,7 @@ pub fn order<X>(tree: &Tree<X>, a: Point, b: Point) -> Ordering
         (None, None) => a.offset.cmp(&b.offset),
         (None, Some(child)) => side(a.offset <= tree.index(child)),
         (Some(child), None) => side(tree.index(child) < b.offset),
-        (Some(first), Some(second)) => side(comes_before(tree, first, second)),
+        (Some(first), Some(second)) => side(tree.comes_before(first, second)),
     }
 }
 
