@@ -4,3 +4,4 @@ pub mod Neighbors
 pub mod PassedTrees
 pub mod Referring
 pub mod Stances
+pub mod WalkSteps

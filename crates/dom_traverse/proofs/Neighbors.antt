@@ -1,5 +1,5 @@
 -- The nodes beside, under and over a node are there.
-use Rattle.std.proofs.Common.{◌≡◌, ℕ, ◌<◌, List, Option, Some, None, sym, ◌∙◌}
+use Rattle.std.proofs.Common.{◌≡◌, ℕ, ◌<◌, Option, Some, None}
 use Rattle.dom_model.specs.PlainLists.Lists.{hits, head_of, last_of, after}
 use Rattle.dom_model.specs.Forests.Arena.{list_under}
 use Rattle.dom_model.specs.Forests.Forest.{Grove, HasNode, entry_in, children_of, parent_of, next_of, previous_of, IsForest}

@@ -1,11 +1,11 @@
 -- What comes past a node's whole tree is the first that follows the node and does not stand inside it.
-use Rattle.std.proofs.Common.{◌≡◌, ℕ, nat_lt, ◌+◌, ◌<◌, Bool, true, false, not, List, [], ◌∷◌, ◌++◌, filter, Option, Some, None, refl, ap, sym, ◌∙◌, subst, arith, append_assoc, append-nil}
+use Rattle.std.proofs.Common.{◌≡◌, ℕ, nat_lt, ◌<◌, Bool, true, false, not, List, [], ◌∷◌, ◌++◌, filter, Option, None, refl, ap, sym, ◌∙◌, arith, append_assoc, append-nil}
 use Rattle.std.proofs.lemmas.Bool.{lt-ltb, le-ltb}
 use Rattle.dom_model.specs.PlainLists.Lists.{hits, among, head_of, or_else}
-use Rattle.dom_model.specs.Forests.Forest.{Node, Forest, empty, node, occurs, one_at, tops, numbers, tree_at, ancestors, inclusive_descendants}
+use Rattle.dom_model.specs.Forests.Forest.{Forest, empty, node, occurs, tops, numbers, tree_at, inclusive_descendants}
 use Rattle.dom_model.specs.MutationAlgorithms.PreRemoval.{past as rest_past, following_outside}
 use Rattle.dom_model.proofs.PlainLists.Numbers.{same_or, same, apart}
-use Rattle.dom_model.proofs.Forests.Totals.{IsOnce, total-tree_at}
+use Rattle.dom_model.proofs.Forests.Totals.{IsOnce}
 use Rattle.dom_model.proofs.Forests.TreeOrder.Flattened.{hits-numbers}
 use Rattle.dom_model.proofs.Forests.Climbing.{hits-first, hits-among, hits-not_among}
 use Rattle.dom_model.proofs.Forests.Standing.{top, inside, beyond, whereabouts}

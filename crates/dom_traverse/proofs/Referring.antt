@@ -1,5 +1,5 @@
 -- Tests of the elements of lists that follow one another.
-use Rattle.std.proofs.Common.{◌≡◌, Bool, true, false, ℕ, suc, ◌+◌, ◌<◌, List, [], ◌∷◌, ◌++◌, ◌||◌, length, drop, get_or, refl, ap, sym, ◌∙◌, drop-cons, add-one}
+use Rattle.std.proofs.Common.{◌≡◌, Bool, false, ℕ, suc, ◌+◌, ◌<◌, List, ◌∷◌, ◌||◌, length, drop, get_or, ap, sym, ◌∙◌, drop-cons, add-one}
 use Rattle.std.specs.List.{list_any, flat_map}
 use Rattle.std.proofs.lemmas.List.Folds.{list_any-append}
 

@@ -1,10 +1,11 @@
 -- What an iterator's place tells, and when a root loses its reference.
-use Rattle.std.proofs.Common.{◌≡◌, ℕ, ◌==◌, Bool, true, false, not, ◌&&◌, refl, sym, ◌∙◌}
+use Rattle.std.proofs.Common.{◌≡◌, ℕ, ◌==◌, Bool, true, false, not, ◌&&◌, sym, ◌∙◌, ◌<◌, subst}
 use Rattle.std.proofs.lemmas.Bool.{false≢true}
-use Rattle.dom_model.specs.PlainLists.Lists.{among}
+use Rattle.dom_model.specs.PlainLists.Lists.{hits, among}
 use Rattle.dom_model.specs.Forests.Forest.{Forest, HasNode, ancestors, inclusive_descendants}
 use Rattle.dom_model.specs.Worlds.World.{Iterator}
 use Rattle.dom_model.proofs.Forests.Totals.{IsOnce}
+use Rattle.dom_model.proofs.Forests.Climbing.{among-hits}
 use Rattle.dom_traverse.specs.Standing.{StandsInside}
 use Rattle.dom_traverse.proofs.Descendants.{among-inside, hits-inside, inside-there}
 
@@ -14,6 +15,14 @@ module _ {X : Type 0} (f : Forest X) (o : IsOnce f) where
 
   pub reference-under : (i : Iterator) → StandsInside f i → among i.root (ancestors i.reference f) ≡ true
   reference-under i h = hits-inside f o i.reference i.root h.inside
+
+  -- an iterator whose root and reference were read
+  pub read-inside : (i : Iterator) (root reference : ℕ) → root ≡ i.root → reference ≡ i.reference → HasNode f root → among root (ancestors reference f) ≡ true → StandsInside f i
+  read-inside i root reference d e h u =
+      record {
+        root = subst (HasNode f) d h;
+        inside = subst (λ n. 0 < hits i.reference (inclusive_descendants f n)) d (subst (λ n. 0 < hits n (inclusive_descendants f root)) e (among-hits reference (inclusive_descendants f root) (among-inside f o reference root ∙ u)));
+      }
 
   -- where the reference is lost, the root stands over the node
   pub lost-under : (n : ℕ) (i : Iterator) → (among i.reference (inclusive_descendants f n) && (not (n == i.root) && among n (inclusive_descendants f i.root))) ≡ true → among i.root (ancestors n f) ≡ true

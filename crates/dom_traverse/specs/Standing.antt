@@ -1,5 +1,5 @@
 -- Where iterators and walkers stand.
-use Rattle.std.specs.Prelude.{ℕ, ◌<◌}
+use Rattle.std.specs.Prelude.{◌<◌}
 use Rattle.dom_model.specs.PlainLists.Lists.{hits}
 use Rattle.dom_model.specs.Forests.Forest.{Forest, HasNode, inclusive_descendants}
 use Rattle.dom_model.specs.Worlds.World.{Iterator, Walker}

@@ -2,7 +2,7 @@
 
 ghost use Rattle.std.specs.Prelude.{◌≡◌, ℕ};
 ghost use Rattle.dom_model.specs.Forests.Kinds.{node_name};
-ghost use Rattle.dom_model.specs.Traversal.Filters.{shows, is_rule_for, ruled, verdict_on, accepts};
+ghost use Rattle.dom_model.specs.Traversal.Filters.{shows, is_rule_for, ruled, verdict_on, accepts, rejects};
 ghost use Rattle.dom_model.specs.Forests.Forest.{HasNode};
 
 use dom_kinds::{Kind, Label, NodeType};
@@ -85,6 +85,14 @@ impl Filter {
         ensures { result ≡ accepts tree.now.forest self.now node }
     {
         self.judge(tree, node) == Verdict::Accept
+    }
+
+    // Whether the filter rejects a node.
+    pub(crate) fn rejects<X>(&self, tree: &Tree<X>, node: NodeId) -> bool
+        requires { HasNode tree.now.forest node }
+        ensures { result ≡ rejects tree.now.forest self.now node }
+    {
+        self.judge(tree, node) == Verdict::Reject
     }
 
     // Whether nodes of the kind are shown.

@@ -34,12 +34,7 @@ impl Model for NodeIterator {
 }
 
 // The first accepted node that follows `node` inside the root.
-fn next_accepted<X>(
-    tree: &Tree<X>,
-    filter: &Filter,
-    root: NodeId,
-    node: NodeId,
-) -> Option<NodeId>
+fn next_accepted<X>(tree: &Tree<X>, filter: &Filter, root: NodeId, node: NodeId) -> Option<NodeId>
     requires held { HasNode tree.now.forest node }
     requires under { among root (ancestors node tree.now.forest) ≡ true }
     ensures { result ≡ find (accepts tree.now.forest filter.now) (past node (inclusive_descendants tree.now.forest root)) }

@@ -6,7 +6,14 @@ mod filter;
 mod inside;
 mod iterator;
 mod iterators;
+mod walker;
+mod walkers;
+mod walks;
 
 pub use dom_model::{Move, Verdict};
 pub use filter::{Filter, Rule};
 pub use iterators::{IterId, Iters};
+pub use walkers::{WalkerId, Walkers};
+
+#[cfg(test)]
+mod tests;

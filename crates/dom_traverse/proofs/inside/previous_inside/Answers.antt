@@ -1,7 +1,6 @@
 -- Back to the end of the previous sibling, else up to the parent.
-use Rattle.std.proofs.Common.{◌≡◌, ◌==◌, Bool, true, false, if◌then◌else◌, Option, Some, None, ap, sym, ◌∙◌}
-use Rattle.dom_model.specs.PlainLists.Lists.{before}
-use Rattle.dom_model.specs.Forests.Forest.{previous_of, parent_of, inclusive_descendants}
+use Rattle.std.proofs.Common.{◌≡◌, ◌==◌, true, false, if◌then◌else◌, Some, None, ap, sym, ◌∙◌}
+use Rattle.dom_model.specs.Forests.Forest.{previous_of, parent_of}
 use Rattle.dom_model.proofs.Traversal.PreviousInOrder.{led_back, before-inside}
 use Rattle.dom_traverse.proofs.Neighbors.{previous-there}
 use Rattle.dom_traverse.proofs.inside.previous_inside.Goals as goal

@@ -1,6 +1,5 @@
 -- One node before another.
-use Rattle.std.proofs.Common.{◌≡◌, true, false, if◌then◌else◌, Option, Some, None, refl, ap, sym, ◌∙◌}
-use Rattle.dom_model.specs.Traversal.Filters.{accepts}
+use Rattle.std.proofs.Common.{if◌then◌else◌, Some, refl, ap, sym, ◌∙◌}
 use Rattle.dom_model.proofs.Traversal.IteratorSteps.{preceding_found, preceding-inside, preceding-fewer, preceding-end, preceding-on}
 use Rattle.dom_traverse.proofs.Descendants.{there-under}
 use Rattle.dom_traverse.proofs.iterator.previous_accepted.Goals as goal

@@ -1,5 +1,5 @@
 -- Into the node, or past it.
-use Rattle.std.proofs.Common.{◌≡◌, sym, ◌∙◌}
+use Rattle.std.proofs.Common.{sym, ◌∙◌}
 use Rattle.dom_model.proofs.Traversal.WalksEnd.{LeadsOn-then}
 use Rattle.dom_traverse.proofs.CourseSteps.{entered-there, goes_into, goes_past}
 use Rattle.dom_traverse.proofs.course.Course.onward.Goals as goal

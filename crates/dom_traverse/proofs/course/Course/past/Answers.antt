@@ -1,9 +1,8 @@
 -- On to a sibling, or up.
-use Rattle.std.proofs.Common.{◌≡◌, true, false, None, Some, refl, sym, ◌∙◌}
-use Rattle.dom_model.specs.Forests.Forest.{parent_of}
+use Rattle.std.proofs.Common.{refl, sym, ◌∙◌}
 use Rattle.dom_model.proofs.Traversal.WalksEnd.{Leads-then}
-use Rattle.dom_traverse.specs.Courses.{past_in, sibling_on, blocks}
-use Rattle.dom_traverse.proofs.CourseSteps.{sibling_on-there, past-over, past-sibling, past-none, past-stop, past-parent, stays}
+use Rattle.dom_traverse.specs.Courses.{past_in}
+use Rattle.dom_traverse.proofs.CourseSteps.{sibling_on-there, past-parent, stays}
 use Rattle.dom_traverse.proofs.Neighbors.{parent-there}
 use Rattle.dom_traverse.proofs.course.Course.past.Goals as goal
 

@@ -1,10 +1,10 @@
 -- One node after another.
-use Rattle.std.proofs.Common.{◌≡◌, ℕ, Option, None, Some, IfSome, refl, subst}
+use Rattle.std.proofs.Common.{ℕ, Option, None, Some, IfSome, refl, subst}
 use Rattle.dom_model.specs.Forests.Forest.{HasNode}
 use Rattle.dom_model.specs.Traversal.WalkSteps.{at, ended, at_or}
 use Rattle.dom_model.proofs.Traversal.WalksEnd.{Leads-then}
 use Rattle.dom_traverse.specs.Courses.{GoesOnTo}
-use Rattle.dom_traverse.proofs.CourseSteps.{accepted-here, stays}
+use Rattle.dom_traverse.proofs.CourseSteps.{stays}
 use Rattle.dom_traverse.proofs.course.Course.run.Goals as goal
 
 pub loop-verdict-init : goal.loop-verdict-init

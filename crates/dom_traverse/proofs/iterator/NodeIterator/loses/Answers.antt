@@ -1,5 +1,5 @@
 -- All three tests hold.
-use Rattle.std.proofs.Common.{◌≡◌, ◌==◌, ◌&&◌, true, not, sym, ◌∙◌, subst}
+use Rattle.std.proofs.Common.{◌≡◌, ◌==◌, ◌&&◌, not, sym, ◌∙◌, subst}
 use Rattle.std.proofs.lemmas.Bool.{false≢true}
 use Rattle.dom_model.specs.PlainLists.Lists.{among}
 use Rattle.dom_model.specs.Forests.Forest.{inclusive_descendants}

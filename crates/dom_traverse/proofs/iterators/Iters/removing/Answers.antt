@@ -1,5 +1,5 @@
 -- One iterator more has stepped off.
-use Rattle.std.proofs.Common.{◌≡◌, ◌<◌, length, slice_set, arith, ap, sym, ◌∙◌}
+use Rattle.std.proofs.Common.{◌<◌, length, slice_set, arith, ap, sym, ◌∙◌}
 use Rattle.std.proofs.lemmas.List.Edits.{map_over_more}
 use Rattle.dom_model.specs.Worlds.World.{Iterator}
 use Rattle.dom_model.specs.MutationAlgorithms.PreRemoval.{pre_removed}

@@ -1,0 +1,73 @@
+//! One tree walker (DOM Standard, "Interface TreeWalker").
+
+ghost use Rattle.std.specs.Prelude.{◌≡◌, ℕ};
+ghost use Rattle.std.specs.List.{list_any};
+ghost use Rattle.dom_model.specs.PlainLists.Lists.{among};
+ghost use Rattle.dom_model.specs.Forests.Forest.{HasNode, inclusive_descendants};
+ghost use Rattle.dom_model.specs.Traversal.Walks.{walk_found, walker_moved};
+ghost use Rattle.dom_model.specs.MutationAlgorithms.Discarding.{nodes_of_walker};
+ghost use Rattle.dom_traverse.specs.Standing.{StandsThere};
+
+use crate::course::Side;
+use crate::filter::Filter;
+use crate::inside::is_inside;
+use crate::walks;
+use dom_model::Move;
+use dom_tree::{NodeId, Tree};
+use std::marker::Model;
+
+// A root, a current node, which may stand anywhere, and a filter.
+#[derive(Drop)]
+pub struct TreeWalker {
+    pub root: NodeId,
+    pub current: NodeId,
+    pub filter: Filter,
+}
+
+impl Model for TreeWalker {
+    ghost use Rattle.dom_model.specs.Worlds.World.{Walker};
+
+    ghost Value = { Walker };
+
+    ghost view = { λ w. record { root = w.root; current = w.current; filter = w.filter } };
+}
+
+impl TreeWalker {
+    // To the node that a move finds, where there is one.
+    pub fn step<X>(&mut self, tree: &Tree<X>, direction: Move) -> Option<NodeId>
+        requires { StandsThere tree.now.forest self.old }
+        ensures found { result ≡ walk_found direction tree.now.forest self.old }
+        ensures moved { self.new ≡ walker_moved (walk_found direction tree.now.forest self.old) self.old }
+    {
+        let found = self.found(tree, direction)?;
+        self.current = found;
+        Some(found)
+    }
+
+    // The node that a move finds.
+    fn found<X>(&self, tree: &Tree<X>, direction: Move) -> Option<NodeId>
+        requires { StandsThere tree.now.forest self.now }
+        ensures { result ≡ walk_found direction tree.now.forest self.now }
+    {
+        tree.sound();
+        let filter = &self.filter;
+        let (root, current) = (self.root, self.current);
+        match direction {
+            Move::ParentNode => walks::parent_node(tree, filter, root, current),
+            Move::FirstChild => walks::child(tree, filter, root, current, Side::First),
+            Move::LastChild => walks::child(tree, filter, root, current, Side::Last),
+            Move::PreviousSibling => walks::sibling(tree, filter, root, current, Side::Last),
+            Move::NextSibling => walks::sibling(tree, filter, root, current, Side::First),
+            Move::PreviousNode => walks::previous_node(tree, filter, root, current),
+            Move::NextNode => walks::next_node(tree, filter, root, current),
+        }
+    }
+
+    // Whether the root or the current node is an inclusive descendant of a node.
+    pub fn stands_in<X>(&self, tree: &Tree<X>, top: NodeId) -> bool
+        requires { HasNode tree.now.forest top }
+        ensures { result ≡ list_any (λ m. among m (inclusive_descendants tree.now.forest top)) (nodes_of_walker self.now) }
+    {
+        is_inside(tree, top, self.root) || is_inside(tree, top, self.current)
+    }
+}
