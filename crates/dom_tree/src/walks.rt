@@ -141,7 +141,8 @@ impl<X> Tree<X> {
         self.sound();
         let mut here = id;
         for _climbed in 0..steps {
-            here = self.parent(here).unwrap();
+            let above = self.parent(here);
+            here = above.unwrap();
         }
         here
     }
@@ -230,7 +231,7 @@ impl<X> Tree<X> {
         }
     }
 
-    /// The number of preceding siblings; 0 for a root.
+    /// The number of preceding siblings; 0 for a root. It counts back to the nearest one whose index is kept.
     pub fn index(&self, id: NodeId) -> usize
         requires { HasNode self.now.forest id }
         ensures { result ≡ index_of self.now.forest id }

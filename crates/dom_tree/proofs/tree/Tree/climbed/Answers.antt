@@ -16,12 +16,12 @@ unwrap-here-requires g c =
     let f = c.args.self.now.forest in
     elim (seen (parent_of f c.loop-climbed.here)) [
       | nothing e ↦ absurd (let r = ap length (root-path f c.sound.ensures.once c.loop-climbed.here (occurs-HasNode f c.loop-climbed.here c.loop-climbed.invariant.there) e) in omega (arith, r, c.loop-climbed.invariant.counted, c.requires.deep, c.loop-climbed-test.true))
-      | just q e ↦ rw (c.parent.ensures ∙ e) refl
+      | just q e ↦ rw (c.parent-above.ensures ∙ e) refl
     ]
 
 pub loop-climbed-preserved : goal.loop-climbed-preserved
 loop-climbed-preserved g c =
-    let p = sym c.parent.ensures ∙ c.unwrap-here.ensures in
+    let p = sym c.parent-above.ensures ∙ c.unwrap-here.ensures in
     let a = above c.sound.ensures c.loop-climbed.here c.unwrap-here.result c.loop-climbed.invariant.there p in
     record {
       there = a.there;
