@@ -3,10 +3,11 @@ use Rattle.std.proofs.Common.{◌≡◌, ℕ, ◌==◌, Bool, true, false, not, 
 use Rattle.std.proofs.lemmas.Bool.{false≢true}
 use Rattle.dom_model.specs.PlainLists.Lists.{hits, among}
 use Rattle.dom_model.specs.Forests.Forest.{Forest, HasNode, ancestors, inclusive_descendants}
-use Rattle.dom_model.specs.Worlds.World.{Iterator}
+use Rattle.dom_model.specs.Worlds.World.{Content, Iterator, Walker}
+use Rattle.dom_model.specs.Worlds.Sound.{IsIterator, IsWalker}
 use Rattle.dom_model.proofs.Forests.Totals.{IsOnce}
 use Rattle.dom_model.proofs.Forests.Climbing.{among-hits}
-use Rattle.dom_traverse.specs.Standing.{StandsInside}
+use Rattle.dom_traverse.specs.Standing.{StandsInside, StandsThere}
 use Rattle.dom_traverse.proofs.Descendants.{among-inside, hits-inside, inside-there}
 
 module _ {X : Type 0} (f : Forest X) (o : IsOnce f) where
@@ -36,3 +37,10 @@ module _ {X : Type 0} (f : Forest X) (o : IsOnce f) where
 -- three tests in turn
 pub all_three : (a b c r : Bool) → a ≡ true → b ≡ true → r ≡ c → r ≡ (a && (b && c))
 all_three a b c r i j k = rw (i, j) k
+
+-- what a sound world says of its iterators and its walkers
+pub sound-inside : (f : Forest Content) (i : Iterator) → IsIterator f i → StandsInside f i
+sound-inside f i h = record { root = h.root; inside = h.inside }
+
+pub sound-there : (f : Forest Content) (w : Walker) → IsWalker f w → StandsThere f w
+sound-there f w h = record { root = h.root; current = h.current }
