@@ -1,3 +1,12 @@
+pub mod Again
+pub mod Asked
+pub mod Counting
 pub mod Finding
+pub mod Gathered
+pub mod Hearing
+pub mod Keeping
 pub mod Keys
+pub mod Outcomes
+pub mod Queued
 pub mod Tables
+pub mod Watching

@@ -74,11 +74,11 @@ transients_more node n o ss rs = go (node == n)
     go false = sym (append-nil (rs ++ []))
 
 -- what stands under the first keys, and one more
-pub found_more : (u : ℕ → Option Registration) (keys : List ℕ) (i d : ℕ) → i < length keys → filter_map u (take (i + 1) keys) ≡ filter_map u (take i keys) ++ option_to_list (u (slice_index_or keys i d))
-found_more u keys i d lt =
+pub found_more : {B : Type 0} (u : ℕ → Option B) (keys : List ℕ) (i d : ℕ) → i < length keys → filter_map u (take (i + 1) keys) ≡ filter_map u (take i keys) ++ option_to_list (u (slice_index_or keys i d))
+found_more {B} u keys i d lt =
     ap (filter_map u) (take_more keys i d lt) ∙ filter_map-append u (take i keys) (slice_index_or keys i d ∷ []) ∙ ap (λ rs. filter_map u (take i keys) ++ rs) (one (u (slice_index_or keys i d)))
   where
-    one : (o : Option Registration) → cons_option o [] ≡ option_to_list o
+    one : (o : Option B) → cons_option o [] ≡ option_to_list o
     one None = refl
     one (Some r) = refl
 

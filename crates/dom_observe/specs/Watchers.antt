@@ -1,5 +1,5 @@
 -- What observers keep: registrations by node, a queue for each observer, the observers that are pending; and the observing part that it stands for.
-use Rattle.std.specs.Prelude.{◌≡◌, ℕ, ◌==◌, ◌<◌, ◌≤◌, if◌then◌else◌, List, [], ◌∷◌, length, map, count_by, slice_get, Some}
+use Rattle.std.specs.Prelude.{◌≡◌, ℕ, ◌==◌, ◌<◌, ◌≤◌, if◌then◌else◌, List, [], ◌∷◌, length, filter, slice_index_or}
 use Rattle.dom_model.specs.Worlds.World.{Registration, Observing}
 use Rattle.dom_model.specs.MutationObservers.Observing.{registered_on}
 use Rattle.dom_model.specs.Commands.Reply.{Record}
@@ -21,8 +21,8 @@ on n (e ∷ es) = if n == e.0 then e.1 else on n es
 pub record Watches (o : Watchers) (x : Observing) : Type 0 where
   pub registrations : (n : ℕ) → on n o.nodes ≡ registered_on n x.registrations
   pub made : length x.places ≡ length o.queues
-  pub queues : (i : ℕ) → i < length o.queues → slice_get o.queues i ≡ Some (queue_of i x)
+  pub queues : (i : ℕ) → i < length o.queues → slice_index_or o.queues i [] ≡ queue_of i x
   pub pending : o.pending ≡ pending_of x
   pub places : (i : ℕ) → taken_up_to i x ≤ length x.mutations
   pub notified : x.notified ≤ length x.mutations
-  pub once : (i n : ℕ) → count_by (is_registered i n) x.registrations ≤ 1
+  pub once : (i n : ℕ) → length (filter (is_registered i n) x.registrations) ≤ 1

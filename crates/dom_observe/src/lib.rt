@@ -2,12 +2,18 @@
 #![tactic(auto)]
 
 mod adding;
+mod asking;
+mod notifying;
 mod observer_id;
 mod observers;
 mod options;
+mod queues;
 mod record;
 mod registration;
 mod table;
+mod telling;
+#[cfg(test)]
+mod tests;
 
 pub use dom_model::RecordType;
 pub use observer_id::ObserverId;

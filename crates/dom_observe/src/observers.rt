@@ -1,24 +1,33 @@
 //! The observers of a tree: their registrations, their queues and the pending list.
 
-ghost use Rattle.std.specs.Prelude.{◌≡◌, ℕ, ◌+◌, ◌<◌, [], length, slice_get, IfOk, OnOk, OnErr, nat_lt};
+ghost use Rattle.std.specs.Prelude.{◌≡◌, ℕ, ◌+◌, ◌<◌, [], length, slice_get, IfOk, OnOk, OnErr, nat_lt, true, not, ◌==◌};
 ghost use Rattle.dom_model.specs.Forests.Forest.{HasNode, ancestors};
 ghost use Rattle.dom_model.specs.Worlds.World.{Observing};
-ghost use Rattle.dom_model.specs.MutationObservers.Observing.{with_transients};
-ghost use Rattle.dom_model.specs.MutationObservers.Records.{queue_of, observed, with_observer, records_taken, disconnected};
+ghost use Rattle.dom_model.specs.MutationObservers.Observing.{standing_on, noted, with_transients};
+ghost use Rattle.dom_model.specs.MutationObservers.Records.{queue_of, observed, with_observer, records_taken, disconnected, told, after_notify, interested, asks_old_value};
+ghost use Rattle.dom_observe.specs.Asking.{IsAbout};
+ghost use Rattle.dom_observe.specs.Names.{text_of};
+ghost use Rattle.std.specs.List.{list_any};
+ghost use Rattle.dom_model.specs.Worlds.World as model;
+ghost use Rattle.dom_observe.specs.Notifying.{told_of};
 ghost use Rattle.dom_observe.specs.Watchers.{Watches};
 
 use crate::adding::{add, add_transients, standing};
+use crate::asking::any_standing;
+use crate::notifying::gather;
 use crate::observer_id::ObserverId;
 use crate::options::Options;
-use crate::record::Record;
-use crate::registration::{Ended, Registration};
-use crate::table::{end, keys_on, own_key, set_options, sweep};
+use crate::queues::take_from;
+use crate::record::{Mutation, Record};
+use crate::registration::{Ended, Question, Registration};
+use crate::table::{end, end_transients, keys_on, own_key, set_options, sweep};
+use crate::telling::{listen, tell};
+use dom_model::RecordType;
 use dom_tree::{NodeId, Tree};
 use indexmap::{IndexMap, IndexSet};
 use slab::Slab;
 use std::alloc::{AllocError, Global};
 use std::marker::Model;
-use std::mem;
 
 /// Observers, who is registered on which node, and the records that wait for them.
 ///
@@ -144,7 +153,7 @@ impl Observers {
     {
         end(&mut self.table, Ended::Of(observer));
         sweep(&self.table, &mut self.nodes);
-        self.queues[observer.number() as usize].clear();
+        let _ = take_from(&mut self.queues, observer, self.alloc);
     }
 
     /// Takes the records of an observer out of its queue ("takeRecords").
@@ -153,7 +162,7 @@ impl Observers {
         ensures records { (x : Observing) → Watches self.old x → result.items ≡ queue_of observer x }
         ensures taken { (x : Observing) → Watches self.old x → Watches self.new (records_taken observer x) }
     {
-        mem::replace(&mut self.queues[observer.number() as usize], Vec::new(self.alloc))
+        take_from(&mut self.queues, observer, self.alloc)
     }
 
     /// Leaves transient registrations on a node that is taken from its parent, of those with subtree on the parent's inclusive
@@ -181,5 +190,72 @@ impl Observers {
             node,
             self.alloc,
         )
+    }
+
+    /// Queues a record of a mutation for each observer that it interests ("queue a mutation record").
+    ///
+    /// Call it before the tree changes further: the ancestors of the target are those that stand now. After an error some observers may have their record
+    /// and others not.
+    pub fn queue<X>(&mut self, tree: &Tree<X>, mutation: Mutation) -> Result<(), AllocError>
+        requires { HasNode tree.now.forest mutation.target }
+        ensures { OnOk result ((x : Observing) → Watches self.old x → Watches self.new (noted (record mutation { standing = standing_on (ancestors mutation.target tree.now.forest) x.registrations }) x)) }
+    {
+        if self.nodes.is_empty() {
+            return Ok(());
+        }
+        let standing = standing(&self.nodes, tree, mutation.target, self.alloc)?;
+        let question = mutation.question();
+        let heard = listen(
+            &self.table,
+            standing.as_slice(),
+            &question,
+            &mut self.pending,
+            self.alloc,
+        )?;
+        tell(&mut self.queues, &heard, &mutation, self.alloc)
+    }
+
+    /// Tells the pending observers their records, and ends every transient registration ("notify mutation observers").
+    ///
+    /// After an error some records may be lost.
+    pub fn notify(&mut self) -> Result<Vec<(ObserverId, Vec<Record>)>, AllocError>
+        ensures told { IfOk result (λ all. (x : Observing) → Watches self.old x → told_of all.items ≡ told x) }
+        ensures after { OnOk result ((x : Observing) → Watches self.old x → Watches self.new (after_notify x)) }
+    {
+        let told = gather(&self.pending, &mut self.queues, self.alloc)?;
+        self.pending.clear();
+        end_transients(&mut self.table, &mut self.nodes, self.transient);
+        self.transient = false;
+        Ok(told)
+    }
+
+    /// Whether a mutation of that type, target and name would interest an observer. Where none is interested, nothing need be queued.
+    pub fn interests<X>(
+        &self,
+        tree: &Tree<X>,
+        what: RecordType,
+        target: NodeId,
+        name: Option<&str>,
+    ) -> bool
+        requires { HasNode tree.now.forest target }
+        ensures { (x : Observing) → Watches self.now x → (m : model.Mutation) → IsAbout what target (text_of name.entry) (ancestors target tree.now.forest) x m → result ≡ not (length (interested m) == 0) }
+    {
+        let question = Question { what, target, name };
+        any_standing(&self.table, &self.nodes, tree, &question, false)
+    }
+
+    /// Whether an observer that it would interest wants the old value with it.
+    pub fn wants_old_value<X>(
+        &self,
+        tree: &Tree<X>,
+        what: RecordType,
+        target: NodeId,
+        name: Option<&str>,
+    ) -> bool
+        requires { HasNode tree.now.forest target }
+        ensures { (x : Observing) → Watches self.now x → (m : model.Mutation) → IsAbout what target (text_of name.entry) (ancestors target tree.now.forest) x m → result ≡ list_any (λ r. asks_old_value m.type r.options) (interested m) }
+    {
+        let question = Question { what, target, name };
+        any_standing(&self.table, &self.nodes, tree, &question, true)
     }
 }

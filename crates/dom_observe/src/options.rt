@@ -70,9 +70,9 @@ impl Model for Options {
 pub fn settle(given: RawOptions) -> Result<Options, DomError>
     ensures { result ≡ settled given }
 {
-    let attributes = given
-        .attributes
-        .unwrap_or(given.attribute_old_value.is_some() || given.attribute_filter.is_some());
+    let attributes = given.attributes.unwrap_or(
+        given.attribute_old_value.is_some() || given.attribute_filter.is_some(),
+    );
     let character_data = given
         .character_data
         .unwrap_or(given.character_data_old_value.is_some());

@@ -4,6 +4,7 @@ ghost use Rattle.std.specs.Prelude.{◌≡◌, IfOk, None, if◌then◌else◌};
 ghost use Rattle.dom_model.specs.MutationObservers.Records.{record_with};
 ghost use Rattle.dom_observe.specs.Names.{name_of, text_of};
 
+use crate::registration::Question;
 use dom_model::RecordType;
 use dom_tree::NodeId;
 use dom_units::Units;
@@ -124,13 +125,20 @@ impl Mutation {
         })
     }
 
-    // The name of the attribute that changed.
-    pub(crate) fn name(&self) -> Option<&str>
-        ensures { text_of result ≡ self.now.name }
+    // What is asked of the registrations above its target.
+    pub(crate) fn question(&self) -> Question<'_>
+        ensures what { result.what ≡ self.now.type }
+        ensures target { result.target ≡ self.now.target }
+        ensures name { text_of result.name ≡ self.now.name }
     {
-        match &self.name {
+        let name = match &self.name {
             None => None,
             Some(name) => Some(name.as_str()),
+        };
+        Question {
+            what: self.what,
+            target: self.target,
+            name,
         }
     }
 }

@@ -1,10 +1,10 @@
 //! The table of registrations, and the keys that each node has in it.
 
-ghost use Rattle.std.specs.Prelude.{◌≡◌, ◌≢◌, ℕ, ◌==◌, ◌++◌, [], ◌∷◌, not, length, filter, find, IfOk, OnOk, OnErr, is_some, option_map, nat_eq, if◌then◌else◌, IsSome};
+ghost use Rattle.std.specs.Prelude.{◌≡◌, ◌≢◌, ℕ, ◌==◌, ◌++◌, [], ◌∷◌, not, length, filter, find, IfOk, OnOk, OnErr, is_some, option_map, nat_eq, if◌then◌else◌, false};
 ghost use Rattle.indexmap.specs.IndexMap.{IsUnique};
 ghost use Rattle.slab.specs.Slab.{get};
 ghost use Rattle.dom_observe.specs.Watchers.{on};
-ghost use Rattle.dom_observe.specs.Registrations.{plain, spares, at, listed, is_live, left_by, own_at, with_new_options};
+ghost use Rattle.dom_observe.specs.Registrations.{plain, spares, at, found, listed, AllStand, is_live, left_by, own_at, with_new_options};
 
 use crate::observer_id::ObserverId;
 use crate::options::Options;
@@ -57,6 +57,23 @@ pub fn sweep(table: &Slab<Registration>, nodes: &mut IndexMap<u32, Vec<usize>>)
     );
 }
 
+// Takes out the transient registrations, where there may be any.
+pub fn end_transients(
+    table: &mut Slab<Registration>,
+    nodes: &mut IndexMap<u32, Vec<usize>>,
+    transient: bool,
+)
+    requires { IsUnique nat_eq nodes.old }
+    ensures found { (made : ℕ) → AllStand (at table.old) made transient (listed nodes.old.entries) → (n : ℕ) → found table.new (on n (listed nodes.new.entries)) ≡ filter (spares Ended.Transient) (found table.old (on n (listed nodes.old.entries))) }
+    ensures stand { (made : ℕ) → AllStand (at table.old) made transient (listed nodes.old.entries) → AllStand (at table.new) made false (listed nodes.new.entries) }
+    ensures unique { IsUnique nat_eq nodes.new }
+{
+    if transient {
+        end(table, Ended::Transient);
+        sweep(table, nodes);
+    }
+}
+
 // The keys of a node.
 pub fn keys_on(nodes: &IndexMap<u32, Vec<usize>>, node: NodeId) -> &[usize]
     ensures { result.now ≡ on node (listed nodes.now.entries) }
@@ -91,12 +108,7 @@ pub fn put_key(
 }
 
 // Whether the observer's registration on the node is under the key.
-fn is_own(
-    table: &Slab<Registration>,
-    key: usize,
-    observer: ObserverId,
-    node: NodeId,
-) -> bool
+fn is_own(table: &Slab<Registration>, key: usize, observer: ObserverId, node: NodeId) -> bool
     ensures { result ≡ own_at (at table.now) observer node key }
 {
     match table.get(key) {

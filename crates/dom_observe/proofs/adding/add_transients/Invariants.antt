@@ -13,5 +13,5 @@ invariant-loop-key l = record {
   standing : AllByRecursion (λ k. at l.table k ≡ at l.initial.table k) l.standing;
   has : (n : ℕ) → found l.table (on n (listed l.nodes.entries))
       ≡ with_added_transients l.node (found l.initial.table (take l.key-index l.standing)) n (found l.initial.table (on n (listed l.initial.nodes.entries)));
-  stands : (made : ℕ) → AllByRecursion (Stands (at l.initial.table) made) l.standing → AllStand (at l.initial.table) made true (listed l.initial.nodes.entries) → AllStand (at l.table) made true (listed l.nodes.entries)
+  stands : (made : ℕ) → AllByRecursion (Stands (at l.initial.table) made) l.standing → AllStand (at l.initial.table) made true (listed l.initial.nodes.entries) → AllStand (at l.table) made true (listed l.nodes.entries);
 }

@@ -21,7 +21,7 @@ loop-keys-preserved g c =
     record {
       there = a.there;
       so_far = climbed (λ n. on n (listed c.args.nodes.now.entries)) c.loop-keys.keys.items c.keys_on.result.now c.extend_from_slice.new.self.items _ c.loop-keys.here (ancestors c.in-Some.parent c.args.tree.now.forest)
-          (ancestors c.loop-keys.here c.args.tree.now.forest) a.path c.keys_on.ensures c.in_ok-extend_from_slice.ensures.items c.loop-keys.invariant.so_far
+          (ancestors c.loop-keys.here c.args.tree.now.forest) a.path c.keys_on.ensures c.in_ok-extend_from_slice.ensures.items c.loop-keys.invariant.so_far;
     }
 
 pub returns-in-None : goal.returns-in-None
@@ -29,4 +29,4 @@ returns-in-None g c =
     let p = root-path c.args.tree.now.forest c.sound.ensures.once c.loop-keys.here (occurs-HasNode c.args.tree.now.forest c.loop-keys.here c.loop-keys.invariant.there) (sym c.parent.ensures ∙ c.in-None.is) in
     sym (append-nil c.extend_from_slice.new.self.items)
     ∙ climbed (λ n. on n (listed c.args.nodes.now.entries)) c.loop-keys.keys.items c.keys_on.result.now c.extend_from_slice.new.self.items _ c.loop-keys.here []
-        (ancestors c.loop-keys.here c.args.tree.now.forest) p c.keys_on.ensures c.in_ok-extend_from_slice.ensures.items c.loop-keys.invariant.so_far
+    (ancestors c.loop-keys.here c.args.tree.now.forest) p c.keys_on.ensures c.in_ok-extend_from_slice.ensures.items c.loop-keys.invariant.so_far

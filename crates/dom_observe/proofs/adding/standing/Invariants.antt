@@ -10,7 +10,7 @@ abbrev pub invariant-loop-keys : goal.invariant-loop-keys
 invariant-loop-keys g l = record {
   there : HasNode l.tree.forest l.here;
   so_far : l.keys.items ++ flat_map (λ n. on n (listed l.nodes.entries)) (ancestors l.here l.tree.forest)
-      ≡ flat_map (λ n. on n (listed l.nodes.entries)) (ancestors l.fn.node l.tree.forest)
+      ≡ flat_map (λ n. on n (listed l.nodes.entries)) (ancestors l.fn.node l.tree.forest);
 }
 
 abbrev pub decreases-loop-keys : goal.decreases-loop-keys

@@ -25,7 +25,7 @@ pub returns-in_ok-insert-in-None-clause-ok : goal.returns-in_ok-insert-in-None-c
 returns-in_ok-insert-in-None-clause-ok c = λ n.
     let same = c.get_mut.follows.holds-at-none in
     let added : c.insert.new.self.entries ≡ insert_entry nat_eq c.args.nodes.now.entries c.number-number.result c.in_ok-keys-in-None.keys =
-        c.in_ok-insert-in-None.ensures.entries ∙ ap (λ m. insert_entry nat_eq m.entries c.number-number.result c.in_ok-keys-in-None.keys) same in
+    c.in_ok-insert-in-None.ensures.entries ∙ ap (λ m. insert_entry nat_eq m.entries c.number-number.result c.in_ok-keys-in-None.keys) same in
     ap (λ es. on n (listed es)) added
     ∙ on-insert_entry n c.number-number.result c.args.key c.args.nodes.now.entries c.in_ok-keys-in-None.keys (sym c.in-None.ensures.value) c.in_ok-keys-in-None.ensures.items
     ∙ ap (λ k. on n (listed c.args.nodes.now.entries) ++ (if n == k then c.args.key ∷ [] else [])) c.number-number.ensures

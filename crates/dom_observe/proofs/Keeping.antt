@@ -1,0 +1,190 @@
+-- What the code keeps goes with its steps.
+use Rattle.std.proofs.Common.{◌≡◌, ℕ, zero, suc, ◌+◌, ◌<◌, ◌≤◌, ◌==◌, Bool, true, false, not, if◌then◌else◌, List, [], ◌∷◌, ◌++◌, length, map, filter, Option, None, Some, refl, ap, sym, ◌∙◌, subst, arith, cond, ◌⊎◌, inl, inr, length-append, nat_eq}
+use Rattle.std.specs.Prelude.{slice_index_or, slice_set, Vec, filter_map, flat_map, is_some}
+use Rattle.std.specs.Option.{option_map_or}
+use Rattle.std.specs.Map.{keys_of}
+use Rattle.std.specs.List.{IsDistinct, AllByRecursion, cons_option, list_any}
+use Rattle.std.proofs.lemmas.List.{get_or_append_left, get_or-append_right, get_or_past, get_or-set_same, get_or-set_other, length-set}
+use Rattle.std.proofs.lemmas.List.Elements.{filter_map-append}
+use Rattle.std.proofs.lemmas.Bool.{cases_lt, true≢false}
+use Rattle.slab.specs.Slab.{Slab}
+use Rattle.dom_model.specs.PlainLists.Lists.{among}
+use Rattle.dom_model.specs.Worlds.World as model
+use Rattle.dom_model.specs.Worlds.World.{Registration, Options}
+use Rattle.dom_model.specs.MutationObservers.Observing.{registered_on, standing_on}
+use Rattle.dom_model.specs.MutationObservers.Records.{is_registered, with_options}
+use Rattle.dom_model.specs.Commands.Reply.{Record}
+use Rattle.dom_model.proofs.PlainLists.Numbers.{Same, same_or, same, apart}
+use Rattle.dom_observe.specs.declared.registration.Registration as held
+use Rattle.dom_observe.specs.declared.registration.Ended.{Ended}
+use Rattle.dom_observe.specs.Watchers.{on}
+use Rattle.dom_observe.specs.Registrations.{at, found, listed, spares, left_by, is_live, own_at, with_new_options, AllLive, Stands, StandsOn, AllStand}
+use Rattle.dom_observe.specs.Kept.{nodes_of, queues_of, IsKept}
+use Rattle.dom_observe.proofs.Counting.{tally, count-none, any-from_count}
+use Rattle.dom_observe.proofs.Tables.{all_imply, all_append, all_filter}
+
+-- what a function makes of each list, and of no list nothing
+pub on-map : {A B : Type 0} (f : List A → List B) → f [] ≡ [] → (n : ℕ) (es : List (ℕ × List A)) → on n (map (λ e. (e.0, f e.1)) es) ≡ f (on n es)
+on-map f nothing n [] = sym nothing
+on-map f nothing n (e ∷ es) = go (n == e.0) (on-map f nothing n es)
+  where
+    go : (b : Bool) → on n (map (λ d. (d.0, f d.1)) es) ≡ f (on n es) → (if b then f e.1 else on n (map (λ d. (d.0, f d.1)) es)) ≡ f (if b then e.1 else on n es)
+    go true i = refl
+    go false i = i
+
+pub on-nodes_of : {A : Type 0} (table : Slab held.Registration) (n : ℕ) (es : List (ℕ × Vec ℕ A)) → on n (nodes_of table es) ≡ found table (on n (listed es))
+on-nodes_of table n es = on-map (found table) refl n (listed es)
+
+module _ {A : Type 0} where
+  pub queues_of-push : (qs : List (Vec Record A)) (q : Vec Record A) → q.items ≡ [] → queues_of (qs ++ q ∷ []) ≡ queues_of qs ++ [] ∷ []
+  queues_of-push [] q e = ap (λ rs. rs ∷ []) e
+  queues_of-push (p ∷ qs) q e = ap (λ rs. p.items ∷ rs) (queues_of-push qs q e)
+
+  pub queues_of-set : (qs : List (Vec Record A)) (i : ℕ) (q : Vec Record A) (rs : List Record) → q.items ≡ rs → queues_of (slice_set qs i q) ≡ slice_set (queues_of qs) i rs
+  queues_of-set [] zero q rs e = refl
+  queues_of-set [] (suc i) q rs e = refl
+  queues_of-set (p ∷ qs) zero q rs e = ap (λ xs. xs ∷ queues_of qs) e
+  queues_of-set (p ∷ qs) (suc i) q rs e = ap (λ xs. p.items ∷ xs) (queues_of-set qs i q rs e)
+
+  pub queues_of-at : (qs : List (Vec Record A)) (i : ℕ) (d : Vec Record A) → i < length qs → slice_index_or (queues_of qs) i [] ≡ (slice_index_or qs i d).items
+  queues_of-at [] i d lt = absurd (omega arith)
+  queues_of-at (q ∷ qs) zero d lt = refl
+  queues_of-at (q ∷ qs) (suc i) d lt = queues_of-at qs i d (omega arith)
+
+  pub queues_of-length : (qs : List (Vec Record A)) → length (queues_of qs) ≡ length qs
+  queues_of-length [] = refl
+  queues_of-length (q ∷ qs) = omega (arith, queues_of-length qs)
+
+no_queue : (none : List Record) (k : ℕ) → slice_index_or (none ∷ []) k none ≡ none
+no_queue none zero = refl
+no_queue none (suc k) = refl
+
+-- more observers
+pub stand_grown : (u : ℕ → Option Registration) (made made' : ℕ) (transient : Bool) (lists : List (ℕ × List ℕ)) → made ≤ made' → AllStand u made transient lists → AllStand u made' transient lists
+stand_grown u made made' transient lists le all n =
+    all_imply (StandsOn u made transient n) (StandsOn u made' transient n)
+    (λ k s. record { registration = s.registration; is = s.is; observer = (let lt = s.observer in omega arith); node = s.node; source = s.source }) (on n lists) (all n)
+
+module _ {A : Type 0} (table : Slab held.Registration) (entries : List (ℕ × Vec ℕ A)) (queues : List (List Record)) (pending : List ℕ) (transient : Bool)
+    (kept : IsKept table entries queues pending transient) where
+  -- other queues: as many at least, and empty where nobody is pending
+  pub kept_queues : (queues' : List (List Record)) → length queues ≤ length queues' → ((o : ℕ) → among o pending ≡ false → slice_index_or queues' o [] ≡ []) → IsKept table entries queues' pending transient
+  kept_queues queues' le waiting = record {
+    unique = kept.unique;
+    stand = stand_grown (at table) (length queues) (length queues') transient (listed entries) le kept.stand;
+    made = all_imply (λ o. o < length queues) (λ o. o < length queues') (λ o lt. omega arith) pending kept.made;
+    waiting = waiting;
+  }
+
+  pub kept-made : IsKept table entries (queues ++ [] ∷ []) pending transient
+  kept-made = kept_queues (queues ++ [] ∷ []) (omega (arith, length-append queues ([] ∷ []))) (λ o free. queue o (cases_lt o (length queues)) free)
+    where
+      queue : (o : ℕ) → ((o < length queues) ⊎ (length queues ≤ o)) → among o pending ≡ false → slice_index_or (queues ++ [] ∷ []) o [] ≡ []
+      queue o (inl lt) free = get_or_append_left queues ([] ∷ []) [] o lt ∙ kept.waiting o free
+      queue o (inr le) free = get_or-append_right queues ([] ∷ []) (length queues) o [] refl le ∙ no_queue [] _
+
+  pub kept-emptied : (i : ℕ) → IsKept table entries (slice_set queues i []) pending transient
+  kept-emptied i = kept_queues (slice_set queues i []) (omega (arith, length-set queues i [])) (λ o free. queue o (same_or o i) (cases_lt i (length queues)) free)
+    where
+      queue : (o : ℕ) → Same o i → ((i < length queues) ⊎ (length queues ≤ i)) → among o pending ≡ false → slice_index_or (slice_set queues i []) o [] ≡ []
+      queue o (same e t) (inl lt) free = ap (λ k. slice_index_or (slice_set queues i []) k []) e ∙ get_or-set_same queues i [] [] lt
+      queue o (same e t) (inr le) free = get_or_past (slice_set queues i []) o [] (omega (arith, length-set queues i [], e))
+      queue o (apart ne t) z free = get_or-set_other queues i o [] [] ne ∙ kept.waiting o free
+
+  -- another table
+  pub kept_table : {B : Type 0} (table' : Slab held.Registration) (entries' : List (ℕ × Vec ℕ B)) (transient' : Bool) → IsDistinct nat_eq (keys_of entries') → AllStand (at table') (length queues) transient' (listed entries') → IsKept table' entries' queues pending transient'
+  kept_table table' entries' transient' unique stand = record { unique = unique; stand = stand; made = kept.made; waiting = kept.waiting }
+
+-- a step ends registrations, and the keys under which nothing is left go
+module _ (u v : ℕ → Option Registration) (ended : Ended) (lists lists' : List (ℕ × List ℕ))
+    (left : (k : ℕ) → v k ≡ left_by ended (u k)) (swept : (n : ℕ) → on n lists' ≡ filter (is_live v) (on n lists)) where
+  found_left : (keys : List ℕ) → filter_map v (filter (is_live v) keys) ≡ filter (spares ended) (filter_map u keys)
+  found_left [] = refl
+  found_left (k ∷ keys) = go (u k) (v k) (left k) refl (found_left keys)
+    where
+      go : (o p : Option Registration) → p ≡ left_by ended o → v k ≡ p → filter_map v (filter (is_live v) keys) ≡ filter (spares ended) (filter_map u keys)
+          → filter_map v (cond (is_some p) (k ∷ filter (is_live v) keys) (filter (is_live v) keys)) ≡ filter (spares ended) (cons_option o (filter_map u keys))
+      go None p e f i = rw e i
+      go (Some r) p e f i = by (spares ended r) e
+        where
+          by : (b : Bool) → p ≡ (if b then Some r else None) → filter_map v (cond (is_some p) (k ∷ filter (is_live v) keys) (filter (is_live v) keys)) ≡ cond b (r ∷ filter (spares ended) (filter_map u keys)) (filter (spares ended) (filter_map u keys))
+          by true g = rw g (ap (λ o. cons_option o (filter_map v (filter (is_live v) keys))) (f ∙ g) ∙ ap (λ rs. r ∷ rs) i)
+          by false g = rw g i
+
+  pub found-ended : (n : ℕ) → filter_map v (on n lists') ≡ filter (spares ended) (filter_map u (on n lists))
+  found-ended n = ap (filter_map v) (swept n) ∙ found_left (on n lists)
+
+  still : (ended' : Ended) (o : Option Registration) (r : Registration) → o ≡ Some r → is_some (left_by ended' o) ≡ true → (left_by ended' o ≡ Some r) × (spares ended' r ≡ true)
+  still ended' None r e live = cc e
+  still ended' (Some s) r e live = let d : s ≡ r = cc e in by (spares ended' s) refl live
+    where
+      by : (b : Bool) → spares ended' s ≡ b → is_some (if b then Some s else None) ≡ true → ((if b then Some s else None) ≡ Some r) × (spares ended' r ≡ true)
+      by true t l = (e, ap (spares ended') (sym (let d : s ≡ r = cc e in d)) ∙ t)
+      by false t l = absurd (true≢false (sym l))
+
+  pub stand-ended : (made : ℕ) (transient transient' : Bool) → AllStand u made transient lists
+      → ((r : Registration) → spares ended r ≡ true → (transient ≡ false → r.source ≡ None) → transient' ≡ false → r.source ≡ None) → AllStand v made transient' lists'
+  stand-ended made transient transient' all calm n =
+      subst (AllByRecursion (StandsOn v made transient' n)) (sym (swept n))
+      (all_imply (λ k. StandsOn u made transient n k × (is_live v k ≡ true)) (StandsOn v made transient' n) one (filter (is_live v) (on n lists))
+      (all_filter (StandsOn u made transient n) (is_live v) (on n lists) (all n)))
+    where
+      one : (k : ℕ) → StandsOn u made transient n k × (is_live v k ≡ true) → StandsOn v made transient' n k
+      one k p =
+          let s = p.0 in
+          let f = still ended (u k) s.registration s.is (ap is_some (sym (left k)) ∙ p.1) in
+          record { registration = s.registration; is = left k ∙ f.0; observer = s.observer; node = s.node; source = calm s.registration f.1 s.source }
+
+-- there may be transient registrations
+pub stand_loosely : (u : ℕ → Option Registration) (made : ℕ) (transient : Bool) (lists : List (ℕ × List ℕ)) → AllStand u made transient lists → AllStand u made true lists
+stand_loosely u made transient lists all n =
+    all_imply (StandsOn u made transient n) (StandsOn u made true n)
+    (λ k s. record { registration = s.registration; is = s.is; observer = s.observer; node = s.node; source = λ e. absurd (true≢false e) }) (on n lists) (all n)
+
+-- the keys of several nodes
+pub all_flat : (P : ℕ → Type 0) (lists : List (ℕ × List ℕ)) → ((n : ℕ) → AllByRecursion P (on n lists)) → (ns : List ℕ) → AllByRecursion P (flat_map (λ n. on n lists) ns)
+all_flat P lists all [] = tt
+all_flat P lists all (n ∷ ns) = all_append P (on n lists) (flat_map (λ m. on m lists) ns) (all n) (all_flat P lists all ns)
+
+pub stands_of : (u : ℕ → Option Registration) (made : ℕ) (transient : Bool) (n : ℕ) (keys : List ℕ) → AllByRecursion (StandsOn u made transient n) keys → AllByRecursion (Stands u made) keys
+stands_of u made transient n keys h = all_imply (StandsOn u made transient n) (Stands u made) (λ k s. record { registration = s.registration; is = s.is; observer = s.observer }) keys h
+
+-- the registrations that stand on several nodes
+pub found_standing : (u : ℕ → Option Registration) (lists : List (ℕ × List ℕ)) (rs : List Registration) → ((n : ℕ) → filter_map u (on n lists) ≡ registered_on n rs) → (ns : List ℕ)
+    → filter_map u (flat_map (λ n. on n lists) ns) ≡ standing_on ns rs
+found_standing u lists rs has [] = refl
+found_standing u lists rs has (n ∷ ns) =
+    filter_map-append u (on n lists) (flat_map (λ m. on m lists) ns) ∙ (λ i. has n i ++ found_standing u lists rs has ns i)
+
+-- where no node has a registration there is none
+pub nobody : (rs : List Registration) → ((n : ℕ) → registered_on n rs ≡ []) → rs ≡ []
+nobody [] h = refl
+nobody (r ∷ rs) h =
+    elim (same_or r.node r.node) [
+      | same e t ↦ let k = rw t at (h r.node) in cc k
+      | apart ne t ↦ absurd (ne refl)
+    ]
+
+set_same : {A : Type 0} (xs : List A) (i : ℕ) (d : A) → slice_set xs i (slice_index_or xs i d) ≡ xs
+set_same [] zero d = refl
+set_same [] (suc i) d = refl
+set_same (x ∷ xs) zero d = refl
+set_same (x ∷ xs) (suc i) d = ap (λ ys. x ∷ ys) (set_same xs i d)
+
+-- a record is put in a queue, or is not
+module _ {A : Type 0} (qs : List (Vec Record A)) (i : ℕ) (d : Vec Record A) (within : i < length qs) (q : Vec Record A) where
+  pub queue-pushed : (r : Record) (p : ℕ) → q.items ≡ (slice_index_or qs i d).items ++ r ∷ []
+      → slice_index_or (queues_of (slice_set qs i q)) p [] ≡ (if i == p then slice_index_or (queues_of qs) p [] ++ r ∷ [] else slice_index_or (queues_of qs) p [])
+  queue-pushed r p e =
+      ap (λ ls. slice_index_or ls p []) (queues_of-set qs i q ((slice_index_or qs i d).items ++ r ∷ []) e)
+      ∙ elim (same_or i p) [
+        | same f t ↦ rw t (
+            ap (λ k. slice_index_or (slice_set (queues_of qs) i ((slice_index_or qs i d).items ++ r ∷ [])) k []) (sym f)
+            ∙ get_or-set_same (queues_of qs) i ((slice_index_or qs i d).items ++ r ∷ []) [] (omega (arith, queues_of-length qs))
+            ∙ ap (λ rs. rs ++ r ∷ []) (sym (queues_of-at qs i d within) ∙ ap (λ k. slice_index_or (queues_of qs) k []) f))
+        | apart ne t ↦ rw t (get_or-set_other (queues_of qs) i p ((slice_index_or qs i d).items ++ r ∷ []) [] (λ g. ne (sym g)))
+      ]
+
+  pub queue-unpushed : q.items ≡ (slice_index_or qs i d).items → queues_of (slice_set qs i q) ≡ queues_of qs
+  queue-unpushed e =
+      queues_of-set qs i q (slice_index_or (queues_of qs) i []) (e ∙ sym (queues_of-at qs i d within)) ∙ set_same (queues_of qs) i []

@@ -1,0 +1,211 @@
+-- The observing part that observers stand for goes with them, step by step.
+use Rattle.std.proofs.Common.{◌≡◌, ℕ, zero, suc, ◌+◌, ◌-◌, ◌<◌, ◌≤◌, ◌==◌, Bool, true, false, not, ◌&&◌, if◌then◌else◌, List, [], ◌∷◌, ◌++◌, length, map, filter, None, Some, refl, ap, sym, ◌∙◌, subst, arith, cond, length-append, append-nil, ◌⊎◌, inl, inr}
+use Rattle.std.specs.Prelude.{slice_index_or, slice_set, is_none, option_to_list}
+use Rattle.std.specs.List.{list_any}
+use Rattle.std.proofs.lemmas.List.{get_or_append_left, get_or-append_right, get_or_past, get_or-set_same, get_or-set_other, get_or-map, length-set, length-map}
+use Rattle.std.proofs.Math.Seq.{get_or-append_seam}
+use Rattle.std.proofs.lemmas.Bool.{cases_lt}
+use Rattle.dom_model.specs.Worlds.World.{Options, Registration, Mutation, Observing}
+use Rattle.dom_model.specs.Commands.Reply.{Record}
+use Rattle.dom_model.specs.MutationObservers.Observing.{registered_on, standing_on, transient_of, with_transients, noted}
+use Rattle.dom_model.specs.MutationObservers.Records.{is_registered, is_transient_from, new_registration, with_options, registered, observed, taken_up_to, queue_of, with_observer, records_taken, disconnected, record_by, record_for, interested, observers_of, after_notify}
+use Rattle.dom_model.proofs.PlainLists.Numbers.{Same, same_or, same, apart}
+use Rattle.dom_model.proofs.MutationObservers.Queues.{IsTimely, queue-with_observer, queue-made, queue-taken, queue-kept, timely-taken, timely-noted, queue-noted, pending-noted, queue-notified, pending-notified, with_all_last}
+use Rattle.dom_model.proofs.MutationObservers.NodeRegistrations.{registered_on-filter, registered-there, registrations-observed, registrations-observed_again, registrations-transients}
+use Rattle.dom_observe.specs.Watchers.{Watchers, Watches, on}
+use Rattle.dom_observe.specs.Registrations.{with_added_transients}
+use Rattle.dom_observe.proofs.Counting.{tally, count-append, count-filter, count-map, count-none, count-fails}
+
+-- options put in place leave a registration the observer's or not
+own-with_options : (o n i m : ℕ) (options : Options) (r : Registration) → is_registered i m (with_options o n options r) ≡ is_registered i m r
+own-with_options o n i m options r = go (is_registered o n r)
+  where
+    go : (v : Bool) → is_registered i m (if v then record r { options = options } else r) ≡ is_registered i m r
+    go true = refl
+    go false = refl
+
+at_most : (l k : ℕ) → slice_index_or (l ∷ []) k 0 ≤ l
+at_most l zero = omega arith
+at_most l (suc k) = omega arith
+
+module _ (o : Watchers) (x : Observing) (w : Watches o x) where
+  pub timely : IsTimely x
+  timely = record { places = w.places; last = w.notified }
+
+  pub watches-made : Watches (record o { queues = o.queues ++ [] ∷ [] }) (with_observer x)
+  watches-made = record {
+    registrations = w.registrations;
+    made = omega (arith, length-append x.places (length x.mutations ∷ []), length-append o.queues ([] ∷ []), w.made);
+    queues = λ i lt. queue i (cases_lt i (length o.queues)) lt;
+    pending = w.pending;
+    places = λ i. place i (cases_lt i (length x.places));
+    notified = w.notified;
+    once = w.once;
+  }
+    where
+      place : (i : ℕ) → ((i < length x.places) ⊎ (length x.places ≤ i)) → slice_index_or (x.places ++ length x.mutations ∷ []) i 0 ≤ length x.mutations
+      place i (inl lt) = rw (get_or_append_left x.places (length x.mutations ∷ []) 0 i lt) (w.places i)
+      place i (inr le) = rw (get_or-append_right x.places (length x.mutations ∷ []) (length x.places) i 0 refl le) (at_most (length x.mutations) (i - length x.places))
+
+      queue : (i : ℕ) → ((i < length o.queues) ⊎ (length o.queues ≤ i)) → i < length (o.queues ++ [] ∷ []) → slice_index_or (o.queues ++ [] ∷ []) i [] ≡ queue_of i (with_observer x)
+      queue i (inl lt) more = get_or_append_left o.queues ([] ∷ []) [] i lt ∙ w.queues i lt ∙ sym (queue-with_observer i x (omega (arith, w.made)))
+      queue i (inr le) more =
+          let here : i ≡ length x.places = omega (arith, w.made, length-append o.queues ([] ∷ [])) in
+          let last : i ≡ length o.queues = omega (arith, w.made, here) in
+          ap (λ j. slice_index_or (o.queues ++ [] ∷ []) j []) last
+          ∙ get_or-append_seam o.queues [] [] []
+          ∙ sym (ap (λ j. queue_of j (with_observer x)) here ∙ queue-made x)
+
+  pub watches-taken : (i : ℕ) → i < length o.queues → Watches (record o { queues = slice_set o.queues i [] }) (records_taken i x)
+  watches-taken i within = record {
+    registrations = w.registrations;
+    made = length-set x.places i (length x.mutations) ∙ w.made ∙ sym (length-set o.queues i []);
+    queues = λ j lt. queue j (same_or j i) lt;
+    pending = w.pending;
+    places = (timely-taken i x timely).places;
+    notified = w.notified;
+    once = w.once;
+  }
+    where
+      queue : (j : ℕ) → Same j i → j < length (slice_set o.queues i []) → slice_index_or (slice_set o.queues i []) j [] ≡ queue_of j (records_taken i x)
+      queue j (same e t) lt =
+          ap (λ k. slice_index_or (slice_set o.queues i []) k []) e
+          ∙ get_or-set_same o.queues i [] [] within
+          ∙ sym (ap (λ k. queue_of k (records_taken i x)) e ∙ queue-taken i x (omega (arith, w.made)))
+      queue j (apart ne t) lt =
+          get_or-set_other o.queues i j [] [] ne
+          ∙ w.queues j (omega (arith, length-set o.queues i []))
+          ∙ sym (queue-kept i j x ne)
+
+  -- nodes and registrations change, and nothing else
+  pub watches-registered : (nodes : List (ℕ × List Registration)) (rs : List Registration) → ((n : ℕ) → on n nodes ≡ registered_on n rs)
+      → ((i n : ℕ) → tally (is_registered i n) rs ≤ 1) → Watches (record o { nodes = nodes }) (record x { registrations = rs })
+  watches-registered nodes rs by_node once = record {
+    registrations = by_node;
+    made = w.made;
+    queues = w.queues;
+    pending = w.pending;
+    places = w.places;
+    notified = w.notified;
+    once = once;
+  }
+
+  pub watches-filtered : (keep : Registration → Bool) (nodes : List (ℕ × List Registration)) → ((n : ℕ) → on n nodes ≡ filter keep (on n o.nodes))
+      → Watches (record o { nodes = nodes }) (record x { registrations = filter keep x.registrations })
+  watches-filtered keep nodes kept = watches-registered nodes (filter keep x.registrations)
+      (λ n. kept n ∙ ap (filter keep) (w.registrations n) ∙ sym (registered_on-filter n keep x.registrations))
+      (λ i n. let c = count-filter (is_registered i n) keep x.registrations in let k = w.once i n in omega arith)
+
+  -- where the observer has no registration on the node
+  pub watches-observed : (i n : ℕ) (options : Options) (nodes : List (ℕ × List Registration)) → list_any (is_registered i n) (on n o.nodes) ≡ false
+      → ((m : ℕ) → on m nodes ≡ on m o.nodes ++ (if n == m then new_registration i n options ∷ [] else []))
+      → Watches (record o { nodes = nodes }) (observed i n options x)
+  watches-observed i n options nodes none added = watches-registered nodes (registered i n options x.registrations)
+      (λ m. added m ∙ ap (λ rs. rs ++ (if n == m then new_registration i n options ∷ [] else [])) (w.registrations m) ∙ sym (registrations-observed i n m options x.registrations absent))
+      once
+    where
+      absent : list_any (is_registered i n) x.registrations ≡ false
+      absent = sym (registered-there i n x.registrations) ∙ ap (list_any (is_registered i n)) (sym (w.registrations n)) ∙ none
+
+      last : (j m : ℕ) → Same i j → Same n m → tally (is_registered j m) (x.registrations ++ new_registration i n options ∷ []) ≤ 1
+      last j m (same d t) (same e u) =
+          let z : tally (is_registered j m) x.registrations ≡ 0 =
+          subst (λ k. tally (is_registered k m) x.registrations ≡ 0) d (subst (λ k. tally (is_registered i k) x.registrations ≡ 0) e (count-none (is_registered i n) x.registrations absent)) in
+          rw (count-append (is_registered j m) x.registrations (new_registration i n options ∷ []), t, u) (omega (arith, z))
+      last j m (same d t) (apart ne u) = rw (count-append (is_registered j m) x.registrations (new_registration i n options ∷ []), t, u) (let k = w.once j m in omega arith)
+      last j m (apart ne t) u = rw (count-append (is_registered j m) x.registrations (new_registration i n options ∷ []), t) (let k = w.once j m in omega arith)
+
+      once : (j m : ℕ) → tally (is_registered j m) (registered i n options x.registrations) ≤ 1
+      once j m = rw absent (last j m (same_or i j) (same_or n m))
+
+  -- where it has one
+  pub watches-observed_again : (i n : ℕ) (options : Options) (nodes : List (ℕ × List Registration)) → list_any (is_registered i n) (on n o.nodes) ≡ true
+      → ((m : ℕ) → on m nodes ≡ map (with_options i n options) (filter (λ (r : Registration). not (is_transient_from i n r)) (on m o.nodes)))
+      → Watches (record o { nodes = nodes }) (observed i n options x)
+  watches-observed_again i n options nodes one changed = watches-registered nodes (registered i n options x.registrations)
+      (λ m. changed m
+      ∙ ap (λ rs. map (with_options i n options) (filter (λ (r : Registration). not (is_transient_from i n r)) rs)) (w.registrations m)
+      ∙ sym (registrations-observed_again i n m options x.registrations there))
+      (λ j m. rw there (
+      let c = count-map (is_registered j m) (with_options i n options) (own-with_options i n j m options) (filter (λ (r : Registration). not (is_transient_from i n r)) x.registrations) in
+      let d = count-filter (is_registered j m) (λ (r : Registration). not (is_transient_from i n r)) x.registrations in
+      let k = w.once j m in
+      omega arith))
+    where
+      there : list_any (is_registered i n) x.registrations ≡ true
+      there = sym (registered-there i n x.registrations) ∙ ap (list_any (is_registered i n)) (sym (w.registrations n)) ∙ one
+
+  pub watches-transients : (node : ℕ) (above : List ℕ) (nodes : List (ℕ × List Registration))
+      → ((n : ℕ) → on n nodes ≡ with_added_transients node (standing_on above x.registrations) n (on n o.nodes))
+      → Watches (record o { nodes = nodes }) (with_transients node above x)
+  watches-transients node above nodes added = watches-registered nodes _
+      (λ n. added n
+      ∙ ap (λ rs. rs ++ (if node == n then map (transient_of node) subtree else [])) (w.registrations n)
+      ∙ sym (registrations-transients node n x.registrations subtree))
+      (λ j m.
+      let c = count-append (is_registered j m) x.registrations (map (transient_of node) subtree) in
+      let d = count-fails2 j m subtree in
+      let k = w.once j m in
+      omega arith)
+    where
+      subtree : List Registration
+      subtree = filter (λ (r : Registration). r.options.subtree) (standing_on above x.registrations)
+
+      fails : (a b : Bool) → (a && (b && false)) ≡ false
+      fails true true = refl
+      fails true false = refl
+      fails false b = refl
+
+      count-fails2 : (j m : ℕ) (rs : List Registration) → tally (is_registered j m) (map (transient_of node) rs) ≡ 0
+      count-fails2 j m rs = count-fails (is_registered j m) (transient_of node) (λ r. fails (r.observer == j) (node == m)) rs
+
+-- A mutation is noted.
+
+module _ (o : Watchers) (x : Observing) (w : Watches o x) (m : Mutation) where
+  -- its records are in the queues, and whom it interests is pending
+  pub watches-noted : (queues : List (List Record)) (pending : List ℕ) → length queues ≡ length o.queues
+      → ((i : ℕ) → slice_index_or queues i [] ≡ slice_index_or o.queues i [] ++ option_to_list (record_for i m))
+      → pending ≡ with_all_last o.pending (observers_of m)
+      → Watches (record o { queues = queues; pending = pending }) (noted m x)
+  watches-noted queues pending same_length told pended = record {
+    registrations = w.registrations;
+    made = w.made ∙ sym same_length;
+    queues = λ i lt. told i ∙ ap (λ rs. rs ++ option_to_list (record_for i m)) (w.queues i (omega (arith, same_length))) ∙ sym (queue-noted i m x (w.places i));
+    pending = pended ∙ ap (λ ps. with_all_last ps (observers_of m)) w.pending ∙ sym (pending-noted m x w.notified);
+    places = (timely-noted m x (timely o x w)).places;
+    notified = (timely-noted m x (timely o x w)).last;
+    once = w.once;
+  }
+
+  -- a mutation that interests nobody changes no queue, and not the pending list
+  pub watches-unheard : interested m ≡ [] → Watches o (noted m x)
+  watches-unheard nobody = watches-noted o.queues o.pending refl
+      (λ i. sym (ap (λ rs. slice_index_or o.queues i [] ++ option_to_list (record_by m (filter (λ (r : Registration). r.observer == i) rs))) nobody ∙ append-nil (slice_index_or o.queues i [])))
+      (sym (ap (λ rs. with_all_last o.pending (map (λ (r : Registration). r.observer) rs)) nobody))
+
+  -- where nothing stands on the ancestors, no registration is left behind
+  pub watches-unstood : (node : ℕ) (above : List ℕ) → standing_on above x.registrations ≡ [] → Watches o (with_transients node above x)
+  watches-unstood node above nothing = subst (λ rs. Watches o (record x { registrations = rs })) (sym same_registrations) w
+    where
+      same_registrations : (with_transients node above x).registrations ≡ x.registrations
+      same_registrations = ap (λ ss. x.registrations ++ map (transient_of node) (filter (λ (r : Registration). r.options.subtree) ss)) nothing ∙ append-nil x.registrations
+
+-- Everybody is notified.
+module _ (o : Watchers) (x : Observing) (w : Watches o x) where
+  pub watches-notified : (nodes : List (ℕ × List Registration)) (queues : List (List Record)) (pending : List ℕ)
+      → ((n : ℕ) → on n nodes ≡ filter (λ (r : Registration). is_none r.source) (on n o.nodes))
+      → length queues ≡ length o.queues → ((i : ℕ) → slice_index_or queues i [] ≡ []) → pending ≡ []
+      → Watches (record { nodes = nodes; queues = queues; pending = pending }) (after_notify x)
+  watches-notified nodes queues pending kept same_length empty none = record {
+    registrations = λ n. kept n ∙ ap (filter (λ (r : Registration). is_none r.source)) (w.registrations n) ∙ sym (registered_on-filter n (λ (r : Registration). is_none r.source) x.registrations);
+    made = length-map x.places (λ _. length x.mutations) ∙ w.made ∙ sym same_length;
+    queues = λ i lt. empty i ∙ sym (queue-notified i x (omega (arith, w.made, same_length)));
+    pending = none ∙ sym (pending-notified x);
+    places = λ i. place i (cases_lt i (length x.places));
+    notified = omega arith;
+    once = λ i n. let c = count-filter (is_registered i n) (λ (r : Registration). is_none r.source) x.registrations in let k = w.once i n in omega arith;
+  }
+    where
+      place : (i : ℕ) → ((i < length x.places) ⊎ (length x.places ≤ i)) → slice_index_or (map (λ _. length x.mutations) x.places) i 0 ≤ length x.mutations
+      place i (inl lt) = rw (get_or-map (λ _. length x.mutations) x.places i 0 0 lt) (omega arith)
+      place i (inr le) = rw (get_or_past (map (λ _. length x.mutations) x.places) i 0 (omega (arith, length-map x.places (λ _. length x.mutations)))) (omega arith)

@@ -1,0 +1,88 @@
+-- Each observer that the mutation interests gets its record, and is pending.
+use Rattle.std.proofs.Common.{◌≡◌, ◌<◌, ℕ, Bool, true, false, List, [], ◌∷◌, ◌++◌, length, map, filter, Option, None, Some, refl, ap, sym, ◌∙◌, subst, arith}
+use Rattle.std.specs.Prelude.{flat_map, filter_map, slice_index_or, option_to_list}
+use Rattle.std.specs.List.{AllByRecursion}
+use Rattle.std.specs.Map.{keys_of}
+use Rattle.dom_model.specs.Forests.Forest.{ancestors}
+use Rattle.dom_model.specs.PlainLists.Lists.{among}
+use Rattle.dom_model.specs.Worlds.World.{Registration, Mutation, Observing}
+use Rattle.dom_model.specs.MutationObservers.Observing.{standing_on, registered_on}
+use Rattle.dom_model.specs.MutationObservers.Records.{interests}
+use Rattle.dom_model.proofs.MutationObservers.Queues.{with_all_last}
+use Rattle.dom_observe.specs.Names.{text_of}
+use Rattle.dom_observe.specs.Watchers.{Watchers, Watches, on}
+use Rattle.dom_observe.specs.Registrations.{at, listed, Stands}
+use Rattle.dom_observe.specs.Kept.{nodes_of, queues_of, IsKept}
+use Rattle.dom_observe.specs.Telling.{listeners, flag_of, delivered}
+use Rattle.dom_observe.proofs.Outcomes.{on_ok}
+use Rattle.dom_observe.proofs.Keeping.{on-nodes_of, queues_of-length, nobody}
+use Rattle.dom_observe.proofs.Queued.{standing_on-none, standing_stands, unheard, kept-queued, told-queued, pended-queued}
+use Rattle.dom_observe.proofs.Watching.{watches-noted, watches-unheard}
+use Rattle.dom_observe.proofs.observers.Observers.queue.Goals as goal
+
+none : {A : Type 0} (xs : List A) → length xs ≡ 0 → xs ≡ []
+none [] h = refl
+none (x ∷ xs) h = absurd (omega arith)
+
+pub returns-then-is_empty : goal.returns-then-is_empty
+returns-then-is_empty g c = λ x w.
+    let a = c.self.inside in
+    let ns = ancestors c.args.mutation.target c.args.tree.now.forest in
+    let m : Mutation = record (c.args.mutation) { standing = standing_on ns x.registrations } in
+    let shown = subst (λ (o : Watchers). Watches o x) (sym c.self.view_is) w in
+    let empty = none a.nodes.entries (c.is_empty.ensures.0 c.if-is_empty.true) in
+    let gone = nobody x.registrations (λ n. sym (shown.registrations n) ∙ ap (λ es. on n (nodes_of a.table es)) empty) in
+    watches-unheard c.args.self.now x w m (ap (λ rs. filter (interests m) (standing_on ns rs)) gone ∙ ap (filter (interests m)) (standing_on-none ns))
+
+pub invariant_of-self : goal.invariant_of-self
+invariant_of-self g c =
+    let a = c.self.inside in
+    let qs = queues_of a.queues.items in
+    let bounded = standing_stands (at a.table) (length qs) a.transient (listed a.nodes.entries) _ c.as_slice.result.now c.self.invariant.stand (c.as_slice.ensures.value ∙ c.in_ok-standing.ensures) in
+    kept-queued a.table a.nodes.entries qs a.pending.keys a.transient c.self.invariant qs c.listen.new.pending.keys refl c.listen.ensures.stay (c.listen.ensures.made (length qs) bounded c.self.invariant.made) (λ p off. refl)
+
+pub tell-requires-clause-made : goal.tell-requires-clause-made
+tell-requires-clause-made g c =
+    let a = c.self.inside in
+    let qs = queues_of a.queues.items in
+    let bounded = standing_stands (at a.table) (length qs) a.transient (listed a.nodes.entries) _ c.as_slice.result.now c.self.invariant.stand (c.as_slice.ensures.value ∙ c.in_ok-standing.ensures) in
+    subst (λ l. AllByRecursion (λ o. o < l) (keys_of c.in_ok-heard.heard.entries)) (queues_of-length a.queues.items) (c.in_ok-heard.ensures.known (length qs) bounded)
+
+pub invariant_of-self-2 : goal.invariant_of-self-2
+invariant_of-self-2 g c =
+    let a = c.self.inside in
+    let q = c.question-question.result in
+    let qs = queues_of a.queues.items in
+    let qs' = queues_of c.tell.new.queues.items in
+    let ls = listeners (at a.table) q.what q.target (text_of q.name) c.as_slice.result.now in
+    let bounded = standing_stands (at a.table) (length qs) a.transient (listed a.nodes.entries) _ c.as_slice.result.now c.self.invariant.stand (c.as_slice.ensures.value ∙ c.in_ok-standing.ensures) in
+    kept-queued a.table a.nodes.entries qs a.pending.keys a.transient c.self.invariant qs' c.listen.new.pending.keys
+    (queues_of-length c.tell.new.queues.items ∙ c.tell.ensures.len ∙ sym (queues_of-length a.queues.items))
+    c.listen.ensures.stay (c.listen.ensures.made (length qs) bounded c.self.invariant.made)
+    (λ p off. c.tell.ensures.others p (c.in_ok-heard.ensures.heard p ∙ unheard p ls a.pending.keys c.listen.new.pending.keys c.in_ok-heard.ensures.pending off))
+
+pub returns : goal.returns
+returns g c =
+    on_ok c.tell.result c.tell.ensures.ok (λ given x w.
+    let a = c.self.inside in
+    let q = c.question-question.result in
+    let m = c.args.mutation in
+    let ns = ancestors c.args.mutation.target c.args.tree.now.forest in
+    let u = at a.table in
+    let lists = listed a.nodes.entries in
+    let keys = c.as_slice.result.now in
+    let qs = queues_of a.queues.items in
+    let qs' = queues_of c.tell.new.queues.items in
+    let o : Watchers = record { nodes = nodes_of a.table a.nodes.entries; queues = qs; pending = a.pending.keys } in
+    let shown = subst (λ (o : Watchers). Watches o x) (sym c.self.view_is) w in
+    let has : (n : ℕ) → filter_map u (on n lists) ≡ registered_on n x.registrations = λ n. sym (on-nodes_of a.table n a.nodes.entries) ∙ shown.registrations n in
+    let ls = listeners u q.what q.target (text_of q.name) keys in
+    let heard : ls ≡ listeners u m.type m.target m.name keys = (λ i. listeners u (c.question-question.ensures.what i) (c.question-question.ensures.target i) (c.question-question.ensures.name i) keys) in
+    let target = ap (λ (k : Mutation). k.target) c.mutation.view_is in
+    let is : keys ≡ flat_map (λ n. on n lists) ns = c.as_slice.ensures.value ∙ c.in_ok-standing.ensures ∙ ap (λ t. flat_map (λ n. on n lists) (ancestors t c.args.tree.now.forest)) target in
+    watches-noted o x shown (record (c.args.mutation) { standing = standing_on ns x.registrations }) qs' c.listen.new.pending.keys
+    (queues_of-length c.tell.new.queues.items ∙ c.tell.ensures.len ∙ sym (queues_of-length a.queues.items))
+    (λ p. given p
+    ∙ ap (λ v. slice_index_or qs p [] ++ delivered m v) (c.in_ok-heard.ensures.heard p)
+    ∙ ap (λ rs. slice_index_or qs p [] ++ rs) (told-queued u lists x.registrations has m ns keys is ls heard p))
+    (c.in_ok-heard.ensures.pending ∙ ap (with_all_last a.pending.keys) (pended-queued u lists x.registrations has m ns keys is ls heard)))

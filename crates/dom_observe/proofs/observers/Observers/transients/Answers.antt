@@ -1,0 +1,77 @@
+-- The registrations that stand on the ancestors leave transient ones.
+use Rattle.std.proofs.Common.{◌≡◌, ℕ, Bool, true, false, if◌then◌else◌, ◌==◌, List, [], ◌∷◌, ◌++◌, length, refl, ap, sym, ◌∙◌, subst, arith, append-nil}
+use Rattle.std.specs.Prelude.{flat_map, filter_map}
+use Rattle.std.specs.List.{AllByRecursion}
+use Rattle.std.proofs.lemmas.Bool.{true≢false}
+use Rattle.dom_model.proofs.PlainLists.Numbers.{same_or, same, apart}
+use Rattle.dom_model.specs.Forests.Forest.{ancestors}
+use Rattle.dom_model.specs.Worlds.World.{Registration, Observing}
+use Rattle.dom_model.specs.MutationObservers.Observing.{standing_on, registered_on}
+use Rattle.dom_observe.specs.Watchers.{Watchers, Watches, on}
+use Rattle.dom_observe.specs.Registrations.{at, found, listed, is_live, AllLive, Stands, AllStand, with_added_transients}
+use Rattle.dom_observe.specs.Kept.{nodes_of, queues_of, IsKept}
+use Rattle.dom_observe.proofs.Outcomes.{on_ok}
+use Rattle.dom_observe.proofs.Tables.{live_of_stands}
+use Rattle.dom_observe.proofs.Keeping.{on-nodes_of, kept_table, stand_loosely, all_flat, stands_of, found_standing}
+use Rattle.dom_observe.proofs.Watching.{watches-transients}
+use Rattle.dom_observe.proofs.observers.Observers.transients.Goals as goal
+
+none : {A : Type 0} (xs : List A) → length xs ≡ 0 → xs ≡ []
+none [] h = refl
+none (x ∷ xs) h = absurd (omega arith)
+
+same_as_before : (node n : ℕ) (ss rs : List Registration) → ss ≡ [] → rs ≡ with_added_transients node ss n rs
+same_as_before node n ss rs e = rw e (go (node == n))
+  where
+    go : (b : Bool) → rs ≡ rs ++ (if b then [] else [])
+    go true = sym (append-nil rs)
+    go false = sym (append-nil rs)
+
+pub returns-then-is_empty : goal.returns-then-is_empty
+returns-then-is_empty g c = λ x w.
+    let a = c.self.inside in
+    let o = c.args.self.now in
+    let ns = ancestors c.args.parent c.args.tree.now.forest in
+    let shown = subst (λ (o : Watchers). Watches o x) (sym c.self.view_is) w in
+    let nothing : c.in_ok-standing.standing.items ≡ [] =
+    none c.in_ok-standing.standing.items (
+    let k = c.in_ok-standing.standing.ok in
+    let t : (c.in_ok-standing.standing.len == 0) ≡ true = sym c.is_empty.ensures ∙ c.if-is_empty.true in
+    elim (same_or c.in_ok-standing.standing.len 0) [ same e _ ↦ omega arith | apart _ f ↦ absurd (true≢false (sym t ∙ f)) ]) in
+    let stood = found_standing (at a.table) (listed a.nodes.entries) x.registrations (λ n. sym (on-nodes_of a.table n a.nodes.entries) ∙ shown.registrations n) ns in
+    let nobody : standing_on ns x.registrations ≡ [] = sym stood ∙ ap (found a.table) (sym c.in_ok-standing.ensures ∙ nothing) in
+    watches-transients o x w c.args.node ns o.nodes (λ n. same_as_before c.args.node n (standing_on ns x.registrations) (on n o.nodes) nobody)
+
+pub add_transients-requires-clause-live : goal.add_transients-requires-clause-live
+add_transients-requires-clause-live g c = λ n.
+    let a = c.self.inside in
+    live_of_stands (at a.table) (length (queues_of a.queues.items)) a.transient n (on n (listed a.nodes.entries)) (c.self.invariant.stand n)
+
+pub add_transients-requires-clause-standing : goal.add_transients-requires-clause-standing
+add_transients-requires-clause-standing g c =
+    let a = c.self.inside in
+    let live = λ (n : ℕ). live_of_stands (at a.table) (length (queues_of a.queues.items)) a.transient n (on n (listed a.nodes.entries)) (c.self.invariant.stand n) in
+    subst (AllLive (at a.table)) (sym (c.as_slice.ensures.value ∙ c.in_ok-standing.ensures))
+    (all_flat (λ k. is_live (at a.table) k ≡ true) (listed a.nodes.entries) live (ancestors c.args.parent c.args.tree.now.forest))
+
+pub invariant_of-self : goal.invariant_of-self
+invariant_of-self g c =
+    let a = c.self.inside in
+    let made = length (queues_of a.queues.items) in
+    let bounded = subst (AllByRecursion (Stands (at a.table) made)) (sym (c.as_slice.ensures.value ∙ c.in_ok-standing.ensures))
+    (all_flat (Stands (at a.table) made) (listed a.nodes.entries) (λ n. stands_of (at a.table) made a.transient n (on n (listed a.nodes.entries)) (c.self.invariant.stand n)) (ancestors c.args.parent c.args.tree.now.forest)) in
+    let stand = c.add_transients.ensures.all_stand made bounded (stand_loosely (at a.table) made a.transient (listed a.nodes.entries) c.self.invariant.stand) in
+    kept_table a.table a.nodes.entries (queues_of a.queues.items) a.pending.keys a.transient c.self.invariant c.add_transients.new.table c.add_transients.new.nodes.entries true c.add_transients.ensures.unique stand
+
+pub returns : goal.returns
+returns g c =
+    on_ok c.add_transients.result c.add_transients.ensures.ok (λ added x w.
+    let a = c.self.inside in
+    let ns = ancestors c.args.parent c.args.tree.now.forest in
+    let o : Watchers = record { nodes = nodes_of a.table a.nodes.entries; queues = queues_of a.queues.items; pending = a.pending.keys } in
+    let shown = subst (λ (o : Watchers). Watches o x) (sym c.self.view_is) w in
+    let stood = found_standing (at a.table) (listed a.nodes.entries) x.registrations (λ n. sym (on-nodes_of a.table n a.nodes.entries) ∙ shown.registrations n) ns in
+    let seen : found a.table c.as_slice.result.now ≡ standing_on ns x.registrations = ap (found a.table) (c.as_slice.ensures.value ∙ c.in_ok-standing.ensures) ∙ stood in
+    watches-transients o x shown c.args.node ns (nodes_of c.add_transients.new.table c.add_transients.new.nodes.entries)
+    (λ n. on-nodes_of c.add_transients.new.table n c.add_transients.new.nodes.entries ∙ added n
+    ∙ (λ i. with_added_transients c.args.node (seen i) n (sym (on-nodes_of a.table n a.nodes.entries) i))))

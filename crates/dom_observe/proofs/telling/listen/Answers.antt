@@ -1,0 +1,84 @@
+-- Each key gives one more listener, or none.
+use Rattle.std.proofs.Common.{◌≡◌, ℕ, ◌<◌, ◌==◌, ◌||◌, ◌++◌, [], ◌∷◌, Bool, true, false, if◌then◌else◌, List, Option, Some, None, take, refl, nat_eq, ap, sym, ◌∙◌, subst, append-nil}
+use Rattle.std.specs.Prelude.{slice_index_or, unwrap_or, option_to_list}
+use Rattle.std.specs.List.{AllByRecursion}
+use Rattle.std.specs.Map.{keys_of, lookup}
+use Rattle.dom_model.specs.PlainLists.Lists.{among}
+use Rattle.dom_model.proofs.MutationObservers.Queues.{with_last, with_all_last}
+use Rattle.dom_observe.specs.Names.{text_of}
+use Rattle.dom_observe.specs.Registrations.{at, Stands}
+use Rattle.dom_observe.specs.Telling.{listener_under, listeners, flag_of}
+use Rattle.dom_observe.proofs.Tables.{all_at, found_more}
+use Rattle.dom_observe.proofs.Hearing.{stay-last, bounded-last, listener-made, flag-last, keys_of-append, all_last-append}
+use Rattle.dom_observe.proofs.telling.listen.Goals as goal
+use Rattle.dom_observe.proofs.telling.listen.Goals.{in-Some+in_ok-pend+in_ok-note, in_default}
+
+pub returns-in_err-pend-clause-made : goal.returns-in_err-pend-clause-made
+returns-in_err-pend-clause-made c = λ made s b.
+    subst (AllByRecursion (λ o. o < made)) (sym c.in_err-pend.ensures.err) (c.loop-key.invariant.made made s b)
+
+pub returns-in_err-note-clause-stay : goal.returns-in_err-note-clause-stay
+returns-in_err-note-clause-stay c = λ p h.
+    subst (λ ks. among p ks ≡ true) (sym c.in_ok-pend.ensures.ok) (stay-last p c.in-Some.listener.0 c.loop-key.pending.keys (c.loop-key.invariant.stay p h))
+
+pub returns-in_err-note-clause-made : goal.returns-in_err-note-clause-made
+returns-in_err-note-clause-made c = λ made s b.
+    let q = c.args.question.now in
+    let l : ℕ × Bool = c.in-Some.listener in
+    let some : listener_under (at c.args.table.now) q.what q.target (text_of q.name) (slice_index_or c.args.standing.now c.loop-key.key-index 0) ≡ Some l = sym c.listener_at.ensures ∙ c.in-Some.is in
+    let lt = listener-made (at c.args.table.now) q.what q.target (text_of q.name) made _ l (all_at (Stands (at c.args.table.now) made) c.args.standing.now c.loop-key.key-index 0 s c.loop-key-test.true) some in
+    subst (AllByRecursion (λ o. o < made)) (sym c.in_ok-pend.ensures.ok) (bounded-last made c.in-Some.listener.0 c.loop-key.pending.keys (c.loop-key.invariant.made made s b) lt)
+
+pub loop-key-preserved : goal.loop-key-preserved
+loop-key-preserved c =
+    let q = c.args.question.now in
+    let u = at c.args.table.now in
+    let keys = c.args.standing.now in
+    let i = c.loop-key.key-index in
+    let inv = c.loop-key.invariant in
+    let before = listeners u q.what q.target (text_of q.name) (take i keys) in
+    let more = found_more (listener_under u q.what q.target (text_of q.name)) keys i 0 c.loop-key-test.true in
+    elim c.match-listener_at.branch [
+      | in-Some+in_ok-pend+in_ok-note w ↦
+          let o = w.in-Some.listener.0 in
+          let l : ℕ × Bool = w.in-Some.listener in
+          let some : listener_under u q.what q.target (text_of q.name) (slice_index_or keys i 0) ≡ Some l = sym c.listener_at.ensures ∙ w.in-Some.is in
+          let next = more ∙ ap (λ v. before ++ option_to_list v) some in
+          rw (w.pending-is, w.heard-is) (record {
+            heard = λ p. w.in_ok-note.ensures.ok p
+                ∙ ap (λ v. if o == p then Some (unwrap_or v false || w.in-Some.listener.1) else v) (inv.heard p)
+                ∙ sym (ap (flag_of p) next ∙ flag-last p before l);
+            pending = w.in_ok-pend.ensures.ok
+                ∙ ap (λ ks. with_last ks o) inv.pending
+                ∙ sym (ap (λ ls. with_all_last c.args.pending.now.keys (keys_of ls)) next
+                ∙ ap (with_all_last c.args.pending.now.keys) (keys_of-append before l)
+                ∙ all_last-append c.args.pending.now.keys (keys_of before) o);
+            stay = λ p h. subst (λ ks. among p ks ≡ true) (sym w.in_ok-pend.ensures.ok) (stay-last p o c.loop-key.pending.keys (inv.stay p h));
+            made = λ made s b.
+                subst (AllByRecursion (λ k. k < made)) (sym w.in_ok-pend.ensures.ok)
+                (bounded-last made o c.loop-key.pending.keys (inv.made made s b) (listener-made u q.what q.target (text_of q.name) made _ l (all_at (Stands u made) keys i 0 s c.loop-key-test.true) some));
+            known = λ made s. w.in_ok-note.ensures.made made (listener-made u q.what q.target (text_of q.name) made _ l (all_at (Stands u made) keys i 0 s c.loop-key-test.true) some) (inv.known made s);
+            unique = w.note.ensures.unique;
+          })
+      | in_default w ↦
+          let none : listener_under u q.what q.target (text_of q.name) (slice_index_or keys i 0) ≡ None = sym c.listener_at.ensures ∙ w.in_default.is in
+          let next = more ∙ ap (λ v. before ++ option_to_list v) none ∙ append-nil before in
+          rw (w.pending-is, w.heard-is) (record {
+            heard = λ p. inv.heard p ∙ sym (ap (flag_of p) next);
+            pending = inv.pending ∙ sym (ap (λ ls. with_all_last c.args.pending.now.keys (keys_of ls)) next);
+            stay = inv.stay;
+            made = inv.made;
+            known = inv.known;
+            unique = inv.unique;
+          })
+    ]
+
+pub loop-key-init : goal.loop-key-init
+loop-key-init c = record {
+  heard = λ p. ap (lookup (nat_eq p)) c.new-heard.ensures.empty;
+  pending = refl;
+  stay = λ p h. h;
+  made = λ made s b. b;
+  known = λ made s. subst (λ es. AllByRecursion (λ o. o < made) (keys_of es)) (sym c.new-heard.ensures.empty) tt;
+  unique = c.new-heard.ensures.unique;
+}

@@ -1,0 +1,21 @@
+-- The listeners of the first keys are noted, and pending.
+use Rattle.std.proofs.Common.{◌≡◌, ℕ, ◌<◌, nat_eq, take, true}
+use Rattle.std.specs.List.{AllByRecursion}
+use Rattle.std.specs.Map.{keys_of}
+use Rattle.indexmap.specs.IndexMap.{get, IsUnique}
+use Rattle.dom_model.specs.PlainLists.Lists.{among}
+use Rattle.dom_model.proofs.MutationObservers.Queues.{with_all_last}
+use Rattle.dom_observe.specs.Names.{text_of}
+use Rattle.dom_observe.specs.Registrations.{at, Stands}
+use Rattle.dom_observe.specs.Telling.{listeners, flag_of}
+use Rattle.dom_observe.proofs.telling.listen.Given as goal
+
+abbrev pub invariant-loop-key : goal.invariant-loop-key
+invariant-loop-key l = record {
+  heard : (p : ℕ) → get nat_eq l.heard p ≡ flag_of p (listeners (at l.table) l.question.what l.question.target (text_of l.question.name) (take l.key-index l.standing));
+  pending : l.pending.keys ≡ with_all_last l.initial.pending.keys (keys_of (listeners (at l.table) l.question.what l.question.target (text_of l.question.name) (take l.key-index l.standing)));
+  stay : (p : ℕ) → among p l.initial.pending.keys ≡ true → among p l.pending.keys ≡ true;
+  made : (made : ℕ) → AllByRecursion (Stands (at l.table) made) l.standing → AllByRecursion (λ o. o < made) l.initial.pending.keys → AllByRecursion (λ o. o < made) l.pending.keys;
+  known : (made : ℕ) → AllByRecursion (Stands (at l.table) made) l.standing → AllByRecursion (λ o. o < made) (keys_of l.heard.entries);
+  unique : IsUnique nat_eq l.heard;
+}

@@ -1,0 +1,64 @@
+-- Each listener gets its record once.
+use Rattle.std.proofs.Common.{◌≡◌, ℕ, ◌<◌, ◌==◌, ◌++◌, [], ◌∷◌, Bool, true, false, if◌then◌else◌, List, Option, Some, None, length, take, nat_eq, refl, ap, sym, ◌∙◌, subst, append-nil, arith, suc, ◌+◌, option_map, Bor}
+use Rattle.std.specs.Prelude.{slice_index_or, slice_get}
+use Rattle.std.specs.Map.{lookup}
+use Rattle.dom_model.specs.Worlds.World.{Mutation}
+use Rattle.dom_model.specs.Commands.Reply.{Record}
+use Rattle.dom_model.specs.MutationObservers.Records.{record_with}
+use Rattle.dom_observe.specs.Kept.{queues_of}
+use Rattle.dom_observe.specs.Telling.{delivered}
+use Rattle.dom_observe.proofs.Hearing.{lookup-take, key-at, lookup-next, take-none}
+use Rattle.dom_observe.proofs.telling.tell.Goals as goal
+use Rattle.dom_observe.proofs.telling.tell.Goals.{in-Some+in_ok-told+in_ok-deliver, in_default}
+
+-- one more record, or none
+one_more : (m : Mutation) (old here next : List Record) (r : Record) (asks b : Bool) (before after : Option Bool) → here ≡ old ++ delivered m before
+    → next ≡ (if b then here ++ r ∷ [] else here) → after ≡ (if b then Some asks else before) → (b ≡ true → before ≡ None) → r ≡ record_with m (if asks then m.old_value else None) → next ≡ old ++ delivered m after
+one_more m old here next r asks true before after h n a fresh told =
+    n
+    ∙ ap (λ rs. rs ++ r ∷ []) (h ∙ ap (λ v. old ++ delivered m v) (fresh refl) ∙ append-nil old)
+    ∙ ap (λ s. old ++ s ∷ []) told
+    ∙ sym (ap (λ v. old ++ delivered m v) a)
+one_more m old here next r asks false before after h n a fresh told = n ∙ h ∙ sym (ap (λ v. old ++ delivered m v) a)
+
+pub returns-in_err-told-clause-others : goal.returns-in_err-told-clause-others
+returns-in_err-told-clause-others c = λ p none.
+    let old = slice_index_or (queues_of c.args.queues.now.items) p [] in
+    c.loop-index.invariant.told p ∙ ap (λ v. old ++ delivered c.args.mutation.now v) (lookup-take p c.args.heard.now.entries c.loop-index.index none) ∙ append-nil old
+
+pub deliver-requires : goal.deliver-requires
+deliver-requires c =
+    let at : slice_get c.args.heard.now.entries c.loop-index.index ≡ Some (c.in-Some.observer.now, c.in-Some.asks.now) = sym c.in-Some.ensures.entry in
+    let lt = key-at (λ o. o < length c.args.queues.now.items) c.args.heard.now.entries c.loop-index.index _ at c.requires.made in
+    subst (λ l. c.in-Some.observer.now < l) (sym c.loop-index.invariant.len) lt
+
+pub returns-in_err-deliver-clause-others : goal.returns-in_err-deliver-clause-others
+returns-in_err-deliver-clause-others c = λ p none.
+    let old = slice_index_or (queues_of c.args.queues.now.items) p [] in
+    ap (λ qs. slice_index_or qs p []) c.in_err-deliver.ensures.err
+    ∙ c.loop-index.invariant.told p ∙ ap (λ v. old ++ delivered c.args.mutation.now v) (lookup-take p c.args.heard.now.entries c.loop-index.index none) ∙ append-nil old
+
+pub loop-index-preserved : goal.loop-index-preserved
+loop-index-preserved c =
+    let m = c.args.mutation.now in
+    let es = c.args.heard.now.entries in
+    let i = c.loop-index.index in
+    let inv = c.loop-index.invariant in
+    let next : i + 1 ≡ suc i = omega arith in
+    elim c.match-get_index.branch [
+      | in-Some+in_ok-told+in_ok-deliver w ↦
+          let at : slice_get es i ≡ Some (w.in-Some.observer.now, w.in-Some.asks.now) = sym w.in-Some.ensures.entry in
+          rw w.queues-is (record {
+            len = w.deliver.ensures.len ∙ inv.len;
+            told = λ p.
+                let n = lookup-next p es i (w.in-Some.observer.now, w.in-Some.asks.now) c.requires.unique at in
+                one_more m _ _ _ w.in_ok-told.told w.in-Some.asks.now (w.in-Some.observer.now == p) (lookup (nat_eq p) (take i es)) (lookup (nat_eq p) (take (i + 1) es))
+                (inv.told p) (w.in_ok-deliver.ensures.ok p) (ap (λ k. lookup (nat_eq p) (take k es)) next ∙ n.0) n.1 w.in_ok-told.ensures;
+          })
+      | in_default w ↦
+          let none : slice_get es i ≡ None = sym c.get_index.ensures.entry ∙ ap (option_map (λ (p : Bor ℕ × Bor Bool). (p.0.now, p.1.now))) w.in_default.is in
+          rw w.queues-is (record {
+            len = inv.len;
+            told = λ p. inv.told p ∙ sym (ap (λ k. slice_index_or (queues_of c.args.queues.now.items) p [] ++ delivered m (lookup (nat_eq p) k)) (ap (λ k. take k es) next ∙ take-none es i none));
+          })
+    ]
