@@ -16,3 +16,4 @@ pub mod PartedWorlds
 pub mod MergeInPlace
 pub mod MergeOrder
 pub mod MergedWorlds
+pub mod OrderByWays

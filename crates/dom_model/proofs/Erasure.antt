@@ -10,4 +10,5 @@ pub mod ErasedObserving
 pub mod ErasedObservers
 pub mod ErasedWatchers
 pub mod ErasedDialogues
+pub mod ErasedDiscards
 pub mod DiscardsFelt

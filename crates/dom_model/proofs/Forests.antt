@@ -17,6 +17,7 @@ pub mod PutBack
 pub mod Chains
 pub mod Lots
 pub mod IndexedTrees
+pub mod WaysMeeting
 pub mod Listed
 pub mod Standing
 pub mod Below

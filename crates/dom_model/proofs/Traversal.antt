@@ -11,4 +11,5 @@ pub mod WalksToSiblings
 pub mod WalksMirrored
 pub mod EndingWalks
 pub mod MovesEnough
+pub mod WalksEnd
 pub mod WalksThere

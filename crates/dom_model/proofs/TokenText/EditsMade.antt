@@ -16,4 +16,6 @@ pub mod EditsOfRangeCommands
 pub mod EditsOfOtherCommands
 pub mod EditsOfCommands
 pub mod EditsOfEachCommand
+pub mod FittingEdits
+pub mod MarkersKept
 pub mod WhatEditsDoNotTell

@@ -10,5 +10,6 @@ pub mod TextGaps
 pub mod TextSiblings
 pub mod RootTexts
 pub mod TextsClosedUp
+pub mod NodeTokens
 pub mod PartedTexts
 pub mod MergedTexts
