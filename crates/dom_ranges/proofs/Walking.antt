@@ -1,0 +1,281 @@
+-- A walk along a chain shifts each end of the chain once, also where the ends go to other chains on the way.
+use Rattle.std.proofs.Common.{◌≡◌, ℕ, zero, suc, ◌+◌, ◌≤◌, ◌<◌, ◌^◌, ◌==◌, true, false, cond, if◌then◌else◌, List, [], ◌∷◌, length, map, get_or, set, subst, Option, Some, None, option_map, refl, sym, ap, ◌∙◌, ⊎_elim, arith}
+use Rattle.std.specs.Option.{IsSome}
+use Rattle.std.proofs.lemmas.Bool.{cases_Bool, cases_eq, eq-eqb, ne_eqb, eqb-true, false≢true}
+use Rattle.std.proofs.lemmas.List.{ext_get_or, length-map}
+use Rattle.dom_model.specs.PlainLists.Lists.{hits, among, is_number, head_of, after, left_out}
+use Rattle.dom_model.specs.Worlds.World.{Point}
+use Rattle.dom_links.proofs.Neighbours.{after-none, after-left_out, hits-left_out_other}
+use Rattle.dom_links.proofs.Counting.{length-le_from_once}
+use Rattle.dom_ranges.specs.declared.chains.End.{End}
+use Rattle.dom_ranges.specs.Chained.{end_at, point_at, points_of, head_at, stands_at, IsChained, HasChains, Rechains, moved_first, on_node, MovesWithin}
+use Rattle.dom_ranges.proofs.Chained.{once, chained-within}
+use Rattle.dom_ranges.proofs.Steps.{points-at, points-length, same-length, point-written, point-kept}
+
+-- the ends along a list of links, no more than the fuel
+abbrev pub along : List End → ℕ → Option ℕ → List ℕ
+along t zero link = []
+along t (suc k) None = []
+along t (suc k) (Some e) = e ∷ along t k (end_at t e).next
+
+-- hits in a list with a head
+pub hits-first : (e : ℕ) (xs : List ℕ) → hits e (e ∷ xs) ≡ 1 + hits e xs
+hits-first e xs = rw (eq-eqb e e refl) refl
+
+pub hits-rest : (k e : ℕ) (xs : List ℕ) → (k ≡ e → ⊥) → hits k (e ∷ xs) ≡ hits k xs
+hits-rest k e xs d = rw (ne_eqb e k (λ q. d (sym q))) (omega arith)
+
+pub after-first : (e : ℕ) (xs : List ℕ) → after e (e ∷ xs) ≡ head_of xs
+after-first e xs = rw (eq-eqb e e refl) refl
+
+pub after-rest : (k e : ℕ) (xs : List ℕ) → (k ≡ e → ⊥) → after k (e ∷ xs) ≡ after k xs
+after-rest k e xs d = rw (ne_eqb e k (λ q. d (sym q))) refl
+
+pub among-first : (e : ℕ) (xs : List ℕ) → among e (e ∷ xs) ≡ true
+among-first e xs = rw (eq-eqb e e refl) refl
+
+pub among-rest : (k e : ℕ) (xs : List ℕ) → (k ≡ e → ⊥) → among k (e ∷ xs) ≡ among k xs
+among-rest k e xs d = rw (ne_eqb e k (λ q. d (sym q))) refl
+
+pub among-absent : (e : ℕ) (xs : List ℕ) → hits e xs ≡ 0 → among e xs ≡ false
+among-absent e [] h = refl
+among-absent e (x ∷ xs) h =
+    ⊎_elim (λ (q : e ≡ x). let a : 1 + hits e xs ≡ 0 = sym (hits-first e xs) ∙ ap (λ y. hits e (y ∷ xs)) q ∙ h in absurd (omega arith))
+    (λ (d : e ≡ x → ⊥). among-rest e x xs d ∙ among-absent e xs (sym (hits-rest e x xs d) ∙ h)) (cases_eq e x)
+
+pub absent-among : (e : ℕ) (xs : List ℕ) → among e xs ≡ false → hits e xs ≡ 0
+absent-among e [] n = refl
+absent-among e (x ∷ xs) n =
+    ⊎_elim (λ (q : e ≡ x). let a : true ≡ false = sym (among-first e xs) ∙ ap (λ y. among e (y ∷ xs)) q ∙ n in absurd (false≢true (sym a)))
+    (λ (d : e ≡ x → ⊥). hits-rest e x xs d ∙ absent-among e xs (sym (among-rest e x xs d) ∙ n)) (cases_eq e x)
+
+pub among-there : (e : ℕ) (xs : List ℕ) → among e xs ≡ true → 0 < hits e xs
+among-there e xs h = ⊎_elim (λ (z : hits e xs ≡ 0). let a : false ≡ true = sym (among-absent e xs z) ∙ h in absurd (false≢true a)) (λ (d : hits e xs ≡ 0 → ⊥). omega arith) (cases_eq (hits e xs) 0)
+
+pub along-rest : (t : List End) (fuel : ℕ) (rest : List ℕ) → ((e : ℕ) → hits e rest ≤ 1) → ((e : ℕ) → 0 < hits e rest → (end_at t e).next ≡ after e rest) → length rest ≤ fuel → along t fuel (head_of rest) ≡ rest
+along-rest t zero [] one next few = refl
+along-rest t zero (e ∷ es) one next few = absurd (omega arith)
+along-rest t (suc k) [] one next few = refl
+along-rest t (suc k) (e ∷ es) one next few =
+    let h = hits-first e es in
+    let n : (end_at t e).next ≡ head_of es = next e (omega arith) ∙ after-first e es in
+    ap (λ xs. e ∷ xs) (ap (along t k) n ∙ along-rest t k es one' next' (omega arith))
+  where
+    out : hits e es ≡ 0
+    out = omega (arith, one e, hits-first e es)
+
+    other : (k : ℕ) → 0 < hits k es → k ≡ e → ⊥
+    other k h q = let z : 0 < hits e es = rw q at h in omega (arith, out)
+
+    one' : (k : ℕ) → hits k es ≤ 1
+    one' k = omega (arith, one k)
+
+    next' : (k : ℕ) → 0 < hits k es → (end_at t k).next ≡ after k es
+    next' k h = let d = other k h in next k (omega (arith, hits-rest k e es d)) ∙ after-rest k e es d
+
+-- how far a walk has come: the ends of the rest stand as they stood, and the others of the node are shifted
+pub record IsWalked (node : ℕ) (move : Point → Point) (t0 : List End) (covered : ℕ) (t : List End) (heads : List (Option ℕ)) (chain : ℕ → List ℕ) (rest : List ℕ) : Type 0 where
+  pub chained : IsChained chain t heads
+  pub one : (e : ℕ) → hits e rest ≤ 1
+  pub inside : (e : ℕ) → 0 < hits e rest → 0 < hits e (chain node)
+  pub follows : (e : ℕ) → 0 < hits e rest → after e (chain node) ≡ after e rest
+  pub points : (e : ℕ) → point_at t e ≡ (if among e rest then point_at t0 e else option_map (on_node node move) (point_at t0 e))
+  pub long : length t ≡ length t0
+  pub wide : length heads ≡ covered
+
+pub record Walks (node : ℕ) (move : Point → Point) (t0 : List End) (covered : ℕ) (t : List End) (heads : List (Option ℕ)) (here : Option ℕ) : Type 0 where
+  pub chain : ℕ → List ℕ
+  pub rest : List ℕ
+  pub starts : here ≡ head_of rest
+  pub walked : IsWalked node move t0 covered t heads chain rest
+
+on_other : (node : ℕ) (move : Point → Point) (o : Option Point) → stands_at node o ≡ 0 → o ≡ option_map (on_node node move) o
+on_other node move None h = refl
+on_other node move (Some p) h =
+    ⊎_elim (λ (y : (p.node == node) ≡ true). let z : cond true 1 0 ≡ 0 = rw y at h in absurd (omega arith)) (λ (y : (p.node == node) ≡ false). rw y refl) (cases_Bool (p.node == node))
+
+pub Walks-start : (node : ℕ) (move : Point → Point) (t : List End) (heads : List (Option ℕ)) (here : Option ℕ) → HasChains t heads → here ≡ head_at heads node → Walks node move t (length heads) t heads here
+Walks-start node move t heads here has h = record {
+  chain = has.chain;
+  rest = has.chain node;
+  starts = h ∙ has.chained.first node;
+  walked = record {
+    chained = has.chained;
+    one = λ e. once has.chain t heads has.chained e node;
+    inside = λ e l. l;
+    follows = λ e l. refl;
+    points = points;
+    long = refl;
+    wide = refl;
+  };
+}
+  where
+    points : (e : ℕ) → point_at t e ≡ (if among e (has.chain node) then point_at t e else option_map (on_node node move) (point_at t e))
+    points e =
+        ⊎_elim (λ (z : hits e (has.chain node) ≡ 0).
+        let a = among-absent e (has.chain node) z in
+        let s : stands_at node (point_at t e) ≡ 0 = sym (has.chained.counted e node) ∙ z in
+        rw a (on_other node move (point_at t e) s))
+        (λ (d : hits e (has.chain node) ≡ 0 → ⊥).
+        ⊎_elim (λ (y : among e (has.chain node) ≡ true). rw y refl)
+        (λ (n : among e (has.chain node) ≡ false). absurd (d (absent-among e (has.chain node) n))) (cases_Bool (among e (has.chain node)))) (cases_eq (hits e (has.chain node)) 0)
+
+module _ (node : ℕ) (move : Point → Point) (t0 : List End) (covered : ℕ) (t : List End) (heads : List (Option ℕ)) (chain : ℕ → List ℕ) where
+  -- along the links lies just the rest
+  pub measured : (rest : List ℕ) → IsWalked node move t0 covered t heads chain rest → along t (length t) (head_of rest) ≡ rest
+  measured rest w = along-rest t (length t) rest w.one next few
+    where
+      next : (e : ℕ) → 0 < hits e rest → (end_at t e).next ≡ after e rest
+      next e h = w.chained.next e node (w.inside e h) ∙ w.follows e h
+
+      few : length rest ≤ length t
+      few =
+          length-le_from_once (length t) rest w.one (λ i past.
+          ⊎_elim (λ (z : hits i rest ≡ 0). z) (λ (d : hits i rest ≡ 0 → ⊥).
+          let l : i < length t = chained-within chain t heads w.chained i node (w.inside i (omega arith)) in
+          absurd (omega arith)) (cases_eq (hits i rest) 0))
+
+  module _ (id : ℕ) (es : List ℕ) (w : IsWalked node move t0 covered t heads chain (id ∷ es)) where
+    chained-here : 0 < hits id (chain node)
+    chained-here = w.inside id (omega (arith, hits-first id es))
+
+    pub id-within : id < length t
+    id-within = chained-within chain t heads w.chained id node chained-here
+
+    pub id-live : IsSome (point_at t id)
+    id-live = go (point_at t id) (omega (arith, chained-here, w.chained.counted id node))
+      where
+        go : (o : Option Point) → 0 < stands_at node o → IsSome o
+        go None h = absurd (omega arith)
+        go (Some p) h = refl
+
+    pub id-node : (p : Point) → point_at t id ≡ Some p → p.node ≡ node
+    id-node p h =
+        let a : 0 < stands_at node (point_at t id) = omega (arith, chained-here, w.chained.counted id node) in
+        let b : 0 < stands_at node (Some p) = rw h at a in
+        ⊎_elim (λ (y : (p.node == node) ≡ true). eqb-true p.node node y) (λ (y : (p.node == node) ≡ false). let z : 0 < cond false 1 0 = rw y at b in absurd (omega arith)) (cases_Bool (p.node == node))
+
+    pub id-stood : point_at t id ≡ point_at t0 id
+    id-stood = let a = among-first id es in w.points id ∙ rw a refl
+
+    pub id-next : (end_at t id).next ≡ head_of es
+    id-next = w.chained.next id node chained-here ∙ w.follows id (omega (arith, hits-first id es)) ∙ after-first id es
+
+    out : hits id es ≡ 0
+    out = omega (arith, w.one id, hits-first id es)
+
+    other : (k : ℕ) → 0 < hits k es → k ≡ id → ⊥
+    other k h q = let z : 0 < hits id es = rw q at h in omega (arith, out)
+
+    pub stepped : (p q : Point) → point_at t id ≡ Some p → q ≡ move p → (t' : List End) (heads' : List (Option ℕ)) → points_of t' ≡ set (points_of t) id (Some q) → Rechains (moved_first id q.node) t heads t' heads' → length heads' ≡ length heads
+        → IsWalked node move t0 covered t' heads' (moved_first id q.node chain) es
+    stepped p q at moves t' heads' written rechained wide = record {
+      chained = rechained chain w.chained;
+      one = λ k. omega (arith, w.one k);
+      inside = inside;
+      follows = follows;
+      points = points;
+      long = same-length t t' id (Some q) written ∙ w.long;
+      wide = wide ∙ w.wide;
+    }
+      where
+        fewer : List ℕ
+        fewer = left_out id (chain node)
+
+        first : (k : ℕ) → (k ≡ id → ⊥) → hits k (moved_first id q.node chain node) ≡ hits k (chain node)
+        first k d =
+            ⊎_elim (λ (y : (q.node == node) ≡ true). rw y (hits-rest k id (left_out id (chain node)) d ∙ hits-left_out_other k id (chain node) (λ e. d (sym e))))
+            (λ (y : (q.node == node) ≡ false). rw y (hits-left_out_other k id (chain node) (λ e. d (sym e)))) (cases_Bool (q.node == node))
+
+        inside : (k : ℕ) → 0 < hits k es → 0 < hits k (moved_first id q.node chain node)
+        inside k h = let d = other k h in omega (arith, first k d, w.inside k (omega (arith, hits-rest k id es d)))
+
+        second : (k : ℕ) → (k ≡ id → ⊥) → after k (moved_first id q.node chain node) ≡ after k (left_out id (chain node))
+        second k d =
+            ⊎_elim (λ (y : (q.node == node) ≡ true). rw y (after-rest k id (left_out id (chain node)) d))
+            (λ (y : (q.node == node) ≡ false). rw y refl) (cases_Bool (q.node == node))
+
+        follows : (k : ℕ) → 0 < hits k es → after k (moved_first id q.node chain node) ≡ after k es
+        follows k h =
+            let d = other k h in
+            let a : after k (chain node) ≡ after k es = w.follows k (omega (arith, hits-rest k id es d)) ∙ after-rest k id es d in
+            let b : is_number (after k (chain node)) id ≡ false = rw a (after-none k id es out) in
+            second k d ∙ after-left_out k id (chain node) d (once chain t heads w.chained id node) ∙ rw b a
+
+        stood : point_at t0 id ≡ Some p
+        stood = sym id-stood ∙ at
+
+        points : (k : ℕ) → point_at t' k ≡ (if among k es then point_at t0 k else option_map (on_node node move) (point_at t0 k))
+        points k =
+            ⊎_elim (λ (e : k ≡ id).
+            let a : among k es ≡ false = rw e (among-absent id es out) in
+            let n : (p.node == node) ≡ true = eq-eqb p.node node (id-node p at) in
+            let b : option_map (on_node node move) (Some p) ≡ Some q = rw n (ap Some (sym moves)) in
+            let g : point_at t' k ≡ Some q = rw e (point-written t t' id (Some q) id-within written) in
+            rw a (g ∙ sym b ∙ ap (option_map (on_node node move)) (sym stood ∙ ap (point_at t0) (sym e))))
+            (λ (d : k ≡ id → ⊥).
+            let a = among-rest k id es d in
+            point-kept t t' id k (Some q) d written ∙ w.points k ∙ rw a refl) (cases_eq k id)
+
+-- the same for a walk that has come to an end
+module _ (node : ℕ) (move : Point → Point) (t0 : List End) (covered : ℕ) (t : List End) (heads : List (Option ℕ)) (here : Option ℕ) (walk : Walks node move t0 covered t heads here) where
+  pub record At (id : ℕ) : Type 0 where
+    pub es : List ℕ
+    pub is : IsWalked node move t0 covered t heads walk.chain (id ∷ es)
+
+  pub at-some : (id : ℕ) → here ≡ Some id → At id
+  at-some id q = go walk.rest walk.walked (sym walk.starts ∙ q)
+    where
+      go : (rest : List ℕ) → IsWalked node move t0 covered t heads walk.chain rest → head_of rest ≡ Some id → At id
+      go [] w h = cc
+      go (x ∷ es) w h = let e : x ≡ id = cc in record { es = es; is = subst (λ y. IsWalked node move t0 covered t heads walk.chain (y ∷ es)) e w }
+
+  module _ (id : ℕ) (q : here ≡ Some id) where
+    there : At id
+    there = at-some id q
+
+    pub walk-within : id < length t
+    walk-within = id-within node move t0 covered t heads walk.chain id there.es there.is
+
+    pub walk-live : IsSome (point_at t id)
+    walk-live = id-live node move t0 covered t heads walk.chain id there.es there.is
+
+    pub walk-moves : (p : Point) → point_at t id ≡ Some p → MovesWithin node move t0 covered → (p.offset < 2 ^ 64 → (move p).offset < 2 ^ 64) × ((move p).node < length heads)
+    walk-moves p h within =
+        let w = there.is in
+        let m = within id p (sym (id-stood node move t0 covered t heads walk.chain id there.es w) ∙ h) (id-node node move t0 covered t heads walk.chain id there.es w p h) in
+        (m.0, omega (arith, m.1, w.wide))
+
+    module _ (p r : Point) (at : point_at t id ≡ Some p) (moves : r ≡ move p) (t' : List End) (heads' : List (Option ℕ)) (written : points_of t' ≡ set (points_of t) id (Some r)) (rechained : Rechains (moved_first id r.node) t heads t' heads') (wide : length heads' ≡ length heads) where
+      on : IsWalked node move t0 covered t' heads' (moved_first id r.node walk.chain) there.es
+      on = stepped node move t0 covered t heads walk.chain id there.es there.is p r at moves t' heads' written rechained wide
+
+      pub walk-step : Walks node move t0 covered t' heads' (end_at t id).next
+      walk-step = record {
+        chain = moved_first id r.node walk.chain;
+        rest = there.es;
+        starts = id-next node move t0 covered t heads walk.chain id there.es there.is;
+        walked = on;
+      }
+
+      pub walk-smaller : length (along t' (length t') (end_at t id).next) < length (along t (length t) here)
+      walk-smaller =
+          let a : along t' (length t') (end_at t id).next ≡ there.es =
+          ap (along t' (length t')) (id-next node move t0 covered t heads walk.chain id there.es there.is) ∙ measured node move t0 covered t' heads' (moved_first id r.node walk.chain) there.es on in
+          let b : along t (length t) here ≡ id ∷ there.es = ap (along t (length t)) q ∙ measured node move t0 covered t heads walk.chain (id ∷ there.es) there.is in
+          omega (arith, ap length a, ap length b)
+
+  pub walk-end : here ≡ None → points_of t ≡ map (λ (o : Option Point). option_map (on_node node move) o) (points_of t0)
+  walk-end q = go walk.rest walk.walked (sym walk.starts ∙ q)
+    where
+      mapped : (ps : List (Option Point)) (e : ℕ) → get_or (map (λ (o : Option Point). option_map (on_node node move) o) ps) e None ≡ option_map (on_node node move) (get_or ps e None)
+      mapped [] e = refl
+      mapped (x ∷ xs) zero = refl
+      mapped (x ∷ xs) (suc e) = mapped xs e
+
+      go : (rest : List ℕ) → IsWalked node move t0 covered t heads walk.chain rest → head_of rest ≡ None → points_of t ≡ map (λ (o : Option Point). option_map (on_node node move) o) (points_of t0)
+      go (x ∷ es) w h = cc
+      go [] w h =
+          ext_get_or None (points_of t) (map (λ (o : Option Point). option_map (on_node node move) o) (points_of t0))
+          (points-length t ∙ w.long ∙ sym (points-length t0) ∙ sym (length-map (points_of t0) (λ (o : Option Point). option_map (on_node node move) o)))
+          (λ e l. points-at t e ∙ w.points e ∙ ap (option_map (on_node node move)) (sym (points-at t0 e)) ∙ sym (mapped (points_of t0) e))

@@ -1,0 +1,29 @@
+-- The parent closes up, and what stands inside goes to where the node stood.
+use Rattle.std.proofs.Common.{sym, ap, ◌∙◌}
+use Rattle.dom_model.specs.Forests.Forest.{inclusive_descendants, index_of}
+use Rattle.dom_model.specs.BoundaryPoints.Points.{after_splice, map_ranges}
+use Rattle.dom_ranges.specs.Tables.{moved_in}
+use Rattle.dom_ranges.proofs.Inside.{still-removed, closed-removed, gathered-removed, if-some}
+use Rattle.dom_ranges.proofs.ranges.Ranges.removing.Goals as goal
+
+pub returns-then-not-stands_in : goal.returns-then-not-stands_in
+returns-then-not-stands_in g c =
+    if-some _ _ c.unwrap-parent.result (sym c.parent.ensures ∙ c.unwrap-parent.ensures)
+    (still-removed c.args.self.now (inclusive_descendants c.args.tree.now.forest c.args.node) c.unwrap-parent.result (index_of c.args.tree.now.forest c.args.node)
+    (sym c.refers-inside.ensures ∙ c.if-not-inside.true) (sym c.stands_in.ensures ∙ c.if-not-stands_in.true))
+
+pub returns-then-inside : goal.returns-then-inside
+returns-then-inside g c =
+    let i = c.index-index.ensures in
+    if-some _ _ c.unwrap-parent.result (sym c.parent.ensures ∙ c.unwrap-parent.ensures)
+    (gathered-removed c.args.self.now (inclusive_descendants c.args.tree.now.forest c.args.node) c.unwrap-parent.result (index_of c.args.tree.now.forest c.args.node)
+    c.close_up.new.self c.gather.new.self
+    (c.close_up.ensures ∙ ap (λ n. record c.args.self.now { ranges = map_ranges (after_splice c.unwrap-parent.result n 1 0) c.args.self.now.ranges }) i)
+    (c.gather.ensures ∙ ap (λ n. record c.close_up.new.self { ranges = map_ranges (moved_in (inclusive_descendants c.args.tree.now.forest c.args.node) (record { node = c.unwrap-parent.result; offset = n })) c.close_up.new.self.ranges }) i))
+
+pub returns-else-inside : goal.returns-else-inside
+returns-else-inside g c =
+    if-some _ _ c.unwrap-parent.result (sym c.parent.ensures ∙ c.unwrap-parent.ensures)
+    (closed-removed c.args.self.now (inclusive_descendants c.args.tree.now.forest c.args.node) c.unwrap-parent.result (index_of c.args.tree.now.forest c.args.node)
+    c.close_up.new.self (sym c.refers-inside.ensures ∙ c.if-inside.false)
+    (c.close_up.ensures ∙ ap (λ n. record c.args.self.now { ranges = map_ranges (after_splice c.unwrap-parent.result n 1 0) c.args.self.now.ranges }) c.index-index.ensures))

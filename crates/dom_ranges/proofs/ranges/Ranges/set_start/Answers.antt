@@ -1,0 +1,17 @@
+use Rattle.std.proofs.Common.{sym, ap, ◌∙◌}
+use Rattle.dom_model.specs.Worlds.World.{Point}
+use Rattle.dom_model.specs.Forests.Forest.{root_of}
+use Rattle.dom_ranges.proofs.Ends.{one-root}
+use Rattle.dom_ranges.proofs.ranges.Ranges.set_start.Goals as goal
+
+pub same_root-requires-clause-b_held : goal.same_root-requires-clause-b_held
+same_root-requires-clause-b_held g c = rw (ap (λ (q : Point). q.node) c.start.view_is) (c.requires.stands _ c.ends-start.ensures.ends).start
+
+pub is_before-requires-clause-a_held : goal.is_before-requires-clause-a_held
+is_before-requires-clause-a_held g c = (c.requires.stands _ c.ends-start.ensures.ends).end
+
+pub is_before-requires-clause-one_root : goal.is_before-requires-clause-one_root
+is_before-requires-clause-one_root g c =
+    sym (c.requires.stands _ c.ends-start.ensures.ends).one_root
+    ∙ ap (λ (q : Point). root_of c.args.tree.now.forest q.node) (sym c.start.view_is)
+    ∙ sym (one-root c.args.tree.now.forest c.p.inside.node c.start.inside.node (sym c.same_root.ensures ∙ c.if-same_root.true))

@@ -1,0 +1,106 @@
+-- The chains that a table of ends spells: for each node the ends that stand in it, each once.
+use Rattle.std.specs.Prelude.{◌≡◌, ℕ, ◌<◌, ◌^◌, ◌==◌, if◌then◌else◌, List, ◌∷◌, map, slice_index_or, slice_set, Option, Some, None}
+use Rattle.dom_model.specs.PlainLists.Lists.{hits, head_of, after, before, left_out}
+use Rattle.dom_model.specs.Worlds.World.{Point}
+use Rattle.dom_ranges.specs.declared.chains.End.{End}
+
+-- an end of no live range
+abbrev pub free_end : End
+free_end = record { point = None; prev = None; next = None }
+
+abbrev pub end_at : List End → ℕ → End
+end_at t e = slice_index_or t e free_end
+
+abbrev pub point_at : List End → ℕ → Option Point
+point_at t e = (end_at t e).point
+
+-- where the ends of a table stand
+abbrev pub points_of : List End → List (Option Point)
+points_of t = map (λ (e : End). e.point) t
+
+-- the first end of a node's chain
+abbrev pub head_at : List (Option ℕ) → ℕ → Option ℕ
+head_at heads n = slice_index_or heads n None
+
+-- 1 where the point stands in the node
+abbrev pub stands_at : ℕ → Option Point → ℕ
+stands_at n None = 0
+stands_at n (Some p) = if p.node == n then 1 else 0
+
+-- each node's chain is spelled in both directions, and has the ends that stand in the node, each once
+pub record IsChained (chain : ℕ → List ℕ) (t : List End) (heads : List (Option ℕ)) : Type 0 where
+  pub first : (n : ℕ) → head_at heads n ≡ head_of (chain n)
+  pub counted : (e n : ℕ) → hits e (chain n) ≡ stands_at n (point_at t e)
+  pub next : (e n : ℕ) → 0 < hits e (chain n) → (end_at t e).next ≡ after e (chain n)
+  pub prev : (e n : ℕ) → 0 < hits e (chain n) → (end_at t e).prev ≡ before e (chain n)
+
+pub record HasChains (t : List End) (heads : List (Option ℕ)) : Type 0 where
+  pub chain : ℕ → List ℕ
+  pub chained : IsChained chain t heads
+
+-- a link leads to one of so many ends
+abbrev pub ForLink : Option ℕ → ℕ → Type 0
+ForLink None count = Unit {0}
+ForLink (Some e) count = e < count
+
+-- what follows `prev` is `next`
+abbrev pub led_on : Option ℕ → Option ℕ → List End → List End
+led_on None next t = t
+led_on (Some p) next t = slice_set t p (record (end_at t p) { next = next })
+
+-- the chain of a node in which nothing comes before `next` begins with it
+abbrev pub heads_led : Option ℕ → ℕ → Option ℕ → List (Option ℕ) → List (Option ℕ)
+heads_led None n next heads = slice_set heads n next
+heads_led (Some p) n next heads = heads
+
+-- what comes before `next` is `prev`
+abbrev pub led_back : Option ℕ → Option ℕ → List End → List End
+led_back None prev t = t
+led_back (Some n) prev t = slice_set t n (record (end_at t n) { prev = prev })
+
+-- the table, with an end taken out of its chain
+abbrev pub table_without : ℕ → List End → List End
+table_without e t = slice_set (led_back (end_at t e).next (end_at t e).prev (led_on (end_at t e).prev (end_at t e).next t)) e free_end
+
+abbrev pub heads_without : ℕ → ℕ → List End → List (Option ℕ) → List (Option ℕ)
+heads_without e n t heads = heads_led (end_at t e).prev n (end_at t e).next heads
+
+-- the table, with a free end put at a point, first in the chain of its node
+abbrev pub table_with : ℕ → Point → List (Option ℕ) → List End → List End
+table_with e p heads t =
+    slice_set (led_back (head_at heads p.node) (Some e) t) e (record { point = Some p; prev = None; next = head_at heads p.node })
+
+abbrev pub heads_with : ℕ → Point → List (Option ℕ) → List (Option ℕ)
+heads_with e p heads = slice_set heads p.node (Some e)
+
+-- each node's chain without an end
+abbrev pub unchained : ℕ → (ℕ → List ℕ) → ℕ → List ℕ
+unchained e chain n = left_out e (chain n)
+
+-- the chains, with an end first in the chain of a node
+abbrev pub chained_first : ℕ → ℕ → (ℕ → List ℕ) → ℕ → List ℕ
+chained_first e node chain n = if node == n then e ∷ chain n else chain n
+
+-- the chains, with an end taken out of its chain and put first in that of a node
+abbrev pub moved_first : ℕ → ℕ → (ℕ → List ℕ) → ℕ → List ℕ
+moved_first e node chain n = chained_first e node (unchained e chain) n
+
+-- what a change of chains does to whichever chains there are
+abbrev pub Rechains : ((ℕ → List ℕ) → ℕ → List ℕ) → List End → List (Option ℕ) → List End → List (Option ℕ) → Type 0
+Rechains change t heads t' heads' = (chain : ℕ → List ℕ) → IsChained chain t heads → IsChained (change chain) t' heads'
+
+-- a map of the points of one node
+abbrev pub on_node : ℕ → (Point → Point) → Point → Point
+on_node node move p = if p.node == node then move p else p
+
+-- where a map leads each point of a node there is a chain, and its offset is a number of the machine
+abbrev pub MovesWithin : ℕ → (Point → Point) → List End → ℕ → Type 0
+MovesWithin node move t covered = (e : ℕ) (p : Point) → point_at t e ≡ Some p → p.node ≡ node → (p.offset < 2 ^ 64 → (move p).offset < 2 ^ 64) × ((move p).node < covered)
+
+-- of two nodes that differ, no point of the first goes to the second
+abbrev pub GoesElsewhere : ℕ → ℕ → (Point → Point) → Type 0
+GoesElsewhere first second move = (p : Point) → (first ≡ second → ⊥) → p.node ≡ first → (move p).node ≡ second → ⊥
+
+-- points of other nodes than two stay
+abbrev pub StaysBeside : ℕ → ℕ → (Point → Point) → Type 0
+StaysBeside first second move = (p : Point) → (p.node ≡ first → ⊥) → (p.node ≡ second → ⊥) → move p ≡ p

@@ -1,0 +1,96 @@
+-- The table of live ranges, and what it is to be in order. DOM Standard, "Live ranges".
+use Rattle.std.specs.Prelude.{◌≡◌, ℕ, ◌+◌, ◌^◌, ◌<◌, ◌≤◌, false, if◌then◌else◌, List, [], ◌∷◌, length, slice_index_or, Option, Some, None, IfSome, is_some, Result, Ok, Err}
+use Rattle.std.specs.List.{All, flat_map}
+use Rattle.std.specs.declared.cmp.Ordering.TheVariants.{Greater}
+use Rattle.dom_model.specs.declared.Kind.TheVariants.{DocumentType}
+use Rattle.dom_model.specs.declared.DomError.{DomError}
+use Rattle.dom_model.specs.Worlds.World.{Point, Range}
+use Rattle.dom_model.specs.PlainLists.Lists.{among}
+use Rattle.dom_model.specs.Forests.Forest.{Forest, HasNode, root_of}
+use Rattle.dom_model.specs.BoundaryPoints.Points.{order_of}
+use Rattle.dom_model.specs.MutationAlgorithms.Checks.{is_of_kind}
+use Rattle.dom_model.specs.Forests.Lengths.{node_length}
+use Rattle.dom_model.specs.MutationAlgorithms.Discarding.{nodes_of_live}
+use Rattle.dom_ranges.specs.declared.chains.End.{End}
+use Rattle.dom_ranges.specs.Chained.{points_of, HasChains}
+
+-- the live ranges by number, none where one was released, and how many nodes may have ends
+pub record RangeTable : Type 0 where
+  pub ranges : List (Option Range)
+  pub covered : ℕ
+
+-- a live range; none where its number was not given out, or was released
+abbrev pub range_in : RangeTable → ℕ → Option Range
+range_in t r = slice_index_or t.ranges r None
+
+-- the nodes in which ends of live ranges stand
+abbrev pub live_nodes : RangeTable → List ℕ
+live_nodes t = flat_map nodes_of_live t.ranges
+
+-- both offsets fit a number of the machine once they are moved, as they do before
+pub record FitsMoved (move : Point → Point) (r : Range) : Type 0 where
+  pub start : r.start.offset < 2 ^ 64 → (move r.start).offset < 2 ^ 64
+  pub end : r.end.offset < 2 ^ 64 → (move r.end).offset < 2 ^ 64
+
+-- the same of every live range
+abbrev pub OffsetsFit : (Point → Point) → List (Option Range) → Type 0
+OffsetsFit move ranges = All (λ (r : Option Range). IfSome r (FitsMoved move)) ranges
+
+-- an answer that is a refusal or nothing
+abbrev pub refused : Option DomError → Result (Unit {0}) DomError
+refused None = Ok tt
+refused (Some e) = Err e
+
+-- the points in any of these nodes go to one point
+abbrev pub moved_in : List ℕ → Point → Point → Point
+moved_in inside to p = if among p.node inside then to else p
+
+module _ {X : Type 0} where
+  -- a boundary point: a node of the forest that is no doctype, and an offset within its length
+  pub record IsBoundaryIn (measure : X → ℕ) (f : Forest X) (p : Point) : Type 0 where
+    pub there : HasNode f p.node
+    pub kind : is_of_kind DocumentType f p.node ≡ false
+    pub within : p.offset ≤ node_length measure f p.node
+
+  -- a live range: two boundary points of one root, of which the start does not come after the end
+  pub record IsRangeIn (measure : X → ℕ) (f : Forest X) (r : Range) : Type 0 where
+    pub starts : IsBoundaryIn measure f r.start
+    pub ends : IsBoundaryIn measure f r.end
+    pub one_root : root_of f r.start.node ≡ root_of f r.end.node
+    pub in_order : order_of f r.start r.end ≡ Greater → ⊥
+
+  -- both ends stand in nodes of one root
+  pub record StandsIn (f : Forest X) (r : Range) : Type 0 where
+    pub start : HasNode f r.start.node
+    pub end : HasNode f r.end.node
+    pub one_root : root_of f r.start.node ≡ root_of f r.end.node
+
+-- the range from one end to another, where both stand somewhere
+abbrev pub both : Option Point → Option Point → Option Range
+both None end = None
+both (Some start) None = None
+both (Some start) (Some end) = Some (record { start = start; end = end })
+
+-- the ranges of a table of ends, two to each
+abbrev pub paired : List (Option Point) → List (Option Range)
+paired [] = []
+paired (start ∷ []) = []
+paired (start ∷ end ∷ rest) = both start end ∷ paired rest
+
+-- each range has two ends, and either both stand somewhere or neither
+abbrev pub IsPaired : List (Option Point) → Type 0
+IsPaired [] = Unit {0}
+IsPaired (start ∷ []) = ⊥
+IsPaired (start ∷ end ∷ rest) = (is_some start ≡ is_some end) × IsPaired rest
+
+-- how many ranges are live
+abbrev pub live_count : List (Option Range) → ℕ
+live_count [] = 0
+live_count (r ∷ rs) = (if is_some r then 1 else 0) + live_count rs
+
+-- what the live ranges keep of their ends
+pub record IsKept (t : List End) (heads : List (Option ℕ)) (live : ℕ) : Type 0 where
+  pub chains : HasChains t heads
+  pub pairs : IsPaired (points_of t)
+  pub alive : live ≡ live_count (paired (points_of t))
+  pub small : length t ≤ 2 ^ 32

@@ -1,0 +1,145 @@
+//! How changes of the tree adjust the live ranges (DOM Standard, "Live ranges"). Nothing here takes memory, and nothing is done for the
+//! ends that stand elsewhere.
+
+ghost use Rattle.std.specs.Prelude.{◌≡◌, ◌<◌, ◌^◌, IfSome, IsSomeAnd};
+ghost use Rattle.dom_model.specs.Forests.Forest.{HasNode, parent_of, index_of, inclusive_descendants};
+ghost use Rattle.dom_model.specs.BoundaryPoints.Points.{after_gap, after_splice, after_split, after_merge, after_removal, map_ranges};
+ghost use Rattle.dom_ranges.specs.Tables.{OffsetsFit, moved_in};
+ghost use Rattle.dom_ranges.specs.Chained.{on_node};
+
+use crate::ranges::Ranges;
+use crate::shift::Shift;
+use dom_point::Point;
+use dom_tree::{NodeId, Tree};
+
+impl Ranges {
+    /// Nodes come in among a parent's children, `count` of them at the index `at`.
+    pub fn gap(&mut self, parent: NodeId, at: usize, count: usize)
+        requires { OffsetsFit (after_gap parent at count) self.old.ranges }
+        ensures { self.new ≡ record self.old { ranges = map_ranges (after_gap parent at count) self.old.ranges } }
+    {
+        let shift = Shift::Splice {
+            inside: parent,
+            at,
+            count: 0,
+            added: count,
+        };
+        self.chains.shift(parent, &shift);
+    }
+
+    /// In the data of a node `added` units take the place of `count` at the offset `at`.
+    pub fn spliced(&mut self, node: NodeId, at: usize, count: usize, added: usize)
+        requires { OffsetsFit (after_splice node at count added) self.old.ranges }
+        ensures { self.new ≡ record self.old { ranges = map_ranges (after_splice node at count added) self.old.ranges } }
+    {
+        let shift = Shift::Splice {
+            inside: node,
+            at,
+            count,
+            added,
+        };
+        self.chains.shift(node, &shift);
+    }
+
+    /// A Text, the child of the parent at the index, was split at an offset: what was beyond stands in the new Text behind it.
+    pub fn was_split(&mut self, node: NodeId, at: usize, new: NodeId, parent: NodeId, index: usize)
+        requires fit { OffsetsFit (after_split node at new parent index) self.old.ranges }
+        requires new_covered { new < self.old.covered }
+        requires parent_covered { parent < self.old.covered }
+        ensures { self.new ≡ record self.old { ranges = map_ranges (after_split node at new parent index) self.old.ranges } }
+    {
+        let shift = Shift::Split {
+            text: node,
+            at,
+            new,
+            parent,
+            index,
+        };
+        self.chains.shift_both(parent, node, &shift);
+    }
+
+    /// A Text, the child of the parent at the index, is joined to another, which had `base` units before.
+    pub fn merged(&mut self, from: NodeId, into: NodeId, base: usize, parent: NodeId, index: usize)
+        requires fit { OffsetsFit (after_merge from into base parent index) self.old.ranges }
+        requires into_covered { into < self.old.covered }
+        ensures { self.new ≡ record self.old { ranges = map_ranges (after_merge from into base parent index) self.old.ranges } }
+    {
+        let shift = Shift::Merge {
+            from,
+            into,
+            base,
+            parent,
+            index,
+        };
+        if into == from {
+            self.chains.shift_both(from, parent, &shift);
+        } else {
+            self.chains.shift_both(parent, from, &shift);
+        }
+    }
+
+    // The points of a parent close up behind a child that leaves it.
+    fn close_up(&mut self, parent: NodeId, index: usize)
+        ensures { self.new ≡ record self.old { ranges = map_ranges (after_splice parent index 1 0) self.old.ranges } }
+    {
+        let shift = Shift::Splice {
+            inside: parent,
+            at: index,
+            count: 1,
+            added: 0,
+        };
+        self.chains.shift(parent, &shift);
+    }
+
+    // All ends in a node go to one point.
+    fn gather_at(&mut self, node: NodeId, to: Point)
+        requires covered { to.node < self.old.covered }
+        requires fits { to.offset < 2 ^ 64 }
+        ensures { self.new ≡ record self.old { ranges = map_ranges (on_node node (λ _. to)) self.old.ranges } }
+    {
+        self.chains.shift(node, &Shift::Gather { to });
+    }
+
+    // All ends inside a node go to one point.
+    fn gather<X>(&mut self, tree: &Tree<X>, top: NodeId, to: Point)
+        requires held { HasNode tree.now.forest top }
+        requires covered { to.node < self.old.covered }
+        requires fits { to.offset < 2 ^ 64 }
+        ensures { self.new ≡ record self.old { ranges = map_ranges (moved_in (inclusive_descendants tree.now.forest top) to) self.old.ranges } }
+    {
+        tree.sound();
+        let mut here = top;
+        loop {
+            self.gather_at(here, to);
+            match tree.next_inside(top, here) {
+                Some(next) => here = next,
+                None => return,
+            }
+        }
+    }
+
+    /// A node leaves its parent. It is called before the node is taken out.
+    pub fn removing<X>(&mut self, tree: &Tree<X>, node: NodeId)
+        requires held { HasNode tree.now.forest node }
+        requires parent { IsSomeAnd (parent_of tree.now.forest node) (λ p. p < self.old.covered) }
+        ensures { IfSome (parent_of tree.now.forest node) (λ p. self.new ≡ record self.old { ranges = map_ranges (after_removal (inclusive_descendants tree.now.forest node) p (index_of tree.now.forest node)) self.old.ranges }) }
+    {
+        let parent = tree.parent(node).unwrap();
+        let inside = self.refers(tree, node);
+        if !inside && !self.stands_in(parent) {
+            return;
+        }
+        let index = tree.index(node);
+        self.close_up(parent, index);
+        if inside {
+            self.gather(
+                tree,
+                node,
+                Point {
+                    node: parent,
+                    offset: index,
+                },
+            );
+        }
+    }
+}

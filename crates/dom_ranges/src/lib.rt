@@ -1,0 +1,17 @@
+//! Live and static ranges (DOM Standard, "Ranges").
+#![tactic(auto)]
+
+mod adjusting;
+mod chains;
+mod numbers;
+mod ranges;
+mod setting;
+mod shift;
+mod statics;
+
+pub use numbers::{RangeId, StaticId};
+pub use ranges::Ranges;
+pub use statics::Statics;
+
+#[cfg(test)]
+mod tests;

@@ -1,0 +1,105 @@
+//! The numbers of ranges, and of their ends.
+
+ghost use Rattle.std.specs.Prelude.{◌≡◌};
+
+use std::marker::Model;
+
+/// The number by which callers name a live range: the first that is made has 0, and no number is used again.
+#[derive(Clone, Copy, Debug, PartialEq, Eq)]
+pub struct RangeId {
+    number: u32,
+}
+
+impl Model for RangeId {
+    ghost use Rattle.std.specs.Prelude.{ℕ, ◌<◌, ◌^◌};
+
+    ghost Value = { ℕ };
+
+    ghost view = { λ r. r.number };
+
+    ghost invariant = { λ r. r.number < 2 ^ 32 };
+
+    ghost inverse = { λ n. record { number = n } };
+}
+
+impl RangeId {
+    /// The id of a number, whether or not there is such a range.
+    pub fn new(number: u32) -> RangeId
+        ensures { result ≡ number }
+    {
+        RangeId { number }
+    }
+
+    /// The number itself.
+    pub fn number(self) -> u32
+        ensures { result ≡ self }
+    {
+        self.number
+    }
+}
+
+/// The number by which callers name a static range: the first that is made has 0.
+#[derive(Clone, Copy, Debug, PartialEq, Eq)]
+pub struct StaticId {
+    number: u32,
+}
+
+impl Model for StaticId {
+    ghost use Rattle.std.specs.Prelude.{ℕ, ◌<◌, ◌^◌};
+
+    ghost Value = { ℕ };
+
+    ghost view = { λ u. u.number };
+
+    ghost invariant = { λ u. u.number < 2 ^ 32 };
+
+    ghost inverse = { λ n. record { number = n } };
+}
+
+impl StaticId {
+    /// The id of a number, whether or not there is such a range.
+    pub fn new(number: u32) -> StaticId
+        ensures { result ≡ number }
+    {
+        StaticId { number }
+    }
+
+    /// The number itself.
+    pub fn number(self) -> u32
+        ensures { result ≡ self }
+    {
+        self.number
+    }
+}
+
+/// The place of an end in the table of ends.
+#[derive(Clone, Copy, Debug, PartialEq, Eq)]
+pub(crate) struct EndId {
+    index: u32,
+}
+
+impl Model for EndId {
+    ghost use Rattle.std.specs.Prelude.{ℕ, ◌<◌, ◌^◌};
+
+    ghost Value = { ℕ };
+
+    ghost view = { λ e. e.index };
+
+    ghost invariant = { λ e. e.index < 2 ^ 32 };
+
+    ghost inverse = { λ n. record { index = n } };
+}
+
+impl EndId {
+    pub(crate) fn new(index: u32) -> EndId
+        ensures { result ≡ index }
+    {
+        EndId { index }
+    }
+
+    pub(crate) fn index(self) -> usize
+        ensures { result ≡ self }
+    {
+        self.index as usize
+    }
+}

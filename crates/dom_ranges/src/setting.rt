@@ -1,0 +1,195 @@
+//! Live ranges set anew (DOM Standard, "Interface Range").
+
+ghost use Rattle.std.specs.Prelude.{◌≡◌, ◌<◌, slice_set, Some, IsSome, IfSome, OnOk, OnErr};
+ghost use Rattle.std.specs.Option.{ForSome};
+ghost use Rattle.dom_model.specs.declared.Kind.TheVariants.{DocumentType};
+ghost use Rattle.dom_model.specs.Forests.Forest.{HasNode, parent_of, root_of};
+ghost use Rattle.dom_model.specs.Worlds.World.{Range};
+ghost use Rattle.dom_model.specs.MutationAlgorithms.Checks.{is_of_kind};
+ghost use Rattle.dom_model.specs.RangesAndContents.Ranges.{same_root as has_same_root, is_before as comes_before, start_set, end_set, check_point, check_parent, check_contents, around, contents_of, collapsed};
+ghost use Rattle.dom_ranges.specs.Tables.{range_in, StandsIn, refused};
+
+use crate::numbers::RangeId;
+use crate::ranges::Ranges;
+use dom_kinds::{DomError, Kind};
+use dom_point::{Point, order};
+use dom_tree::{Body, NodeId, Tree};
+use std::cmp::Ordering;
+
+// Whether a node is a doctype.
+pub(crate) fn is_doctype<X>(tree: &Tree<X>, node: NodeId) -> bool
+    requires { HasNode tree.now.forest node }
+    ensures { result ≡ is_of_kind DocumentType tree.now.forest node }
+{
+    tree.label(node).kind == Kind::DocumentType
+}
+
+// Whether two nodes have one root.
+pub(crate) fn same_root<X>(tree: &Tree<X>, a: NodeId, b: NodeId) -> bool
+    requires a_held { HasNode tree.now.forest a }
+    requires b_held { HasNode tree.now.forest b }
+    ensures { result ≡ has_same_root tree.now.forest a b }
+{
+    tree.root(a) == tree.root(b)
+}
+
+// Whether the first of two points of one root comes before the second.
+pub(crate) fn is_before<X>(tree: &Tree<X>, a: Point, b: Point) -> bool
+    requires a_held { HasNode tree.now.forest a.node }
+    requires b_held { HasNode tree.now.forest b.node }
+    requires one_root { root_of tree.now.forest a.node ≡ root_of tree.now.forest b.node }
+    ensures { result ≡ comes_before tree.now.forest a b }
+{
+    match order(tree, a, b) {
+        Ordering::Less => true,
+        Ordering::Equal | Ordering::Greater => false,
+    }
+}
+
+// The refusal of a point to be an end.
+fn checked_point<X: Body>(tree: &Tree<X>, node: NodeId, offset: usize) -> Result<(), DomError>
+    requires { HasNode tree.now.forest node }
+    ensures { result ≡ refused (check_point X.length tree.now.forest (record { node = node; offset = offset })) }
+{
+    if is_doctype(tree, node) {
+        return Err(DomError::InvalidNodeTypeError);
+    }
+    if tree.length(node) < offset {
+        return Err(DomError::IndexSizeError);
+    }
+    Ok(())
+}
+
+impl Ranges {
+    /// Sets the start. In another tree, or past the end, the end moves there too.
+    pub fn set_start<X: Body>(
+        &mut self,
+        tree: &Tree<X>,
+        r: RangeId,
+        p: Point,
+    ) -> Result<(), DomError>
+        requires held { IsSome (range_in self.old r) }
+        requires node { HasNode tree.now.forest p.node }
+        requires covered { p.node < self.old.covered }
+        requires stands { ForSome (range_in self.old r) (StandsIn tree.now.forest) }
+        ensures refusal { result ≡ refused (check_point X.length tree.now.forest p) }
+        ensures set { OnOk result (IfSome (range_in self.old r) (λ range. self.new ≡ record self.old { ranges = slice_set self.old.ranges r (Some (start_set tree.now.forest p range)) })) }
+        ensures unchanged { OnErr result (self.new ≡ self.old) }
+    {
+        let Point { node, offset } = p;
+        checked_point(tree, node, offset)?;
+        let (start, end) = self.ends(r);
+        if same_root(tree, node, start.node) && !is_before(tree, end, Point { node, offset }) {
+            self.write(r, Point { node, offset }, end);
+        } else {
+            self.write(r, Point { node, offset }, Point { node, offset });
+        }
+        Ok(())
+    }
+
+    /// Sets the end. In another tree, or ahead of the start, the start moves there too.
+    pub fn set_end<X: Body>(&mut self, tree: &Tree<X>, r: RangeId, p: Point) -> Result<(), DomError>
+        requires held { IsSome (range_in self.old r) }
+        requires node { HasNode tree.now.forest p.node }
+        requires covered { p.node < self.old.covered }
+        requires stands { ForSome (range_in self.old r) (StandsIn tree.now.forest) }
+        ensures refusal { result ≡ refused (check_point X.length tree.now.forest p) }
+        ensures set { OnOk result (IfSome (range_in self.old r) (λ range. self.new ≡ record self.old { ranges = slice_set self.old.ranges r (Some (end_set tree.now.forest p range)) })) }
+        ensures unchanged { OnErr result (self.new ≡ self.old) }
+    {
+        let Point { node, offset } = p;
+        checked_point(tree, node, offset)?;
+        let (start, _) = self.ends(r);
+        let Point {
+            node: top,
+            offset: at,
+        } = start;
+        if same_root(tree, node, top)
+            && !is_before(
+                tree,
+                Point { node, offset },
+                Point {
+                    node: top,
+                    offset: at,
+                },
+            )
+        {
+            self.write(
+                r,
+                Point {
+                    node: top,
+                    offset: at,
+                },
+                Point { node, offset },
+            );
+        } else {
+            self.write(r, Point { node, offset }, Point { node, offset });
+        }
+        Ok(())
+    }
+
+    /// Sets the range around a node, from before it to after it. A node without a parent is refused.
+    pub fn select<X>(&mut self, tree: &Tree<X>, r: RangeId, node: NodeId) -> Result<(), DomError>
+        requires held { IsSome (range_in self.old r) }
+        requires node { HasNode tree.now.forest node }
+        requires covered { ForSome (parent_of tree.now.forest node) (λ p. p < self.old.covered) }
+        ensures refusal { result ≡ refused (check_parent tree.now.forest node) }
+        ensures set { OnOk result (IfSome (around tree.now.forest node) (λ range. self.new ≡ record self.old { ranges = slice_set self.old.ranges r (Some range) })) }
+        ensures unchanged { OnErr result (self.new ≡ self.old) }
+    {
+        tree.sound();
+        let Some(parent) = tree.parent(node) else {
+            return Err(DomError::InvalidNodeTypeError);
+        };
+        // an index is below the count, so the offset behind the node is a number of the machine too
+        let _ = tree.count(parent);
+        let index = tree.index(node);
+        self.write(
+            r,
+            Point {
+                node: parent,
+                offset: index,
+            },
+            Point {
+                node: parent,
+                offset: index + 1,
+            },
+        );
+        Ok(())
+    }
+
+    /// Sets the range to all that a node contains. A doctype is refused.
+    pub fn select_contents<X: Body>(
+        &mut self,
+        tree: &Tree<X>,
+        r: RangeId,
+        node: NodeId,
+    ) -> Result<(), DomError>
+        requires held { IsSome (range_in self.old r) }
+        requires node { HasNode tree.now.forest node }
+        requires covered { node < self.old.covered }
+        ensures refusal { result ≡ refused (check_contents tree.now.forest node) }
+        ensures set { OnOk result (self.new ≡ record self.old { ranges = slice_set self.old.ranges r (Some (contents_of X.length tree.now.forest node)) }) }
+        ensures unchanged { OnErr result (self.new ≡ self.old) }
+    {
+        if is_doctype(tree, node) {
+            return Err(DomError::InvalidNodeTypeError);
+        }
+        let offset = tree.length(node);
+        self.write(r, Point { node, offset: 0 }, Point { node, offset });
+        Ok(())
+    }
+
+    /// Both ends become the start, or the end.
+    pub fn collapse(&mut self, r: RangeId, to_start: bool)
+        requires { IsSome (range_in self.old r) }
+        ensures { IfSome (range_in self.old r) (λ range. self.new ≡ record self.old { ranges = slice_set self.old.ranges r (Some (collapsed to_start range)) }) }
+    {
+        let (start, end) = self.ends(r);
+        if to_start {
+            self.write(r, start, start);
+        } else {
+            self.write(r, end, end);
+        }
+    }
+}

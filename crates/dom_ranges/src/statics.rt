@@ -1,0 +1,177 @@
+//! Static ranges (DOM Standard, "Interface StaticRange").
+
+ghost use Rattle.std.specs.Prelude.{◌≡◌, ◌<◌, nat_le, [], ◌∷◌, ◌++◌, length, slice_get, Some, IsSome, is_some, IfSome, IfOk, OnOk, OnErr};
+ghost use Rattle.std.specs.List.{list_any, flat_map};
+ghost use Rattle.std.specs.Option.{ForSome};
+ghost use Rattle.dom_model.specs.PlainLists.Lists.{among};
+ghost use Rattle.dom_model.specs.Forests.Forest.{HasNode, inclusive_descendants};
+ghost use Rattle.dom_model.specs.Worlds.World.{Range};
+ghost use Rattle.dom_model.specs.RangesAndContents.StaticRanges.{check_static, is_valid_static};
+ghost use Rattle.dom_model.specs.MutationAlgorithms.Discarding.{nodes_of_range};
+ghost use Rattle.dom_model.specs.Forests.Lengths.{node_length};
+ghost use Rattle.dom_ranges.specs.Tables.{refused};
+
+use crate::numbers::StaticId;
+use crate::setting::{is_before, is_doctype, same_root};
+use dom_kinds::DomError;
+use dom_point::Point;
+use dom_tree::{Body, NodeId, Tree};
+use std::alloc::{AllocError, Global};
+use std::marker::Model;
+
+/// Two points that no change of the tree moves.
+#[derive(Clone, Copy, Drop)]
+struct StaticRange {
+    start: Point,
+    end: Point,
+}
+
+impl Model for StaticRange {
+    ghost use Rattle.dom_model.specs.Worlds.World.{Range};
+
+    ghost Value = { Range };
+
+    ghost view = { λ r. record { start = r.start; end = r.end } };
+
+    ghost inverse = { λ r. record { start = r.start; end = r.end } };
+}
+
+/// The static ranges of a session.
+#[derive(Drop)]
+pub struct Statics {
+    table: Vec<StaticRange>,
+}
+
+impl Model for Statics {
+    ghost use Rattle.std.specs.Prelude.{List};
+    ghost use Rattle.dom_model.specs.Worlds.World.{Range};
+
+    ghost Value = { List Range };
+
+    ghost view = { λ a. a.table.items };
+}
+
+impl Statics {
+    /// No static ranges. It takes no memory.
+    pub fn new(alloc: Global) -> Statics
+        ensures { result ≡ [] }
+    {
+        Statics {
+            table: Vec::new(alloc),
+        }
+    }
+
+    /// The refusal of a doctype as either node.
+    pub fn check<X>(tree: &Tree<X>, start: NodeId, end: NodeId) -> Result<(), DomError>
+        requires start_held { HasNode tree.now.forest start }
+        requires end_held { HasNode tree.now.forest end }
+        ensures { result ≡ refused (check_static tree.now.forest start end) }
+    {
+        if is_doctype(tree, start) || is_doctype(tree, end) {
+            return Err(DomError::InvalidNodeTypeError);
+        }
+        Ok(())
+    }
+
+    /// Makes a static range.
+    pub fn make(&mut self, start: Point, end: Point) -> Result<StaticId, AllocError>
+        requires { length self.old < 4294967295 }
+        ensures number { IfOk result (λ u. u ≡ length self.old) }
+        ensures made { OnOk result (self.new ≡ self.old ++ record { start = start; end = end } ∷ []) }
+        ensures unchanged { OnErr result (self.new ≡ self.old) }
+    {
+        let u = StaticId::new(self.table.len() as u32);
+        self.table.push(StaticRange { start, end })?;
+        Ok(u)
+    }
+
+    /// How many were made.
+    pub fn made(&self) -> u64
+        ensures { result ≡ length self.now }
+    {
+        self.table.len() as u64
+    }
+
+    /// Whether there is such a static range.
+    pub fn holds(&self, u: StaticId) -> bool
+        ensures { result ≡ is_some (slice_get self.now u) }
+    {
+        (u.number() as usize) < self.table.len()
+    }
+
+    /// Where a static range starts, and where it ends.
+    pub fn ends(&self, u: StaticId) -> (Point, Point)
+        requires { IsSome (slice_get self.now u) }
+        ensures { slice_get self.now u ≡ Some (record { start = result.0; end = result.1 }) }
+    {
+        let StaticRange { start, end } = self.table[u.number() as usize];
+        (start, end)
+    }
+
+    /// Whether the range is valid as the tree stands. Both its nodes are held.
+    pub fn is_valid<X: Body>(&self, tree: &Tree<X>, u: StaticId) -> bool
+        requires made { IsSome (slice_get self.now u) }
+        requires start_held { ForSome (slice_get self.now u) (λ r. HasNode tree.now.forest r.start.node) }
+        requires end_held { ForSome (slice_get self.now u) (λ r. HasNode tree.now.forest r.end.node) }
+        ensures { IfSome (slice_get self.now u) (λ r. result ≡ is_valid_static X.length tree.now.forest r) }
+    {
+        let (start, end) = self.ends(u);
+        are_valid(tree, start, end)
+    }
+
+    /// Whether an end of a static range stands inside a node. It asks every static range.
+    pub fn refers<X>(&self, tree: &Tree<X>, top: NodeId) -> bool
+        requires { HasNode tree.now.forest top }
+        ensures { result ≡ list_any (λ m. among m (inclusive_descendants tree.now.forest top)) (flat_map nodes_of_range self.now) }
+    {
+        for range in &self.table {
+            if is_inside(tree, top, range.start.node) || is_inside(tree, top, range.end.node) {
+                return true;
+            }
+        }
+        false
+    }
+}
+
+// Whether a node, which the tree may not hold, stands inside another.
+pub(crate) fn is_inside<X>(tree: &Tree<X>, top: NodeId, node: NodeId) -> bool
+    ensures { result ≡ among node (inclusive_descendants tree.now.forest top) }
+{
+    tree.sound();
+    tree.holds(node) && tree.is_ancestor(top, node)
+}
+
+// Whether an offset is within the length of a node.
+fn is_within<X: Body>(tree: &Tree<X>, node: NodeId, offset: usize) -> bool
+    requires { HasNode tree.now.forest node }
+    ensures { result ≡ nat_le offset (node_length X.length tree.now.forest node) }
+{
+    offset <= tree.length(node)
+}
+
+// Whether two points are the ends of a valid range.
+fn are_valid<X: Body>(tree: &Tree<X>, start: Point, end: Point) -> bool
+    requires start_held { HasNode tree.now.forest start.node }
+    requires end_held { HasNode tree.now.forest end.node }
+    ensures { result ≡ is_valid_static X.length tree.now.forest (record { start = start; end = end }) }
+{
+    let Point { node, offset } = start;
+    let Point {
+        node: last,
+        offset: at,
+    } = end;
+    if !same_root(tree, node, last) {
+        return false;
+    }
+    if !is_within(tree, node, offset) || !is_within(tree, last, at) {
+        return false;
+    }
+    !is_before(
+        tree,
+        Point {
+            node: last,
+            offset: at,
+        },
+        Point { node, offset },
+    )
+}
