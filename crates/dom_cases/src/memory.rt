@@ -18,9 +18,7 @@ fn label(alloc: Global, kind: Kind, name: &str) -> Result<Label, AllocError> {
 }
 
 fn nothing(alloc: Global) -> Content {
-    Content {
-        text: Units::new(alloc),
-    }
+    Content::of_text(alloc, Units::new(alloc))
 }
 
 #[test]

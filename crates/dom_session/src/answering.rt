@@ -36,5 +36,7 @@ pub fn answered(
         Command::CreateText(document, text) => create_text(tree, numbers, alloc, document, text),
         Command::AppendChild(parent, node) => Ok(append_child(tree, parent, node)),
         Command::Tree(top) => print_tree(tree, alloc, top),
+        // no line that is served makes one of the others yet: each ends the session, as want of memory does
+        _ => Err(AllocError),
     }
 }

@@ -1,5 +1,10 @@
-//! The commands that a session takes.
+//! The commands that a session takes, one for each name of the table.
 
+use crate::ids::{RangeId, StaticId, WalkerId};
+use dom_model::Move;
+use dom_observe::{ObserverId, RawOptions};
+use dom_point::Point;
+use dom_traverse::{Filter, IterId};
 use dom_tree::NodeId;
 use dom_units::Units;
 
@@ -12,8 +17,164 @@ pub enum Command {
     CreateElement(NodeId, String),
     /// Makes a Text of that data.
     CreateText(NodeId, Units),
+    /// Makes a Comment of that data.
+    CreateComment(NodeId, Units),
+    /// Makes a ProcessingInstruction of that target and data.
+    CreatePI(NodeId, String, Units),
+    /// Makes a DocumentType of that name, with its public and its system id.
+    CreateDoctype(NodeId, String, String, String),
+    /// Makes a DocumentFragment.
+    CreateFragment(NodeId),
+    /// Inserts the second node into the first, before a child or last.
+    InsertBefore(NodeId, NodeId, Option<NodeId>),
     /// Appends the second node to the children of the first.
     AppendChild(NodeId, NodeId),
+    /// Adopts a node into a document.
+    AdoptNode(NodeId, NodeId),
+    /// Puts the second node in place of the third, a child of the first.
+    ReplaceChild(NodeId, NodeId, NodeId),
+    /// Removes a child.
+    RemoveChild(NodeId, NodeId),
+    /// Removes a node from its parent, where it has one.
+    Remove(NodeId),
+    /// Puts a node, or none, in place of all children.
+    ReplaceChildren(NodeId, Option<NodeId>),
+    /// A copy of a node for another document, with or without all below it.
+    ImportNode(NodeId, NodeId, bool),
+    /// A copy of a node, with or without all below it.
+    CloneNode(NodeId, bool),
+    /// Joins Text nodes below a node that stand side by side, and drops empty ones.
+    Normalize(NodeId),
+    /// Tells where a node stands, and what it is.
+    DescribeNode(NodeId),
+    /// The children of a node.
+    Children(NodeId),
+    /// How many siblings stand before a node.
+    Index(NodeId),
+    /// The length of a node.
+    Length(NodeId),
+    /// The root of a node.
+    Root(NodeId),
+    /// Whether the second is an inclusive descendant of the first.
+    IsContaining(NodeId, Option<NodeId>),
+    /// Whether both nodes are equal.
+    IsEqual(NodeId, Option<NodeId>),
+    /// Where the second stands, seen from the first.
+    ComparePosition(NodeId, NodeId),
+    /// The text in a node.
+    TextContent(NodeId),
+    /// Puts a text in place of what a node has.
+    SetTextContent(NodeId, Units),
     /// Prints a node and all below it.
     Tree(NodeId),
+    /// The data of a node.
+    GetData(NodeId),
+    /// Sets the data of a node.
+    SetData(NodeId, Units),
+    /// Appends to the data of a node.
+    AppendData(NodeId, Units),
+    /// Inserts at an offset.
+    InsertData(NodeId, u32, Units),
+    /// Deletes so many units from an offset on.
+    DeleteData(NodeId, u32, u32),
+    /// Puts a text in place of so many units from an offset on.
+    ReplaceData(NodeId, u32, u32, Units),
+    /// So many units from an offset on.
+    SubstringData(NodeId, u32, u32),
+    /// Splits a Text at an offset.
+    SplitText(NodeId, u32),
+    /// Sets an attribute.
+    SetAttribute(NodeId, String, Units),
+    /// The value of an attribute.
+    GetAttribute(NodeId, String),
+    /// Whether there is an attribute of that name.
+    HasAttribute(NodeId, String),
+    /// Removes an attribute.
+    RemoveAttribute(NodeId, String),
+    /// Adds or removes an attribute; where it is told which, only that.
+    ToggleAttribute(NodeId, String, Option<bool>),
+    /// The names of the attributes, in order.
+    AttributeNames(NodeId),
+    /// Makes a live range at the start of a document.
+    CreateRange(NodeId),
+    /// Makes a live range with the ends of another.
+    CloneRange(RangeId),
+    /// The ends of a live range.
+    DescribeRange(RangeId),
+    /// Sets the start.
+    SetStart(RangeId, NodeId, u32),
+    /// Sets the end.
+    SetEnd(RangeId, NodeId, u32),
+    /// Sets the start before a node.
+    SetStartBefore(RangeId, NodeId),
+    /// Sets the start after a node.
+    SetStartAfter(RangeId, NodeId),
+    /// Sets the end before a node.
+    SetEndBefore(RangeId, NodeId),
+    /// Sets the end after a node.
+    SetEndAfter(RangeId, NodeId),
+    /// Moves one end to the other: the end to the start, or the start to the end.
+    Collapse(RangeId, bool),
+    /// Sets the ends around a node.
+    SelectNode(RangeId, NodeId),
+    /// Sets the ends around what a node has.
+    SelectNodeContents(RangeId, NodeId),
+    /// Compares an end of the first range with one of the second; `how` is 0 to 3.
+    CompareBoundaryPoints(RangeId, u32, RangeId),
+    /// Whether a point is before, in or after a range.
+    ComparePoint(RangeId, NodeId, u32),
+    /// Whether a point is in a range.
+    IsPointInRange(RangeId, NodeId, u32),
+    /// Whether a range and a node meet.
+    IntersectsNode(RangeId, NodeId),
+    /// The deepest node that has both ends in it.
+    CommonAncestor(RangeId),
+    /// The text in a range.
+    RangeText(RangeId),
+    /// Deletes what is in a range.
+    DeleteContents(RangeId),
+    /// Takes what is in a range into a fragment.
+    ExtractContents(RangeId),
+    /// Copies what is in a range into a fragment.
+    CloneContents(RangeId),
+    /// Inserts a node at the start of a range.
+    InsertNode(RangeId, NodeId),
+    /// Puts what is in a range into a node, and that node in its place.
+    SurroundContents(RangeId, NodeId),
+    /// Lets a live range go.
+    ReleaseRange(RangeId),
+    /// Makes a node iterator.
+    CreateIterator(NodeId, Filter),
+    /// Makes a tree walker.
+    CreateWalker(NodeId, Filter),
+    /// Tells where an iterator stands.
+    DescribeIterator(IterId),
+    /// Moves an iterator on.
+    NextNode(IterId),
+    /// Moves an iterator back.
+    PreviousNode(IterId),
+    /// Tells where a walker stands.
+    DescribeWalker(WalkerId),
+    /// Sets a walker on a node.
+    SetCurrent(WalkerId, NodeId),
+    /// Moves a walker.
+    Walk(WalkerId, Move),
+    /// Makes a mutation observer.
+    CreateObserver,
+    /// Lets an observer watch a node.
+    Observe(ObserverId, NodeId, RawOptions),
+    /// Lets an observer watch nothing more.
+    Disconnect(ObserverId),
+    /// Takes the records of an observer.
+    TakeRecords(ObserverId),
+    /// Hands its records to each observer that waits.
+    Notify,
+    /// The observers that wait to be told.
+    Pending,
+    /// Lets a node and all below it go.
+    Discard(NodeId),
+    /// Makes a static range.
+    CreateStaticRange(Point, Point),
+    /// The ends of a static range, and whether it is valid.
+    DescribeStaticRange(StaticId),
 }

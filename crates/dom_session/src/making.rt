@@ -66,9 +66,7 @@ pub fn new_document(
     if numbers <= tree.made() {
         return Ok(Reply::Own(OwnError::Limit));
     }
-    let body = Content {
-        text: Units::new(alloc),
-    };
+    let body = Content::of_text(alloc, Units::new(alloc));
     let id = tree.make(document_label(alloc), body, None)?;
     tree.sound();
     Ok(Reply::Done(Answer::Number(id.number())))
@@ -93,9 +91,7 @@ pub fn create_element(
     if !is_element_name(name.as_str()) {
         return Ok(Reply::Dom(DomError::InvalidCharacterError));
     }
-    let body = Content {
-        text: Units::new(alloc),
-    };
+    let body = Content::of_text(alloc, Units::new(alloc));
     let id = tree.make(label(alloc, Kind::Element, name), body, Some(document))?;
     tree.sound();
     Ok(Reply::Done(Answer::Number(id.number())))
@@ -118,7 +114,7 @@ pub fn create_text(
         return Ok(reply);
     }
     let label = label(alloc, Kind::Text, String::new(alloc));
-    let id = tree.make(label, Content { text }, Some(document))?;
+    let id = tree.make(label, Content::of_text(alloc, text), Some(document))?;
     tree.sound();
     Ok(Reply::Done(Answer::Number(id.number())))
 }

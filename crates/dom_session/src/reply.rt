@@ -3,8 +3,30 @@
 use crate::content::Content;
 use dom_kinds::{DomError, Label};
 use dom_model::OwnError;
+use dom_observe::{ObserverId, Record};
+use dom_point::Point;
 use dom_tree::NodeId;
+use dom_units::Units;
+use std::cmp::Ordering;
 use std::marker::Model;
+
+/// A node, where it stands: its node document, what it is, and the nodes beside and above it.
+#[derive(Drop)]
+pub struct Description {
+    pub document: NodeId,
+    pub label: Label,
+    pub next: Option<NodeId>,
+    pub parent: Option<NodeId>,
+    pub previous: Option<NodeId>,
+}
+
+impl Model for Description {
+    ghost use Rattle.dom_model.specs.Commands.Reply.{Description};
+
+    ghost Value = { Description };
+
+    ghost view = { λ d. record { document = d.document; label = d.label; next = d.next; parent = d.parent; previous = d.previous } };
+}
 
 /// A row of a printed tree: how deep the node stands below the one asked for, and what it is.
 #[derive(Drop)]
@@ -23,13 +45,60 @@ impl Model for TreeRow {
     ghost view = { λ r. record { depth = r.depth; number = r.number; label = r.label; body = r.body } };
 }
 
+/// An observer, and the records that it is told.
+#[derive(Drop)]
+pub struct Told {
+    pub observer: ObserverId,
+    pub records: Vec<Record>,
+}
+
+impl Model for Told {
+    ghost use Rattle.dom_model.specs.Commands.Reply.{Told};
+
+    ghost Value = { Told };
+
+    ghost view = { λ t. record { observer = t.observer; records = t.records.items } };
+}
+
 /// An answer, one variant for each shape.
 #[derive(Drop)]
 pub enum Answer {
-    /// The number of an object.
+    /// No value.
+    Nothing,
+    /// The number of an object, or one of the standard's constants.
     Number(u32),
+    /// The number of an object, where there is one.
+    MaybeNumber(Option<u32>),
+    /// An index or a length.
+    Count(usize),
+    /// The numbers of objects, in order.
+    Numbers(Vec<u32>),
+    /// A yes or a no.
+    Flag(bool),
+    /// How one place stands to another.
+    Order(Ordering),
+    /// A text.
+    Units(Units),
+    /// A text, where there is one.
+    MaybeUnits(Option<Units>),
+    /// Names, in order.
+    Names(Vec<String>),
+    /// A node, where it stands.
+    NodeAt(Description),
     /// A printed tree, in tree order.
     Rows(Vec<TreeRow>),
+    /// The start and the end of a live range.
+    Ends(Point, Point),
+    /// The start and the end of a static range, and whether it is valid.
+    StaticEnds(Point, Point, bool),
+    /// The root and the reference of an iterator, and whether it stands before the reference.
+    IteratorAt(NodeId, NodeId, bool),
+    /// The root and the current node of a walker.
+    WalkerAt(NodeId, NodeId),
+    /// The records that were taken.
+    Records(Vec<Record>),
+    /// Who was told what.
+    Notified(Vec<Told>),
 }
 
 /// What a session says to a command.

@@ -64,9 +64,7 @@ impl Session {
         ensures bounds { IfOk result (λ session. session.bounds ≡ bounds_of limits) }
     {
         let mut tree = Tree::new(alloc);
-        let body = Content {
-            text: Units::new(alloc),
-        };
+        let body = Content::of_text(alloc, Units::new(alloc));
         tree.make(document_label(alloc), body, None)?;
         tree.sound();
         Ok(Session {

@@ -1,26 +1,32 @@
 -- Steps of the functions of this crate, over plain variables.
-use Rattle.std.proofs.Common.{◌≡◌, ◌≢◌, ℕ, suc, ◌≤◌, List, [], ◌∷◌, ◌++◌, length, map, take, Bool, true, false, Option, Some, None, option_and_then, Result, Ok, Err, refl, sym, ap, ◌∙◌, append_assoc, cond}
+use Rattle.std.proofs.Common.{◌≡◌, ◌≢◌, ℕ, suc, ◌+◌, ◌≤◌, ◌<◌, List, [], ◌∷◌, ◌++◌, length, map, take, Bool, true, false, Option, Some, None, option_and_then, option_map, is_some, Result, Ok, Err, refl, sym, ap, ◌∙◌, append_assoc, append-nil, add-one, cond, true≢false, slice_get, codes, find, filter, bytes_eq, nat_eq, arith}
 use Rattle.std.specs.Prelude.{IsUtf8, Vec}
+use Rattle.std.proofs.lemmas.Bool.Decides.{nat_tests}
+use Rattle.std.proofs.lemmas.Slice.Eq.{bytes_eq-Decides}
 use Rattle.std.specs.declared.alloc.Global.{Global}
 use Rattle.std.proofs.lemmas.List.{take_all}
+use Rattle.std.proofs.lemmas.Option.{slice_get_within, get_or_from_slice_get}
+use Rattle.std.proofs.Math.Seq.{take-suc}
 use Rattle.std.specs.Str.{is_utf8}
 use Rattle.std.proofs.lemmas.Str.{is_utf8-from_IsUtf8, IsUtf8-from_is_utf8}
 use Rattle.json.specs.Token.{Token, begin_array, end_array}
 use Rattle.json.specs.Tree.{items_tokens}
 use Rattle.json.specs.Print.{print}
 use Rattle.json.specs.Written.{Written, Writes}
-use Rattle.serde_json.specs.Data.{Data}
-use Rattle.serde_json.specs.Find.{as_array}
+use Rattle.serde_json.specs.Data.{Data, null, boolean, number, string, array, object}
+use Rattle.serde_json.specs.Find.{as_array, as_bool, as_str, as_object, get}
 use Rattle.serde_json.specs.Read.{read}
-use Rattle.serde_json.specs.View.{view, items_of}
+use Rattle.serde_json.specs.View.{view, items_of, items_view}
 use Rattle.serde_json.specs.declared.value.Value.{Value}
 use Rattle.serde_json.specs.declared.value.Value.TheVariants.{Array}
 use Rattle.serde_json.proofs.Views.{view-Array}
 use Rattle.serde_json.specs.Written.{items_outline, compact_text}
 use Rattle.serde_json.proofs.Texts.{print-outline}
-use Rattle.dom_model.specs.Commands.Line.{list_of, arguments_from, with_argument, json_of, command_in_array, command_among}
+use Rattle.dom_model.specs.Commands.Line.{list_of, arguments_from, with_argument, json_of, command_in_array, command_among, is_row_of, named_in, rule_from, if_member, list_in, options_in}
+use Rattle.dom_model.specs.Commands.Command.{GivenOptions}
 use Rattle.dom_model.specs.Commands.Table.{Row, Shape, Arguments}
 use Rattle.dom_model.specs.Commands.Printed as printed
+use Rattle.dom_wire.specs.Rows.{is_of_length}
 use Rattle.dom_wire.specs.Prints.{tokens_of, tokens_of_all, Adds}
 
 -- ---- reading
@@ -56,6 +62,98 @@ arguments_from-none i (s ∷ shapes) (d ∷ ds) a other =
 pub command_in-array : (table : List Row) (value : Value) (items : Vec Value Global) → value ≡ Array items → command_in_array table (as_array (view value)) ≡ command_among table (map view items.items)
 command_in-array table value items is = rw (is, view-Array items) (ap (command_among table) (list_of-items_of (map view items.items)))
 
+-- ---- finding names
+
+not_true : (b : Bool) → (b ≡ true → false ≡ true) → b ≡ false
+not_true true h = sym (h refl)
+not_true false h = refl
+
+find-kept : {A : Type 0} (p : A → Bool) (x : A) (kept : Bool) (some xs : List A) → (p x ≡ true → kept ≡ true) → find p some ≡ find p xs
+    → find p (cond kept (x ∷ some) some) ≡ cond (p x) (Some x) (find p xs)
+find-kept p x true some xs h e = ap (cond (p x) (Some x)) e
+find-kept p x false some xs h e = rw (not_true (p x) h) e
+
+-- what is left out of a list would not have been found
+find-filter : {A : Type 0} (p q : A → Bool) → ((x : A) → p x ≡ true → q x ≡ true) → (xs : List A) → find p (filter q xs) ≡ find p xs
+find-filter p q h [] = refl
+find-filter p q h (x ∷ xs) = find-kept p x (q x) (filter q xs) xs (h x) (find-filter p q h xs)
+
+same_length : (name : List ℕ) (r : Row) → is_row_of name r ≡ true → is_of_length (length name) r ≡ true
+same_length name r e = rw ((bytes_eq-Decides r.name name).0 e) (grind (arith, nat_tests))
+
+-- a name is found among those of its length
+pub find-of_length : (name : List ℕ) (table : List Row) → find (is_row_of name) (filter (is_of_length (length name)) table) ≡ find (is_row_of name) table
+find-of_length name table = find-filter (is_row_of name) (is_of_length (length name)) (same_length name) table
+
+-- the options of seven members, each as it was read
+gathered : Option (Option Bool) → Option (Option Bool) → Option (Option Bool) → Option (Option Bool) → Option (Option Bool) → Option (Option Bool) → Option (Option (List (List ℕ))) → Option GivenOptions
+gathered a b c d e f g =
+    option_and_then (λ child_list. option_and_then (λ attributes. option_and_then (λ character_data. option_and_then (λ subtree. option_and_then (λ attribute_old_value.
+    option_and_then (λ character_data_old_value. option_map (λ attribute_filter. record {
+      child_list = child_list;
+      attributes = attributes;
+      character_data = character_data;
+      subtree = subtree;
+      attribute_old_value = attribute_old_value;
+      character_data_old_value = character_data_old_value;
+      attribute_filter = attribute_filter;
+    }) g) f) e) d) c) b) a
+
+gathered-all : (o1 o2 o3 o4 o5 o6 : Option (Option Bool)) (o7 : Option (Option (List (List ℕ)))) (a b c d e f : Option Bool) (g : Option (List (List ℕ)))
+    → o1 ≡ Some a → o2 ≡ Some b → o3 ≡ Some c → o4 ≡ Some d → o5 ≡ Some e → o6 ≡ Some f → o7 ≡ Some g
+    → gathered o1 o2 o3 o4 o5 o6 o7
+    ≡ Some (record { child_list = a; attributes = b; character_data = c; subtree = d; attribute_old_value = e; character_data_old_value = f; attribute_filter = g })
+unfolding gathered
+gathered-all o1 o2 o3 o4 o5 o6 o7 a b c d e f g e1 e2 e3 e4 e5 e6 e7 = rw (e1, e2, e3, e4, e5, e6, e7) refl
+
+gathered-but-last : (o1 o2 o3 o4 o5 o6 : Option (Option Bool)) (o7 : Option (Option (List (List ℕ)))) (a b c d e : Option Bool)
+    → o1 ≡ Some a → o2 ≡ Some b → o3 ≡ Some c → o4 ≡ Some d → o5 ≡ Some e → o6 ≡ None → gathered o1 o2 o3 o4 o5 o6 o7 ≡ None
+unfolding gathered
+gathered-but-last o1 o2 o3 o4 o5 o6 o7 a b c d e e1 e2 e3 e4 e5 e6 = rw (e1, e2, e3, e4, e5, e6) refl
+
+-- an object's options, each member read
+pub options-read : (x : Data) (a b c d e f : Option Bool) (g : Option (List (List ℕ))) → is_some (as_object x) ≡ true
+    → if_member as_bool (get (codes "childList") x) ≡ Some a → if_member as_bool (get (codes "attributes") x) ≡ Some b → if_member as_bool (get (codes "characterData") x) ≡ Some c
+    → if_member as_bool (get (codes "subtree") x) ≡ Some d → if_member as_bool (get (codes "attributeOldValue") x) ≡ Some e → if_member as_bool (get (codes "characterDataOldValue") x) ≡ Some f
+    → if_member (list_in as_str) (get (codes "attributeFilter") x) ≡ Some g
+    → options_in x ≡ Some (record { child_list = a; attributes = b; character_data = c; subtree = d; attribute_old_value = e; character_data_old_value = f; attribute_filter = g })
+unfolding gathered
+options-read null a b c d e f g t e1 e2 e3 e4 e5 e6 e7 = absurd (true≢false (sym t))
+options-read (boolean y) a b c d e f g t e1 e2 e3 e4 e5 e6 e7 = absurd (true≢false (sym t))
+options-read (number y) a b c d e f g t e1 e2 e3 e4 e5 e6 e7 = absurd (true≢false (sym t))
+options-read (string y) a b c d e f g t e1 e2 e3 e4 e5 e6 e7 = absurd (true≢false (sym t))
+options-read (array y) a b c d e f g t e1 e2 e3 e4 e5 e6 e7 = absurd (true≢false (sym t))
+options-read (object ms) a b c d e f g t e1 e2 e3 e4 e5 e6 e7 = gathered-all _ _ _ _ _ _ _ a b c d e f g e1 e2 e3 e4 e5 e6 e7
+
+-- the last of the flags is none
+pub options-none : (x : Data) (a b c d e : Option Bool) → is_some (as_object x) ≡ true
+    → if_member as_bool (get (codes "childList") x) ≡ Some a → if_member as_bool (get (codes "attributes") x) ≡ Some b → if_member as_bool (get (codes "characterData") x) ≡ Some c
+    → if_member as_bool (get (codes "subtree") x) ≡ Some d → if_member as_bool (get (codes "attributeOldValue") x) ≡ Some e → if_member as_bool (get (codes "characterDataOldValue") x) ≡ None
+    → options_in x ≡ None
+unfolding gathered
+options-none null a b c d e t e1 e2 e3 e4 e5 e6 = absurd (true≢false (sym t))
+options-none (boolean y) a b c d e t e1 e2 e3 e4 e5 e6 = absurd (true≢false (sym t))
+options-none (number y) a b c d e t e1 e2 e3 e4 e5 e6 = absurd (true≢false (sym t))
+options-none (string y) a b c d e t e1 e2 e3 e4 e5 e6 = absurd (true≢false (sym t))
+options-none (array y) a b c d e t e1 e2 e3 e4 e5 e6 = absurd (true≢false (sym t))
+options-none (object ms) a b c d e t e1 e2 e3 e4 e5 e6 = gathered-but-last _ _ _ _ _ _ _ a b c d e e1 e2 e3 e4 e5 e6
+
+-- a rule has two items
+pub rule_from-none : (vs : List Value) → length vs ≢ 2 → rule_from (items_view vs) ≡ None
+rule_from-none [] other = refl
+rule_from-none (a ∷ []) other = refl
+rule_from-none (a ∷ b ∷ []) other = absurd (other refl)
+rule_from-none (a ∷ b ∷ x ∷ vs) other = refl
+
+-- a text is none of the names of a list
+abbrev pub IsNoneOf : {A : Type 0} → List ℕ → List (List ℕ × A) → Type 0
+IsNoneOf name [] = Unit {0}
+IsNoneOf name (p ∷ ps) = (name ≢ p.0) × IsNoneOf name ps
+
+pub named_in-none : {A : Type 0} (name : List ℕ) (ps : List (List ℕ × A)) → IsNoneOf name ps → named_in ps name ≡ None
+named_in-none name [] none = refl
+named_in-none name (p ∷ ps) none = rw (not_true (bytes_eq p.0 name) (λ e. absurd (none.0 (sym ((bytes_eq-Decides p.0 name).0 e))))) (named_in-none name ps none.1)
+
 -- ---- printing
 
 -- the tokens of a list, with its closing bracket
@@ -79,3 +177,24 @@ list_closed (Err e) old mid new f xs i all kept so_far last = record { tokens = 
 pub line_of_tokens : (before line : List ℕ) (start tokens : List Token) (d : Data) → line ≡ before ++ print tokens → before ≡ [] → tokens ≡ start ++ tokens_of d → start ≡ []
     → line ++ 10 ∷ [] ≡ compact_text d ++ 10 ∷ []
 line_of_tokens before line start tokens d is no_text added no_tokens = rw (is, no_text, added, no_tokens) (ap (λ text. text ++ 10 ∷ []) (print-outline d))
+
+-- a function after another on each
+pub map-twice : {A B C : Type 0} (f : B → C) (g : A → B) (xs : List A) → map f (map g xs) ≡ map (λ x. f (g x)) xs
+map-twice f g [] = refl
+map-twice f g (x ∷ xs) = ap (λ ys. f (g x) ∷ ys) (map-twice f g xs)
+
+take-next : {A : Type 0} (xs : List A) (i : ℕ) (a : A) → slice_get xs i ≡ Some a → take (suc i) xs ≡ take i xs ++ a ∷ []
+take-next xs i a here =
+    let within : i < length xs = slice_get_within xs i a here in
+    take-suc xs i a within ∙ ap (λ x. take i xs ++ x ∷ []) (get_or_from_slice_get xs i a a here)
+
+tokens-last : {A : Type 0} (f : A → Data) (xs : List A) (a : A) → tokens_of_all (map f (xs ++ a ∷ [])) ≡ tokens_of_all (map f xs) ++ tokens_of (f a)
+tokens-last f [] a = append-nil (tokens_of (f a))
+tokens-last f (x ∷ xs) a = ap (λ ts. tokens_of (f x) ++ ts) (tokens-last f xs a) ∙ sym (append_assoc (tokens_of (f x)) (tokens_of_all (map f xs)) (tokens_of (f a)))
+
+-- one more of a list is written
+pub list_grown : {A : Type 0} (f : A → Data) (old mid new : List Token) (xs : List A) (i : ℕ) (a : A) → slice_get xs i ≡ Some a
+    → mid ≡ old ++ begin_array ∷ tokens_of_all (map f (take i xs)) → new ≡ mid ++ tokens_of (f a) → new ≡ old ++ begin_array ∷ tokens_of_all (map f (take (i + 1) xs))
+list_grown f old mid new xs i a here so_far added =
+    rw (add-one, take-next xs i a here, tokens-last f (take i xs) a)
+    (added ∙ ap (λ ts. ts ++ tokens_of (f a)) so_far ∙ append_assoc old (begin_array ∷ tokens_of_all (map f (take i xs))) (tokens_of (f a)))

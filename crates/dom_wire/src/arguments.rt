@@ -1,8 +1,11 @@
 //! The arguments of a command, as they were read.
 
-ghost use Rattle.std.specs.Prelude.{◌≡◌, ◌<◌, [], map, slice_index, slice_index_or, slice_set, string_bytes};
+ghost use Rattle.std.specs.Prelude.{◌≡◌, ◌<◌, ◌+◌, [], map, slice_index, slice_index_or, slice_set, string_bytes};
+ghost use Rattle.dom_model.specs.Commands.Command.{no_options};
 
-use dom_session::NodeId;
+use dom_session::{
+    Filter, IterId, Move, NodeId, ObserverId, Point, RangeId, RawOptions, Rule, StaticId, WalkerId,
+};
 use dom_units::Units;
 use std::alloc::Global;
 use std::mem;
@@ -12,10 +15,24 @@ use std::mem;
 pub enum Shape {
     /// An integer from 0 to 4294967295.
     Number,
+    /// Such an integer, or null.
+    NumberOrNull,
     /// A string, taken as UTF-8.
     String,
     /// A string, or an array of UTF-16 units.
     Text,
+    /// A text, or null, which stands for the empty one.
+    TextOrNull,
+    /// `true` or `false`.
+    Flag,
+    /// `true`, `false` or null.
+    FlagOrNull,
+    /// An array of pairs: a name or `*`, and a verdict.
+    Filter,
+    /// The name of a walker's move.
+    Move,
+    /// An object with the members of `MutationObserverInit`.
+    Options,
 }
 
 /// What was read so far: numbers and strings by their place among the arguments, and one of each other shape.
@@ -23,7 +40,28 @@ pub enum Shape {
 pub struct Arguments {
     pub numbers: [u32; 4],
     pub strings: [String; 4],
+    pub number: Option<u32>,
     pub text: Units,
+    pub flag: bool,
+    pub flag_or_null: Option<bool>,
+    pub rules: Vec<Rule>,
+    pub course: Move,
+    pub options: RawOptions,
+}
+
+// No options.
+fn no_options() -> RawOptions
+    ensures { result ≡ no_options }
+{
+    RawOptions {
+        child_list: None,
+        attributes: None,
+        character_data: None,
+        subtree: None,
+        attribute_old_value: None,
+        character_data_old_value: None,
+        attribute_filter: None,
+    }
 }
 
 impl Arguments {
@@ -42,8 +80,22 @@ impl Arguments {
                 String::new(alloc),
                 String::new(alloc),
             ],
+            number: None,
             text: Units::new(alloc),
+            flag: false,
+            flag_or_null: None,
+            rules: Vec::new(alloc),
+            course: Move::ParentNode,
+            options: no_options(),
         }
+    }
+
+    /// The number at a place.
+    pub fn number(&self, place: usize) -> u32
+        requires { place < 4 }
+        ensures { result ≡ slice_index self.now.numbers place }
+    {
+        self.numbers[place]
     }
 
     /// The number at a place, as that of a node.
@@ -52,6 +104,70 @@ impl Arguments {
         ensures { result ≡ slice_index self.now.numbers place }
     {
         NodeId::new(self.numbers[place])
+    }
+
+    /// The number at a place, as that of a live range.
+    pub fn range(&self, place: usize) -> RangeId
+        requires { place < 4 }
+        ensures { result ≡ slice_index self.now.numbers place }
+    {
+        RangeId::new(self.numbers[place])
+    }
+
+    /// The number at a place, as that of a static range.
+    pub fn static_range(&self, place: usize) -> StaticId
+        requires { place < 4 }
+        ensures { result ≡ slice_index self.now.numbers place }
+    {
+        StaticId::new(self.numbers[place])
+    }
+
+    /// The number at a place, as that of an iterator.
+    pub fn iterator(&self, place: usize) -> IterId
+        requires { place < 4 }
+        ensures { result ≡ slice_index self.now.numbers place }
+    {
+        IterId::new(self.numbers[place])
+    }
+
+    /// The number at a place, as that of a walker.
+    pub fn walker(&self, place: usize) -> WalkerId
+        requires { place < 4 }
+        ensures { result ≡ slice_index self.now.numbers place }
+    {
+        WalkerId::new(self.numbers[place])
+    }
+
+    /// The number at a place, as that of an observer.
+    pub fn observer(&self, place: usize) -> ObserverId
+        requires { place < 4 }
+        ensures { result ≡ slice_index self.now.numbers place }
+    {
+        ObserverId::new(self.numbers[place])
+    }
+
+    /// The numbers at a place and the next, as a node and an offset in it.
+    pub fn point(&self, place: usize) -> Point
+        requires { place < 3 }
+        ensures { result ≡ record {
+            node = slice_index self.now.numbers place;
+            offset = slice_index self.now.numbers (place + 1);
+        } }
+    {
+        Point {
+            node: NodeId::new(self.numbers[place]),
+            offset: self.numbers[place + 1] as usize,
+        }
+    }
+
+    /// The number that may be missing, as that of a node.
+    pub fn maybe_node(&self) -> Option<NodeId>
+        ensures { result ≡ self.now.number }
+    {
+        match self.number {
+            None => None,
+            Some(number) => Some(NodeId::new(number)),
+        }
     }
 
     /// The string at a place, which is empty from then on.
@@ -63,6 +179,7 @@ impl Arguments {
             ≡ slice_set (map string_bytes self.old.strings) place [] }
         ensures numbers { self.new.numbers ≡ self.old.numbers }
         ensures text { self.new.text ≡ self.old.text }
+        ensures flag_or_null { self.new.flag_or_null ≡ self.old.flag_or_null }
     {
         mem::replace(&mut self.strings[place], String::new(alloc))
     }
@@ -72,5 +189,25 @@ impl Arguments {
         ensures { result ≡ self.old.text }
     {
         mem::replace(&mut self.text, Units::new(alloc))
+    }
+
+    /// The filter of the kinds at place 1, and of the rules, of which there are none from then on.
+    pub fn filter(&mut self, alloc: Global) -> Filter
+        ensures { result ≡ record {
+            show = slice_index self.old.numbers 1;
+            rules = self.old.rules.items;
+        } }
+    {
+        Filter {
+            show: self.numbers[1],
+            rules: mem::replace(&mut self.rules, Vec::new(alloc)),
+        }
+    }
+
+    /// The options, which are none from then on.
+    pub fn options(&mut self) -> RawOptions
+        ensures { result ≡ self.old.options }
+    {
+        mem::replace(&mut self.options, no_options())
     }
 }

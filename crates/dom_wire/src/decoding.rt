@@ -1,14 +1,17 @@
 //! Arguments read by their shapes.
 
 ghost use Rattle.std.specs.Prelude.{◌<◌, ◌≤◌, map, length};
-ghost use Rattle.serde_json.specs.View.{view, items_view};
-ghost use Rattle.dom_model.specs.Commands.Table.{a_number, a_string, a_text, no_arguments};
-ghost use Rattle.dom_model.specs.Commands.Line.{unit_in, each_item, text_in, with_argument, arguments_from};
+ghost use Rattle.serde_json.specs.View.{view};
+ghost use Rattle.dom_model.specs.Commands.Table.{a_number, a_number_or_null, a_string, a_text, a_text_or_null, a_flag, a_flag_or_null, a_filter, a_move, the_options, no_arguments};
+ghost use Rattle.dom_model.specs.Commands.Line.{with_argument, arguments_from};
 ghost use Rattle.dom_wire.specs.Reads.{Decodes};
 ghost use Rattle.dom_wire.specs.Shapes.{shape_view, arguments_view};
 
 use crate::arguments::{Arguments, Shape};
 use crate::error::ReadError;
+use crate::filters::{course_in, rules_in};
+use crate::options::options_in;
+use crate::texts::{number_in, text_in};
 use dom_model::OwnError;
 use dom_units::Units;
 use serde_json::Value;
@@ -50,8 +53,15 @@ fn take(
 {
     match shape {
         Shape::Number => take_number(value, place, arguments),
+        Shape::NumberOrNull => take_number_or_null(value, arguments),
         Shape::String => take_string(alloc, value, place, arguments),
         Shape::Text => take_text(alloc, value, arguments),
+        Shape::TextOrNull => take_text_or_null(alloc, value, arguments),
+        Shape::Flag => take_flag(value, arguments),
+        Shape::FlagOrNull => take_flag_or_null(value, arguments),
+        Shape::Filter => take_rules(alloc, value, arguments),
+        Shape::Move => take_course(value, arguments),
+        Shape::Options => take_options(alloc, value, arguments),
     }
 }
 
@@ -60,12 +70,29 @@ fn take_number(value: &Value, place: usize, arguments: &mut Arguments) -> Result
     ensures { Decodes (λ _. arguments_view arguments.new) result
         (with_argument a_number (view value.now) place (arguments_view arguments.old)) }
 {
-    match value.as_u64() {
-        Some(number) if number <= 4294967295 => {
-            arguments.numbers[place] = number as u32;
+    match number_in(value) {
+        Some(number) => {
+            arguments.numbers[place] = number;
             Ok(())
         }
-        _ => Err(ReadError::Own(OwnError::BadArguments)),
+        None => Err(ReadError::Own(OwnError::BadArguments)),
+    }
+}
+
+fn take_number_or_null(value: &Value, arguments: &mut Arguments) -> Result<(), ReadError>
+    ensures { Decodes (λ _. arguments_view arguments.new) result
+        (with_argument a_number_or_null (view value.now) 0 (arguments_view arguments.old)) }
+{
+    if value.is_null() {
+        arguments.number = None;
+        return Ok(());
+    }
+    match number_in(value) {
+        Some(number) => {
+            arguments.number = Some(number);
+            Ok(())
+        }
+        None => Err(ReadError::Own(OwnError::BadArguments)),
     }
 }
 
@@ -102,39 +129,92 @@ fn take_text(alloc: Global, value: &Value, arguments: &mut Arguments) -> Result<
     }
 }
 
-// A string as its units, or an array of units.
-fn text_in(alloc: Global, value: &Value) -> Result<Units, ReadError>
-    ensures { Decodes (λ units. units) result (text_in (view value.now)) }
+fn take_text_or_null(
+    alloc: Global,
+    value: &Value,
+    arguments: &mut Arguments,
+) -> Result<(), ReadError>
+    ensures { Decodes (λ _. arguments_view arguments.new) result
+        (with_argument a_text_or_null (view value.now) 0 (arguments_view arguments.old)) }
 {
-    match value {
-        Value::String(text) => match Units::from_str(alloc, text.as_str()) {
-            Ok(units) => Ok(units),
-            Err(_) => Err(ReadError::Memory),
-        },
-        Value::Array(items) => units_in(alloc, items.as_slice()),
-        _ => Err(ReadError::Own(OwnError::BadArguments)),
+    if value.is_null() {
+        arguments.text = Units::new(alloc);
+        return Ok(());
+    }
+    match text_in(alloc, value) {
+        Ok(text) => {
+            arguments.text = text;
+            Ok(())
+        }
+        Err(error) => Err(error),
     }
 }
 
-// Each item a unit.
-fn units_in(alloc: Global, items: &[Value]) -> Result<Units, ReadError>
-    ensures { Decodes (λ units. units) result (each_item unit_in (items_view items.now)) }
+fn take_flag(value: &Value, arguments: &mut Arguments) -> Result<(), ReadError>
+    ensures { Decodes (λ _. arguments_view arguments.new) result
+        (with_argument a_flag (view value.now) 0 (arguments_view arguments.old)) }
 {
-    let Ok(mut units) = Vec::with_capacity(alloc, items.len()) else {
-        return Err(ReadError::Memory);
-    };
-    for item in items {
-        match item.as_u64() {
-            Some(unit) if unit <= 65535 => {
-                if units.push(unit as u16).is_err() {
-                    return Err(ReadError::Memory);
-                }
-            }
-            _ => return Err(ReadError::Own(OwnError::BadArguments)),
+    match value.as_bool() {
+        Some(flag) => {
+            arguments.flag = flag;
+            Ok(())
         }
+        None => Err(ReadError::Own(OwnError::BadArguments)),
     }
-    match Units::from_units(alloc, units.as_slice()) {
-        Ok(units) => Ok(units),
-        Err(_) => Err(ReadError::Memory),
+}
+
+fn take_flag_or_null(value: &Value, arguments: &mut Arguments) -> Result<(), ReadError>
+    ensures { Decodes (λ _. arguments_view arguments.new) result
+        (with_argument a_flag_or_null (view value.now) 0 (arguments_view arguments.old)) }
+{
+    if value.is_null() {
+        arguments.flag_or_null = None;
+        return Ok(());
+    }
+    match value.as_bool() {
+        Some(flag) => {
+            arguments.flag_or_null = Some(flag);
+            Ok(())
+        }
+        None => Err(ReadError::Own(OwnError::BadArguments)),
+    }
+}
+
+fn take_rules(alloc: Global, value: &Value, arguments: &mut Arguments) -> Result<(), ReadError>
+    ensures { Decodes (λ _. arguments_view arguments.new) result
+        (with_argument a_filter (view value.now) 0 (arguments_view arguments.old)) }
+{
+    match rules_in(alloc, value) {
+        Ok(rules) => {
+            arguments.rules = rules;
+            Ok(())
+        }
+        Err(error) => Err(error),
+    }
+}
+
+fn take_course(value: &Value, arguments: &mut Arguments) -> Result<(), ReadError>
+    ensures { Decodes (λ _. arguments_view arguments.new) result
+        (with_argument a_move (view value.now) 0 (arguments_view arguments.old)) }
+{
+    match course_in(value) {
+        Some(course) => {
+            arguments.course = course;
+            Ok(())
+        }
+        None => Err(ReadError::Own(OwnError::BadArguments)),
+    }
+}
+
+fn take_options(alloc: Global, value: &Value, arguments: &mut Arguments) -> Result<(), ReadError>
+    ensures { Decodes (λ _. arguments_view arguments.new) result
+        (with_argument the_options (view value.now) 0 (arguments_view arguments.old)) }
+{
+    match options_in(alloc, value) {
+        Ok(options) => {
+            arguments.options = options;
+            Ok(())
+        }
+        Err(error) => Err(error),
     }
 }

@@ -4,9 +4,16 @@
 mod arguments;
 mod decoding;
 mod error;
+mod filters;
 mod names;
+mod options;
+mod places;
 mod printing;
 mod reading;
+mod records;
+mod rows;
+mod texts;
+mod values;
 
 pub use error::ReadError;
 pub use printing::write_reply;

@@ -1,16 +1,21 @@
 //! From a reply to its line.
 
-ghost use Rattle.std.specs.Prelude.{◌≡◌, [], ◌∷◌, map, IfOk, codes};
-ghost use Rattle.json.specs.Token.{begin_array, end_array, string, key};
-ghost use Rattle.dom_model.specs.Forests.Kinds.{node_name};
+ghost use Rattle.std.specs.Prelude.{◌≡◌, [], ◌∷◌, IfOk, codes};
+ghost use Rattle.json.specs.Token.{string, key};
 ghost use Rattle.dom_model.specs.Commands.Refusal.{name_of_own};
-ghost use Rattle.dom_model.specs.Commands.Printed.{reply_line, reply_json, answer_json, row_json, detail_json, units_json, numbers_json, list_json};
+ghost use Rattle.dom_model.specs.Commands.Printed.{reply_line, reply_json, answer_json};
 ghost use Rattle.dom_session.specs.Views.{reply_view, answer_view};
-ghost use Rattle.dom_wire.specs.Prints.{tokens_of, tokens_of_all, Adds};
+ghost use Rattle.dom_wire.specs.Prints.{tokens_of, Adds};
 
-use dom_kinds::{Exception, NodeType};
+use crate::places::{write_description, write_ends, write_iterator, write_static_ends, write_walker};
+use crate::records::{write_notified, write_records};
+use crate::rows::write_rows;
+use crate::values::{
+    write_maybe_number, write_maybe_units, write_names, write_numbers, write_order, write_units,
+};
+use dom_kinds::Exception;
 use dom_model::OwnError;
-use dom_session::{Answer, Kind, Label, Reply, TreeRow, Units};
+use dom_session::{Answer, Reply};
 use json::Writer;
 use std::alloc::{AllocError, Global};
 
@@ -66,93 +71,27 @@ fn write_answer(alloc: Global, answer: &Answer, writer: &mut Writer) -> Result<(
     ensures { Adds result writer.old writer.new (tokens_of (answer_json (answer_view answer.now))) }
 {
     match answer {
+        Answer::Nothing => writer.null(),
         Answer::Number(number) => writer.u64(u64::from(*number)),
+        Answer::MaybeNumber(number) => write_maybe_number(*number, writer),
+        Answer::Count(count) => writer.u64(*count as u64),
+        Answer::Numbers(numbers) => write_numbers(numbers.as_slice(), writer),
+        Answer::Flag(flag) => writer.boolean(*flag),
+        Answer::Order(order) => write_order(*order, writer),
+        Answer::Units(units) => write_units(alloc, units, writer),
+        Answer::MaybeUnits(units) => write_maybe_units(alloc, units, writer),
+        Answer::Names(names) => write_names(names.as_slice(), writer),
+        Answer::NodeAt(node) => write_description(node, writer),
         Answer::Rows(rows) => write_rows(alloc, rows.as_slice(), writer),
-    }
-}
-
-fn write_rows(alloc: Global, rows: &[TreeRow], writer: &mut Writer) -> Result<(), AllocError>
-    ensures { Adds result writer.old writer.new (tokens_of (list_json (map row_json rows.now))) }
-{
-    writer.begin_array()?;
-    for row in rows {
-        write_row(alloc, row, writer)?;
-    }
-    writer.end_array()
-}
-
-// Depth, number, kind and name, and then what the kind has.
-fn write_row(alloc: Global, row: &TreeRow, writer: &mut Writer) -> Result<(), AllocError>
-    ensures { Adds result writer.old writer.new (tokens_of (row_json row.now)) }
-{
-    writer.begin_array()?;
-    writer.u64(row.depth as u64)?;
-    writer.u64(u64::from(row.number.number()))?;
-    writer.u64(u64::from(row.label.kind.number()))?;
-    writer.string(node_name(&row.label))?;
-    write_detail(alloc, row, writer)?;
-    writer.end_array()
-}
-
-fn write_detail(alloc: Global, row: &TreeRow, writer: &mut Writer) -> Result<(), AllocError>
-    ensures { Adds result writer.old writer.new
-        (tokens_of_all (detail_json row.now.label.kind row.now.label row.now.body)) }
-{
-    match row.label.kind {
-        Kind::Element => write_no_attributes(writer),
-        Kind::Text | Kind::ProcessingInstruction | Kind::Comment => {
-            write_units(alloc, &row.body.text, writer)
+        Answer::Ends(start, end) => write_ends(*start, *end, writer),
+        Answer::StaticEnds(start, end, is_valid) => {
+            write_static_ends(*start, *end, *is_valid, writer)
         }
-        Kind::Document | Kind::DocumentFragment => Ok(()),
-        Kind::DocumentType => write_ids(&row.label, writer),
+        Answer::IteratorAt(root, reference, is_before) => {
+            write_iterator(*root, *reference, *is_before, writer)
+        }
+        Answer::WalkerAt(root, current) => write_walker(*root, *current, writer),
+        Answer::Records(records) => write_records(alloc, records.as_slice(), writer),
+        Answer::Notified(told) => write_notified(alloc, told.as_slice(), writer),
     }
-}
-
-// Elements have no attributes yet.
-fn write_no_attributes(writer: &mut Writer) -> Result<(), AllocError>
-    ensures { Adds result writer.old writer.new (begin_array ∷ end_array ∷ []) }
-{
-    writer.begin_array()?;
-    writer.end_array()
-}
-
-fn write_ids(label: &Label, writer: &mut Writer) -> Result<(), AllocError>
-    ensures { Adds result writer.old writer.new
-        (string label.now.public_id ∷ string label.now.system_id ∷ []) }
-{
-    writer.string(label.public_id.as_str())?;
-    writer.string(label.system_id.as_str())
-}
-
-// `nodeName`.
-fn node_name(label: &Label) -> &str
-    ensures { result.now ≡ node_name label.now }
-{
-    match label.kind {
-        Kind::Element | Kind::ProcessingInstruction | Kind::DocumentType => label.name.as_str(),
-        Kind::Text => "#text",
-        Kind::Comment => "#comment",
-        Kind::Document => "#document",
-        Kind::DocumentFragment => "#document-fragment",
-    }
-}
-
-// A string where the units are well-formed, or else their numbers.
-fn write_units(alloc: Global, units: &Units, writer: &mut Writer) -> Result<(), AllocError>
-    ensures { Adds result writer.old writer.new (tokens_of (units_json units.now)) }
-{
-    match units.to_text(alloc)? {
-        Some(text) => writer.string(text.as_str()),
-        None => write_numbers(units.units(), writer),
-    }
-}
-
-fn write_numbers(numbers: &[u16], writer: &mut Writer) -> Result<(), AllocError>
-    ensures { Adds result writer.old writer.new (tokens_of (numbers_json numbers.now)) }
-{
-    writer.begin_array()?;
-    for number in numbers {
-        writer.u64(u64::from(*number))?;
-    }
-    writer.end_array()
 }

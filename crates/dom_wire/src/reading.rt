@@ -10,7 +10,7 @@ ghost use Rattle.dom_wire.specs.Rows.{row_of};
 
 use crate::decoding::arguments_of;
 use crate::error::ReadError;
-use crate::names::{NAMES, Name};
+use crate::names::{Name, names_of_length};
 use dom_model::OwnError;
 use dom_session::Command;
 use serde_json::Value;
@@ -52,11 +52,11 @@ fn command_among(alloc: Global, values: &[Value]) -> Result<Command, ReadError>
     Err(ReadError::Own(OwnError::BadCommand))
 }
 
-// The name that a text is.
+// The name that a text is. Only names of its length are looked at.
 fn named(text: &str) -> Option<Name>
     ensures { option_map row_of result ≡ find (is_row_of text.now) served_table }
 {
-    named_among(&NAMES, text)
+    named_among(names_of_length(text.len()), text)
 }
 
 fn named_among(names: &[Name], text: &str) -> Option<Name>

@@ -1,9 +1,16 @@
 //! Lines that are refused, lines that are read, and printed replies.
 
 use super::{ReadError, read_line, write_reply};
+use crate::arguments::{Arguments, Shape};
+use crate::decoding::arguments_of;
 use dom_model::OwnError;
-use dom_session::{Answer, Command, Content, DomError, Kind, Label, NodeId, Reply, TreeRow, Units};
+use dom_session::{
+    Answer, Command, Content, Description, DomError, Kind, Label, Move, NodeId, ObserverId, Point,
+    Record, RecordType, Reply, Told, TreeRow, Units, Verdict,
+};
+use serde_json::Value;
 use std::alloc::{AllocError, Global};
+use std::cmp::Ordering;
 use std::test::Fail;
 
 fn is_refused(alloc: Global, line: &[u8], refusal: OwnError) -> Result<bool, AllocError> {
@@ -95,6 +102,7 @@ fn told(alloc: Global, line: &[u8]) -> Result<Vec<u32>, AllocError> {
             told.extend_from_slice(&[3, parent.number(), child.number()])?;
         }
         Command::Tree(top) => told.extend_from_slice(&[4, top.number()])?,
+        _ => told.push(5)?,
     }
     Ok(told)
 }
@@ -129,12 +137,12 @@ fn label(alloc: Global, kind: Kind, name: &str) -> Result<Label, AllocError> {
     })
 }
 
-fn row(depth: usize, number: u32, label: Label, text: Units) -> TreeRow {
+fn row(alloc: Global, depth: usize, number: u32, label: Label, text: Units) -> TreeRow {
     TreeRow {
         depth,
         number: NodeId::new(number),
         label,
-        body: Content { text },
+        body: Content::of_text(alloc, text),
     }
 }
 
@@ -161,16 +169,183 @@ fn printed_tree(rt: HostRuntime) -> Result<(), Fail> {
     let alloc = rt.alloc();
     let mut rows = Vec::new(alloc);
     let document = label(alloc, Kind::Document, "")?;
-    rows.push(row(0, 0, document, Units::new(alloc)))?;
+    rows.push(row(alloc, 0, 0, document, Units::new(alloc)))?;
     let element = label(alloc, Kind::Element, "p")?;
-    rows.push(row(1, 1, element, Units::new(alloc)))?;
+    rows.push(row(alloc, 1, 1, element, Units::new(alloc)))?;
     let lone = label(alloc, Kind::Text, "")?;
-    rows.push(row(2, 3, lone, Units::from_units(alloc, &[55357])?))?;
+    rows.push(row(alloc, 2, 3, lone, Units::from_units(alloc, &[55357])?))?;
     let quoted = label(alloc, Kind::Text, "")?;
-    rows.push(row(2, 4294967295, quoted, Units::from_str(alloc, "a\"b")?))?;
+    rows.push(row(alloc, 2, 4294967295, quoted, Units::from_str(alloc, "a\"b")?))?;
     let line = write_reply(alloc, &Reply::Done(Answer::Rows(rows)))?;
     let wanted =
         "{\"ok\":[[0,0,9,\"#document\"],[1,1,1,\"p\",[]],[2,3,3,\"#text\",[55357]],[2,4294967295,3,\"#text\",\"a\\\"b\"]]}\n";
     assert_eq!(rt; line.as_slice(), wanted.as_bytes());
+    Ok(())
+}
+
+// One argument of a shape, or none where it is refused.
+fn argument(alloc: Global, shape: Shape, text: &str) -> Result<Option<Arguments>, AllocError> {
+    let Ok(value) = Value::from_str(alloc, text) else {
+        return Err(AllocError);
+    };
+    match arguments_of(alloc, &[shape], &[value]) {
+        Ok(arguments) => Ok(Some(arguments)),
+        Err(ReadError::Own(_)) => Ok(None),
+        Err(ReadError::Memory) => Err(AllocError),
+    }
+}
+
+#[test]
+fn arguments_of_each_shape(rt: HostRuntime) -> Result<(), Fail> {
+    let alloc = rt.alloc();
+    let read = argument(alloc, Shape::NumberOrNull, "7")?;
+    assert_eq!(rt; read.and_then(|a| a.number), Some(7));
+    let read = argument(alloc, Shape::NumberOrNull, "null")?;
+    assert_eq!(rt; read.map(|a| a.number), Some(None));
+    let read = argument(alloc, Shape::TextOrNull, "null")?;
+    assert_eq!(rt; read.map(|a| a.text.len()), Some(0));
+    let read = argument(alloc, Shape::TextOrNull, "[97,98]")?;
+    assert_eq!(rt; read.map(|a| a.text.len()), Some(2));
+    let read = argument(alloc, Shape::Flag, "true")?;
+    assert_eq!(rt; read.map(|a| a.flag), Some(true));
+    assert!(rt; argument(alloc, Shape::Flag, "null")?.is_none());
+    let read = argument(alloc, Shape::FlagOrNull, "false")?;
+    assert_eq!(rt; read.and_then(|a| a.flag_or_null), Some(false));
+    let read = argument(alloc, Shape::Move, "\"previousSibling\"")?;
+    assert!(rt; read.map(|a| a.course == Move::PreviousSibling) == Some(true));
+    assert!(rt; argument(alloc, Shape::Move, "\"up\"")?.is_none());
+    let rules = "[[\"a\",\"skip\"],[\"*\",\"reject\"]]";
+    let read = argument(alloc, Shape::Filter, rules)?;
+    assert!(rt; read.map(|a| a.rules.len() == 2 && a.rules[1].verdict == Verdict::Reject) == Some(true));
+    assert!(rt; argument(alloc, Shape::Filter, "[[\"a\"]]")?.is_none());
+    let given = "{\"subtree\":true,\"other\":1,\"attributeFilter\":[\"x\"]}";
+    let Some(read) = argument(alloc, Shape::Options, given)? else {
+        assert!(rt; false, "no options");
+        return Ok(());
+    };
+    assert_eq!(rt; read.options.subtree, Some(true));
+    assert_eq!(rt; read.options.child_list, None);
+    assert_eq!(rt; read.options.attribute_filter.map(|names| names.len()), Some(1));
+    assert!(rt; argument(alloc, Shape::Options, "{\"subtree\":1}")?.is_none());
+    Ok(())
+}
+
+// Whether the printed answer is this text in its object.
+fn prints(alloc: Global, answer: Answer, wanted: &str) -> Result<bool, AllocError> {
+    let line = write_reply(alloc, &Reply::Done(answer))?;
+    let whole = format!(in alloc; "{{\"ok\":{wanted}}}\n")?;
+    Ok(line.as_slice() == whole.as_bytes())
+}
+
+#[test]
+fn printed_values(rt: HostRuntime) -> Result<(), Fail> {
+    let alloc = rt.alloc();
+    assert!(rt; prints(alloc, Answer::Nothing, "null")?);
+    assert!(rt; prints(alloc, Answer::MaybeNumber(None), "null")?);
+    assert!(rt; prints(alloc, Answer::MaybeNumber(Some(3)), "3")?);
+    assert!(rt; prints(alloc, Answer::Count(5000000000), "5000000000")?);
+    let numbers = Vec::from_slice(alloc, &[1, 4294967295])?;
+    assert!(rt; prints(alloc, Answer::Numbers(numbers), "[1,4294967295]")?);
+    assert!(rt; prints(alloc, Answer::Flag(false), "false")?);
+    assert!(rt; prints(alloc, Answer::Order(Ordering::Less), "-1")?);
+    assert!(rt; prints(alloc, Answer::Order(Ordering::Greater), "1")?);
+    let text = Units::from_str(alloc, "a\"b")?;
+    assert!(rt; prints(alloc, Answer::Units(text), "\"a\\\"b\"")?);
+    let lone = Units::from_units(alloc, &[55296])?;
+    assert!(rt; prints(alloc, Answer::MaybeUnits(Some(lone)), "[55296]")?);
+    let names = vec![in alloc; String::from_str(alloc, "x")?]?;
+    assert!(rt; prints(alloc, Answer::Names(names), "[\"x\"]")?);
+    Ok(())
+}
+
+#[test]
+fn printed_places(rt: HostRuntime) -> Result<(), Fail> {
+    let alloc = rt.alloc();
+    let mut node = Description {
+        document: NodeId::new(8),
+        label: label(alloc, Kind::Element, "b")?,
+        next: None,
+        parent: Some(NodeId::new(1)),
+        previous: Some(NodeId::new(2)),
+    };
+    let wanted = "{\"document\":8,\"name\":\"b\",\"next\":null,\"parent\":1,\"previous\":2,\"type\":1}";
+    assert!(rt; prints(alloc, Answer::NodeAt(node), wanted)?);
+    node = Description {
+        document: NodeId::new(0),
+        label: label(alloc, Kind::DocumentType, "html")?,
+        next: None,
+        parent: None,
+        previous: None,
+    };
+    let wanted = "{\"document\":0,\"name\":\"html\",\"next\":null,\"parent\":null,\"previous\":null,\"public\":\"\",\"system\":\"\",\"type\":10}";
+    assert!(rt; prints(alloc, Answer::NodeAt(node), wanted)?);
+    let start = Point {
+        node: NodeId::new(1),
+        offset: 0,
+    };
+    let end = Point {
+        node: NodeId::new(2),
+        offset: 3,
+    };
+    assert!(rt; prints(alloc, Answer::Ends(start, end), "[1,0,2,3]")?);
+    assert!(rt; prints(alloc, Answer::StaticEnds(start, end, true), "[1,0,2,3,true]")?);
+    let (root, other) = (NodeId::new(1), NodeId::new(4));
+    assert!(rt; prints(alloc, Answer::IteratorAt(root, other, false), "[1,4,false]")?);
+    assert!(rt; prints(alloc, Answer::WalkerAt(root, other), "[1,4]")?);
+    Ok(())
+}
+
+fn removal(alloc: Global) -> Result<Record, AllocError> {
+    Ok(Record {
+        what: RecordType::ChildList,
+        target: NodeId::new(1),
+        added: Vec::new(alloc),
+        removed: Vec::from_slice(alloc, &[NodeId::new(2)])?,
+        previous: None,
+        next: Some(NodeId::new(3)),
+        name: None,
+        old_value: None,
+    })
+}
+
+#[test]
+fn printed_records(rt: HostRuntime) -> Result<(), Fail> {
+    let alloc = rt.alloc();
+    let change = Record {
+        what: RecordType::Attributes,
+        target: NodeId::new(2),
+        added: Vec::new(alloc),
+        removed: Vec::new(alloc),
+        previous: None,
+        next: None,
+        name: Some(String::from_str(alloc, "x")?),
+        old_value: Some(Units::from_str(alloc, "1")?),
+    };
+    let records = vec![in alloc; removal(alloc)?, change]?;
+    let wanted = "[[\"childList\",1,[],[2],null,3,null,null],[\"attributes\",2,[],[],null,null,\"x\",\"1\"]]";
+    assert!(rt; prints(alloc, Answer::Records(records), wanted)?);
+    let told = Told {
+        observer: ObserverId::new(0),
+        records: vec![in alloc; removal(alloc)?]?,
+    };
+    let told = vec![in alloc; told]?;
+    let wanted = "[[0,[[\"childList\",1,[],[2],null,3,null,null]]]]";
+    assert!(rt; prints(alloc, Answer::Notified(told), wanted)?);
+    Ok(())
+}
+
+#[test]
+fn printed_attributes(rt: HostRuntime) -> Result<(), Fail> {
+    let alloc = rt.alloc();
+    let mut body = Content::of_text(alloc, Units::new(alloc));
+    let _ = body.attrs.set(String::from_str(alloc, "k")?, Units::from_str(alloc, "v")?)?;
+    let element = TreeRow {
+        depth: 0,
+        number: NodeId::new(1),
+        label: label(alloc, Kind::Element, "p")?,
+        body,
+    };
+    let rows = vec![in alloc; element]?;
+    assert!(rt; prints(alloc, Answer::Rows(rows), "[[0,1,1,\"p\",[[\"k\",\"v\"]]]]")?);
     Ok(())
 }

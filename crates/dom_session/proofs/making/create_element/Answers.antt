@@ -14,4 +14,4 @@ returns-clause-step c =
     let valid : is_element_name name ≡ true = cc in
     IsStep-makes c.args.tree.now c.make.new.self (numbered c.args.numbers) (CreateElement c.args.document name) c.args.document (named Element name) no_content c.number.result
     (λ w shown. answer-create_element c.args.tree.now c.args.numbers c.args.document name w shown (sym c.in_default.ensures) valid)
-    (rw (c.label.ensures, c.new.ensures) at c.in_ok-id.ensures.made) c.sound.ensures refl (c.number.ensures ∙ c.in_ok-id.ensures.number)
+    (rw (c.label.ensures, c.of_text-body.ensures, c.new.ensures) at c.in_ok-id.ensures.made) c.sound.ensures refl (c.number.ensures ∙ c.in_ok-id.ensures.number)

@@ -10,4 +10,4 @@ pub returns-clause-step : goal.returns-clause-step
 returns-clause-step c =
     IsStep-makes c.args.tree.now c.make.new.self (numbered c.args.numbers) (CreateText c.args.document c.args.text) c.args.document (named Text []) (with_text c.args.text) c.number.result
     (λ w shown. answer-create_text c.args.tree.now c.args.numbers c.args.document c.args.text w shown (sym c.in_default.ensures))
-    (rw (c.label-label.ensures, c.new.ensures.bytes) at c.in_ok-id.ensures.made) c.sound.ensures refl (c.number.ensures ∙ c.in_ok-id.ensures.number)
+    (rw (c.label-label.ensures, c.new.ensures.bytes, c.of_text.ensures) at c.in_ok-id.ensures.made) c.sound.ensures refl (c.number.ensures ∙ c.in_ok-id.ensures.number)

@@ -12,4 +12,4 @@ returns-clause-step c =
     let room : nat_lt c.args.numbers (old.made + 1) ≡ false = grind (arith, nat_tests) in
     IsStep-makes old c.make.new.self (numbered c.args.numbers) NewDocument old.made document_label no_content c.number.result
     (λ w shown. answer-new_document old c.args.numbers w shown room)
-    (rw (c.document_label.ensures, c.new.ensures) at c.in_ok-id.ensures.made) c.sound.ensures refl (c.number.ensures ∙ c.in_ok-id.ensures.number)
+    (rw (c.document_label.ensures, c.of_text-body.ensures, c.new.ensures) at c.in_ok-id.ensures.made) c.sound.ensures refl (c.number.ensures ∙ c.in_ok-id.ensures.number)

@@ -1,7 +1,8 @@
+use Rattle.std.proofs.Common.{◌∙◌}
 use Rattle.dom_model.specs.Commands.Table.{served_table}
-use Rattle.dom_wire.specs.Rows.{row_of}
+use Rattle.dom_wire.proofs.Steps.{find-of_length}
 use Rattle.dom_wire.proofs.reading.named.Goals as goal
 
 pub returns : goal.returns
-unfolding served_table row_of
-returns c = c.named_among.ensures
+returns c =
+    c.named_among.ensures ∙ rw c.names_of_length.ensures (find-of_length c.args.text.now served_table)

@@ -1,6 +1,6 @@
 use Rattle.dom_model.specs.Commands.Printed.{row_json}
 use Rattle.dom_wire.proofs.Steps.{list_closed}
-use Rattle.dom_wire.proofs.printing.write_rows.Goals as goal
+use Rattle.dom_wire.proofs.rows.write_rows.Goals as goal
 
 pub returns : goal.returns
 returns c =

@@ -1,6 +1,6 @@
 use Rattle.dom_model.specs.Commands.Printed.{number_json}
 use Rattle.dom_wire.proofs.Steps.{list_closed}
-use Rattle.dom_wire.proofs.printing.write_numbers.Goals as goal
+use Rattle.dom_wire.proofs.values.write_numbers.Goals as goal
 
 pub returns : goal.returns
 returns c =

@@ -2,7 +2,7 @@ use Rattle.std.proofs.Common.{◌≡◌, take, map, ◌++◌, ◌∷◌}
 use Rattle.json.specs.Token.{begin_array}
 use Rattle.dom_model.specs.Commands.Printed.{row_json}
 use Rattle.dom_wire.specs.Prints.{tokens_of_all}
-use Rattle.dom_wire.proofs.printing.write_rows.Given as goal
+use Rattle.dom_wire.proofs.rows.write_rows.Given as goal
 
 abbrev pub invariant-loop-row : goal.invariant-loop-row
 invariant-loop-row l = record {

@@ -2,7 +2,7 @@ use Rattle.std.proofs.Common.{◌≡◌, take, map, ◌++◌, ◌∷◌}
 use Rattle.json.specs.Token.{begin_array}
 use Rattle.dom_model.specs.Commands.Printed.{number_json}
 use Rattle.dom_wire.specs.Prints.{tokens_of_all}
-use Rattle.dom_wire.proofs.printing.write_numbers.Given as goal
+use Rattle.dom_wire.proofs.values.write_numbers.Given as goal
 
 abbrev pub invariant-loop-number : goal.invariant-loop-number
 invariant-loop-number l = record {

@@ -1,0 +1,9 @@
+use Rattle.std.proofs.Common.{◌≡◌, drop, ◌++◌}
+use Rattle.std.specs.Prelude.{option_map}
+use Rattle.serde_json.specs.View.{items_view}
+use Rattle.dom_model.specs.Commands.Line.{rule_in, each_item}
+use Rattle.dom_wire.proofs.filters.each_rule.Given as goal
+
+abbrev pub invariant-loop-item : goal.invariant-loop-item
+invariant-loop-item l =
+    each_item rule_in (items_view l.items) ≡ option_map (λ others. l.rules.items ++ others) (each_item rule_in (items_view (drop l.item-index l.items)))

@@ -1,0 +1,11 @@
+use Rattle.std.proofs.Common.{◌≡◌, take, map, ◌++◌, ◌∷◌}
+use Rattle.json.specs.Token.{begin_array}
+use Rattle.dom_model.specs.Commands.Printed.{number_json}
+use Rattle.dom_wire.specs.Prints.{tokens_of_all}
+use Rattle.dom_wire.proofs.values.write_nodes.Given as goal
+
+abbrev pub invariant-loop-node : goal.invariant-loop-node
+invariant-loop-node l = record {
+  before : l.writer.before ≡ l.fn.writer.before;
+  tokens : l.writer.tokens ≡ l.fn.writer.tokens ++ begin_array ∷ tokens_of_all (map number_json (take l.node-index l.nodes));
+}

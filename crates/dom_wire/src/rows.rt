@@ -1,0 +1,112 @@
+//! Rows of a printed tree.
+
+ghost use Rattle.std.specs.Prelude.{◌≡◌, ◌<◌, [], ◌∷◌, map, length, slice_get, Some};
+ghost use Rattle.json.specs.Token.{string};
+ghost use Rattle.dom_attrs.specs.Entries.{attribute_at};
+ghost use Rattle.dom_model.specs.Forests.Kinds.{node_name};
+ghost use Rattle.dom_model.specs.Commands.Printed.{attribute_json, row_json, detail_json, list_json};
+ghost use Rattle.dom_wire.specs.Prints.{tokens_of, tokens_of_all, Adds};
+
+use crate::values::write_units;
+use dom_kinds::NodeType;
+use dom_session::{Attrs, Kind, Label, TreeRow, Units};
+use json::Writer;
+use std::alloc::{AllocError, Global};
+
+/// An array of rows.
+pub fn write_rows(
+    alloc: Global,
+    rows: &[TreeRow],
+    writer: &mut Writer,
+) -> Result<(), AllocError>
+    ensures { Adds result writer.old writer.new (tokens_of (list_json (map row_json rows.now))) }
+{
+    writer.begin_array()?;
+    for row in rows {
+        write_row(alloc, row, writer)?;
+    }
+    writer.end_array()
+}
+
+// Depth, number, kind and name, and then what the kind has.
+fn write_row(alloc: Global, row: &TreeRow, writer: &mut Writer) -> Result<(), AllocError>
+    ensures { Adds result writer.old writer.new (tokens_of (row_json row.now)) }
+{
+    writer.begin_array()?;
+    writer.u64(row.depth as u64)?;
+    writer.u64(u64::from(row.number.number()))?;
+    writer.u64(u64::from(row.label.kind.number()))?;
+    writer.string(node_name(&row.label))?;
+    write_detail(alloc, row, writer)?;
+    writer.end_array()
+}
+
+fn write_detail(alloc: Global, row: &TreeRow, writer: &mut Writer) -> Result<(), AllocError>
+    ensures { Adds result writer.old writer.new
+        (tokens_of_all (detail_json row.now.label.kind row.now.label row.now.body)) }
+{
+    match row.label.kind {
+        Kind::Element => write_attributes(alloc, &row.body.attrs, writer),
+        Kind::Text | Kind::ProcessingInstruction | Kind::Comment => {
+            write_units(alloc, &row.body.text, writer)
+        }
+        Kind::Document | Kind::DocumentFragment => Ok(()),
+        Kind::DocumentType => write_ids(&row.label, writer),
+    }
+}
+
+fn write_attributes(alloc: Global, attrs: &Attrs, writer: &mut Writer) -> Result<(), AllocError>
+    ensures { Adds result writer.old writer.new
+        (tokens_of (list_json (map attribute_json attrs.now))) }
+{
+    writer.begin_array()?;
+    for index in 0..attrs.len() {
+        let (name, value) = pair_at(attrs, index);
+        write_attribute(alloc, name, value, writer)?;
+    }
+    writer.end_array()
+}
+
+// The attribute at an index that is below the length.
+fn pair_at(attrs: &Attrs, index: usize) -> (&str, &Units)
+    requires { index < length attrs.now }
+    ensures { slice_get attrs.now index ≡ Some (attribute_at result) }
+{
+    attrs.at(index).unwrap()
+}
+
+fn write_attribute(
+    alloc: Global,
+    name: &str,
+    value: &Units,
+    writer: &mut Writer,
+) -> Result<(), AllocError>
+    ensures { Adds result writer.old writer.new
+        (tokens_of (attribute_json (record { name = name.now; value = value.now }))) }
+{
+    writer.begin_array()?;
+    writer.string(name)?;
+    write_units(alloc, value, writer)?;
+    writer.end_array()
+}
+
+fn write_ids(label: &Label, writer: &mut Writer) -> Result<(), AllocError>
+    ensures { Adds result writer.old writer.new
+        (string label.now.public_id ∷ string label.now.system_id ∷ []) }
+{
+    writer.string(label.public_id.as_str())?;
+    writer.string(label.system_id.as_str())
+}
+
+/// `nodeName`.
+pub fn node_name(label: &Label) -> &str
+    ensures { result.now ≡ node_name label.now }
+{
+    match label.kind {
+        Kind::Element | Kind::ProcessingInstruction | Kind::DocumentType => label.name.as_str(),
+        Kind::Text => "#text",
+        Kind::Comment => "#comment",
+        Kind::Document => "#document",
+        Kind::DocumentFragment => "#document-fragment",
+    }
+}
