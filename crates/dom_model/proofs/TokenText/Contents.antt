@@ -1,0 +1,5 @@
+-- The contents of a live range, in the words of texts: what lies between its two markers.
+pub mod Dressed
+pub mod MarksInOrder
+pub mod BetweenGaps
+pub mod Sifted
