@@ -3,3 +3,5 @@ pub mod Dressed
 pub mod MarksInOrder
 pub mod BetweenGaps
 pub mod Sifted
+pub mod LeafPlaces
+pub mod Told

@@ -9,6 +9,7 @@ use Rattle.dom_model.specs.TokenText.Between.{before_mark, after_mark, between, 
 use Rattle.dom_model.proofs.Forests.Changes.{seen, nothing, just}
 use Rattle.dom_model.proofs.TokenText.Pieces.TokenLists.{marked, tally, tally-append, AreMarks, unmarked-marks, not-marked, not-later}
 use Rattle.dom_model.proofs.TokenText.Pieces.TextWalks.{walk}
+use Rattle.dom_model.proofs.TokenText.Marked.MarkersMoved.{end_itself}
 use Rattle.dom_model.proofs.TokenText.Contents.Dressed.{gap_marks, dressed}
 use Rattle.dom_model.proofs.TokenText.Contents.MarksInOrder.{StartsIn, Marking}
 
@@ -108,6 +109,10 @@ module _ (r : ℕ) (p q : Point) (marks : Point → List Token) (m : Marking r p
   gap-end [] h = absurd (false≢true h)
   gap-end (g ∷ around) h = m.an_end g h
 
+  gap-a_start : (here : List Point) → stands_at p here ≡ true → 0 < marked r true (gap_marks marks here)
+  gap-a_start [] h = absurd (false≢true h)
+  gap-a_start (g ∷ around) h = m.a_start g h
+
   gap-start : (here : List Point) → stands_at p here ≡ true → StartsIn r (stands_at q here) (gap_marks marks here)
   gap-start [] h = absurd (false≢true h)
   gap-start (g ∷ around) h = m.start g h
@@ -164,15 +169,10 @@ module _ (r : ℕ) (p q : Point) (marks : Point → List Token) (m : Marking r p
   up_to-start here [] a n h = absurd (cc h)
   up_to-start here (t ∷ ts) a n h = go (stands_at p here) refl h (λ k e. up_to-start (passed t here) ts k n.1 e)
     where
-      some : (i : StartsIn r (stands_at q here) (gap_marks marks here)) → 0 < marked r true (gap_marks marks here)
-      some i = one_there i.first i.last (marked r true) (gap_marks marks here) i.whole
-        where
-          one_there : (first last : List Token) (count : List Token → ℕ) (ms : List Token) → ms ≡ first ++ (Mark r true ∷ last) → 0 < marked r true ms
-          one_there first last count ms e = rw e (rw (tally-append (is_mark_of r true) first (Mark r true ∷ last)) (?))
       go : (v : Bool) → stands_at p here ≡ v → (if v then Some 0 else option_map (λ k. suc k) (tokens_ahead p (passed t here) ts)) ≡ Some a → ((k : ℕ) → tokens_ahead p (passed t here) ts ≡ Some k → unmarked (before_mark r true (dressed marks (passed t here) ts)) ≡ take k ts) → unmarked (before_mark r true (gap_marks marks here ++ (t ∷ dressed marks (passed t here) ts))) ≡ take a (t ∷ ts)
       go true s e later =
           let d : 0 ≡ a = cc e in
-          before-marks r true (gap_marks marks here) (t ∷ dressed marks (passed t here) ts) (gap-only here) (some (gap-start here s)) ∙ ap (λ k. take k (t ∷ ts)) d
+          before-marks r true (gap_marks marks here) (t ∷ dressed marks (passed t here) ts) (gap-only here) (gap-a_start here s) ∙ ap (λ k. take k (t ∷ ts)) d
       go false s e later =
           let i = some-suc (tokens_ahead p (passed t here) ts) a e in
           let o = other-mark r true t n.0 in
@@ -181,3 +181,93 @@ module _ (r : ℕ) (p q : Point) (marks : Point → List Token) (m : Marking r p
           ∙ (rw o (kept-first t (before_mark r true (dressed marks (passed t here) ts)) n.0))
           ∙ ap (λ us. t ∷ us) (later i.0 i.1)
           ∙ ap (λ k. take k (t ∷ ts)) (sym i.2)
+
+  -- Past the start marker, and from there up to the end marker.
+
+  started : (here : List Point) (ts : List Token) (i : StartsIn r (stands_at q here) (gap_marks marks here)) → gap_marks marks here ++ ts ≡ i.first ++ (Mark r true ∷ (i.last ++ ts))
+  started here ts i = ap (λ ms. ms ++ ts) i.whole ∙ append_assoc i.first (Mark r true ∷ i.last) ts
+
+  after-started : (here : List Point) (ts : List Token) (i : StartsIn r (stands_at q here) (gap_marks marks here)) → after_mark r true (gap_marks marks here ++ ts) ≡ i.last ++ ts
+  after-started here ts i =
+      ap (after_mark r true) (started here ts i)
+      ∙ after-skips r true i.first (Mark r true ∷ (i.last ++ ts)) i.free
+      ∙ (rw (end_itself r true) refl)
+
+  last-marks : (here : List Point) (i : StartsIn r (stands_at q here) (gap_marks marks here)) → AreMarks i.last
+  last-marks here i = marks-last r true i.first (Mark r true ∷ i.last) (subst AreMarks i.whole (gap-only here))
+
+  first-marks : (here : List Point) (i : StartsIn r (stands_at q here) (gap_marks marks here)) → AreMarks i.first
+  first-marks here i = marks-first r true i.first (Mark r true ∷ i.last) (subst AreMarks i.whole (gap-only here))
+
+  pub between-gaps : (here : List Point) (ts : List Token) (a b : ℕ) → NoMarks ts → tokens_ahead p here ts ≡ Some a → tokens_ahead q here ts ≡ Some b → a ≤ b → between r (dressed marks here ts) ≡ take (b - a) (drop a ts)
+  between-gaps here [] a b n h k l = absurd (cc h)
+  between-gaps here (t ∷ ts) a b n h k l = go (stands_at p here) refl h (λ c d e i j. between-gaps (passed t here) ts c d n.1 e i j)
+    where
+      rest : List Token
+      rest = dressed marks (passed t here) ts
+
+      at_start : stands_at p here ≡ true → (i : StartsIn r (stands_at q here) (gap_marks marks here)) → (v : Bool) → stands_at q here ≡ v → unmarked (before_mark r false (i.last ++ (t ∷ rest))) ≡ take b (t ∷ ts)
+      at_start s i true u =
+          let one : marked r false i.last ≡ 1 = i.ending ∙ (rw u refl) in
+          let d : b ≡ 0 = zero_end u k in
+          before-marks r false i.last (t ∷ rest) (last-marks here i) (omega arith) ∙ ap (λ c. take c (t ∷ ts)) (sym d)
+        where
+          zero_end : stands_at q here ≡ true → tokens_ahead q here (t ∷ ts) ≡ Some b → b ≡ 0
+          zero_end u k = let c : Some 0 ≡ Some b = rw u at k in cc c
+      at_start s i false u =
+          let none : marked r false i.last ≡ 0 = i.ending ∙ (rw u refl) in
+          ap unmarked (before-skips r false i.last (t ∷ rest) none)
+          ∙ unmarked-marks i.last (before_mark r false (t ∷ rest)) (last-marks here i)
+          ∙ sym (unmarked-marks (gap_marks marks here) (before_mark r false (t ∷ rest)) (gap-only here))
+          ∙ sym (ap unmarked (before-skips r false (gap_marks marks here) (t ∷ rest) (gap-no_end here u)))
+          ∙ up_to-end here (t ∷ ts) b n k
+
+      beyond : (c : ℕ) → tokens_ahead p (passed t here) ts ≡ Some c → a ≡ suc c → stands_at p here ≡ false → ((c d : ℕ) → tokens_ahead p (passed t here) ts ≡ Some c → tokens_ahead q (passed t here) ts ≡ Some d → c ≤ d → between r rest ≡ take (d - c) (drop c ts)) → (v : Bool) → stands_at q here ≡ v → (if v then Some 0 else option_map (λ k. suc k) (tokens_ahead q (passed t here) ts)) ≡ Some b → between r (gap_marks marks here ++ (t ∷ rest)) ≡ take (b - a) (drop a (t ∷ ts))
+      beyond c e x s later true u y = absurd (let z : 0 ≡ b = cc y in omega arith)
+      beyond c e x s later false u y =
+          let j = some-suc (tokens_ahead q (passed t here) ts) b y in
+          let o = other-mark r true t n.0 in
+          let le : c ≤ j.0 = (let z = j.2 in omega arith) in
+          let m : j.0 - c ≡ b - a = (let z = j.2 in omega arith) in
+          ap (λ us. unmarked (before_mark r false us)) (after-skips r true (gap_marks marks here) (t ∷ rest) (gap-no_start here s))
+          ∙ (rw o refl)
+          ∙ later c j.0 e j.1 le
+          ∙ ap (λ k. take k (drop c ts)) m
+          ∙ ap (λ k. take (b - a) (drop k (t ∷ ts))) (sym x)
+
+      go : (v : Bool) → stands_at p here ≡ v → (if v then Some 0 else option_map (λ k. suc k) (tokens_ahead p (passed t here) ts)) ≡ Some a → ((c d : ℕ) → tokens_ahead p (passed t here) ts ≡ Some c → tokens_ahead q (passed t here) ts ≡ Some d → c ≤ d → between r rest ≡ take (d - c) (drop c ts)) → between r (gap_marks marks here ++ (t ∷ rest)) ≡ take (b - a) (drop a (t ∷ ts))
+      go true s e later =
+          let d : a ≡ 0 = cc e in
+          let i = gap-start here s in
+          let m : b - 0 ≡ b = omega arith in
+          ap (λ us. unmarked (before_mark r false us)) (after-started here (t ∷ rest) i)
+          ∙ at_start s i (stands_at q here) refl
+          ∙ ap (λ k. take k (t ∷ ts)) (sym m)
+          ∙ ap (λ k. take (b - k) (drop k (t ∷ ts))) (sym d)
+      go false s e later =
+          let i = some-suc (tokens_ahead p (passed t here) ts) a e in
+          beyond i.0 i.1 i.2 s later (stands_at q here) refl k
+
+  -- The nodes that are open around the start marker.
+  pub open-around : (here : List Point) (ts : List Token) (a : ℕ) → NoMarks ts → tokens_ahead p here ts ≡ Some a → open_at r true here (dressed marks here ts) ≡ numbers_of (walk (take a ts) here)
+  open-around here [] a n h = absurd (cc h)
+  open-around here (t ∷ ts) a n h = go (stands_at p here) refl h (λ k e. open-around (passed t here) ts k n.1 e)
+    where
+      rest : List Token
+      rest = dressed marks (passed t here) ts
+
+      go : (v : Bool) → stands_at p here ≡ v → (if v then Some 0 else option_map (λ k. suc k) (tokens_ahead p (passed t here) ts)) ≡ Some a → ((k : ℕ) → tokens_ahead p (passed t here) ts ≡ Some k → open_at r true (passed t here) rest ≡ numbers_of (walk (take k ts) (passed t here))) → open_at r true here (gap_marks marks here ++ (t ∷ rest)) ≡ numbers_of (walk (take a (t ∷ ts)) here)
+      go true s e later =
+          let d : a ≡ 0 = cc e in
+          let i = gap-start here s in
+          ap (open_at r true here) (started here (t ∷ rest) i)
+          ∙ open_at-skips r true here i.first (Mark r true ∷ (i.last ++ (t ∷ rest))) (first-marks here i) i.free
+          ∙ (rw (end_itself r true) refl)
+          ∙ ap (λ k. numbers_of (walk (take k (t ∷ ts)) here)) (sym d)
+      go false s e later =
+          let i = some-suc (tokens_ahead p (passed t here) ts) a e in
+          let o = other-mark r true t n.0 in
+          open_at-skips r true here (gap_marks marks here) (t ∷ rest) (gap-only here) (gap-no_start here s)
+          ∙ (rw o refl)
+          ∙ later i.0 i.1
+          ∙ ap (λ k. numbers_of (walk (take k (t ∷ ts)) here)) (sym i.2)

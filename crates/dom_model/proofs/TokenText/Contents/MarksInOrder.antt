@@ -21,6 +21,7 @@ pub record Marking (r : ℕ) (p q : Point) (marks : Point → List Token) : Type
   pub only : (g : Point) → AreMarks (marks g)
   pub no_start : (g : Point) → same_point p g ≡ false → marked r true (marks g) ≡ 0
   pub no_end : (g : Point) → same_point q g ≡ false → marked r false (marks g) ≡ 0
+  pub a_start : (g : Point) → same_point p g ≡ true → 0 < marked r true (marks g)
   pub an_end : (g : Point) → same_point q g ≡ true → 0 < marked r false (marks g)
   pub start : (g : Point) → same_point p g ≡ true → StartsIn r (same_point q g) (marks g)
 
@@ -69,6 +70,7 @@ marking w r range h = record {
   only = λ g. AreMarks-marks_from 0 w.ranges g;
   no_start = λ g e. counted true g ∙ (rw e refl);
   no_end = λ g e. counted false g ∙ (rw e refl);
+  a_start = λ g e. (let c = counted true g ∙ (rw e refl) in one_more c);
   an_end = λ g e. (let c = counted false g ∙ (rw e refl) in one_more c);
   start = λ g e. start-ahead r r 0 w.ranges range g (omega arith) h e;
 }
