@@ -5,3 +5,6 @@ pub mod BetweenGaps
 pub mod Sifted
 pub mod LeafPlaces
 pub mod Told
+pub mod LeafUnits
+pub mod TextTold
+pub mod TextsOfRoots

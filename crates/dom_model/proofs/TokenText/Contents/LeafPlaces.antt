@@ -37,6 +37,19 @@ ahead-past p here (x ∷ xs) ys k m h =
     let e : suc (length xs + k) ≡ suc (length xs) + k = omega arith in
     rw m.0 (ap (option_map (λ i. suc i)) (ahead-past p (passed x here) xs ys k m.1 h) ∙ ap (λ i. Some i) e)
 
+-- a gap that is there is not behind all tokens
+pub ahead-within : (p : Point) (here : List Point) (ts : List Token) (a : ℕ) → tokens_ahead p here ts ≡ Some a → a < length ts
+ahead-within p here [] a h = absurd (cc h)
+ahead-within p here (t ∷ ts) a h = go (stands_at p here) h (λ k e. ahead-within p (passed t here) ts k e)
+  where
+    go : (v : Bool) → (if v then Some 0 else option_map (λ k. suc k) (tokens_ahead p (passed t here) ts)) ≡ Some a → ((k : ℕ) → tokens_ahead p (passed t here) ts ≡ Some k → k < length ts) → a < suc (length ts)
+    go true e later = let d : 0 ≡ a = cc e in omega arith
+    go false e later =
+        let i = some-suc (tokens_ahead p (passed t here) ts) a e in
+        let d = i.2 in
+        let l = later i.0 i.1 in
+        omega arith
+
 missed-ahead : (p : Point) (here : List Point) (xs ys : List Token) (a : ℕ) → Misses p xs here → tokens_ahead p here (xs ++ ys) ≡ Some a → length xs ≤ a
 missed-ahead p here [] ys a m h = omega arith
 missed-ahead p here (x ∷ xs) ys a m h =
