@@ -8,3 +8,4 @@ pub mod Told
 pub mod LeafUnits
 pub mod TextTold
 pub mod TextsOfRoots
+pub mod RangeText

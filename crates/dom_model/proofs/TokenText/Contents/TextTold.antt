@@ -46,14 +46,14 @@ no_text-kind Document h = refl
 no_text-kind DocumentType h = refl
 no_text-kind DocumentFragment h = refl
 
-no_mark : (p : Point) → AreMarks (no_marks p)
+pub no_mark : (p : Point) → AreMarks (no_marks p)
 no_mark p = tt
 
 -- the data of the Texts among nodes that pass a test
 abbrev pub held_data : World → (ℕ → Bool) → List ℕ → List ℕ
 held_data w held ns = joined_data w (filter (λ n. is_of_kind Text w.forest n && held n) ns)
 
-held-append : (w : World) (held : ℕ → Bool) (ns ms : List ℕ) → held_data w held (ns ++ ms) ≡ held_data w held ns ++ held_data w held ms
+pub held-append : (w : World) (held : ℕ → Bool) (ns ms : List ℕ) → held_data w held (ns ++ ms) ≡ held_data w held ns ++ held_data w held ms
 held-append w held ns ms =
     ap (joined_data w) (filter-append (λ n. is_of_kind Text w.forest n && held n) ns ms)
     ∙ flat_map-append (data_of w) (filter (λ n. is_of_kind Text w.forest n && held n) ns) (filter (λ n. is_of_kind Text w.forest n && held n) ms)

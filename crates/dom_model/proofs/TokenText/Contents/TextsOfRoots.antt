@@ -1,7 +1,7 @@
 -- The tree of a root: its text, without markers and with them, and its nodes among those of the forest.
 use Rattle.std.proofs.Common.{◌≡◌, ℕ, zero, suc, ◌+◌, ◌<◌, ◌≤◌, ◌==◌, Bool, true, false, if◌then◌else◌, List, [], ◌∷◌, ◌++◌, map, Option, Some, None, refl, ap, sym, ◌∙◌, subst, arith, append_assoc, append-nil, ⊎_elim}
 use Rattle.std.proofs.lemmas.Bool.{false≢true, cases_lt}
-use Rattle.dom_model.specs.PlainLists.Lists.{hits}
+use Rattle.dom_model.specs.PlainLists.Lists.{hits, last_of}
 use Rattle.dom_model.specs.Forests.Kinds.{is_character_data, is_kind}
 use Rattle.dom_model.specs.declared.Kind.TheVariants.{Text}
 use Rattle.dom_model.specs.Forests.Arena.{Entry}
@@ -14,6 +14,7 @@ use Rattle.dom_model.specs.TokenText.Tokens.{Token, Open, Close, no_marks, unit_
 use Rattle.dom_model.specs.TokenText.Gaps.{text_among}
 use Rattle.dom_model.proofs.PlainLists.Numbers.{same_or, same, apart}
 use Rattle.dom_model.proofs.Forests.Tops.{hits-tops}
+use Rattle.dom_model.proofs.Forests.Climbing.{ancestors-absent}
 use Rattle.dom_model.proofs.Forests.Lots.{lot, on_top, beneath, elsewhere, at_top, under_top, root-top, root-elsewhere, root-listed}
 use Rattle.dom_model.proofs.Forests.TreeOrder.Flattened.{hits-numbers}
 use Rattle.dom_model.proofs.TokenText.Pieces.TextParts.{inside, own, own-then, Childless}
@@ -241,7 +242,11 @@ tree_of_root at root (node x kids rest) o lies alone h =
             (cases_lt 0 (occurs m (node x kids empty)))
 
         there : (m : ℕ) → root_of rest m ≡ Some root → 0 < occurs m rest
-        there m r = ?
+        there m r =
+            ⊎_elim
+            (λ (lt : 0 < occurs m rest). lt)
+            (λ (ge : occurs m rest ≤ 0). absurd (let z : occurs m rest ≡ 0 = omega arith in let s : None ≡ Some root = sym (ap last_of (ancestors-absent m rest z)) ∙ r in cc s))
+            (cases_lt 0 (occurs m rest))
 
         rest_only : (m : ℕ) → 0 < occurs m rest → occurs m (node x kids empty) ≡ 0
         rest_only m k = let j = o m in omega arith
