@@ -15,11 +15,13 @@ use Rattle.dom_model.specs.BoundaryPoints.Points.{order_of}
 use Rattle.dom_model.specs.MutationAlgorithms.Checks.{is_same, is_of_kind}
 use Rattle.dom_model.specs.RangesAndContents.Ranges.{is_less, range_at}
 use Rattle.dom_model.specs.RangesAndContents.Contents.{contained_in, text_part, text_between, range_text}
-use Rattle.dom_model.specs.DataAndCopies.Data.{data_of, joined_data}
+use Rattle.dom_model.specs.DataAndCopies.Data.{content_in, data_of, joined_data}
 use Rattle.dom_model.specs.TokenText.Tokens.{Token, Open, Close, point, no_marks, marks_from, unit_tokens, token_texts, texts_of, is_open}
 use Rattle.dom_model.specs.TokenText.Gaps.{text_among, root_text, tokens_ahead, gap_order}
 use Rattle.dom_model.specs.TokenText.Between.{between, numbers_of, open_at, text_units, text_of_range}
 use Rattle.dom_model.proofs.PlainLists.Numbers.{same_or, same, apart}
+use Rattle.dom_model.specs.Forests.Arena.{Entry}
+use Rattle.dom_model.proofs.Forests.Changes.{seen, nothing, just}
 use Rattle.dom_model.proofs.Forests.Entries.{Lies-entry_in}
 use Rattle.dom_model.proofs.Forests.Lots.{root-listed}
 use Rattle.dom_model.proofs.BoundaryPoints.PointOrder.{nat_cmp-same, nat_cmp-less, nat_cmp-greater}
@@ -37,7 +39,7 @@ use Rattle.dom_model.proofs.TokenText.Contents.Sifted.{sifted, sifted-part, numb
 use Rattle.dom_model.proofs.TokenText.Contents.LeafPlaces.{leaf-gap, leaf-aside, gap-here}
 use Rattle.dom_model.proofs.TokenText.Contents.LeafUnits.{cut_units, text-sifted, told-start, told-end, told-both, told-through, told-ahead, told-behind}
 use Rattle.dom_model.proofs.TokenText.Contents.Told.{Told, Quiet, sifted_after}
-use Rattle.dom_model.proofs.TokenText.Contents.TextTold.{TextsTell, held_data, held-append, no_mark, root-tells}
+use Rattle.dom_model.proofs.TokenText.Contents.TextTold.{text-kind, TextsTell, held_data, held-append, no_mark, root-tells}
 use Rattle.dom_model.proofs.TokenText.Contents.TextsOfRoots.{TreeOf, tree_of_root, no_marks-own, dressed-among, HasData, data-found}
 
 less-true : (i j : ℕ) → i < j → is_less (nat_cmp i j) ≡ true
@@ -109,6 +111,27 @@ module _ (w : World) (sound : IsSound w) (range : Range) (is_range : IsRange w.f
         let e = ap (opened m) t.tree.text ∙ opened-own no_marks no_mark m t.tree.top t.tree.kids (t.tree.alone, t.tree.less, tt) in
         let o = t.tree.once m in
         omega arith
+
+    -- what is ahead of a node does not open it
+    unopened-ahead : (pre : List Token) (n : ℕ) (post : List Token) → root_text w.forest root ≡ pre ++ (Open n ∷ post) → opened n pre ≡ 0
+    unopened-ahead pre n post h =
+        let one : opened n (Open n ∷ post) ≡ 1 + opened n post = (let v = itself n in rw v refl) in
+        let sum : opened n (root_text w.forest root) ≡ opened n pre + opened n (Open n ∷ post) = ap (opened n) h ∙ tally-append (is_open n) pre (Open n ∷ post) in
+        let o = once-opened n in
+        omega arith
+
+    -- the length of a Text is that of its data
+    text-long : (n : ℕ) → is_of_kind Text w.forest n ≡ true → node_length unit_count w.forest n ≡ length (data_of w n)
+    text-long n h =
+        elim (seen (entry_in w.forest n)) [
+          | nothing z ↦ absurd (false≢true (rw z at h))
+          | just e z ↦
+              let k = rw z at h in
+              let kinds = text-kind e.value.label.kind k in
+              let d : node_length unit_count w.forest n ≡ length e.value.body.text = rw z (rw (kinds.0, kinds.1) refl) in
+              let g : data_of w n ≡ e.value.body.text = ap (λ (o : Option (Entry (Node Content))). (content_in o).text) z in
+              d ∙ sym (ap (λ us. length us) g)
+        ]
 
     -- a node that the text opens is of the root
     opened-rooted : (pre : List Token) (n : ℕ) (post : List Token) → root_text w.forest root ≡ pre ++ (Open n ∷ post) → root_of w.forest n ≡ Some root
@@ -221,3 +244,133 @@ module _ (w : World) (sound : IsSound w) (range : Range) (is_range : IsRange w.f
 
         held_all : (is_less (nat_cmp t.a (length pre + 1)) && is_less (nat_cmp (length pre + suc (length (data_of w n))) t.b)) ≡ true → Told t.a t.b front back k (2 + length (data_of w n)) (cut_units (t.a - suc k) (t.b - suc k) (data_of w n)) (data_of w n) → Told t.a t.b front back k (2 + length (data_of w n)) (cut_units (t.a - suc k) (t.b - suc k) (data_of w n)) (if contained_in w range n then data_of w n else [])
         held_all e i = subst (λ (v : Bool). Told t.a t.b front back k (2 + length (data_of w n)) (cut_units (t.a - suc k) (t.b - suc k) (data_of w n)) (if v then data_of w n else [])) (sym (contained-leaf pre n post h first long ∙ e)) i
+
+    -- each Text tells its part, where both ends stand in one
+    texts-tell_one : range.start.node ≡ range.end.node → is_of_kind Text w.forest range.start.node ≡ true → HasData range.start.node (data_of w range.start.node) (root_text w.forest root) → TextsTell w t.a t.b t.le range.start range.end inner [] (λ _. false) (root_text w.forest root)
+    unfolding inner
+    texts-tell_one one text_there found pre n post h first kind long quiet =
+        subst (λ us. Told t.a t.b inner [] k (2 + length (data_of w n)) us []) (sym (text-sifted w (numbers_of (walk pre [])) t.a t.b k n (data_of w n) kind))
+        (elim (same_or range.start.node n) [
+          | same d v ↦
+              let o = offset-in range.start n d is_range.starts.within long in
+              let c = end-in range.start t.a pre n post h first d o t.starts in
+              let e : range.end.node ≡ n = sym one ∙ d in
+              let g = end-in range.end t.b pre n post h first e (offset-in range.end n e is_range.ends.within long) t.ends in
+              told-both t.a t.b k t.le (data_of w n) range.start.offset range.end.offset inner c o g (inner_is d)
+          | apart ne v ↦
+              elim (aside range.start t.a t.starts v) [
+                | inl near ↦
+                    elim (aside range.end t.b t.ends (subst (λ (m : ℕ). (m == n) ≡ false) one v)) [
+                      | inl close ↦ told-ahead t.a t.b k t.le (data_of w n) inner [] quiet_start close (λ e. refl)
+                      | inr beyond ↦ absurd (not_across ne near beyond)
+                    ]
+                | inr beyond ↦ told-behind t.a t.b k t.le (data_of w n) inner [] beyond
+              ]
+        ])
+      where
+        k : ℕ
+        k = length pre
+
+        tokens : List Token
+        tokens = unit_tokens no_marks n 0 (data_of w n) ++ (Close ∷ post)
+
+        aside : (p : Point) (c : ℕ) → tokens_ahead p [] (root_text w.forest root) ≡ Some c → (p.node == n) ≡ false → (c ≤ length pre) ⊎ (length pre + (2 + length (data_of w n)) ≤ c)
+        aside p c g u = leaf-aside pre n (data_of w n) post first p c u (sym (ap (tokens_ahead p []) h) ∙ g)
+
+        quiet_start : t.a ≡ length pre → inner ≡ []
+        quiet_start e = quiet.starts (gap-here range.start [] pre (Open n) tokens (sym (ap (tokens_ahead range.start []) h) ∙ t.starts ∙ ap (λ i. Some i) e))
+
+        inner_is : range.start.node ≡ n → inner ≡ take (range.end.offset - range.start.offset) (drop range.start.offset (data_of w n))
+        inner_is d = ap (λ m. text_part w m range.start.offset (range.end.offset - range.start.offset)) d ∙ (rw kind refl)
+
+        -- no other Text stands between two points of one
+        not_across : (range.start.node ≡ n → ⊥) → t.a ≤ length pre → length pre + (2 + length (data_of w n)) ≤ t.b → ⊥
+        not_across ne near beyond =
+            let m = range.start.node in
+            let us = data_of w range.start.node in
+            let whole = found.whole in
+            let free = unopened-ahead found.ahead range.start.node (unit_tokens no_marks range.start.node 0 us ++ (Close ∷ found.behind)) found.whole in
+            let long_there = text-long range.start.node text_there in
+            let e : range.end.node ≡ range.start.node = sym one in
+            let c = end-in range.start t.a found.ahead range.start.node found.behind found.whole free refl (offset-in range.start range.start.node refl is_range.starts.within long_there) t.starts in
+            let l = offset-in range.end range.start.node e is_range.ends.within long_there in
+            let g = end-in range.end t.b found.ahead range.start.node found.behind found.whole free e l t.ends in
+            let here = ap (tokens_ahead (point n 0) []) h ∙ leaf-gap pre n (data_of w n) post first 0 (omega arith) in
+            let u : (n == range.start.node) ≡ false = elim (same_or n range.start.node) [ same d v ↦ absurd (ne (sym d)) | apart d v ↦ v ] in
+            elim (leaf-aside found.ahead range.start.node us found.behind free (point n 0) (length pre + 1) u (sym (ap (tokens_ahead (point n 0) []) found.whole) ∙ here)) [
+              | inl before ↦ omega arith
+              | inr after ↦ omega arith
+            ]
+
+    -- What the text of the root tells.
+
+    not_contained : (m : ℕ) → (root_of w.forest m ≡ Some root → ⊥) → contained_in w range m ≡ false
+    not_contained m h =
+        let e : is_same (root_of w.forest m) (root_of w.forest range.start.node) ≡ false = ap (λ (o : Option ℕ). is_same (root_of w.forest m) o) rooted ∙ other in
+        rw e refl
+      where
+        other : is_same (root_of w.forest m) (Some root) ≡ false
+        other =
+            elim (seen (root_of w.forest m)) [
+              | nothing z ↦ rw z refl
+              | just c z ↦ rw z (elim (same_or c root) [ same d v ↦ absurd (h (z ∙ ap (λ i. Some i) d)) | apart ne v ↦ v ])
+            ]
+
+    held-in_tree : held_data w (contained_in w range) (numbers w.forest) ≡ held_data w (contained_in w range) (t.tree.top.number ∷ numbers t.tree.kids)
+    held-in_tree =
+        let held = contained_in w range in
+        let tree = t.tree.top.number ∷ numbers t.tree.kids in
+        ap (held_data w (contained_in w range)) t.tree.listed
+        ∙ held-append w (contained_in w range) t.tree.ahead ((t.tree.top.number ∷ numbers t.tree.kids) ++ t.tree.behind)
+        ∙ ap (λ us. us ++ held_data w (contained_in w range) ((t.tree.top.number ∷ numbers t.tree.kids) ++ t.tree.behind)) (held-none w (contained_in w range) t.tree.ahead (λ m k. not_contained m (t.tree.not_ahead m k)))
+        ∙ held-append w (contained_in w range) (t.tree.top.number ∷ numbers t.tree.kids) t.tree.behind
+        ∙ ap (λ us. held_data w (contained_in w range) (t.tree.top.number ∷ numbers t.tree.kids) ++ us) (held-none w (contained_in w range) t.tree.behind (λ m k. not_contained m (t.tree.not_behind m k)))
+        ∙ append-nil (held_data w (contained_in w range) (t.tree.top.number ∷ numbers t.tree.kids))
+
+    sifted-between : ((n : ℕ) → range.start.node ≡ n → range.end.node ≡ n → is_of_kind Text w.forest n ≡ true → ⊥) → sifted w [] t.a t.b (root_text w.forest root) ≡ text_between w range
+    unfolding front back
+    sifted-between far =
+        root-tells w t.a t.b t.le range.start range.end front back (contained_in w range) (root_text w.forest root) t.starts t.ends once-opened (λ h. rw h refl) (λ h. rw h refl) (texts-tell far) None t.tree.top t.tree.kids t.tree.text t.tree.entry t.tree.lies t.tree.alone t.tree.less
+        ∙ ap (λ us. front ++ (us ++ back)) (sym held-in_tree)
+
+    sifted-inner : range.start.node ≡ range.end.node → is_of_kind Text w.forest range.start.node ≡ true → sifted w [] t.a t.b (root_text w.forest root) ≡ text_part w range.start.node range.start.offset (range.end.offset - range.start.offset)
+    unfolding inner
+    sifted-inner one kind =
+        let found = subst (HasData range.start.node (data_of w range.start.node)) (sym t.tree.text) (data-found w range.start.node kind None t.tree.top t.tree.kids t.tree.entry t.tree.lies t.tree.alone t.tree.less (t.tree.within range.start.node rooted)) in
+        root-tells w t.a t.b t.le range.start range.end inner [] (λ _. false) (root_text w.forest root) t.starts t.ends once-opened (λ h. rw h refl) (λ h. refl) (texts-tell_one one kind found) None t.tree.top t.tree.kids t.tree.text t.tree.entry t.tree.lies t.tree.alone t.tree.less
+        ∙ ap (λ us. inner ++ (us ++ [])) (held-none w (λ _. false) (t.tree.top.number ∷ numbers t.tree.kids) (λ m k. refl))
+        ∙ append-nil inner
+
+    sifted-range : sifted w [] t.a t.b (root_text w.forest root) ≡ range_text w range
+    sifted-range =
+        elim (same_or range.start.node range.end.node) [
+          | same d v ↦ rw v (go d (is_of_kind Text w.forest range.start.node) refl)
+          | apart ne v ↦ rw v (sifted-between (λ n x y k. ne (x ∙ sym y)))
+        ]
+      where
+        go : range.start.node ≡ range.end.node → (v : Bool) → is_of_kind Text w.forest range.start.node ≡ v → sifted w [] t.a t.b (root_text w.forest root) ≡ (if v then text_part w range.start.node range.start.offset (range.end.offset - range.start.offset) else text_between w range)
+        go d true k = sifted-inner d k
+        go d false k = sifted-between (λ n x y i. false≢true (sym k ∙ subst (λ m. is_of_kind Text w.forest m ≡ true) (sym x) i))
+
+    -- the marked text of the root
+    marked-text : text_among root (texts_of w) ≡ dressed (marks_from 0 w.ranges) [] (root_text w.forest root)
+    marked-text = ap (text_among root) (dressed-texts (marks_from 0 w.ranges) w.forest) ∙ dressed-among (marks_from 0 w.ranges) root (token_texts no_marks w.forest)
+
+    bare-text : NoMarks (root_text w.forest root)
+    bare-text = subst NoMarks (sym t.tree.text) (no_marks-own t.tree.top t.tree.kids)
+
+    told-range : (r : ℕ) → range_at w r ≡ Some range → text_of_range w r (text_among root (texts_of w)) ≡ range_text w range
+    told-range r h =
+        let m = marking w r range h in
+        let marks = marks_from 0 w.ranges in
+        ap (text_of_range w r) marked-text
+        ∙ ap (λ ns. text_units w ns (between r (dressed (marks_from 0 w.ranges) [] (root_text w.forest root)))) (open-around r range.start range.end (marks_from 0 w.ranges) m [] (root_text w.forest root) t.a bare-text t.starts ∙ numbers-walk (take t.a (root_text w.forest root)) [])
+        ∙ ap (text_units w (open_past_all (take t.a (root_text w.forest root)) [])) (between-gaps r range.start range.end (marks_from 0 w.ranges) m [] (root_text w.forest root) t.a t.b bare-text t.starts t.ends t.le)
+        ∙ sifted-part w [] t.a t.b (root_text w.forest root) t.le
+        ∙ sifted-range
+
+-- The text of a live range of a sound world is the units of Texts that lie between its two markers, in the token text of its root.
+pub range_text-between : (w : World) (r root : ℕ) (range : Range) → IsSound w → range_at w r ≡ Some range → root_of w.forest range.start.node ≡ Some root → range_text w range ≡ text_of_range w r (text_among root (texts_of w))
+range_text-between w r root range sound h rooted =
+    let is_range = sound-range w r range sound h in
+    sym (told-range w sound range is_range root rooted (ends_ahead w sound range is_range root rooted) r h)
