@@ -1,5 +1,5 @@
 -- The text of a live range is the units of Texts between its markers, in the token text of its root.
-use Rattle.std.proofs.Common.{◌≡◌, ℕ, zero, suc, ◌+◌, ◌-◌, ◌<◌, ◌≤◌, ◌==◌, nat_lt, Bool, true, false, ◌&&◌, if◌then◌else◌, List, [], ◌∷◌, ◌++◌, length, map, take, drop, Option, Some, None, refl, ap, sym, ◌∙◌, subst, arith, append-nil, ◌⊎◌, inl, inr, ⊎_elim}
+use Rattle.std.proofs.Common.{◌≡◌, ℕ, zero, suc, ◌+◌, ◌-◌, ◌<◌, ◌≤◌, ◌==◌, nat_lt, Bool, true, false, ◌&&◌, if◌then◌else◌, List, [], ◌∷◌, ◌++◌, length, map, take, drop, Option, Some, None, is_none, refl, ap, sym, ◌∙◌, subst, arith, append-nil, ◌⊎◌, inl, inr, ⊎_elim}
 use Rattle.std.specs.Prelude.{filter}
 use Rattle.std.specs.Ordering.{nat_cmp}
 use Rattle.std.specs.declared.cmp.Ordering.{Ordering}
@@ -16,6 +16,12 @@ use Rattle.dom_model.specs.MutationAlgorithms.Checks.{is_same, is_of_kind}
 use Rattle.dom_model.specs.RangesAndContents.Ranges.{is_less, range_at}
 use Rattle.dom_model.specs.RangesAndContents.Contents.{contained_in, text_part, text_between, range_text}
 use Rattle.dom_model.specs.DataAndCopies.Data.{content_in, data_of, joined_data}
+use Rattle.dom_model.specs.declared.OwnError.TheVariants.{NoSuchObject}
+use Rattle.dom_model.specs.Commands.Command.{RangeText}
+use Rattle.dom_model.specs.Commands.Reply.{Units, Done, Own}
+use Rattle.dom_model.specs.Commands.Guards.{Bounds, guarded, answers}
+use Rattle.dom_model.specs.Commands.AnswerRanges.{on_range}
+use Rattle.dom_model.specs.Commands.Answer.{answer}
 use Rattle.dom_model.specs.TokenText.Tokens.{Token, Open, Close, point, no_marks, marks_from, unit_tokens, token_texts, texts_of, is_open}
 use Rattle.dom_model.specs.TokenText.Gaps.{text_among, root_text, tokens_ahead, gap_order}
 use Rattle.dom_model.specs.TokenText.Between.{between, numbers_of, open_at, text_units, text_of_range}
@@ -374,3 +380,9 @@ pub range_text-between : (w : World) (r root : ℕ) (range : Range) → IsSound 
 range_text-between w r root range sound h rooted =
     let is_range = sound-range w r range sound h in
     sym (told-range w sound range is_range root rooted (ends_ahead w sound range is_range root rooted) r h)
+
+-- and so the command answers
+pub range_text-answered : (b : Bounds) (w : World) (r root : ℕ) (range : Range) → IsSound w → range_at w r ≡ Some range → root_of w.forest range.start.node ≡ Some root → (answer b w (RangeText r)).reply ≡ Done (Units (text_of_range w r (text_among root (texts_of w))))
+range_text-answered b w r root range sound h rooted =
+    ap (λ (o : Option Range). (guarded ((is_none o, Own NoSuchObject) ∷ []) w (on_range o w (λ x. answers (Units (range_text w x)) w))).reply) h
+    ∙ ap (λ us. Done (Units us)) (range_text-between w r root range sound h rooted)
