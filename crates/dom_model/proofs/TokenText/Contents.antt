@@ -9,3 +9,6 @@ pub mod LeafUnits
 pub mod TextTold
 pub mod TextsOfRoots
 pub mod RangeText
+pub mod PartsByGaps
+pub mod MatchedPieces
+pub mod DeletedInPlace

@@ -74,13 +74,13 @@ held-none w held (n ∷ ns) h =
     rw (first, and-last (is_of_kind Text w.forest n)) rest
 
 -- the two ends of a live range in the text of its root
-record EndsAhead (w : World) (range : Range) (root : ℕ) : Type 0 where
-  tree : TreeOf (entry_in w.forest) root w.forest
-  a : ℕ
-  b : ℕ
-  starts : tokens_ahead range.start [] (root_text w.forest root) ≡ Some a
-  ends : tokens_ahead range.end [] (root_text w.forest root) ≡ Some b
-  le : a ≤ b
+pub record EndsAhead (w : World) (range : Range) (root : ℕ) : Type 0 where
+  pub tree : TreeOf (entry_in w.forest) root w.forest
+  pub a : ℕ
+  pub b : ℕ
+  pub starts : tokens_ahead range.start [] (root_text w.forest root) ≡ Some a
+  pub ends : tokens_ahead range.end [] (root_text w.forest root) ≡ Some b
+  pub le : a ≤ b
 
 -- What the law is about: a live range of a sound world, and its root.
 module _ (w : World) (sound : IsSound w) (range : Range) (is_range : IsRange w.forest range) (root : ℕ) (rooted : root_of w.forest range.start.node ≡ Some root) where
@@ -94,7 +94,7 @@ module _ (w : World) (sound : IsSound w) (range : Range) (is_range : IsRange w.f
       let d : Some (order_of w.forest p q) ≡ Some (nat_cmp i j) = sym g ∙ e in
       cc d
 
-  ends_ahead : EndsAhead w range root
+  pub ends_ahead : EndsAhead w range root
   ends_ahead =
       let s = gap-found w.forest sound.forest.once sound.forest.kinds root range.start rooted is_range.starts.within in
       let e = gap-found w.forest sound.forest.once sound.forest.kinds root range.end end-rooted is_range.ends.within in
@@ -359,10 +359,10 @@ module _ (w : World) (sound : IsSound w) (range : Range) (is_range : IsRange w.f
         go d false k = sifted-between (λ n x y i. false≢true (sym k ∙ subst (λ m. is_of_kind Text w.forest m ≡ true) (sym x) i))
 
     -- the marked text of the root
-    marked-text : text_among root (texts_of w) ≡ dressed (marks_from 0 w.ranges) [] (root_text w.forest root)
+    pub marked-text : text_among root (texts_of w) ≡ dressed (marks_from 0 w.ranges) [] (root_text w.forest root)
     marked-text = ap (text_among root) (dressed-texts (marks_from 0 w.ranges) w.forest) ∙ dressed-among (marks_from 0 w.ranges) root (token_texts no_marks w.forest)
 
-    bare-text : NoMarks (root_text w.forest root)
+    pub bare-text : NoMarks (root_text w.forest root)
     bare-text = subst NoMarks (sym t.tree.text) (no_marks-own t.tree.top t.tree.kids)
 
     told-range : (r : ℕ) → range_at w r ≡ Some range → text_of_range w r (text_among root (texts_of w)) ≡ range_text w range
