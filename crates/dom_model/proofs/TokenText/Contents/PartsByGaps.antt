@@ -1,6 +1,6 @@
 -- What is ahead of the markers of a live range, between them and behind them, in the token text of its root: the tokens ahead of the gap
 -- of its start, those from there on up to the gap of its end, and those from there on.
-use Rattle.std.proofs.Common.{◌≡◌, ℕ, ◌-◌, ◌≤◌, List, [], ◌∷◌, ◌++◌, take, drop, Option, Some, refl, ap, sym, ◌∙◌, subst, arith}
+use Rattle.std.proofs.Common.{◌≡◌, ℕ, ◌-◌, ◌≤◌, true, false, List, [], ◌++◌, take, drop, Some, refl, ap, ◌∙◌}
 use Rattle.dom_model.specs.Forests.Forest.{root_of}
 use Rattle.dom_model.specs.Worlds.World.{Range, World}
 use Rattle.dom_model.specs.Worlds.Sound.{IsSound, IsRange}
