@@ -1,13 +1,11 @@
 -- What is ahead of a range's markers in a marked text, between them and behind them, told by how many tokens are ahead of their gaps.
-use Rattle.std.proofs.Common.{◌≡◌, ℕ, zero, suc, ◌+◌, ◌-◌, ◌<◌, ◌≤◌, Bool, true, false, not, if◌then◌else◌, List, [], ◌∷◌, ◌++◌, take, drop, Option, Some, None, option_map, refl, ap, sym, ◌∙◌, subst, arith, append_assoc}
+use Rattle.std.proofs.Common.{◌≡◌, ℕ, suc, ◌+◌, ◌-◌, ◌<◌, ◌≤◌, Bool, true, false, if◌then◌else◌, List, [], ◌∷◌, ◌++◌, take, drop, Option, Some, None, option_map, refl, ap, sym, ◌∙◌, subst, arith, append_assoc}
 use Rattle.std.proofs.lemmas.Bool.{false≢true}
-use Rattle.std.specs.Prelude.{filter}
 use Rattle.dom_model.specs.Worlds.World.{Point}
-use Rattle.dom_model.specs.TokenText.Tokens.{Token, Open, Close, OneUnit, Mark, unmarked, is_mark, is_mark_of, same_point, passed, stands_at}
+use Rattle.dom_model.specs.TokenText.Tokens.{Token, Open, Close, OneUnit, Mark, unmarked, is_mark, is_mark_of, passed, stands_at}
 use Rattle.dom_model.specs.TokenText.Gaps.{tokens_ahead}
 use Rattle.dom_model.specs.TokenText.Between.{before_mark, after_mark, between, numbers_of, open_at}
-use Rattle.dom_model.proofs.Forests.Changes.{seen, nothing, just}
-use Rattle.dom_model.proofs.TokenText.Pieces.TokenLists.{marked, tally, tally-append, AreMarks, unmarked-marks, not-marked, not-later}
+use Rattle.dom_model.proofs.TokenText.Pieces.TokenLists.{marked, AreMarks, unmarked-marks, not-marked, not-later}
 use Rattle.dom_model.proofs.TokenText.Pieces.TextWalks.{walk}
 use Rattle.dom_model.proofs.TokenText.Marked.MarkersMoved.{end_itself}
 use Rattle.dom_model.proofs.TokenText.Contents.Dressed.{gap_marks, dressed}

@@ -1,16 +1,16 @@
 -- Deleting the contents of a live range that has none, and of one within one node with data, leaves of the text what is to be left.
-use Rattle.std.proofs.Common.{◌≡◌, ℕ, ◌-◌, ◌≤◌, ◌==◌, Bool, true, false, ◌&&◌, if◌then◌else◌, List, [], ◌∷◌, ◌++◌, take, drop, Option, Some, None, refl, ap, sym, ◌∙◌, subst, arith, append-nil}
+use Rattle.std.proofs.Common.{◌≡◌, ℕ, ◌-◌, true, false, [], ◌++◌, take, drop, Option, Some, refl, ap, sym, ◌∙◌, arith, append-nil}
 use Rattle.std.proofs.lemmas.Bool.{false≢true}
 use Rattle.dom_model.specs.Forests.Forest.{root_of}
-use Rattle.dom_model.specs.Worlds.World.{Point, Range, World}
+use Rattle.dom_model.specs.Worlds.World.{Range, World}
 use Rattle.dom_model.specs.Worlds.Sound.{IsSound}
 use Rattle.dom_model.specs.RangesAndContents.Ranges.{is_collapsed, range_at}
 use Rattle.dom_model.specs.RangesAndContents.Contents.{for_range, deleted, delete_contents}
-use Rattle.dom_model.specs.TokenText.Tokens.{Token, unmarked, texts_of}
+use Rattle.dom_model.specs.TokenText.Tokens.{unmarked, texts_of}
 use Rattle.dom_model.specs.TokenText.Gaps.{text_among, root_text, tokens_ahead}
-use Rattle.dom_model.specs.TokenText.Between.{before_mark, after_mark, between, closes_left, opens_left, left_before, left_after}
+use Rattle.dom_model.specs.TokenText.Between.{before_mark, after_mark, closes_left, opens_left, left_before, left_after}
 use Rattle.dom_model.proofs.PlainLists.Numbers.{same_or, same, apart}
-use Rattle.dom_model.proofs.TokenText.Contents.PartsByGaps.{Parts, parts-by_gaps, left_before-by_gaps, left_after-by_gaps}
+use Rattle.dom_model.proofs.TokenText.Contents.PartsByGaps.{parts-by_gaps, left_before-by_gaps, left_after-by_gaps}
 
 -- what deleting leaves of the text of a root: what is to be left ahead of both markers, and behind them
 pub record IsLeft (r root : ℕ) (w v : World) : Type 0 where
@@ -39,14 +39,14 @@ collapsed-left w r root range sound h rooted one =
     let z : p.b - p.a ≡ 0 = omega arith in
     record {
       before =
-        ap (λ (v : World). unmarked (before_mark r true (text_among root (texts_of v)))) stays
-        ∙ p.before
-        ∙ sym (append-nil (take p.a text))
-        ∙ ap (λ k. take p.a text ++ closes_left 0 (take k (drop p.a text))) (sym z)
-        ∙ sym (left_before-by_gaps w r root range p);
+          ap (λ (v : World). unmarked (before_mark r true (text_among root (texts_of v)))) stays
+          ∙ p.before
+          ∙ sym (append-nil (take p.a text))
+          ∙ ap (λ k. take p.a text ++ closes_left 0 (take k (drop p.a text))) (sym z)
+          ∙ sym (left_before-by_gaps w r root range p);
       after =
-        ap (λ (v : World). unmarked (after_mark r false (text_among root (texts_of v)))) stays
-        ∙ p.after
-        ∙ ap (λ k. opens_left [] (take k (drop p.a text)) ++ drop p.b text) (sym z)
-        ∙ sym (left_after-by_gaps w r root range p);
+          ap (λ (v : World). unmarked (after_mark r false (text_among root (texts_of v)))) stays
+          ∙ p.after
+          ∙ ap (λ k. opens_left [] (take k (drop p.a text)) ++ drop p.b text) (sym z)
+          ∙ sym (left_after-by_gaps w r root range p);
     }

@@ -1,9 +1,9 @@
 -- What a node with data tells of the text of a range, by where the range's two ends stand to it.
-use Rattle.std.proofs.Common.{◌≡◌, ℕ, zero, suc, ◌+◌, ◌-◌, ◌<◌, ◌≤◌, Bool, true, false, if◌then◌else◌, List, [], ◌∷◌, ◌++◌, length, take, drop, refl, ap, sym, ◌∙◌, subst, arith, append-nil, take_all, length-drop, ⊎_elim}
+use Rattle.std.proofs.Common.{◌≡◌, ℕ, zero, suc, ◌+◌, ◌-◌, ◌≤◌, Bool, true, false, if◌then◌else◌, List, [], ◌∷◌, ◌++◌, length, take, drop, refl, ap, sym, ◌∙◌, arith, append-nil, take_all, length-drop}
 use Rattle.std.proofs.lemmas.List.{drop_all}
 use Rattle.dom_model.specs.Worlds.World.{World}
-use Rattle.dom_model.specs.TokenText.Tokens.{Token, Open, Close, OneUnit, no_marks, unit_tokens}
-use Rattle.dom_model.specs.TokenText.Between.{top_is_text, without_first}
+use Rattle.dom_model.specs.TokenText.Tokens.{Open, Close, no_marks, unit_tokens}
+use Rattle.dom_model.specs.TokenText.Between.{top_is_text}
 use Rattle.dom_model.proofs.TokenText.Contents.Sifted.{sifted, sifted-append, sifted-units, sifted-other, open_past_all, is_within, one_less}
 use Rattle.dom_model.proofs.TokenText.Contents.Told.{AtPlace, Told}
 
@@ -109,10 +109,10 @@ module _ (a b k : ℕ) (le : a ≤ b) (us : List ℕ) where
     at_start = nowhere front a h q;
     at_end = somewhere back (take o us) b o e l (sym f);
     whole =
-      let x : a - suc k ≡ 0 = omega arith in
-      let y : b - suc k ≡ o = omega arith in
-      let z : o - 0 ≡ o = omega arith in
-      ap (λ c. take (b - suc k - c) (drop c us)) x ∙ ap (λ c. take (c - 0) us) y ∙ ap (λ c. take c us) z;
+        let x : a - suc k ≡ 0 = omega arith in
+        let y : b - suc k ≡ o = omega arith in
+        let z : o - 0 ≡ o = omega arith in
+        ap (λ c. take (b - suc k - c) (drop c us)) x ∙ ap (λ c. take (c - 0) us) y ∙ ap (λ c. take c us) z;
     early = λ g. refl;
     late = λ g. refl;
   }
@@ -123,9 +123,9 @@ module _ (a b k : ℕ) (le : a ≤ b) (us : List ℕ) where
     first = cut_units (a - suc k) (b - suc k) us;
     last = [];
     at_start = somewhere front (cut_units (a - suc k) (b - suc k) us) a o e l
-      (let x : a - suc k ≡ o = omega arith in
-      let y : b - suc k ≡ c = omega arith in
-      ap (λ i. take (b - suc k - i) (drop i us)) x ∙ ap (λ i. take (i - o) (drop o us)) y ∙ sym f);
+        (let x : a - suc k ≡ o = omega arith in
+        let y : b - suc k ≡ c = omega arith in
+        ap (λ i. take (b - suc k - i) (drop i us)) x ∙ ap (λ i. take (i - o) (drop o us)) y ∙ sym f);
     at_end = record { inside = λ i j. refl; before = λ i. refl; after = λ i. refl };
     whole = sym (append-nil (cut_units (a - suc k) (b - suc k) us));
     early = λ g. refl;

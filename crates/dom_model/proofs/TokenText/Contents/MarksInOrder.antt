@@ -1,11 +1,11 @@
 -- In a gap where a live range starts its start marker comes first, and its end marker after it, if the range ends there too.
 use Rattle.std.proofs.Common.{◌≡◌, ℕ, zero, suc, ◌+◌, ◌<◌, ◌==◌, Bool, true, false, ◌&&◌, if◌then◌else◌, List, [], ◌∷◌, ◌++◌, Option, Some, None, option_map, slice_index_or, refl, ap, sym, ◌∙◌, subst, arith, append_assoc}
-use Rattle.dom_model.specs.Worlds.World.{Content, Point, Range, World}
+use Rattle.dom_model.specs.Worlds.World.{Point, Range, World}
 use Rattle.dom_model.specs.RangesAndContents.Ranges.{end_of, range_at}
 use Rattle.dom_model.specs.TokenText.Tokens.{Token, Mark, is_mark_of, same_point, mark_if, marks_from}
 use Rattle.dom_model.proofs.PlainLists.Numbers.{same_or, same, apart}
 use Rattle.dom_model.proofs.TokenText.Pieces.TokenLists.{marked, tally-append, AreMarks}
-use Rattle.dom_model.proofs.TokenText.Marked.MarkedTexts.{end_at, stands}
+use Rattle.dom_model.proofs.TokenText.Marked.MarkedTexts.{stands}
 use Rattle.dom_model.proofs.TokenText.Marked.MarkedFirst.{AreMarks-marks_from, marked-other, marked-here, marks_from-later, marks_from-at}
 
 -- the first marker of a start among markers, and how many of the end come after it
@@ -43,9 +43,9 @@ start-ahead zero r q (Some other ∷ ranges) range g e h s =
       whole = rw s refl;
       free = refl;
       ending =
-        let t : (q == q) ≡ true = elim (same_or q q) [ same x y ↦ y | apart ne y ↦ absurd (ne refl) ] in
-        tally-append (is_mark_of q false) (mark_if (same_point range.end g) q false) (marks_from (suc q) ranges g)
-        ∙ (rw (marked-here (same_point range.end g) q false q false t, marks_from-later q (suc q) false ranges g (omega arith)) (one_if (same_point range.end g)));
+          let t : (q == q) ≡ true = elim (same_or q q) [ same x y ↦ y | apart ne y ↦ absurd (ne refl) ] in
+          tally-append (is_mark_of q false) (mark_if (same_point range.end g) q false) (marks_from (suc q) ranges g)
+          ∙ (rw (marked-here (same_point range.end g) q false q false t, marks_from-later q (suc q) false ranges g (omega arith)) (one_if (same_point range.end g)));
     })
 start-ahead (suc k) r q (None ∷ ranges) range g e h s = start-ahead k r (suc q) ranges range g (omega arith) h s
 start-ahead (suc k) r q (Some other ∷ ranges) range g e h s =

@@ -1,8 +1,8 @@
 -- Whole nodes among tokens leave no open without its close and no close without its open.
-use Rattle.std.proofs.Common.{◌≡◌, ℕ, zero, suc, ◌+◌, Bool, true, false, if◌then◌else◌, List, [], ◌∷◌, ◌++◌, take, refl, ap, sym, ◌∙◌, subst, arith, append_assoc}
+use Rattle.std.proofs.Common.{◌≡◌, ℕ, zero, suc, Bool, true, false, if◌then◌else◌, List, [], ◌∷◌, ◌++◌, take, refl, ap, ◌∙◌, subst, append_assoc}
 use Rattle.dom_model.specs.Forests.Kinds.{is_character_data}
 use Rattle.dom_model.specs.Forests.Forest.{Node, Forest, empty, node}
-use Rattle.dom_model.specs.Worlds.World.{Content, Point}
+use Rattle.dom_model.specs.Worlds.World.{Content}
 use Rattle.dom_model.specs.TokenText.Tokens.{Token, Open, Close, OneUnit, no_marks, unit_tokens, child_tokens}
 use Rattle.dom_model.specs.TokenText.Between.{opens_left, closes_left}
 use Rattle.dom_model.proofs.TokenText.Pieces.TextParts.{inside, own}

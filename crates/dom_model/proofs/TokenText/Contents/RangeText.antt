@@ -1,13 +1,10 @@
 -- The text of a live range is the units of Texts between its markers, in the token text of its root.
-use Rattle.std.proofs.Common.{◌≡◌, ℕ, zero, suc, ◌+◌, ◌-◌, ◌<◌, ◌≤◌, ◌==◌, nat_lt, Bool, true, false, ◌&&◌, if◌then◌else◌, List, [], ◌∷◌, ◌++◌, length, map, take, drop, Option, Some, None, is_none, refl, ap, sym, ◌∙◌, subst, arith, append-nil, ◌⊎◌, inl, inr, ⊎_elim}
-use Rattle.std.specs.Prelude.{filter}
+use Rattle.std.proofs.Common.{◌≡◌, ℕ, suc, ◌+◌, ◌-◌, ◌<◌, ◌≤◌, ◌==◌, Bool, true, false, ◌&&◌, if◌then◌else◌, List, [], ◌∷◌, ◌++◌, length, take, drop, Option, Some, None, is_none, refl, ap, sym, ◌∙◌, subst, arith, append-nil, ◌⊎◌, inl, inr, ⊎_elim}
 use Rattle.std.specs.Ordering.{nat_cmp}
-use Rattle.std.specs.declared.cmp.Ordering.{Ordering}
-use Rattle.std.specs.declared.cmp.Ordering.TheVariants.{Less, Equal, Greater}
 use Rattle.std.proofs.lemmas.Bool.{false≢true, cases_lt}
 use Rattle.dom_model.specs.declared.Kind.TheVariants.{Text}
 use Rattle.dom_model.specs.PlainLists.Lists.{hits}
-use Rattle.dom_model.specs.Forests.Forest.{Node, Forest, empty, node, occurs, numbers, entry_in, root_of}
+use Rattle.dom_model.specs.Forests.Forest.{Node, numbers, entry_in, root_of}
 use Rattle.dom_model.specs.Forests.Lengths.{node_length, unit_count}
 use Rattle.dom_model.specs.Worlds.World.{Content, Point, Range, World}
 use Rattle.dom_model.specs.Worlds.Sound.{IsSound, IsRange}
@@ -15,7 +12,7 @@ use Rattle.dom_model.specs.BoundaryPoints.Points.{order_of}
 use Rattle.dom_model.specs.MutationAlgorithms.Checks.{is_same, is_of_kind}
 use Rattle.dom_model.specs.RangesAndContents.Ranges.{is_less, range_at}
 use Rattle.dom_model.specs.RangesAndContents.Contents.{contained_in, text_part, text_between, range_text}
-use Rattle.dom_model.specs.DataAndCopies.Data.{content_in, data_of, joined_data}
+use Rattle.dom_model.specs.DataAndCopies.Data.{content_in, data_of}
 use Rattle.dom_model.specs.declared.OwnError.TheVariants.{NoSuchObject}
 use Rattle.dom_model.specs.Commands.Command.{RangeText}
 use Rattle.dom_model.specs.Commands.Reply.{Units, Done, Own}
@@ -24,7 +21,7 @@ use Rattle.dom_model.specs.Commands.AnswerRanges.{on_range}
 use Rattle.dom_model.specs.Commands.Answer.{answer}
 use Rattle.dom_model.specs.TokenText.Tokens.{Token, Open, Close, point, no_marks, marks_from, unit_tokens, token_texts, texts_of, is_open}
 use Rattle.dom_model.specs.TokenText.Gaps.{text_among, root_text, tokens_ahead, gap_order}
-use Rattle.dom_model.specs.TokenText.Between.{between, numbers_of, open_at, text_units, text_of_range}
+use Rattle.dom_model.specs.TokenText.Between.{between, numbers_of, text_units, text_of_range}
 use Rattle.dom_model.proofs.PlainLists.Numbers.{same_or, same, apart}
 use Rattle.dom_model.specs.Forests.Arena.{Entry}
 use Rattle.dom_model.proofs.Forests.Changes.{seen, nothing, just}
@@ -35,7 +32,6 @@ use Rattle.dom_model.proofs.TokenText.Marked.MarkedFirst.{kinds-childless}
 use Rattle.dom_model.proofs.TokenText.EditsMade.EditsOfDrawnContents.{sound-range}
 use Rattle.dom_model.proofs.TokenText.Pieces.TokenLists.{opened, tally-append}
 use Rattle.dom_model.proofs.TokenText.Pieces.TextWalks.{walk}
-use Rattle.dom_model.proofs.TokenText.Pieces.TextParts.{own}
 use Rattle.dom_model.proofs.TokenText.Pieces.TextCounts.{opened-own}
 use Rattle.dom_model.proofs.TokenText.PointGaps.GapsInOrder.{gap-found, gaps-in_order}
 use Rattle.dom_model.proofs.TokenText.Contents.Dressed.{dressed, dressed-texts}
@@ -44,7 +40,7 @@ use Rattle.dom_model.proofs.TokenText.Contents.BetweenGaps.{NoMarks, between-gap
 use Rattle.dom_model.proofs.TokenText.Contents.Sifted.{sifted, sifted-part, numbers-walk, open_past_all}
 use Rattle.dom_model.proofs.TokenText.Contents.LeafPlaces.{leaf-gap, leaf-aside, gap-here}
 use Rattle.dom_model.proofs.TokenText.Contents.LeafUnits.{cut_units, text-sifted, told-start, told-end, told-both, told-through, told-ahead, told-behind}
-use Rattle.dom_model.proofs.TokenText.Contents.Told.{Told, Quiet, sifted_after}
+use Rattle.dom_model.proofs.TokenText.Contents.Told.{Told}
 use Rattle.dom_model.proofs.TokenText.Contents.TextTold.{text-kind, TextsTell, held_data, held-append, no_mark, root-tells}
 use Rattle.dom_model.proofs.TokenText.Contents.TextsOfRoots.{TreeOf, tree_of_root, no_marks-own, dressed-among, HasData, data-found}
 
@@ -106,9 +102,9 @@ module _ (w : World) (sound : IsSound w) (range : Range) (is_range : IsRange w.f
         starts = s.1;
         ends = e.1;
         le = ⊎_elim
-          (λ (lt : e.0 < s.0). absurd (is_range.in_order (o ∙ nat_cmp-greater s.0 e.0 lt)))
-          (λ (ge : s.0 ≤ e.0). ge)
-          (cases_lt e.0 s.0);
+            (λ (lt : e.0 < s.0). absurd (is_range.in_order (o ∙ nat_cmp-greater s.0 e.0 lt)))
+            (λ (ge : s.0 ≤ e.0). ge)
+            (cases_lt e.0 s.0);
       }
 
   module _ (t : EndsAhead w range root) where
@@ -157,8 +153,8 @@ module _ (w : World) (sound : IsSound w) (range : Range) (is_range : IsRange w.f
         let l : length us ≤ node_length unit_count w.forest n = omega arith in
         let o = order-is range.start (point n 0) t.a (length pre + 1) rooted rn is_range.starts.within (omega arith) t.starts g in
         let p : order_of w.forest (point n (node_length unit_count w.forest n)) range.end ≡ nat_cmp (length pre + suc (length us)) t.b =
-          ap (λ i. order_of w.forest (point n i) range.end) long
-          ∙ order-is (point n (length us)) range.end (length pre + suc (length us)) t.b rn end-rooted l is_range.ends.within k t.ends
+        ap (λ i. order_of w.forest (point n i) range.end) long
+        ∙ order-is (point n (length us)) range.end (length pre + suc (length us)) t.b rn end-rooted l is_range.ends.within k t.ends
         in
         let r : is_same (root_of w.forest n) (root_of w.forest range.start.node) ≡ true = rw (rn, rooted) (itself root) in
         rw (r, o, p) refl

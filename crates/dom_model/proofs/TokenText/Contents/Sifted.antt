@@ -1,7 +1,7 @@
 -- The units of Texts in a part of a text, told by how many tokens are ahead of the part's beginning and of its end.
-use Rattle.std.proofs.Common.{◌≡◌, ℕ, zero, suc, ◌+◌, ◌-◌, ◌≤◌, Bool, true, false, if◌then◌else◌, List, [], ◌∷◌, ◌++◌, length, take, drop, refl, ap, sym, ◌∙◌, arith, append_assoc, append-nil}
+use Rattle.std.proofs.Common.{◌≡◌, ℕ, zero, suc, ◌-◌, ◌≤◌, Bool, true, false, if◌then◌else◌, List, [], ◌∷◌, ◌++◌, length, take, drop, refl, ap, sym, ◌∙◌, arith, append_assoc}
 use Rattle.dom_model.specs.Worlds.World.{World, Point}
-use Rattle.dom_model.specs.TokenText.Tokens.{Token, Open, Close, OneUnit, Mark, point, no_marks, unit_tokens, passed, stepped}
+use Rattle.dom_model.specs.TokenText.Tokens.{Token, Open, Close, OneUnit, Mark, no_marks, unit_tokens, passed, stepped}
 use Rattle.dom_model.specs.TokenText.Between.{numbers_of, top_is_text, unit_if, without_first, text_units}
 use Rattle.dom_model.proofs.TokenText.Pieces.TextWalks.{walk}
 

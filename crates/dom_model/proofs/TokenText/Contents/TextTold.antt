@@ -1,27 +1,27 @@
 -- The units of Texts between the gaps of a range's two ends, by recursion on the trees: if each Text tells its part, the whole text of a
 -- root tells the text of the range.
-use Rattle.std.proofs.Common.{◌≡◌, ℕ, zero, suc, ◌+◌, ◌-◌, ◌<◌, ◌≤◌, ◌==◌, Bool, true, false, ◌&&◌, if◌then◌else◌, List, [], ◌∷◌, ◌++◌, length, flat_map, Option, Some, None, refl, ap, sym, ◌∙◌, subst, arith, append_assoc, append-nil, length-append, ◌⊎◌, inl, inr, ⊎_elim}
+use Rattle.std.proofs.Common.{◌≡◌, ℕ, suc, ◌+◌, ◌-◌, ◌<◌, ◌≤◌, ◌==◌, Bool, true, false, ◌&&◌, if◌then◌else◌, List, [], ◌∷◌, ◌++◌, length, flat_map, Option, Some, refl, ap, sym, ◌∙◌, subst, arith, append_assoc, append-nil, length-append, inl, inr}
 use Rattle.std.specs.Prelude.{filter}
-use Rattle.std.proofs.lemmas.Bool.{false≢true, cases_lt}
+use Rattle.std.proofs.lemmas.Bool.{false≢true}
 use Rattle.std.proofs.lemmas.List.Elements.{filter-append}
 use Rattle.std.proofs.lemmas.Grind.{flat_map-append}
 use Rattle.dom_model.specs.declared.Kind.{Kind}
 use Rattle.dom_model.specs.declared.Kind.TheVariants.{Element, Text, ProcessingInstruction, Comment, Document, DocumentType, DocumentFragment}
 use Rattle.dom_model.specs.Forests.Kinds.{is_kind, is_character_data}
 use Rattle.dom_model.specs.Forests.Arena.{Entry}
-use Rattle.dom_model.specs.Forests.Forest.{Node, Forest, empty, node, occurs, tops, numbers, entry_in}
+use Rattle.dom_model.specs.Forests.Forest.{Node, Forest, empty, node, tops, numbers, entry_in}
 use Rattle.dom_model.specs.Forests.Lies.{Lies}
 use Rattle.dom_model.specs.Forests.Lengths.{node_length, unit_count}
 use Rattle.dom_model.specs.Worlds.World.{Content, Point, World}
 use Rattle.dom_model.specs.MutationAlgorithms.Checks.{is_of_kind}
 use Rattle.dom_model.specs.DataAndCopies.Data.{content_in, data_of, joined_data}
-use Rattle.dom_model.specs.TokenText.Tokens.{Token, is_open, Open, Close, point, same_point, no_marks, unit_tokens, child_tokens, stands_at, stepped}
+use Rattle.dom_model.specs.TokenText.Tokens.{Token, is_open, Open, Close, point, same_point, no_marks, unit_tokens, child_tokens, stands_at}
 use Rattle.dom_model.specs.TokenText.Gaps.{tokens_ahead}
-use Rattle.dom_model.specs.TokenText.Between.{top_is_text, numbers_of}
+use Rattle.dom_model.specs.TokenText.Between.{numbers_of}
 use Rattle.dom_model.proofs.PlainLists.Numbers.{same_or, same, apart}
 use Rattle.dom_model.proofs.TokenText.Pieces.TokenLists.{tally-append, opened, AreMarks}
 use Rattle.dom_model.proofs.TokenText.Pieces.TextWalks.{walk, walk-append}
-use Rattle.dom_model.proofs.TokenText.Pieces.TextParts.{inside, own, own-then, breadth, Childless, walk-own, walk-all_children}
+use Rattle.dom_model.proofs.TokenText.Pieces.TextParts.{own, own-then, breadth, Childless, walk-own, walk-all_children}
 use Rattle.dom_model.proofs.TokenText.Contents.Sifted.{sifted}
 use Rattle.dom_model.proofs.TokenText.Contents.LeafPlaces.{units-long, leaf-aside, gap-here, ahead-within}
 use Rattle.dom_model.proofs.TokenText.Contents.LeafUnits.{other-sifted}
@@ -201,7 +201,7 @@ module _ (w : World) (a b : ℕ) (le : a ≤ b) (s e : Point) (front back : List
       let d : i + 1 ≡ suc i = omega arith in
       let gone : walk (pre ++ o) [] ≡ point n (suc i) ∷ around = walk-append pre o [] ∙ ap (walk o) come ∙ walk-own no_marks no_mark x kids (point n i ∷ around) ∙ ap (λ k. point n k ∷ around) d in
       let first = tells-own pre x kids (more ++ post) q whole (quiet-in pre n i around come none) lies.0 alone.0
-        (λ before behind others t c k. tells-children (Some x.number) x.number 0 kids before behind others t c k lies.1 alone.1) in
+      (λ before behind others t c k. tells-children (Some x.number) x.number 0 kids before behind others t c k lies.1 alone.1) in
       let second = tells-children q n (suc i) rest (pre ++ o) post around beyond gone none lies.2 alone.2 in
       let both = tells-joined w a b le s e front back pre o more (held_data w held (x.number ∷ numbers kids)) (held_data w held (numbers rest)) first second in
       subst (λ us. Tells w a b le s e front back pre (child_tokens no_marks n i (node x kids rest)) us) (sym (held-append w held (x.number ∷ numbers kids) (numbers rest)))
@@ -211,7 +211,7 @@ module _ (w : World) (a b : ℕ) (le : a ≤ b) (s e : Point) (front back : List
   pub root-tells : (q : Option ℕ) (x : Node Content) (kids : Forest Content) → text ≡ own no_marks x kids → entry_in w.forest x.number ≡ Some (record { value = x; parent = q; children = tops kids }) → Lies (entry_in w.forest) (Some x.number) kids → (is_character_data x.label.kind ≡ true → kids ≡ empty) → Childless kids → sifted w [] a b text ≡ front ++ (held_data w held (x.number ∷ numbers kids) ++ back)
   root-tells q x kids h entry lies alone less =
       let t = tells-own [] x kids [] q (h ∙ sym (append-nil (own no_marks x kids))) quiet-first entry alone
-        (λ before behind others t c k. tells-children (Some x.number) x.number 0 kids before behind others t c k lies less) in
+      (λ before behind others t c k. tells-children (Some x.number) x.number 0 kids before behind others t c k lies less) in
       let i : a < length (own no_marks x kids) = subst (λ (us : List Token). a < length us) h (ahead-within s [] text a starts) in
       let j : b < length (own no_marks x kids) = subst (λ (us : List Token). b < length us) h (ahead-within e [] text b ends) in
       let c : a - 0 ≡ a = omega arith in

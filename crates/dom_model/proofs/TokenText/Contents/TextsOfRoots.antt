@@ -1,11 +1,11 @@
 -- The tree of a root: its text, without markers and with them, and its nodes among those of the forest.
-use Rattle.std.proofs.Common.{◌≡◌, ℕ, zero, suc, ◌+◌, ◌<◌, ◌≤◌, ◌==◌, Bool, true, false, if◌then◌else◌, List, [], ◌∷◌, ◌++◌, map, Option, Some, None, refl, ap, sym, ◌∙◌, subst, arith, append_assoc, append-nil, ⊎_elim}
+use Rattle.std.proofs.Common.{◌≡◌, ℕ, suc, ◌+◌, ◌<◌, ◌≤◌, ◌==◌, Bool, true, false, if◌then◌else◌, List, [], ◌∷◌, ◌++◌, map, Option, Some, None, refl, ap, sym, ◌∙◌, subst, arith, append_assoc, ⊎_elim}
 use Rattle.std.proofs.lemmas.Bool.{false≢true, cases_lt}
 use Rattle.dom_model.specs.PlainLists.Lists.{hits, last_of}
 use Rattle.dom_model.specs.Forests.Kinds.{is_character_data, is_kind}
 use Rattle.dom_model.specs.declared.Kind.TheVariants.{Text}
 use Rattle.dom_model.specs.Forests.Arena.{Entry}
-use Rattle.dom_model.specs.Forests.Forest.{Node, Forest, empty, node, occurs, one_at, tops, numbers, entry_in, root_of}
+use Rattle.dom_model.specs.Forests.Forest.{Node, Forest, empty, node, occurs, tops, numbers, entry_in, root_of}
 use Rattle.dom_model.specs.Forests.Lies.{Lies}
 use Rattle.dom_model.specs.Worlds.World.{Content, Point, World}
 use Rattle.dom_model.specs.MutationAlgorithms.Checks.{is_of_kind}
@@ -73,9 +73,9 @@ has_data-left n us xs ys h = record {
   ahead = h.ahead;
   behind = h.behind ++ ys;
   whole =
-    ap (λ ts. ts ++ ys) h.whole
-    ∙ append_assoc h.ahead (Open n ∷ (unit_tokens no_marks n 0 us ++ (Close ∷ h.behind))) ys
-    ∙ ap (λ ts. h.ahead ++ (Open n ∷ ts)) (append_assoc (unit_tokens no_marks n 0 us) (Close ∷ h.behind) ys);
+      ap (λ ts. ts ++ ys) h.whole
+      ∙ append_assoc h.ahead (Open n ∷ (unit_tokens no_marks n 0 us ++ (Close ∷ h.behind))) ys
+      ∙ ap (λ ts. h.ahead ++ (Open n ∷ ts)) (append_assoc (unit_tokens no_marks n 0 us) (Close ∷ h.behind) ys);
 }
 
 has_data-right : (n : ℕ) (us : List ℕ) (xs ys : List Token) → HasData n us ys → HasData n us (xs ++ ys)
@@ -121,10 +121,10 @@ module _ (w : World) (n : ℕ) (is_text : is_of_kind Text w.forest n ≡ true) w
       subst (HasData n (data_of w n)) (sym (own-then no_marks x kids (child_tokens no_marks m (suc i) rest)))
       (⊎_elim
       (λ (lt : 0 < occurs n (node x kids empty)).
-          has_data-left n (data_of w n) (own no_marks x kids) (child_tokens no_marks m (suc i) rest)
-          (data-own q x kids lies.0 alone.0 (λ k. data-children (Some x.number) x.number 0 kids lies.1 alone.1 k) lt))
+      has_data-left n (data_of w n) (own no_marks x kids) (child_tokens no_marks m (suc i) rest)
+      (data-own q x kids lies.0 alone.0 (λ k. data-children (Some x.number) x.number 0 kids lies.1 alone.1 k) lt))
       (λ (ge : occurs n (node x kids empty) ≤ 0).
-          has_data-right n (data_of w n) (own no_marks x kids) (child_tokens no_marks m (suc i) rest) (data-children q m (suc i) rest lies.2 alone.2 (omega arith)))
+      has_data-right n (data_of w n) (own no_marks x kids) (child_tokens no_marks m (suc i) rest) (data-children q m (suc i) rest lies.2 alone.2 (omega arith)))
       (cases_lt 0 (occurs n (node x kids empty))))
 
   pub data-found : (q : Option ℕ) (x : Node Content) (kids : Forest Content) → entry_in w.forest x.number ≡ Some (record { value = x; parent = q; children = tops kids }) → Lies (entry_in w.forest) (Some x.number) kids → (is_character_data x.label.kind ≡ true → kids ≡ empty) → Childless kids → 0 < occurs n (node x kids empty) → HasData n (data_of w n) (own no_marks x kids)
@@ -188,9 +188,9 @@ tree_of_root at root (node x kids rest) o lies alone h =
       once = λ m. let i = o m in omega arith;
       inside = λ m k. in_first m k ∙ ap (λ i. Some i) e;
       within = λ m r. ⊎_elim
-        (λ (lt : 0 < occurs m (node x kids empty)). lt)
-        (λ (ge : occurs m (node x kids empty) ≤ 0). absurd (beyond e t m (sym (in_rest m (omega arith)) ∙ r)))
-        (cases_lt 0 (occurs m (node x kids empty)));
+          (λ (lt : 0 < occurs m (node x kids empty)). lt)
+          (λ (ge : occurs m (node x kids empty) ≤ 0). absurd (beyond e t m (sym (in_rest m (omega arith)) ∙ r)))
+          (cases_lt 0 (occurs m (node x kids empty)));
       ahead = [];
       behind = numbers rest;
       listed = refl;
@@ -223,8 +223,8 @@ tree_of_root at root (node x kids rest) o lies alone h =
       ahead = (x.number ∷ numbers kids) ++ i.ahead;
       behind = i.behind;
       listed =
-        ap (λ ns. (x.number ∷ numbers kids) ++ ns) i.listed
-        ∙ sym (append_assoc (x.number ∷ numbers kids) i.ahead ((i.top.number ∷ numbers i.kids) ++ i.behind));
+          ap (λ ns. (x.number ∷ numbers kids) ++ ns) i.listed
+          ∙ sym (append_assoc (x.number ∷ numbers kids) i.ahead ((i.top.number ∷ numbers i.kids) ++ i.behind));
       not_ahead = λ m k r.
           let s = not_first ne m r in
           let z = rest_only m (there m s) in

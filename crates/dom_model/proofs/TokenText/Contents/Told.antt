@@ -1,13 +1,13 @@
 -- What a piece of a text tells of the text of a range: some units where the range starts, the data of contained Texts, and some units where
 -- it ends; and how two pieces next to one another tell it together.
-use Rattle.std.proofs.Common.{◌≡◌, ℕ, zero, suc, ◌+◌, ◌-◌, ◌<◌, ◌≤◌, Bool, true, false, if◌then◌else◌, List, [], ◌∷◌, ◌++◌, length, Some, refl, ap, sym, ◌∙◌, subst, arith, append_assoc, append-nil, length-append, ⊎_elim}
+use Rattle.std.proofs.Common.{◌≡◌, ℕ, ◌+◌, ◌-◌, ◌<◌, ◌≤◌, Bool, true, false, if◌then◌else◌, List, [], ◌∷◌, ◌++◌, length, Some, refl, ap, sym, ◌∙◌, subst, arith, append_assoc, append-nil, length-append, ⊎_elim}
 use Rattle.std.proofs.lemmas.Bool.{cases_lt}
 use Rattle.dom_model.specs.Worlds.World.{World, Point}
-use Rattle.dom_model.specs.TokenText.Tokens.{Token, Open, Close, passed, stands_at}
+use Rattle.dom_model.specs.TokenText.Tokens.{Token, stands_at}
 use Rattle.dom_model.specs.TokenText.Gaps.{tokens_ahead}
 use Rattle.dom_model.specs.TokenText.Between.{numbers_of}
 use Rattle.dom_model.proofs.TokenText.Pieces.TextWalks.{walk, walk-append}
-use Rattle.dom_model.proofs.TokenText.Contents.Sifted.{sifted, sifted-append, numbers-walk, open_past_all, is_within, text_unit, open_past, one_less}
+use Rattle.dom_model.proofs.TokenText.Contents.Sifted.{sifted, sifted-append, numbers-walk, open_past_all, is_within, text_unit}
 use Rattle.dom_model.proofs.TokenText.Contents.LeafPlaces.{gap-here}
 
 -- units that stand where a piece of so many tokens has the place, and nowhere else
@@ -43,14 +43,14 @@ told-joined a b front back k l m us vs held more le i j = record {
   at_start = at-place-joined a k l m front i.first j.first i.at_start j.at_start;
   at_end = at-place-joined b k l m back i.last j.last i.at_end j.at_end;
   whole = rw (i.whole, j.whole) (⊎_elim
-  (λ (lt : b < k + l).
+      (λ (lt : b < k + l).
       ended i.first held i.last j.first more j.last (j.at_start.before (omega arith)) (j.late (omega arith)) (j.at_end.before (omega arith)))
-  (λ (ge : k + l ≤ b).
+      (λ (ge : k + l ≤ b).
       ⊎_elim
       (λ (lt : a < k + l). going i.first held i.last j.first more j.last (i.at_end.after ge) (j.at_start.before lt))
       (λ (far : k + l ≤ a). begun i.first held i.last j.first more j.last (i.at_start.after far) (i.early far) (i.at_end.after ge))
       (cases_lt a (k + l)))
-  (cases_lt b (k + l)));
+      (cases_lt b (k + l)));
   early = λ h. (let e = i.early (omega arith) in let d = j.early (omega arith) in rw (e, d) refl);
   late = λ h. (let e = i.late (omega arith) in let d = j.late (omega arith) in rw (e, d) refl);
 }
@@ -90,10 +90,10 @@ module _ (w : World) (a b : ℕ) (le : a ≤ b) (s e : Point) (front back : List
       let y : b - length pre - length xs ≡ b - (length pre + length xs) = omega arith in
       let n : open_past_all xs (numbers_of (walk pre [])) ≡ numbers_of (walk (pre ++ xs) []) = sym (numbers-walk xs (walk pre [])) ∙ ap numbers_of (sym (walk-append pre xs [])) in
       let u : sifted_after pre (xs ++ ys) ≡ sifted_after pre xs ++ sifted_after (pre ++ xs) ys =
-        sifted-append w (numbers_of (walk pre [])) (a - length pre) (b - length pre) xs ys
-        ∙ ap (λ around. sifted_after pre xs ++ sifted w around (a - length pre - length xs) (b - length pre - length xs) ys) n
-        ∙ ap (λ k. sifted_after pre xs ++ sifted w (numbers_of (walk (pre ++ xs) [])) k (b - length pre - length xs) ys) (x ∙ ap (λ k. a - k) (sym d))
-        ∙ ap (λ k. sifted_after pre xs ++ sifted w (numbers_of (walk (pre ++ xs) [])) (a - length (pre ++ xs)) k ys) (y ∙ ap (λ k. b - k) (sym d))
+      sifted-append w (numbers_of (walk pre [])) (a - length pre) (b - length pre) xs ys
+      ∙ ap (λ around. sifted_after pre xs ++ sifted w around (a - length pre - length xs) (b - length pre - length xs) ys) n
+      ∙ ap (λ k. sifted_after pre xs ++ sifted w (numbers_of (walk (pre ++ xs) [])) k (b - length pre - length xs) ys) (x ∙ ap (λ k. a - k) (sym d))
+      ∙ ap (λ k. sifted_after pre xs ++ sifted w (numbers_of (walk (pre ++ xs) [])) (a - length (pre ++ xs)) k ys) (y ∙ ap (λ k. b - k) (sym d))
       in
       let l : length (xs ++ ys) ≡ length xs + length ys = length-append xs ys in
       let t = told-joined a b front back (length pre) (length xs) (length ys) (sifted_after pre xs) (sifted_after (pre ++ xs) ys) held more le i (subst (λ k. Told a b front back k (length ys) (sifted_after (pre ++ xs) ys) more) d j) in
