@@ -12,3 +12,4 @@ pub mod RangeText
 pub mod PartsByGaps
 pub mod MatchedPieces
 pub mod DeletedInPlace
+pub mod DeletedUnits
