@@ -1,8 +1,12 @@
 -- Deleting the contents of a live range within one node with data leaves of the text what is to be left: the units between its markers go.
 use Rattle.std.proofs.Common.{◌≡◌, ℕ, zero, suc, ◌+◌, ◌-◌, ◌<◌, ◌≤◌, ◌==◌, nat_lt, nat_le, Bool, true, false, ◌&&◌, if◌then◌else◌, List, [], ◌∷◌, ◌++◌, length, take, drop, Option, Some, None, option_map, slice_index_or, refl, ap, sym, ◌∙◌, subst, arith, append_assoc, append-nil, length-append, ◌⊎◌, inl, inr}
 use Rattle.std.proofs.lemmas.Bool.{false≢true, lt-ltb}
-use Rattle.std.proofs.lemmas.Bool.Decides.{nat_tests}
-use Rattle.dom_model.specs.Forests.Kinds.{is_character_data}
+use Rattle.std.proofs.lemmas.List.{take-append-drop}
+use Rattle.dom_model.specs.declared.Kind.{Kind}
+use Rattle.dom_model.specs.declared.Kind.TheVariants.{Element, Text, ProcessingInstruction, Comment, Document, DocumentType, DocumentFragment}
+use Rattle.dom_model.specs.Forests.Kinds.{is_kind, is_character_data}
+use Rattle.dom_model.specs.Forests.Lengths.{node_length, unit_count}
+use Rattle.dom_model.proofs.Forests.Changes.{seen, nothing, just}
 use Rattle.dom_model.specs.Forests.Arena.{Entry}
 use Rattle.dom_model.specs.Forests.Forest.{Node, Forest, empty, node, occurs, tops, tree_at, with_node, entry_in, root_of}
 use Rattle.dom_model.specs.Worlds.World.{Content, Point, Range, World}
@@ -10,7 +14,7 @@ use Rattle.dom_model.specs.Worlds.Sound.{IsSound, IsRange}
 use Rattle.dom_model.specs.BoundaryPoints.Points.{after_splice, moved_range, map_ranges}
 use Rattle.dom_model.specs.MutationAlgorithms.Checks.{kind_passes}
 use Rattle.dom_model.specs.DataAndCopies.Data.{content_in, data_of, with_data}
-use Rattle.dom_model.specs.TokenText.Tokens.{Token, is_open, Open, Close, point, no_marks, unit_tokens, child_tokens, token_texts, is_root_text}
+use Rattle.dom_model.specs.TokenText.Tokens.{Token, is_open, Open, Close, OneUnit, point, no_marks, unit_tokens, child_tokens, token_texts, is_root_text}
 use Rattle.dom_model.specs.TokenText.Gaps.{text_among, root_text, tokens_ahead}
 use Rattle.dom_model.specs.TokenText.Between.{closes_left, opens_left}
 use Rattle.dom_model.proofs.PlainLists.Numbers.{same_or, same, apart}
@@ -110,3 +114,83 @@ data-there w root n once alone h kind there =
       where
         itself : (m : ℕ) → (m == m) ≡ true
         itself m = elim (same_or m m) [ same d s ↦ s | apart ne s ↦ absurd (ne refl) ]
+
+-- Lists in three parts.
+
+take-front : {A : Type 0} (xs ys : List A) → take (length xs) (xs ++ ys) ≡ xs
+take-front [] ys = refl
+take-front (x ∷ xs) ys = ap (λ zs. x ∷ zs) (take-front xs ys)
+
+drop-front : {A : Type 0} (xs ys : List A) → drop (length xs) (xs ++ ys) ≡ ys
+drop-front [] ys = refl
+drop-front (x ∷ xs) ys = drop-front xs ys
+
+three-parts : (o c : ℕ) (us : List ℕ) → us ≡ take o us ++ (take c (drop o us) ++ drop (o + c) us)
+three-parts zero zero [] = refl
+three-parts zero (suc c) [] = let e : 0 + suc c ≡ suc c = omega arith in rw e refl
+three-parts (suc o) zero [] = let e : suc o + 0 ≡ suc o = omega arith in rw e refl
+three-parts (suc o) (suc c) [] = let e : suc o + suc c ≡ suc (o + suc c) = omega arith in rw e refl
+three-parts zero c (u ∷ us) = let e : 0 + c ≡ c = omega arith in rw e (sym (take-append-drop c (u ∷ us)))
+three-parts (suc o) c (u ∷ us) = let e : suc o + c ≡ suc (o + c) = omega arith in rw e (ap (λ vs. u ∷ vs) (three-parts o c us))
+
+units-anywhere : (n i j : ℕ) (us : List ℕ) → unit_tokens no_marks n i us ≡ unit_tokens no_marks n j us
+units-anywhere n i j [] = refl
+units-anywhere n i j (u ∷ us) = ap (λ ts. OneUnit u ∷ ts) (units-anywhere n (suc i) (suc j) us)
+
+units-append : (n : ℕ) (us vs : List ℕ) → unit_tokens no_marks n 0 (us ++ vs) ≡ unit_tokens no_marks n 0 us ++ unit_tokens no_marks n 0 vs
+units-append n [] vs = refl
+units-append n (u ∷ us) vs =
+    ap (λ ts. OneUnit u ∷ ts) (units-anywhere n 1 0 (us ++ vs) ∙ units-append n us vs ∙ ap (λ ts. ts ++ unit_tokens no_marks n 0 vs) (units-anywhere n 0 1 us))
+
+-- Units that go from between two markers.
+
+-- what is ahead of the units that go, those units, and what is behind them
+pub cut-text : (ahead behind : List Token) (n o c : ℕ) (us : List ℕ) → ahead ++ (Open n ∷ (unit_tokens no_marks n 0 us ++ (Close ∷ behind))) ≡ (ahead ++ (Open n ∷ unit_tokens no_marks n 0 (take o us))) ++ (unit_tokens no_marks n 0 (take c (drop o us)) ++ (unit_tokens no_marks n 0 (drop (o + c) us) ++ (Close ∷ behind)))
+cut-text ahead behind n o c us =
+    let z = unit_tokens no_marks n 0 in
+    let p = unit_tokens no_marks n 0 (take o us) in
+    let m = unit_tokens no_marks n 0 (take c (drop o us)) in
+    let q = unit_tokens no_marks n 0 (drop (o + c) us) in
+    let s : unit_tokens no_marks n 0 us ≡ p ++ (m ++ q) =
+      ap (unit_tokens no_marks n 0) (three-parts o c us)
+      ∙ units-append n (take o us) (take c (drop o us) ++ drop (o + c) us)
+      ∙ ap (λ ts. unit_tokens no_marks n 0 (take o us) ++ ts) (units-append n (take c (drop o us)) (drop (o + c) us))
+    in
+    ap (λ ts. ahead ++ (Open n ∷ (ts ++ (Close ∷ behind)))) s
+    ∙ ap (λ ts. ahead ++ (Open n ∷ ts)) (append_assoc p (m ++ q) (Close ∷ behind) ∙ ap (λ ts. p ++ ts) (append_assoc m q (Close ∷ behind)))
+    ∙ sym (append_assoc ahead (Open n ∷ p) (m ++ (q ++ (Close ∷ behind))))
+
+pub left-text : (ahead behind : List Token) (n o c : ℕ) (us : List ℕ) → ahead ++ (Open n ∷ (unit_tokens no_marks n 0 (take o us ++ drop (o + c) us) ++ (Close ∷ behind))) ≡ (ahead ++ (Open n ∷ unit_tokens no_marks n 0 (take o us))) ++ (unit_tokens no_marks n 0 (drop (o + c) us) ++ (Close ∷ behind))
+left-text ahead behind n o c us =
+    let p = unit_tokens no_marks n 0 (take o us) in
+    let q = unit_tokens no_marks n 0 (drop (o + c) us) in
+    ap (λ ts. ahead ++ (Open n ∷ (ts ++ (Close ∷ behind)))) (units-append n (take o us) (drop (o + c) us))
+    ∙ ap (λ ts. ahead ++ (Open n ∷ ts)) (append_assoc p q (Close ∷ behind))
+    ∙ sym (append_assoc ahead (Open n ∷ p) (q ++ (Close ∷ behind)))
+
+moved-at : (move : Point → Point) (rs : List (Option Range)) (r : ℕ) → slice_index_or (map_ranges move rs) r None ≡ option_map (moved_range move) (slice_index_or rs r None)
+moved-at move [] zero = refl
+moved-at move [] (suc r) = refl
+moved-at move (x ∷ rs) zero = refl
+moved-at move (x ∷ rs) (suc r) = moved-at move rs r
+
+kind-not_doctype : (k : Kind) → is_character_data k ≡ true → is_kind k DocumentType ≡ false
+kind-not_doctype Element h = refl
+kind-not_doctype Text h = refl
+kind-not_doctype ProcessingInstruction h = refl
+kind-not_doctype Comment h = refl
+kind-not_doctype Document h = refl
+kind-not_doctype DocumentType h = absurd (false≢true h)
+kind-not_doctype DocumentFragment h = refl
+
+data-long : (w : World) (n : ℕ) → kind_passes is_character_data w.forest n ≡ true → node_length unit_count w.forest n ≡ length (data_of w n)
+data-long w n h =
+    elim (seen (entry_in w.forest n)) [
+      | nothing z ↦ absurd (false≢true (rw z at h))
+      | just e z ↦
+          let k = rw z at h in
+          let j = kind-not_doctype e.value.label.kind k in
+          let d : node_length unit_count w.forest n ≡ length e.value.body.text = rw z (rw (j, k) refl) in
+          let g : data_of w n ≡ e.value.body.text = ap (λ (o : Option (Entry (Node Content))). (content_in o).text) z in
+          d ∙ sym (ap (λ us. length us) g)
+    ]

@@ -115,7 +115,7 @@ module _ (w : World) (sound : IsSound w) (range : Range) (is_range : IsRange w.f
         omega arith
 
     -- what is ahead of a node does not open it
-    unopened-ahead : (pre : List Token) (n : ℕ) (post : List Token) → root_text w.forest root ≡ pre ++ (Open n ∷ post) → opened n pre ≡ 0
+    pub unopened-ahead : (pre : List Token) (n : ℕ) (post : List Token) → root_text w.forest root ≡ pre ++ (Open n ∷ post) → opened n pre ≡ 0
     unopened-ahead pre n post h =
         let one : opened n (Open n ∷ post) ≡ 1 + opened n post = (let v = itself n in rw v refl) in
         let sum : opened n (root_text w.forest root) ≡ opened n pre + opened n (Open n ∷ post) = ap (opened n) h ∙ tally-append (is_open n) pre (Open n ∷ post) in
@@ -169,7 +169,7 @@ module _ (w : World) (sound : IsSound w) (range : Range) (is_range : IsRange w.f
     inner = text_part w range.start.node range.start.offset (range.end.offset - range.start.offset)
 
     -- an end that stands in a Text, told by what is ahead of the Text
-    end-in : (p : Point) (c : ℕ) (pre : List Token) (n : ℕ) (post : List Token) → root_text w.forest root ≡ pre ++ (Open n ∷ (unit_tokens no_marks n 0 (data_of w n) ++ (Close ∷ post))) → opened n pre ≡ 0 → p.node ≡ n → p.offset ≤ length (data_of w n) → tokens_ahead p [] (root_text w.forest root) ≡ Some c → c ≡ length pre + suc p.offset
+    pub end-in : (p : Point) (c : ℕ) (pre : List Token) (n : ℕ) (post : List Token) → root_text w.forest root ≡ pre ++ (Open n ∷ (unit_tokens no_marks n 0 (data_of w n) ++ (Close ∷ post))) → opened n pre ≡ 0 → p.node ≡ n → p.offset ≤ length (data_of w n) → tokens_ahead p [] (root_text w.forest root) ≡ Some c → c ≡ length pre + suc p.offset
     end-in p c pre n post h first d l g =
         let k = ap (tokens_ahead (point n p.offset) []) h ∙ leaf-gap pre n (data_of w n) post first p.offset l in
         let e : tokens_ahead p [] (root_text w.forest root) ≡ Some (length pre + suc p.offset) = ap (λ m. tokens_ahead (point m p.offset) [] (root_text w.forest root)) d ∙ k in
