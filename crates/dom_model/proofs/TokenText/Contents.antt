@@ -13,3 +13,4 @@ pub mod PartsByGaps
 pub mod MatchedPieces
 pub mod DeletedInPlace
 pub mod DeletedUnits
+pub mod WithinData

@@ -117,11 +117,11 @@ data-there w root n once alone h kind there =
 
 -- Lists in three parts.
 
-take-front : {A : Type 0} (xs ys : List A) → take (length xs) (xs ++ ys) ≡ xs
+pub take-front : {A : Type 0} (xs ys : List A) → take (length xs) (xs ++ ys) ≡ xs
 take-front [] ys = refl
 take-front (x ∷ xs) ys = ap (λ zs. x ∷ zs) (take-front xs ys)
 
-drop-front : {A : Type 0} (xs ys : List A) → drop (length xs) (xs ++ ys) ≡ ys
+pub drop-front : {A : Type 0} (xs ys : List A) → drop (length xs) (xs ++ ys) ≡ ys
 drop-front [] ys = refl
 drop-front (x ∷ xs) ys = drop-front xs ys
 
@@ -168,7 +168,7 @@ left-text ahead behind n o c us =
     ∙ ap (λ ts. ahead ++ (Open n ∷ ts)) (append_assoc p q (Close ∷ behind))
     ∙ sym (append_assoc ahead (Open n ∷ p) (q ++ (Close ∷ behind)))
 
-moved-at : (move : Point → Point) (rs : List (Option Range)) (r : ℕ) → slice_index_or (map_ranges move rs) r None ≡ option_map (moved_range move) (slice_index_or rs r None)
+pub moved-at : (move : Point → Point) (rs : List (Option Range)) (r : ℕ) → slice_index_or (map_ranges move rs) r None ≡ option_map (moved_range move) (slice_index_or rs r None)
 moved-at move [] zero = refl
 moved-at move [] (suc r) = refl
 moved-at move (x ∷ rs) zero = refl
@@ -183,7 +183,7 @@ kind-not_doctype Document h = refl
 kind-not_doctype DocumentType h = absurd (false≢true h)
 kind-not_doctype DocumentFragment h = refl
 
-data-long : (w : World) (n : ℕ) → kind_passes is_character_data w.forest n ≡ true → node_length unit_count w.forest n ≡ length (data_of w n)
+pub data-long : (w : World) (n : ℕ) → kind_passes is_character_data w.forest n ≡ true → node_length unit_count w.forest n ≡ length (data_of w n)
 data-long w n h =
     elim (seen (entry_in w.forest n)) [
       | nothing z ↦ absurd (false≢true (rw z at h))
