@@ -1,6 +1,6 @@
 -- Deleting the contents of a live range within one node with data leaves of the text what is to be left: the units between its markers go.
-use Rattle.std.proofs.Common.{◌≡◌, ℕ, zero, suc, ◌+◌, ◌-◌, ◌<◌, ◌≤◌, ◌==◌, nat_lt, nat_le, Bool, true, false, ◌&&◌, if◌then◌else◌, List, [], ◌∷◌, ◌++◌, length, take, drop, Option, Some, None, option_map, slice_index_or, refl, ap, sym, ◌∙◌, subst, arith, append_assoc, append-nil, length-append, ◌⊎◌, inl, inr}
-use Rattle.std.proofs.lemmas.Bool.{false≢true, lt-ltb}
+use Rattle.std.proofs.Common.{◌≡◌, ℕ, zero, suc, ◌+◌, ◌<◌, ◌≤◌, ◌==◌, Bool, true, false, if◌then◌else◌, List, [], ◌∷◌, ◌++◌, length, take, drop, Option, None, option_map, slice_index_or, refl, ap, sym, ◌∙◌, arith, append_assoc, ◌⊎◌, inl, inr}
+use Rattle.std.proofs.lemmas.Bool.{false≢true}
 use Rattle.std.proofs.lemmas.List.{take-append-drop}
 use Rattle.dom_model.specs.declared.Kind.{Kind}
 use Rattle.dom_model.specs.declared.Kind.TheVariants.{Element, Text, ProcessingInstruction, Comment, Document, DocumentType, DocumentFragment}
@@ -8,21 +8,19 @@ use Rattle.dom_model.specs.Forests.Kinds.{is_kind, is_character_data}
 use Rattle.dom_model.specs.Forests.Lengths.{node_length, unit_count}
 use Rattle.dom_model.proofs.Forests.Changes.{seen, nothing, just}
 use Rattle.dom_model.specs.Forests.Arena.{Entry}
-use Rattle.dom_model.specs.Forests.Forest.{Node, Forest, empty, node, occurs, tops, tree_at, with_node, entry_in, root_of}
+use Rattle.dom_model.specs.Forests.Forest.{Node, Forest, empty, node, occurs, with_node, entry_in}
 use Rattle.dom_model.specs.Worlds.World.{Content, Point, Range, World}
-use Rattle.dom_model.specs.Worlds.Sound.{IsSound, IsRange}
-use Rattle.dom_model.specs.BoundaryPoints.Points.{after_splice, moved_range, map_ranges}
+use Rattle.dom_model.specs.BoundaryPoints.Points.{moved_range, map_ranges}
 use Rattle.dom_model.specs.MutationAlgorithms.Checks.{kind_passes}
 use Rattle.dom_model.specs.DataAndCopies.Data.{content_in, data_of, with_data}
-use Rattle.dom_model.specs.TokenText.Tokens.{Token, is_open, Open, Close, OneUnit, point, no_marks, unit_tokens, child_tokens, token_texts, is_root_text}
-use Rattle.dom_model.specs.TokenText.Gaps.{text_among, root_text, tokens_ahead}
-use Rattle.dom_model.specs.TokenText.Between.{closes_left, opens_left}
+use Rattle.dom_model.specs.TokenText.Tokens.{Token, is_open, Open, Close, OneUnit, no_marks, unit_tokens, token_texts, is_root_text}
+use Rattle.dom_model.specs.TokenText.Gaps.{text_among, root_text}
 use Rattle.dom_model.proofs.PlainLists.Numbers.{same_or, same, apart}
 use Rattle.dom_model.proofs.TokenText.AlikeTrees.TreesAlike.{top_of}
 use Rattle.dom_model.proofs.TokenText.Marked.MarkedSplice.{with_root-node}
 use Rattle.dom_model.proofs.TokenText.Pieces.TokenLists.{tally, tallies, tally-append, tallies-append, opened}
-use Rattle.dom_model.proofs.TokenText.Pieces.TextParts.{inside, own, Childless}
-use Rattle.dom_model.proofs.TokenText.Pieces.TextContexts.{with_root, with_root-itself, Around, around_texts}
+use Rattle.dom_model.proofs.TokenText.Pieces.TextParts.{inside, Childless}
+use Rattle.dom_model.proofs.TokenText.Pieces.TextContexts.{with_root-itself, around_texts}
 use Rattle.dom_model.proofs.TokenText.Pieces.TextCounts.{opened-texts}
 use Rattle.dom_model.proofs.TokenText.Contents.TextTold.{no_mark}
 
@@ -70,16 +68,16 @@ data-there w root n once alone h kind there =
     let v : is_character_data t.top.label.kind ≡ true = (let k = rw t.told at kind in k) in
     let us_is : data_of w n ≡ t.top.body.text = ap (λ (o : Option (Entry (Node Content))). (content_in o).text) t.told in
     let whole : token_texts no_marks w.forest ≡ a.above ++ ((a.ahead ++ (Open n ∷ (unit_tokens no_marks n 0 (data_of w n) ++ (Close ∷ a.behind)))) ∷ a.below) =
-      ap (token_texts no_marks) (sym (with_root-itself n t.top t.kids w.forest once t.at))
-      ∙ a.spelt no_marks t.top t.kids t.named (λ q z. refl)
-      ∙ ap (λ ts. a.above ++ ((a.ahead ++ (Open n ∷ (ts ++ (Close ∷ a.behind)))) ∷ a.below))
-      (data-inside t.top t.kids v ∙ ap (λ m. unit_tokens no_marks m 0 t.top.body.text) t.named ∙ ap (unit_tokens no_marks n 0) (sym us_is))
+    ap (token_texts no_marks) (sym (with_root-itself n t.top t.kids w.forest once t.at))
+    ∙ a.spelt no_marks t.top t.kids t.named (λ q z. refl)
+    ∙ ap (λ ts. a.above ++ ((a.ahead ++ (Open n ∷ (ts ++ (Close ∷ a.behind)))) ∷ a.below))
+    (data-inside t.top t.kids v ∙ ap (λ m. unit_tokens no_marks m 0 t.top.body.text) t.named ∙ ap (unit_tokens no_marks n 0) (sym us_is))
     in
     let after : (vs : List ℕ) → token_texts no_marks (with_node n (with_data vs) w.forest) ≡ a.above ++ ((a.ahead ++ (Open n ∷ (unit_tokens no_marks n 0 vs ++ (Close ∷ a.behind)))) ∷ a.below) =
-      λ vs. ap (token_texts no_marks) (with_root-node n (with_data vs) t.top t.kids w.forest once t.at)
-      ∙ a.spelt no_marks (with_data vs t.top) t.kids t.named (λ q z. refl)
-      ∙ ap (λ ts. a.above ++ ((a.ahead ++ (Open n ∷ (ts ++ (Close ∷ a.behind)))) ∷ a.below))
-      (data-inside (with_data vs t.top) t.kids v ∙ ap (λ m. unit_tokens no_marks m 0 vs) t.named)
+    λ vs. ap (token_texts no_marks) (with_root-node n (with_data vs) t.top t.kids w.forest once t.at)
+    ∙ a.spelt no_marks (with_data vs t.top) t.kids t.named (λ q z. refl)
+    ∙ ap (λ ts. a.above ++ ((a.ahead ++ (Open n ∷ (ts ++ (Close ∷ a.behind)))) ∷ a.below))
+    (data-inside (with_data vs t.top) t.kids v ∙ ap (λ m. unit_tokens no_marks m 0 vs) t.named)
     in
     record {
       ahead = a.ahead;
@@ -152,9 +150,9 @@ cut-text ahead behind n o c us =
     let m = unit_tokens no_marks n 0 (take c (drop o us)) in
     let q = unit_tokens no_marks n 0 (drop (o + c) us) in
     let s : unit_tokens no_marks n 0 us ≡ p ++ (m ++ q) =
-      ap (unit_tokens no_marks n 0) (three-parts o c us)
-      ∙ units-append n (take o us) (take c (drop o us) ++ drop (o + c) us)
-      ∙ ap (λ ts. unit_tokens no_marks n 0 (take o us) ++ ts) (units-append n (take c (drop o us)) (drop (o + c) us))
+    ap (unit_tokens no_marks n 0) (three-parts o c us)
+    ∙ units-append n (take o us) (take c (drop o us) ++ drop (o + c) us)
+    ∙ ap (λ ts. unit_tokens no_marks n 0 (take o us) ++ ts) (units-append n (take c (drop o us)) (drop (o + c) us))
     in
     ap (λ ts. ahead ++ (Open n ∷ (ts ++ (Close ∷ behind)))) s
     ∙ ap (λ ts. ahead ++ (Open n ∷ ts)) (append_assoc p (m ++ q) (Close ∷ behind) ∙ ap (λ ts. p ++ ts) (append_assoc m q (Close ∷ behind)))

@@ -1,25 +1,25 @@
 -- Deleting the contents of a live range within one node with data leaves of the text of its root what is to be left.
-use Rattle.std.proofs.Common.{◌≡◌, ℕ, suc, ◌+◌, ◌-◌, ◌<◌, ◌≤◌, ◌==◌, nat_lt, nat_le, Bool, true, false, ◌&&◌, if◌then◌else◌, List, [], ◌∷◌, ◌++◌, length, take, drop, Option, Some, None, option_map, refl, ap, sym, ◌∙◌, subst, arith, append_assoc, append-nil, length-append, length-drop, ⊎_elim}
-use Rattle.std.proofs.lemmas.Bool.{false≢true, cases_lt, lt-ltb}
+use Rattle.std.proofs.Common.{◌≡◌, ℕ, suc, ◌+◌, ◌-◌, ◌<◌, ◌≤◌, ◌==◌, nat_lt, nat_le, Bool, true, false, ◌&&◌, if◌then◌else◌, List, [], ◌∷◌, ◌++◌, length, take, drop, Option, Some, option_map, refl, ap, sym, ◌∙◌, subst, arith, append_assoc, append-nil, length-append, length-drop, ⊎_elim}
+use Rattle.std.proofs.lemmas.Bool.{false≢true, cases_lt}
 use Rattle.std.proofs.lemmas.Bool.Decides.{nat_tests}
 use Rattle.std.proofs.lemmas.List.{length-take-le}
 use Rattle.dom_model.specs.Forests.Kinds.{is_character_data}
-use Rattle.dom_model.specs.Forests.Forest.{Node, Forest, empty, node, occurs, root_of, with_node}
+use Rattle.dom_model.specs.Forests.Forest.{root_of}
 use Rattle.dom_model.specs.Forests.Texts.{spliced}
 use Rattle.dom_model.specs.Forests.Lengths.{node_length, unit_count}
-use Rattle.dom_model.specs.Worlds.World.{Content, Point, Range, World}
+use Rattle.dom_model.specs.Worlds.World.{Point, Range, World}
 use Rattle.dom_model.specs.Worlds.Sound.{IsSound, IsRange}
 use Rattle.dom_model.specs.BoundaryPoints.Points.{after_splice, moved_range}
 use Rattle.dom_model.specs.MutationAlgorithms.Checks.{kind_passes}
 use Rattle.dom_model.specs.RangesAndContents.Ranges.{is_collapsed, range_at}
 use Rattle.dom_model.specs.RangesAndContents.Contents.{for_range, is_in_one_data, deleted, delete_contents}
 use Rattle.dom_model.specs.DataAndCopies.Data.{cut_count, data_of, with_data, replace_data}
-use Rattle.dom_model.specs.TokenText.Tokens.{Token, Open, Close, point, no_marks, unit_tokens, unmarked, texts_of}
-use Rattle.dom_model.specs.TokenText.Gaps.{text_among, root_text, tokens_ahead}
-use Rattle.dom_model.specs.TokenText.Between.{before_mark, after_mark, closes_left, opens_left, left_before, left_after}
+use Rattle.dom_model.specs.TokenText.Tokens.{Token, Open, Close, point, no_marks, unit_tokens}
+use Rattle.dom_model.specs.TokenText.Gaps.{root_text, tokens_ahead}
+use Rattle.dom_model.specs.TokenText.Between.{closes_left, opens_left}
 use Rattle.dom_model.proofs.PlainLists.Numbers.{same_or, same, apart}
 use Rattle.dom_model.proofs.Forests.Entries.{occurs-HasNode}
-use Rattle.dom_model.proofs.Worlds.SameShape.{IsAlike, with_node-alike, root-alike}
+use Rattle.dom_model.proofs.Worlds.SameShape.{with_node-alike, root-alike}
 use Rattle.dom_model.proofs.Soundness.SoundData.{sound-replace_data}
 use Rattle.dom_model.proofs.TokenText.Marked.MarkedFirst.{kinds-childless}
 use Rattle.dom_model.proofs.TokenText.EditsMade.EditsOfDrawnContents.{sound-range}
@@ -29,7 +29,7 @@ use Rattle.dom_model.proofs.TokenText.Contents.LeafPlaces.{leaf-gap, units-long}
 use Rattle.dom_model.proofs.TokenText.Contents.TextTold.{no_mark}
 use Rattle.dom_model.proofs.TokenText.Contents.RangeText.{EndsAhead, ends_ahead, unopened-ahead, end-in}
 use Rattle.dom_model.proofs.TokenText.Contents.PartsByGaps.{Parts, parts-by_gaps, left_before-by_gaps, left_after-by_gaps}
-use Rattle.dom_model.proofs.TokenText.Contents.MatchedPieces.{Matches, matches-units}
+use Rattle.dom_model.proofs.TokenText.Contents.MatchedPieces.{matches-units}
 use Rattle.dom_model.proofs.TokenText.Contents.DeletedInPlace.{IsLeft}
 use Rattle.dom_model.proofs.TokenText.Contents.DeletedUnits.{DataThere, data-there, cut-text, left-text, take-front, drop-front, moved-at, data-long}
 
@@ -62,10 +62,10 @@ end-moves : (n o c : ℕ) (p : Point) → p.node ≡ n → o ≤ p.offset → p.
 end-moves n o c p d l g =
     ⊎_elim
     (λ (lt : o < p.offset).
-        let t : (p.node == n) ≡ true = subst (λ m. (p.node == m) ≡ true) d (itself p.node) in
-        let x : nat_lt o p.offset ≡ true = grind (arith, nat_tests) in
-        let y : nat_le p.offset (o + c) ≡ true = grind (arith, nat_tests) in
-        rw (t, x, y) (ap (λ m. point m o) d))
+    let t : (p.node == n) ≡ true = subst (λ m. (p.node == m) ≡ true) d (itself p.node) in
+    let x : nat_lt o p.offset ≡ true = grind (arith, nat_tests) in
+    let y : nat_le p.offset (o + c) ≡ true = grind (arith, nat_tests) in
+    rw (t, x, y) (ap (λ m. point m o) d))
     (λ (ge : p.offset ≤ o). let e : p.offset ≡ o = omega arith in start-stays n o c p e ∙ ap (λ m. point m p.offset) d ∙ ap (point n) e)
     (cases_lt o p.offset)
 
@@ -204,44 +204,44 @@ module _ (w : World) (r root : ℕ) (range : Range) (sound : IsSound w) (h : ran
       let y : parts.b - parts.a ≡ length middle = (let a = a-is in let b = b-is in let l = middle-long in omega arith) in
       let z : parts.b ≡ length (front ++ middle) = (let a = a-is in let b = b-is in let i = in_order in let l = middle-long in let f = front-long in omega (arith, length-append front middle)) in
       let inner : take (parts.b - parts.a) (drop parts.a (root_text w.forest root)) ≡ middle =
-        ap (λ k. take k (drop parts.a (root_text w.forest root))) y
-        ∙ ap (λ k. take (length middle) (drop k (root_text w.forest root))) x
-        ∙ ap (λ ts. take (length middle) (drop (length front) ts)) text-now
-        ∙ ap (take (length middle)) (drop-front front (middle ++ back))
-        ∙ take-front middle back
+      ap (λ k. take k (drop parts.a (root_text w.forest root))) y
+      ∙ ap (λ k. take (length middle) (drop k (root_text w.forest root))) x
+      ∙ ap (λ ts. take (length middle) (drop (length front) ts)) text-now
+      ∙ ap (take (length middle)) (drop-front front (middle ++ back))
+      ∙ take-front middle back
       in
       let closes : closes_left 0 middle ≡ [] = ap (closes_left 0) (sym (append-nil middle)) ∙ m.closes 0 [] in
       let opens : opens_left [] middle ≡ [] = ap (opens_left []) (sym (append-nil middle)) ∙ m.opens [] [] in
       record {
         before =
-          next-parts.before
-          ∙ ap (λ k. take k (root_text next.forest root)) (gap-next next-parts.a next-parts.starts)
-          ∙ ap (take (length front)) text-next
-          ∙ take-front front back
-          ∙ sym (take-front front (middle ++ back))
-          ∙ ap (take (length front)) (sym text-now)
-          ∙ ap (λ k. take k (root_text w.forest root)) (sym x)
-          ∙ sym (append-nil (take parts.a (root_text w.forest root)))
-          ∙ ap (λ ts. take parts.a (root_text w.forest root) ++ ts) (sym closes)
-          ∙ ap (λ ts. take parts.a (root_text w.forest root) ++ closes_left 0 ts) (sym inner)
-          ∙ sym (left_before-by_gaps w r root range parts);
+            next-parts.before
+            ∙ ap (λ k. take k (root_text next.forest root)) (gap-next next-parts.a next-parts.starts)
+            ∙ ap (take (length front)) text-next
+            ∙ take-front front back
+            ∙ sym (take-front front (middle ++ back))
+            ∙ ap (take (length front)) (sym text-now)
+            ∙ ap (λ k. take k (root_text w.forest root)) (sym x)
+            ∙ sym (append-nil (take parts.a (root_text w.forest root)))
+            ∙ ap (λ ts. take parts.a (root_text w.forest root) ++ ts) (sym closes)
+            ∙ ap (λ ts. take parts.a (root_text w.forest root) ++ closes_left 0 ts) (sym inner)
+            ∙ sym (left_before-by_gaps w r root range parts);
         after =
-          next-parts.after
-          ∙ ap (λ k. drop k (root_text next.forest root)) (gap-next next-parts.b next-parts.ends)
-          ∙ ap (drop (length front)) text-next
-          ∙ drop-front front back
-          ∙ sym (drop-front (front ++ middle) back)
-          ∙ ap (drop (length (front ++ middle))) (append_assoc front middle back ∙ sym text-now)
-          ∙ ap (λ k. drop k (root_text w.forest root)) (sym z)
-          ∙ ap (λ ts. ts ++ drop parts.b (root_text w.forest root)) (sym opens)
-          ∙ ap (λ ts. opens_left [] ts ++ drop parts.b (root_text w.forest root)) (sym inner)
-          ∙ sym (left_after-by_gaps w r root range parts);
+            next-parts.after
+            ∙ ap (λ k. drop k (root_text next.forest root)) (gap-next next-parts.b next-parts.ends)
+            ∙ ap (drop (length front)) text-next
+            ∙ drop-front front back
+            ∙ sym (drop-front (front ++ middle) back)
+            ∙ ap (drop (length (front ++ middle))) (append_assoc front middle back ∙ sym text-now)
+            ∙ ap (λ k. drop k (root_text w.forest root)) (sym z)
+            ∙ ap (λ ts. ts ++ drop parts.b (root_text w.forest root)) (sym opens)
+            ∙ ap (λ ts. opens_left [] ts ++ drop parts.b (root_text w.forest root)) (sym inner)
+            ∙ sym (left_after-by_gaps w r root range parts);
       }
 
 -- delete contents, where both ends stand in one node with data
 pub deleted-within : (w : World) (r root : ℕ) (range : Range) → IsSound w → range_at w r ≡ Some range → root_of w.forest range.start.node ≡ Some root → is_collapsed range ≡ false → is_in_one_data w range ≡ true → IsLeft r root w (delete_contents r w)
 deleted-within w r root range sound h rooted apart_ends one =
     let gives : delete_contents r w ≡ replace_data range.start.node range.start.offset (range.end.offset - range.start.offset) [] w =
-      ap (λ (o : Option Range). for_range o w (λ x. deleted r x w)) h ∙ (rw (apart_ends, one) refl)
+    ap (λ (o : Option Range). for_range o w (λ x. deleted r x w)) h ∙ (rw (apart_ends, one) refl)
     in
     subst (IsLeft r root w) (sym gives) (within-left w r root range sound h rooted (both-in w range one))
