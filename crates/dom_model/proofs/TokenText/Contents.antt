@@ -14,3 +14,4 @@ pub mod MatchedPieces
 pub mod DeletedInPlace
 pub mod DeletedUnits
 pub mod WithinData
+pub mod LeftByText
