@@ -7,3 +7,4 @@ pub mod Pieces
 pub mod AlikeTrees
 pub mod Marked
 pub mod EditsMade
+pub mod Contents

@@ -1,12 +1,16 @@
 //! Laws of whole lists of commands. They follow from the definitions that `Session::apply` meets one command at a time; nothing here runs.
 
-ghost use Rattle.std.specs.Prelude.{◌≡◌, ℕ, ◌≤◌, Bool, true, List, [], ◌∷◌, ◌++◌, map, length, remove, option_map};
-ghost use Rattle.dom_model.specs.Worlds.World.{World, first_world};
-ghost use Rattle.dom_model.specs.Commands.Command.{Command};
-ghost use Rattle.dom_model.specs.Commands.Reply.{is_refusal};
+ghost use Rattle.std.specs.Prelude.{◌≡◌, ℕ, ◌≤◌, Bool, true, List, [], ◌∷◌, ◌++◌, map, length, remove, Some, option_map};
+ghost use Rattle.dom_model.specs.Forests.Forest.{root_of};
+ghost use Rattle.dom_model.specs.Worlds.World.{Range, World, first_world};
+ghost use Rattle.dom_model.specs.Commands.Command.{Command, RangeText};
+ghost use Rattle.dom_model.specs.Commands.Reply.{Units, Done, is_refusal};
 ghost use Rattle.dom_model.specs.Commands.Guards.{Bounds};
 ghost use Rattle.dom_model.specs.Commands.Answer.{answer};
 ghost use Rattle.dom_model.specs.RangesAndContents.Ranges.{end_of, range_at};
+ghost use Rattle.dom_model.specs.RangesAndContents.Contents.{range_text};
+ghost use Rattle.dom_model.specs.TokenText.Gaps.{text_among};
+ghost use Rattle.dom_model.specs.TokenText.Between.{text_of_range};
 ghost use Rattle.dom_model.specs.TokenText.Tokens.{texts_of, unmarked, tokens_among, gap_among};
 ghost use Rattle.dom_model.specs.TokenText.CommandEdits.{world_past, texts_after, ranges_along, marks_along, commands_among};
 ghost use Rattle.dom_model.specs.Commands.Table.{Row};
@@ -94,4 +98,17 @@ pub fn ends_stay_with_their_markers()
         ≡ unmarked (tokens_among n (texts_of (world_past b (world_past b first_world before) cs))) }
     ensures along { (b : Bounds) → (before : List Command) → (cs : List Command) →
         marks_along b (world_past b first_world before) (texts_of (world_past b first_world before)) cs ≡ ranges_along b (world_past b first_world before) cs }
+{}
+
+/// A law: the text of a live range is the units of Texts that lie between its two markers, in the token text of its root. It holds in
+/// every sound world, and so in every world that commands reach, where it is what the range is answered to be as text (DOM Standard,
+/// "Interface Range", its stringification behavior, in the words of texts).
+pub fn range_text_is_what_lies_between()
+    ensures text { (w : World) → (r : ℕ) → (root : ℕ) → (range : Range) → IsSound w →
+        range_at w r ≡ Some range → root_of w.forest range.start.node ≡ Some root →
+        range_text w range ≡ text_of_range w r (text_among root (texts_of w)) }
+    ensures answered { (b : Bounds) → (cs : List Command) → (r : ℕ) → (root : ℕ) → (range : Range) →
+        range_at (world_past b first_world cs) r ≡ Some range → root_of (world_past b first_world cs).forest range.start.node ≡ Some root →
+        (answer b (world_past b first_world cs) (RangeText r)).reply
+        ≡ Done (Units (text_of_range (world_past b first_world cs) r (text_among root (texts_of (world_past b first_world cs))))) }
 {}

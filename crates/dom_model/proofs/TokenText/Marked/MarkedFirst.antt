@@ -77,22 +77,22 @@ module _ (marks : Point → List Token) where
 
 -- The markers of a gap.
 
-AreMarks-mark_if : (v : Bool) (r : ℕ) (side : Bool) → AreMarks (mark_if v r side)
+pub AreMarks-mark_if : (v : Bool) (r : ℕ) (side : Bool) → AreMarks (mark_if v r side)
 AreMarks-mark_if true r side = tt
 AreMarks-mark_if false r side = tt
 
-AreMarks-marks_from : (r : ℕ) (ranges : List (Option Range)) (p : Point) → AreMarks (marks_from r ranges p)
+pub AreMarks-marks_from : (r : ℕ) (ranges : List (Option Range)) (p : Point) → AreMarks (marks_from r ranges p)
 AreMarks-marks_from r [] p = tt
 AreMarks-marks_from r (None ∷ ranges) p = AreMarks-marks_from (suc r) ranges p
 AreMarks-marks_from r (Some range ∷ ranges) p =
     AreMarks-append (mark_if (same_point range.start p) r true) (mark_if (same_point range.end p) r false ++ marks_from (suc r) ranges p) (AreMarks-mark_if (same_point range.start p) r true)
     (AreMarks-append (mark_if (same_point range.end p) r false) (marks_from (suc r) ranges p) (AreMarks-mark_if (same_point range.end p) r false) (AreMarks-marks_from (suc r) ranges p))
 
-marked-other : (v : Bool) (q : ℕ) (other : Bool) (r : ℕ) (side : Bool) → (q == r) ≡ false → marked r side (mark_if v q other) ≡ 0
+pub marked-other : (v : Bool) (q : ℕ) (other : Bool) (r : ℕ) (side : Bool) → (q == r) ≡ false → marked r side (mark_if v q other) ≡ 0
 marked-other false q other r side h = refl
 marked-other true q other r side h = rw h refl
 
-marked-here : (v : Bool) (q : ℕ) (other : Bool) (r : ℕ) (side : Bool) → (q == r) ≡ true → marked r side (mark_if v q other) ≡ (if v && same_side side other then 1 else 0)
+pub marked-here : (v : Bool) (q : ℕ) (other : Bool) (r : ℕ) (side : Bool) → (q == r) ≡ true → marked r side (mark_if v q other) ≡ (if v && same_side side other then 1 else 0)
 marked-here false q other r side h = refl
 marked-here true q other r side h = rw h (go (same_side side other))
   where
@@ -104,7 +104,7 @@ both-parts : (r q : ℕ) (side : Bool) (range : Range) (ranges : List (Option Ra
 both-parts r q side range ranges p =
     omega (arith, tally-append (is_mark_of r side) (mark_if (same_point range.start p) q true) (mark_if (same_point range.end p) q false ++ marks_from (suc q) ranges p), tally-append (is_mark_of r side) (mark_if (same_point range.end p) q false) (marks_from (suc q) ranges p))
 
-marks_from-later : (r q : ℕ) (side : Bool) (ranges : List (Option Range)) (p : Point) → r < q → marked r side (marks_from q ranges p) ≡ 0
+pub marks_from-later : (r q : ℕ) (side : Bool) (ranges : List (Option Range)) (p : Point) → r < q → marked r side (marks_from q ranges p) ≡ 0
 marks_from-later r q side [] p h = refl
 marks_from-later r q side (None ∷ ranges) p h = marks_from-later r (suc q) side ranges p (omega arith)
 marks_from-later r q side (Some range ∷ ranges) p h =
@@ -131,11 +131,11 @@ one-side : (r q : ℕ) (side : Bool) (range : Range) (p : Point) → (q == r) �
 one-side r q true range p h = rw (marked-here (same_point range.start p) q true r true h, marked-here (same_point range.end p) q false r true h) (first-side (same_point range.start p) (same_point range.end p))
 one-side r q false range p h = rw (marked-here (same_point range.start p) q true r false h, marked-here (same_point range.end p) q false r false h) (second-side (same_point range.start p) (same_point range.end p))
 
-itself : (n : ℕ) → (n == n) ≡ true
+pub itself : (n : ℕ) → (n == n) ≡ true
 itself n = elim (same_or n n) [ same d t ↦ t | apart ne t ↦ absurd (ne refl) ]
 
 -- each gap has the markers of the ends that stand there
-marks_from-at : (k r q : ℕ) (side : Bool) (ranges : List (Option Range)) (p : Point) → r ≡ q + k → marked r side (marks_from q ranges p) ≡ stands (end_at ranges k side) p
+pub marks_from-at : (k r q : ℕ) (side : Bool) (ranges : List (Option Range)) (p : Point) → r ≡ q + k → marked r side (marks_from q ranges p) ≡ stands (end_at ranges k side) p
 marks_from-at zero r q side [] p e = refl
 marks_from-at (suc k) r q side [] p e = refl
 marks_from-at zero r q side (None ∷ ranges) p e = marks_from-later r (suc q) side ranges p (omega arith)
