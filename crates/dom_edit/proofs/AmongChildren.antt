@@ -1,6 +1,6 @@
 -- Going along the children of a node: what is left of the list from a child on.
 use Rattle.std.specs.Prelude.{◌==◌, if◌then◌else◌, not, ◌||◌, nat_eq}
-use Rattle.std.proofs.Common.{◌≡◌, ℕ, ◌+◌, ◌≤◌, Bool, true, false, List, [], ◌∷◌, length, Option, Some, None, refl, ap, arith}
+use Rattle.std.proofs.Common.{◌≡◌, ℕ, ◌+◌, ◌≤◌, Bool, true, false, List, [], ◌∷◌, length, refl, ap, arith}
 use Rattle.std.proofs.lemmas.Bool.Decides.{nat_tests}
 use Rattle.dom_model.specs.declared.Kind.{Kind}
 use Rattle.dom_model.specs.PlainLists.Lists.{hits, head_of, after}

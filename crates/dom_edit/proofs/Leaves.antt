@@ -2,7 +2,6 @@
 use Rattle.std.specs.Prelude.{◌==◌}
 use Rattle.std.proofs.Common.{◌≡◌, ℕ, None, refl, ap, arith}
 use Rattle.dom_model.specs.PlainLists.Lists.{head_of, among}
-use Rattle.dom_model.specs.Forests.Arena.{children_in}
 use Rattle.dom_model.specs.Forests.Forest.{Forest, empty, node, Grove, IsForest, one_at, occurs, tops, tree_at, HasNode, children_of, ancestors}
 use Rattle.dom_model.proofs.PlainLists.Numbers.{same_or, same, apart}
 use Rattle.dom_model.proofs.Forests.Climbing.{hits-ancestors, hits-among, hits-not_among}

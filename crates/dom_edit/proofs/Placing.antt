@@ -1,10 +1,8 @@
 -- What stands around a place among children, and the tests that are read off it.
-use Rattle.std.specs.Prelude.{filter, ◌==◌, nat_lt, if◌then◌else◌, not, ◌||◌, ◌&&◌}
+use Rattle.std.specs.Prelude.{filter, ◌==◌, nat_lt, if◌then◌else◌, not, ◌||◌}
 use Rattle.std.specs.List.{list_any}
 use Rattle.std.proofs.Common.{◌≡◌, ℕ, ◌≤◌, Bool, true, false, List, [], ◌∷◌, ◌++◌, Option, Some, None, refl, ap, sym, ◌∙◌, subst, arith}
-use Rattle.dom_model.specs.declared.Kind.{Kind}
 use Rattle.dom_model.specs.declared.Kind.TheVariants.{Element, Text, DocumentType, DocumentFragment}
-use Rattle.dom_model.specs.declared.DomError.{DomError}
 use Rattle.dom_model.specs.PlainLists.Lists.{hits, after, is_number}
 use Rattle.dom_model.specs.Forests.Forest.{Forest, Grove, IsForest, children_of, parent_of}
 use Rattle.dom_model.specs.MutationAlgorithms.PreRemoval.{past}

@@ -32,7 +32,8 @@ fn is_misplaced(parent: Kind, kind: Kind) -> bool
         Kind::Document => true,
         Kind::Text => parent == Kind::Document,
         Kind::DocumentType => parent != Kind::Document,
-        Kind::Element | Kind::ProcessingInstruction | Kind::Comment | Kind::DocumentFragment => false,
+        Kind::Element | Kind::ProcessingInstruction | Kind::Comment | Kind::DocumentFragment =>
+            false,
     }
 }
 
@@ -95,7 +96,12 @@ fn check(tree: &Tree<Content>, parent: NodeId, node: NodeId, place: Place) -> Re
 ///
 /// The parent must be a kind that may have children and no part of the node's tree, the child must stand under it, and a
 /// Document takes no Text, no second element or doctype, and no element ahead of its doctype.
-pub fn check_insert(tree: &Tree<Content>, parent: NodeId, node: NodeId, child: Option<NodeId>) -> Result<(), DomError>
+pub fn check_insert(
+    tree: &Tree<Content>,
+    parent: NodeId,
+    node: NodeId,
+    child: Option<NodeId>,
+) -> Result<(), DomError>
     requires parent_held { HasNode tree.now.forest parent }
     requires node_held { HasNode tree.now.forest node }
     requires child_held { ForSome child (λ c. HasNode tree.now.forest c) }
@@ -107,7 +113,12 @@ pub fn check_insert(tree: &Tree<Content>, parent: NodeId, node: NodeId, child: O
 /// Whether a node may come in under a parent in the place of a child of it.
 ///
 /// It is asked as [`check_insert`] does, but of the children that stay.
-pub fn check_replace(tree: &Tree<Content>, parent: NodeId, node: NodeId, child: NodeId) -> Result<(), DomError>
+pub fn check_replace(
+    tree: &Tree<Content>,
+    parent: NodeId,
+    node: NodeId,
+    child: NodeId,
+) -> Result<(), DomError>
     requires parent_held { HasNode tree.now.forest parent }
     requires node_held { HasNode tree.now.forest node }
     requires child_held { HasNode tree.now.forest child }

@@ -82,7 +82,12 @@ fn found_at(tree: &Tree<Content>, node: NodeId) -> Found
 }
 
 // What stands among the children of a node from one of them on, and ahead of another.
-fn found_between(tree: &Tree<Content>, parent: NodeId, from: Option<NodeId>, until: Option<NodeId>) -> Found
+fn found_between(
+    tree: &Tree<Content>,
+    parent: NodeId,
+    from: Option<NodeId>,
+    until: Option<NodeId>,
+) -> Found
     requires held { HasNode tree.now.forest parent }
     requires child { IsAmong from (children_of tree.now.forest parent) }
     ensures { IsFound tree.now.forest (ahead_of until (from_optional from (children_of tree.now.forest parent))) result }
@@ -119,7 +124,11 @@ impl Around {
     fn refuses_element(&self) -> bool
         ensures { result ≡ (self.now.ahead.element || (self.now.at.element || (self.now.past.element || (self.now.at.doctype || self.now.past.doctype)))) }
     {
-        self.ahead.element || self.at.element || self.past.element || self.at.doctype || self.past.doctype
+        self.ahead.element
+            || self.at.element
+            || self.past.element
+            || self.at.doctype
+            || self.past.doctype
     }
 
     // Whether a doctype is refused: there is another, or an element comes first.
@@ -219,7 +228,13 @@ fn refuses_fragment(tree: &Tree<Content>, document: NodeId, fragment: NodeId, pl
 }
 
 /// Whether a Document refuses a node of a kind at a place, for the children that it has.
-pub(crate) fn is_refused(tree: &Tree<Content>, document: NodeId, node: NodeId, kind: Kind, place: Place) -> bool
+pub(crate) fn is_refused(
+    tree: &Tree<Content>,
+    document: NodeId,
+    node: NodeId,
+    kind: Kind,
+    place: Place,
+) -> bool
     requires held { HasNode tree.now.forest document }
     requires node_held { HasNode tree.now.forest node }
     requires under { IsUnder tree.now.forest document place }

@@ -5,3 +5,5 @@ pub mod Extending
 pub mod ChecksKept
 pub mod RemovalsLike
 pub mod SplitsLike
+pub mod Emptied
+pub mod PutsAllowed

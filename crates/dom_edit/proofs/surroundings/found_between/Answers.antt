@@ -57,13 +57,13 @@ loop-child-preserved c =
     let element = rw (c.in-Some.is, split, on) at c.loop-child.invariant.element in
     let doctype = rw (c.in-Some.is, split, on) at c.loop-child.invariant.doctype in
     let e : c.if-found.found ≡ (c.loop-child.found.element || c.is_of_kind-element.result) =
-        elim c.if-found.branch [ then-found w ↦ rw (w.found-is, w.if-found.true) refl | else-found w ↦ rw (w.found-is, w.if-found.false) refl ] in
+    elim c.if-found.branch [ then-found w ↦ rw (w.found-is, w.if-found.true) refl | else-found w ↦ rw (w.found-is, w.if-found.false) refl ] in
     let d : c.if-found-2.found ≡ (c.loop-child.found.doctype || c.is_of_kind-doctype.result) =
-        elim c.if-found-2.branch [ then-found-2 w ↦ rw (w.found-is, w.if-found-2.true) refl | else-found-2 w ↦ rw (w.found-is, w.if-found-2.false) refl ] in
+    elim c.if-found-2.branch [ then-found-2 w ↦ rw (w.found-is, w.if-found-2.true) refl | else-found-2 w ↦ rw (w.found-is, w.if-found-2.false) refl ] in
     record {
-      element = rw (e, c.is_of_kind-element.ensures, next) 
-      (one-more (has_kind Element f (ahead_of c.args.until (from_optional c.args.from all))) c.loop-child.found.element (is_of_kind Element f c.in-Some.id) (has_kind Element f (ahead_of c.args.until (from_optional (after c.in-Some.id all) all))) element);
-      doctype = rw (d, c.is_of_kind-doctype.ensures, next) 
-      (one-more (has_kind DocumentType f (ahead_of c.args.until (from_optional c.args.from all))) c.loop-child.found.doctype (is_of_kind DocumentType f c.in-Some.id) (has_kind DocumentType f (ahead_of c.args.until (from_optional (after c.in-Some.id all) all))) doctype);
+      element = rw (e, c.is_of_kind-element.ensures, next)
+          (one-more (has_kind Element f (ahead_of c.args.until (from_optional c.args.from all))) c.loop-child.found.element (is_of_kind Element f c.in-Some.id) (has_kind Element f (ahead_of c.args.until (from_optional (after c.in-Some.id all) all))) element);
+      doctype = rw (d, c.is_of_kind-doctype.ensures, next)
+          (one-more (has_kind DocumentType f (ahead_of c.args.until (from_optional c.args.from all))) c.loop-child.found.doctype (is_of_kind DocumentType f c.in-Some.id) (has_kind DocumentType f (ahead_of c.args.until (from_optional (after c.in-Some.id all) all))) doctype);
       within = rw next (IsAmong-after c.in-Some.id all once);
     }

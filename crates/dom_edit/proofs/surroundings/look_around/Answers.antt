@@ -36,8 +36,8 @@ returns c =
     let ahead = rw (c.first-first.ensures, from_optional-head kids) at c.found_between-2.ensures in
     let past = rw (next, from_successor c.in-Some.child kids each once) at c.found_between-3.ensures in
     let at : IsFound g.forest (staying c.args.place) c.if-keeps_child.at =
-        elim c.if-keeps_child.branch [
-          | then-keeps_child w ↦ rw (w.at-is, staying-kept c.args.place c.in-Some.child e (sym c.keeps_child.ensures ∙ w.if-keeps_child.true)) w.found_at-at.ensures
-          | else-keeps_child w ↦ rw (w.at-is, staying-gone c.args.place (sym c.keeps_child.ensures ∙ w.if-keeps_child.false)) (record { element = refl; doctype = refl })
-        ] in
+    elim c.if-keeps_child.branch [
+      | then-keeps_child w ↦ rw (w.at-is, staying-kept c.args.place c.in-Some.child e (sym c.keeps_child.ensures ∙ w.if-keeps_child.true)) w.found_at-at.ensures
+      | else-keeps_child w ↦ rw (w.at-is, staying-gone c.args.place (sym c.keeps_child.ensures ∙ w.if-keeps_child.false)) (record { element = refl; doctype = refl })
+    ] in
     record { ahead = rw e ahead; at = at; past = rw e past }
