@@ -4,6 +4,8 @@
 mod checks;
 mod content;
 mod surroundings;
+#[cfg(test)]
+mod tests;
 
 pub use checks::{check_insert, check_replace};
 pub use content::Content;
