@@ -7,3 +7,4 @@ pub mod RemovalsLike
 pub mod SplitsLike
 pub mod Emptied
 pub mod PutsAllowed
+pub mod OwnersKept
