@@ -5,3 +5,6 @@ pub mod Extending
 pub mod ChecksKept
 pub mod RemovalsLike
 pub mod SplitsLike
+pub mod Emptied
+pub mod PutsAllowed
+pub mod OwnersKept

@@ -20,3 +20,4 @@ pub mod DrawnPieces
 pub mod DrawnPaths
 pub mod InsertAllowed
 pub mod SurroundChecked
+pub mod RangesElsewhere

@@ -2,3 +2,4 @@
 pub mod SameShape
 pub mod Parts
 pub mod Measured
+pub mod Owners

@@ -1,0 +1,83 @@
+-- Going along the children of a node: what is left of the list from a child on.
+use Rattle.std.specs.Prelude.{◌==◌, if◌then◌else◌, not, ◌||◌, nat_eq}
+use Rattle.std.proofs.Common.{◌≡◌, ℕ, ◌+◌, ◌≤◌, Bool, true, false, List, [], ◌∷◌, length, refl, ap, arith}
+use Rattle.std.proofs.lemmas.Bool.Decides.{nat_tests}
+use Rattle.dom_model.specs.declared.Kind.{Kind}
+use Rattle.dom_model.specs.PlainLists.Lists.{hits, head_of, after}
+use Rattle.dom_model.specs.Forests.Arena.{list_under}
+use Rattle.dom_model.specs.Forests.Forest.{Forest, Grove, IsForest, entry_in, HasNode, children_of, next_of}
+use Rattle.dom_model.specs.MutationAlgorithms.Checks.{is_of_kind, count_kind, has_kind}
+use Rattle.dom_model.proofs.Forests.Changes.{seen, nothing, just}
+use Rattle.dom_model.proofs.Forests.Climbing.{hits-first}
+use Rattle.dom_model.proofs.Forests.PutBack.{hits-after}
+use Rattle.dom_model.proofs.Forests.Entries.{HasNode-occurs}
+use Rattle.dom_model.proofs.Forests.Indices.{child-parent, child-there}
+use Rattle.dom_model.proofs.PlainLists.FromFirst.{from-last, from-after, from_first}
+use Rattle.dom_edit.specs.Places.{from_optional, IsAmong}
+
+-- from the head on there is the whole list
+pub from_optional-head : (xs : List ℕ) → from_optional (head_of xs) xs ≡ xs
+from_optional-head [] = refl
+from_optional-head (x ∷ xs) = let t : (x == x) ≡ true = grind (arith, nat_tests) in rw t refl
+
+pub IsAmong-head : (xs : List ℕ) → ((m : ℕ) → hits m xs ≤ 1) → IsAmong (head_of xs) xs
+IsAmong-head [] once = tt
+IsAmong-head (x ∷ xs) once = let h = once x in let k = hits-first x xs in omega arith
+
+-- the successor of a number stands in the list
+pub IsAmong-after : (n : ℕ) (xs : List ℕ) → ((m : ℕ) → hits m xs ≤ 1) → IsAmong (after n xs) xs
+IsAmong-after n xs once =
+    elim (seen (after n xs)) [
+      | nothing e ↦ rw e tt
+      | just m e ↦ rw e (let h = once m in let k = hits-after n xs m e in omega arith)
+    ]
+
+-- the part from n on is n and the part from its successor on, where n stands once
+pub from_first-after : (n : ℕ) (xs : List ℕ) → ((m : ℕ) → hits m xs ≤ 1) → hits n xs ≡ 1 → from_first n xs ≡ n ∷ from_optional (after n xs) xs
+from_first-after n xs once one =
+    elim (seen (after n xs)) [
+      | nothing e ↦ rw e (from-last n xs (omega arith) e)
+      | just m e ↦ rw e (from-after n m xs (once m) e)
+    ]
+
+module _ {X : Type 0} (g : Grove X) (sound : IsForest g) where
+  pub HasNode-child : (p c : ℕ) → hits c (children_of g.forest p) ≡ 1 → HasNode g.forest c
+  HasNode-child p c h = HasNode-occurs g.forest c (child-there g.forest sound.once c p (omega arith))
+
+  -- the next sibling of a child is its successor among the children
+  pub next_of-child : (p c : ℕ) → hits c (children_of g.forest p) ≡ 1 → next_of g.forest c ≡ after c (children_of g.forest p)
+  next_of-child p c h =
+      ap (λ q. after c (list_under (entry_in g.forest) q)) (child-parent g.forest sound.once c p (omega arith))
+
+-- one more in a filtered list
+length-cons_if : (t : Bool) (c : ℕ) (cs : List ℕ) → length (if t then c ∷ cs else cs) ≡ (if t then 1 else 0) + length cs
+length-cons_if true c cs = omega arith
+length-cons_if false c cs = omega arith
+
+one_or_none : (t : Bool) → (if t then 1 else 0) ≤ 1
+one_or_none true = omega arith
+one_or_none false = omega arith
+
+module _ {X : Type 0} where
+  -- a child more, counted
+  pub count_kind-cons : (k : Kind) (f : Forest X) (c : ℕ) (cs : List ℕ) → count_kind k f (c ∷ cs) ≡ (if is_of_kind k f c then 1 else 0) + count_kind k f cs
+  count_kind-cons k f c cs = length-cons_if (is_of_kind k f c) c _
+
+  -- no more are counted than there are
+  pub count_kind_le-length : (k : Kind) (f : Forest X) (cs : List ℕ) → count_kind k f cs ≤ length cs
+  count_kind_le-length k f [] = omega arith
+  count_kind_le-length k f (c ∷ cs) =
+      let e = count_kind-cons k f c cs in
+      let h = count_kind_le-length k f cs in
+      let t = one_or_none (is_of_kind k f c) in
+      omega (arith, e, h, t)
+
+some_or_none : (t rest : Bool) (n : ℕ) → rest ≡ not (nat_eq n 0) → (t || rest) ≡ not (nat_eq ((if t then 1 else 0) + n) 0)
+some_or_none true rest n h = let e : nat_eq (1 + n) 0 ≡ false = grind (arith, nat_tests) in rw e refl
+some_or_none false rest n h = let e : 0 + n ≡ n = omega arith in rw e h
+
+module _ {X : Type 0} where
+  -- there is one of a kind where the count is not 0
+  pub has_kind-count : (k : Kind) (f : Forest X) (cs : List ℕ) → has_kind k f cs ≡ not (nat_eq (count_kind k f cs) 0)
+  has_kind-count k f [] = refl
+  has_kind-count k f (c ∷ cs) = rw (count_kind-cons k f c cs) (some_or_none (is_of_kind k f c) (has_kind k f cs) (count_kind k f cs) (has_kind-count k f cs))

@@ -1,0 +1,3 @@
+pub mod AmongChildren
+pub mod Leaves
+pub mod Placing

@@ -1,0 +1,128 @@
+//! The checks ahead of an insertion and of a replacement (DOM Standard, "Mutation algorithms": ensure pre-insertion validity; replace).
+
+ghost use Rattle.std.specs.Prelude.{◌≡◌, None, Some, MatchResult, not, ◌||◌, ◌&&◌};
+ghost use Rattle.std.specs.Option.{ForSome};
+ghost use Rattle.dom_model.specs.declared.Kind.TheVariants.{Text, Document, DocumentType};
+ghost use Rattle.dom_model.specs.Forests.Kinds.{may_be_parent, is_kind};
+ghost use Rattle.dom_model.specs.PlainLists.Lists.{among, is_number};
+ghost use Rattle.dom_model.specs.Forests.Forest.{HasNode, parent_of, ancestors};
+ghost use Rattle.dom_model.specs.MutationAlgorithms.Checks.{if_given, first_refusal, check_insert, check_replace};
+ghost use Rattle.dom_edit.specs.Places.{child_of, conditions_at};
+
+use crate::content::Content;
+use crate::surroundings::{Place, is_refused};
+use dom_kinds::{DomError, Kind};
+use dom_tree::{NodeId, Tree};
+
+// Whether nodes of the kind may have children.
+fn may_be_parent(kind: Kind) -> bool
+    ensures { result ≡ may_be_parent kind }
+{
+    matches!(
+        kind,
+        Kind::Document | Kind::DocumentFragment | Kind::Element
+    )
+}
+
+// Whether a kind may stand nowhere under the other: a Document, a Text under a Document, a doctype under anything else.
+fn is_misplaced(parent: Kind, kind: Kind) -> bool
+    ensures { result ≡ (is_kind Document kind || ((is_kind Text kind && is_kind Document parent) || (is_kind DocumentType kind && not (is_kind Document parent)))) }
+{
+    match kind {
+        Kind::Document => true,
+        Kind::Text => parent == Kind::Document,
+        Kind::DocumentType => parent != Kind::Document,
+        Kind::Element | Kind::ProcessingInstruction | Kind::Comment | Kind::DocumentFragment =>
+            false,
+    }
+}
+
+// Whether a node stands inside another or is it. A node without children is found at once.
+fn is_inside(tree: &Tree<Content>, top: NodeId, node: NodeId) -> bool
+    requires top_held { HasNode tree.now.forest top }
+    requires node_held { HasNode tree.now.forest node }
+    ensures { result ≡ among top (ancestors node tree.now.forest) }
+{
+    tree.sound();
+    let Some(_) = tree.first(top) else {
+        return top == node;
+    };
+    tree.is_ancestor(top, node)
+}
+
+// Whether a child is given that does not stand under the parent.
+fn is_elsewhere(tree: &Tree<Content>, parent: NodeId, child: Option<NodeId>) -> bool
+    requires { ForSome child (λ c. HasNode tree.now.forest c) }
+    ensures { result ≡ if_given (λ c. not (is_number (parent_of tree.now.forest c) parent)) child }
+{
+    match child {
+        Some(child) => match tree.parent(child) {
+            Some(above) => above != parent,
+            None => true,
+        },
+        None => false,
+    }
+}
+
+// The check at a place. All refusals but one have one name, so that what costs least is asked first.
+fn check(tree: &Tree<Content>, parent: NodeId, node: NodeId, place: Place) -> Result<(), DomError>
+    requires parent_held { HasNode tree.now.forest parent }
+    requires node_held { HasNode tree.now.forest node }
+    requires child_held { ForSome (child_of place) (λ c. HasNode tree.now.forest c) }
+    ensures { MatchResult result (λ _. first_refusal (conditions_at place tree.now.forest parent node) ≡ None) (λ e. first_refusal (conditions_at place tree.now.forest parent node) ≡ Some e) }
+{
+    let above = tree.label(parent).kind;
+    let kind = tree.label(node).kind;
+    if !may_be_parent(above) {
+        return Err(DomError::HierarchyRequestError);
+    }
+    if is_elsewhere(tree, parent, place.child()) {
+        return Err(if is_inside(tree, node, parent) {
+            DomError::HierarchyRequestError
+        } else {
+            DomError::NotFoundError
+        });
+    }
+    if is_misplaced(above, kind) || is_inside(tree, node, parent) {
+        return Err(DomError::HierarchyRequestError);
+    }
+    if above == Kind::Document && is_refused(tree, parent, node, kind, place) {
+        return Err(DomError::HierarchyRequestError);
+    }
+    Ok(())
+}
+
+/// Whether a node may come in under a parent, before a child of it or last.
+///
+/// The parent must be a kind that may have children and no part of the node's tree, the child must stand under it, and a
+/// Document takes no Text, no second element or doctype, and no element ahead of its doctype.
+pub fn check_insert(
+    tree: &Tree<Content>,
+    parent: NodeId,
+    node: NodeId,
+    child: Option<NodeId>,
+) -> Result<(), DomError>
+    requires parent_held { HasNode tree.now.forest parent }
+    requires node_held { HasNode tree.now.forest node }
+    requires child_held { ForSome child (λ c. HasNode tree.now.forest c) }
+    ensures { MatchResult result (λ _. check_insert tree.now.forest parent node child ≡ None) (λ e. check_insert tree.now.forest parent node child ≡ Some e) }
+{
+    check(tree, parent, node, Place::Before(child))
+}
+
+/// Whether a node may come in under a parent in the place of a child of it.
+///
+/// It is asked as [`check_insert`] does, but of the children that stay.
+pub fn check_replace(
+    tree: &Tree<Content>,
+    parent: NodeId,
+    node: NodeId,
+    child: NodeId,
+) -> Result<(), DomError>
+    requires parent_held { HasNode tree.now.forest parent }
+    requires node_held { HasNode tree.now.forest node }
+    requires child_held { HasNode tree.now.forest child }
+    ensures { MatchResult result (λ _. check_replace tree.now.forest parent node child ≡ None) (λ e. check_replace tree.now.forest parent node child ≡ Some e) }
+{
+    check(tree, parent, node, Place::Instead(child))
+}

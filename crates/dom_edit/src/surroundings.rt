@@ -1,0 +1,249 @@
+//! What stands among the children of a Document, around the place where a node is to come in.
+
+ghost use Rattle.std.specs.Prelude.{◌≡◌, ℕ, ◌||◌, [], ◌∷◌};
+ghost use Rattle.dom_model.specs.declared.Kind.TheVariants.{Element, DocumentType, DocumentFragment};
+ghost use Rattle.dom_model.specs.PlainLists.Lists.{is_number};
+ghost use Rattle.dom_model.specs.Forests.Forest.{HasNode, children_of};
+ghost use Rattle.dom_model.specs.MutationAlgorithms.Checks.{is_of_kind, has_kind, count_kind, kind_passes};
+ghost use Rattle.dom_edit.specs.Places.{child_of, keeps_child, IsUnder, refuses, IsAmong, ahead_of, from_optional, IsFound, IsAround};
+
+use crate::content::Content;
+use dom_kinds::{Kind, NodeType};
+use dom_tree::{NodeId, Tree};
+
+/// Where a node is to come in: before a child or last, or in the place of a child.
+#[derive(Clone, Copy)]
+pub(crate) enum Place {
+    Before(Option<NodeId>),
+    Instead(NodeId),
+}
+
+impl Place {
+    /// The child that is named.
+    pub(crate) fn child(&self) -> Option<NodeId>
+        ensures { result ≡ child_of self.now }
+    {
+        match *self {
+            Place::Before(child) => child,
+            Place::Instead(child) => Some(child),
+        }
+    }
+
+    // Whether that child stays.
+    fn keeps_child(&self) -> bool
+        ensures { result ≡ keeps_child self.now }
+    {
+        match *self {
+            Place::Before(_) => true,
+            Place::Instead(_) => false,
+        }
+    }
+}
+
+/// Whether elements and doctypes stand among some nodes.
+#[derive(Clone, Copy)]
+pub(crate) struct Found {
+    element: bool,
+    doctype: bool,
+}
+
+const NOTHING: Found = Found {
+    element: false,
+    doctype: false,
+};
+
+/// Whether a node is of a kind.
+pub(crate) fn is_of_kind(tree: &Tree<Content>, node: NodeId, kind: Kind) -> bool
+    requires { HasNode tree.now.forest node }
+    ensures { result ≡ is_of_kind kind tree.now.forest node }
+{
+    kind.number() == tree.label(node).kind.number()
+}
+
+// Whether the number is given, and is the node's.
+fn is_number(given: Option<NodeId>, node: NodeId) -> bool
+    ensures { result ≡ is_number given node }
+{
+    match given {
+        Some(number) => number == node,
+        None => false,
+    }
+}
+
+// Whether a node is an element or a doctype.
+fn found_at(tree: &Tree<Content>, node: NodeId) -> Found
+    requires { HasNode tree.now.forest node }
+    ensures { IsFound tree.now.forest (node ∷ []) result }
+{
+    Found {
+        element: is_of_kind(tree, node, Kind::Element),
+        doctype: is_of_kind(tree, node, Kind::DocumentType),
+    }
+}
+
+// What stands among the children of a node from one of them on, and ahead of another.
+fn found_between(
+    tree: &Tree<Content>,
+    parent: NodeId,
+    from: Option<NodeId>,
+    until: Option<NodeId>,
+) -> Found
+    requires held { HasNode tree.now.forest parent }
+    requires child { IsAmong from (children_of tree.now.forest parent) }
+    ensures { IsFound tree.now.forest (ahead_of until (from_optional from (children_of tree.now.forest parent))) result }
+{
+    tree.sound();
+    let mut found = NOTHING;
+    let mut child = from;
+    while let Some(id) = child {
+        if is_number(until, id) {
+            return found;
+        }
+        let element = is_of_kind(tree, id, Kind::Element);
+        let doctype = is_of_kind(tree, id, Kind::DocumentType);
+        found = Found {
+            element: found.element || element,
+            doctype: found.doctype || doctype,
+        };
+        child = tree.next(id);
+    }
+    found
+}
+
+// What stands around a place among the children of a Document: ahead of the child that it names, at the child where that stays,
+// and after it.
+#[derive(Clone, Copy)]
+struct Around {
+    ahead: Found,
+    at: Found,
+    past: Found,
+}
+
+impl Around {
+    // Whether an element is refused: there is another, or a doctype does not come first.
+    fn refuses_element(&self) -> bool
+        ensures { result ≡ (self.now.ahead.element || (self.now.at.element || (self.now.past.element || (self.now.at.doctype || self.now.past.doctype)))) }
+    {
+        self.ahead.element
+            || self.at.element
+            || self.past.element
+            || self.at.doctype
+            || self.past.doctype
+    }
+
+    // Whether a doctype is refused: there is another, or an element comes first.
+    fn refuses_doctype(&self) -> bool
+        ensures { result ≡ (self.now.ahead.doctype || (self.now.at.doctype || (self.now.past.doctype || self.now.ahead.element))) }
+    {
+        self.ahead.doctype || self.at.doctype || self.past.doctype || self.ahead.element
+    }
+}
+
+// What stands around a place, in one pass over the children.
+fn look_around(tree: &Tree<Content>, document: NodeId, place: Place) -> Around
+    requires held { HasNode tree.now.forest document }
+    requires under { IsUnder tree.now.forest document place }
+    ensures { IsAround tree.now.forest document place result }
+{
+    tree.sound();
+    let first = tree.first(document);
+    let Some(child) = place.child() else {
+        return Around {
+            ahead: found_between(tree, document, first, None),
+            at: NOTHING,
+            past: NOTHING,
+        };
+    };
+    let at = if place.keeps_child() {
+        found_at(tree, child)
+    } else {
+        NOTHING
+    };
+    Around {
+        ahead: found_between(tree, document, first, Some(child)),
+        at,
+        past: found_between(tree, document, tree.next(child), None),
+    }
+}
+
+// How many children of a node are of a kind.
+fn count_children(tree: &Tree<Content>, parent: NodeId, kind: Kind) -> usize
+    requires { HasNode tree.now.forest parent }
+    ensures { result ≡ count_kind kind tree.now.forest (children_of tree.now.forest parent) }
+{
+    tree.sound();
+    // there are no more than all of them
+    let _most = tree.count(parent);
+    let mut count: usize = 0;
+    let mut child = tree.first(parent);
+    while let Some(id) = child {
+        if is_of_kind(tree, id, kind) {
+            count += 1;
+        }
+        child = tree.next(id);
+    }
+    count
+}
+
+// Whether a child of a node is of a kind.
+fn has_child(tree: &Tree<Content>, parent: NodeId, kind: Kind) -> bool
+    requires { HasNode tree.now.forest parent }
+    ensures { result ≡ has_kind kind tree.now.forest (children_of tree.now.forest parent) }
+{
+    count_children(tree, parent, kind) != 0
+}
+
+// Whether a Document refuses an element at a place.
+fn refuses_element(tree: &Tree<Content>, document: NodeId, place: Place) -> bool
+    requires held { HasNode tree.now.forest document }
+    requires under { IsUnder tree.now.forest document place }
+    ensures { (n : ℕ) → result ≡ refuses place Element tree.now.forest document n }
+{
+    tree.sound();
+    look_around(tree, document, place).refuses_element()
+}
+
+// Whether a Document refuses a doctype at a place.
+fn refuses_doctype(tree: &Tree<Content>, document: NodeId, place: Place) -> bool
+    requires held { HasNode tree.now.forest document }
+    requires under { IsUnder tree.now.forest document place }
+    ensures { (n : ℕ) → result ≡ refuses place DocumentType tree.now.forest document n }
+{
+    tree.sound();
+    look_around(tree, document, place).refuses_doctype()
+}
+
+// Whether a Document refuses the children of a fragment at a place: more than one element, a Text, or an element that it refuses.
+fn refuses_fragment(tree: &Tree<Content>, document: NodeId, fragment: NodeId, place: Place) -> bool
+    requires held { HasNode tree.now.forest document }
+    requires fragment_held { HasNode tree.now.forest fragment }
+    requires under { IsUnder tree.now.forest document place }
+    ensures { result ≡ refuses place DocumentFragment tree.now.forest document fragment }
+{
+    let elements = count_children(tree, fragment, Kind::Element);
+    if elements > 1 || has_child(tree, fragment, Kind::Text) {
+        return true;
+    }
+    elements == 1 && refuses_element(tree, document, place)
+}
+
+/// Whether a Document refuses a node of a kind at a place, for the children that it has.
+pub(crate) fn is_refused(
+    tree: &Tree<Content>,
+    document: NodeId,
+    node: NodeId,
+    kind: Kind,
+    place: Place,
+) -> bool
+    requires held { HasNode tree.now.forest document }
+    requires node_held { HasNode tree.now.forest node }
+    requires under { IsUnder tree.now.forest document place }
+    ensures { result ≡ refuses place kind tree.now.forest document node }
+{
+    match kind {
+        Kind::Element => refuses_element(tree, document, place),
+        Kind::DocumentType => refuses_doctype(tree, document, place),
+        Kind::DocumentFragment => refuses_fragment(tree, document, node, place),
+        Kind::Text | Kind::ProcessingInstruction | Kind::Comment | Kind::Document => false,
+    }
+}
