@@ -1,5 +1,5 @@
 -- An operation leaves of a text what is to be left, if without markers the text is so, and the range's ends stand where its contents stood.
-use Rattle.std.proofs.Common.{◌≡◌, ℕ, ◌-◌, List, [], ◌∷◌, ◌++◌, length, take, drop, Some, refl, ap, sym, ◌∙◌}
+use Rattle.std.proofs.Common.{◌≡◌, ℕ, ◌-◌, List, [], ◌++◌, length, take, drop, Some, ap, sym, ◌∙◌}
 use Rattle.dom_model.specs.Forests.Forest.{root_of}
 use Rattle.dom_model.specs.Worlds.World.{Point, Range, World}
 use Rattle.dom_model.specs.Worlds.Sound.{IsSound}
@@ -29,15 +29,15 @@ left-by_text w v r root range place p sound h rooted text gap =
     let b : q.b ≡ length (front_left w r root range p) = cc d in
     record {
       before =
-        q.before
-        ∙ ap (λ k. take k (root_text v.forest root)) a
-        ∙ ap (take (length (front_left w r root range p))) text
-        ∙ take-front (front_left w r root range p) (back_left w r root range p)
-        ∙ sym (left_before-by_gaps w r root range p);
+          q.before
+          ∙ ap (λ k. take k (root_text v.forest root)) a
+          ∙ ap (take (length (front_left w r root range p))) text
+          ∙ take-front (front_left w r root range p) (back_left w r root range p)
+          ∙ sym (left_before-by_gaps w r root range p);
       after =
-        q.after
-        ∙ ap (λ k. drop k (root_text v.forest root)) b
-        ∙ ap (drop (length (front_left w r root range p))) text
-        ∙ drop-front (front_left w r root range p) (back_left w r root range p)
-        ∙ sym (left_after-by_gaps w r root range p);
+          q.after
+          ∙ ap (λ k. drop k (root_text v.forest root)) b
+          ∙ ap (drop (length (front_left w r root range p))) text
+          ∙ drop-front (front_left w r root range p) (back_left w r root range p)
+          ∙ sym (left_after-by_gaps w r root range p);
     }
