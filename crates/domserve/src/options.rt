@@ -1,7 +1,7 @@
 //! The command line: `domserve [--line BYTES] [--numbers N]`.
 
-ghost use Rattle.std.specs.Prelude.{◌≡◌, ◌≤◌, [], IfErr, IfOk, map};
-ghost use Rattle.clap.specs.Words.{app_of, found_of, kind_of, rows_of};
+ghost use Rattle.std.specs.Prelude.{◌≡◌, ◌≤◌, [], IfErr, IfOk, codes, map};
+ghost use Rattle.clap.specs.Words.{app_of, found_of, kind_of, new_app, rows_of};
 ghost use Rattle.dom_session.specs.Bounding.{bounds_of};
 ghost use Rattle.domserve.specs.CommandLine.{IsRefusalOf, TellsOf, bounds_asked, bounds_at, faults_in, program_app, value_within};
 ghost use Rattle.domserve.specs.Statuses.{IsInRange};
@@ -29,6 +29,15 @@ pub enum Refusal {
     Mistake(String),
 }
 
+/// The program with no options, and what it says of itself.
+fn program<'a>(alloc: Global) -> Command<'a>
+    ensures { app_of result ≡ new_app (codes "domserve") }
+{
+    Command::new(alloc, "domserve").about(
+        "Keeps documents (DOM Standard): one JSON command a line in, one JSON reply a line out",
+    )
+}
+
 fn command<'a>(alloc: Global) -> Result<Command<'a>, AllocError>
     ensures { IfOk result (λ command. app_of command ≡ program_app) }
 {
@@ -46,12 +55,7 @@ fn command<'a>(alloc: Global) -> Result<Command<'a>, AllocError>
         .action(ArgAction::Set)
         .value_parser(clap::value_parser!(u64).range(1..=4294967295))
         .default_value("4294967295");
-    Command::new(alloc, "domserve")
-        .about(
-            "Keeps documents (DOM Standard): one JSON command a line in, one JSON reply a line out",
-        )
-        .arg(line)?
-        .arg(numbers)
+    program(alloc).arg(line)?.arg(numbers)
 }
 
 /// The value where it is in the range, which clap has tested, or else the other one.

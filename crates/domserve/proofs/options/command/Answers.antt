@@ -2,7 +2,6 @@ use Rattle.std.proofs.Common.{rules, ap, ap₂, subst, ◌≡◌, ◌∙◌, ℕ
 use Rattle.std.specs.Ordering.{nat_cmp, ord_min}
 use Rattle.std.proofs.lemmas.Result.{IfOk-weaker}
 use Rattle.clap.specs.Words.{NarrowsTo, rule_of, with_rule}
-use Rattle.clap.specs.Simple.{app_of_fields}
 use Rattle.clap.specs.declared.builder.value_parser.ValueParser.{ValueParser}
 use Rattle.clap.specs.declared.builder.value_parser.ValueParser.TheVariants as parser
 use Rattle.domserve.specs.CommandLine.{line_rule, numbers_rule}
@@ -32,4 +31,4 @@ returns c =
     let numbers_is : rule_of c.default_value-numbers.result ≡ numbers_rule = search (rules, numbers_parser) in
     IfOk-weaker c.arg-2.result _ _ (λ command added.
     added.shape (search rules)
-    ∙ ap₂ with_rule (c.in_ok-arg.ensures.shape (search rules) ∙ ap₂ with_rule (ap app_of_fields c.about.ensures ∙ c.new-5.ensures.app) line_is) numbers_is) c.arg-2.ensures
+    ∙ ap₂ with_rule (c.in_ok-arg.ensures.shape (search rules) ∙ ap₂ with_rule (c.program.ensures) line_is) numbers_is) c.arg-2.ensures
