@@ -150,8 +150,8 @@ impl Arguments {
     pub fn point(&self, place: usize) -> Point
         requires { place < 3 }
         ensures { result ≡ record {
-            node = slice_index self.now.numbers place;
-            offset = slice_index self.now.numbers (place + 1);
+          node = slice_index self.now.numbers place;
+          offset = slice_index self.now.numbers (place + 1);
         } }
     {
         Point {
@@ -194,8 +194,8 @@ impl Arguments {
     /// The filter of the kinds at place 1, and of the rules, of which there are none from then on.
     pub fn filter(&mut self, alloc: Global) -> Filter
         ensures { result ≡ record {
-            show = slice_index self.old.numbers 1;
-            rules = self.old.rules.items;
+          show = slice_index self.old.numbers 1;
+          rules = self.old.rules.items;
         } }
     {
         Filter {

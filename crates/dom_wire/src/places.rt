@@ -51,11 +51,7 @@ fn write_from_next(node: &Description, writer: &mut Writer) -> Result<(), AllocE
 }
 
 // A key, and the node that it tells of.
-fn write_neighbour(
-    name: &str,
-    node: Option<NodeId>,
-    writer: &mut Writer,
-) -> Result<(), AllocError>
+fn write_neighbour(name: &str, node: Option<NodeId>, writer: &mut Writer) -> Result<(), AllocError>
     ensures { Adds result writer.old writer.new
         (key name.now ∷ tokens_of (or_null number_json node)) }
 {

@@ -7,7 +7,9 @@ ghost use Rattle.dom_model.specs.Commands.Printed.{reply_line, reply_json, answe
 ghost use Rattle.dom_session.specs.Views.{reply_view, answer_view};
 ghost use Rattle.dom_wire.specs.Prints.{tokens_of, Adds};
 
-use crate::places::{write_description, write_ends, write_iterator, write_static_ends, write_walker};
+use crate::places::{
+    write_description, write_ends, write_iterator, write_static_ends, write_walker,
+};
 use crate::records::{write_notified, write_records};
 use crate::rows::write_rows;
 use crate::values::{

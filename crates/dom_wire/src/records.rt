@@ -11,11 +11,7 @@ use json::Writer;
 use std::alloc::{AllocError, Global};
 
 /// An array of observers, each with its records.
-pub fn write_notified(
-    alloc: Global,
-    told: &[Told],
-    writer: &mut Writer,
-) -> Result<(), AllocError>
+pub fn write_notified(alloc: Global, told: &[Told], writer: &mut Writer) -> Result<(), AllocError>
     ensures { Adds result writer.old writer.new (tokens_of (list_json (map told_json told.now))) }
 {
     writer.begin_array()?;

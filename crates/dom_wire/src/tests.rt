@@ -175,7 +175,13 @@ fn printed_tree(rt: HostRuntime) -> Result<(), Fail> {
     let lone = label(alloc, Kind::Text, "")?;
     rows.push(row(alloc, 2, 3, lone, Units::from_units(alloc, &[55357])?))?;
     let quoted = label(alloc, Kind::Text, "")?;
-    rows.push(row(alloc, 2, 4294967295, quoted, Units::from_str(alloc, "a\"b")?))?;
+    rows.push(row(
+        alloc,
+        2,
+        4294967295,
+        quoted,
+        Units::from_str(alloc, "a\"b")?,
+    ))?;
     let line = write_reply(alloc, &Reply::Done(Answer::Rows(rows)))?;
     let wanted =
         "{\"ok\":[[0,0,9,\"#document\"],[1,1,1,\"p\",[]],[2,3,3,\"#text\",[55357]],[2,4294967295,3,\"#text\",\"a\\\"b\"]]}\n";
@@ -216,7 +222,9 @@ fn arguments_of_each_shape(rt: HostRuntime) -> Result<(), Fail> {
     assert!(rt; argument(alloc, Shape::Move, "\"up\"")?.is_none());
     let rules = "[[\"a\",\"skip\"],[\"*\",\"reject\"]]";
     let read = argument(alloc, Shape::Filter, rules)?;
-    assert!(rt; read.map(|a| a.rules.len() == 2 && a.rules[1].verdict == Verdict::Reject) == Some(true));
+    assert!(rt;
+        read.map(|a| a.rules.len() == 2 && a.rules[1].verdict == Verdict::Reject) == Some(true)
+    );
     assert!(rt; argument(alloc, Shape::Filter, "[[\"a\"]]")?.is_none());
     let given = "{\"subtree\":true,\"other\":1,\"attributeFilter\":[\"x\"]}";
     let Some(read) = argument(alloc, Shape::Options, given)? else {
@@ -225,7 +233,10 @@ fn arguments_of_each_shape(rt: HostRuntime) -> Result<(), Fail> {
     };
     assert_eq!(rt; read.options.subtree, Some(true));
     assert_eq!(rt; read.options.child_list, None);
-    assert_eq!(rt; read.options.attribute_filter.map(|names| names.len()), Some(1));
+    assert_eq!(rt;
+        read.options.attribute_filter.map(|names| names.len()),
+        Some(1)
+    );
     assert!(rt; argument(alloc, Shape::Options, "{\"subtree\":1}")?.is_none());
     Ok(())
 }
@@ -268,7 +279,8 @@ fn printed_places(rt: HostRuntime) -> Result<(), Fail> {
         parent: Some(NodeId::new(1)),
         previous: Some(NodeId::new(2)),
     };
-    let wanted = "{\"document\":8,\"name\":\"b\",\"next\":null,\"parent\":1,\"previous\":2,\"type\":1}";
+    let wanted =
+        "{\"document\":8,\"name\":\"b\",\"next\":null,\"parent\":1,\"previous\":2,\"type\":1}";
     assert!(rt; prints(alloc, Answer::NodeAt(node), wanted)?);
     node = Description {
         document: NodeId::new(0),
@@ -277,7 +289,8 @@ fn printed_places(rt: HostRuntime) -> Result<(), Fail> {
         parent: None,
         previous: None,
     };
-    let wanted = "{\"document\":0,\"name\":\"html\",\"next\":null,\"parent\":null,\"previous\":null,\"public\":\"\",\"system\":\"\",\"type\":10}";
+    let wanted =
+        "{\"document\":0,\"name\":\"html\",\"next\":null,\"parent\":null,\"previous\":null,\"public\":\"\",\"system\":\"\",\"type\":10}";
     assert!(rt; prints(alloc, Answer::NodeAt(node), wanted)?);
     let start = Point {
         node: NodeId::new(1),
@@ -288,7 +301,13 @@ fn printed_places(rt: HostRuntime) -> Result<(), Fail> {
         offset: 3,
     };
     assert!(rt; prints(alloc, Answer::Ends(start, end), "[1,0,2,3]")?);
-    assert!(rt; prints(alloc, Answer::StaticEnds(start, end, true), "[1,0,2,3,true]")?);
+    assert!(rt;
+        prints(
+            alloc,
+            Answer::StaticEnds(start, end, true),
+            "[1,0,2,3,true]"
+        )?
+    );
     let (root, other) = (NodeId::new(1), NodeId::new(4));
     assert!(rt; prints(alloc, Answer::IteratorAt(root, other, false), "[1,4,false]")?);
     assert!(rt; prints(alloc, Answer::WalkerAt(root, other), "[1,4]")?);
@@ -322,7 +341,8 @@ fn printed_records(rt: HostRuntime) -> Result<(), Fail> {
         old_value: Some(Units::from_str(alloc, "1")?),
     };
     let records = vec![in alloc; removal(alloc)?, change]?;
-    let wanted = "[[\"childList\",1,[],[2],null,3,null,null],[\"attributes\",2,[],[],null,null,\"x\",\"1\"]]";
+    let wanted =
+        "[[\"childList\",1,[],[2],null,3,null,null],[\"attributes\",2,[],[],null,null,\"x\",\"1\"]]";
     assert!(rt; prints(alloc, Answer::Records(records), wanted)?);
     let told = Told {
         observer: ObserverId::new(0),
