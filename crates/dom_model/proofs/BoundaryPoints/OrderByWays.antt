@@ -26,9 +26,9 @@ module _ {X : Type 0} where
       ap (λ ns. drop 1 (reverse ns)) s.1 ∙ ap (drop 1) (reverse-append s.0 (ancestors a f)) ∙ drop-append-le 1 (reverse (ancestors a f)) (reverse s.0) long in (
         map place (reverse s.0),
         ap (map place) d
-        ∙ map-append place (drop 1 (reverse (ancestors a f))) (reverse s.0)
-        ∙ ap (λ ns. ns ++ map place (reverse s.0)) (path-child f o a c ha e)
-        ∙ append_assoc (path_places f c) ((2 * index_of f a + 1) ∷ []) (map place (reverse s.0)),
+            ∙ map-append place (drop 1 (reverse (ancestors a f))) (reverse s.0)
+            ∙ ap (λ ns. ns ++ map place (reverse s.0)) (path-child f o a c ha e)
+            ∙ append_assoc (path_places f c) ((2 * index_of f a + 1) ∷ []) (map place (reverse s.0)),
       )
 
   -- a point below a node is before the node's points past the child towards it; else after
