@@ -4,8 +4,10 @@ pub mod Counting
 pub mod Finding
 pub mod Gathered
 pub mod Hearing
+pub mod Inside
 pub mod Keeping
 pub mod Keys
+pub mod Named
 pub mod Outcomes
 pub mod Queued
 pub mod Tables

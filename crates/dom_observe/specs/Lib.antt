@@ -1,6 +1,7 @@
 pub mod Asking
 pub mod Kept
 pub mod Names
+pub mod Naming
 pub mod Notifying
 pub mod Registrations
 pub mod Telling

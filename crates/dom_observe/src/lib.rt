@@ -3,6 +3,7 @@
 
 mod adding;
 mod asking;
+mod naming;
 mod notifying;
 mod observer_id;
 mod observers;

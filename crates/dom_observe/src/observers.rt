@@ -1,7 +1,9 @@
 //! The observers of a tree: their registrations, their queues and the pending list.
 
 ghost use Rattle.std.specs.Prelude.{◌≡◌, ℕ, ◌+◌, ◌<◌, [], length, slice_get, IfOk, OnOk, OnErr, nat_lt, true, not, ◌==◌};
-ghost use Rattle.dom_model.specs.Forests.Forest.{HasNode, ancestors};
+ghost use Rattle.dom_model.specs.Forests.Forest.{HasNode, ancestors, inclusive_descendants};
+ghost use Rattle.dom_model.specs.PlainLists.Lists.{among};
+ghost use Rattle.dom_model.specs.MutationAlgorithms.Discarding.{observed_nodes};
 ghost use Rattle.dom_model.specs.Worlds.World.{Observing};
 ghost use Rattle.dom_model.specs.MutationObservers.Observing.{standing_on, noted, with_transients};
 ghost use Rattle.dom_model.specs.MutationObservers.Records.{queue_of, observed, with_observer, records_taken, disconnected, told, after_notify, interested, asks_old_value};
@@ -14,6 +16,7 @@ ghost use Rattle.dom_observe.specs.Watchers.{Watches};
 
 use crate::adding::{add, add_transients, standing};
 use crate::asking::any_standing;
+use crate::naming::{is_named, is_told};
 use crate::notifying::gather;
 use crate::observer_id::ObserverId;
 use crate::options::Options;
@@ -257,5 +260,13 @@ impl Observers {
     {
         let question = Question { what, target, name };
         any_standing(&self.table, &self.nodes, tree, &question, true)
+    }
+
+    /// Whether a registration, or a record that waits, names a node inside another. It asks all of them, and takes no memory.
+    pub fn refers<X>(&self, tree: &Tree<X>, top: NodeId) -> bool
+        requires { HasNode tree.now.forest top }
+        ensures { (x : Observing) → Watches self.now x → result ≡ list_any (λ m. among m (inclusive_descendants tree.now.forest top)) (observed_nodes x) }
+    {
+        is_named(tree, top, &self.table, &self.nodes) || is_told(tree, top, self.queues.as_slice())
     }
 }

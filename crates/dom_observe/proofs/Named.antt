@@ -1,0 +1,141 @@
+-- The nodes that registrations and waiting records name, asked in the order of the code and in that of the definitions.
+use Rattle.std.proofs.Common.{◌≡◌, ℕ, zero, suc, ◌+◌, ◌<◌, ◌==◌, Bool, true, false, ◌||◌, if◌then◌else◌, List, [], ◌∷◌, ◌++◌, length, map, filter, Option, None, Some, refl, ap, sym, ◌∙◌, subst, nat_eq, arith, cond}
+use Rattle.std.specs.Prelude.{Vec, slice_index_or, flat_map}
+use Rattle.std.specs.Map.{keys_of}
+use Rattle.std.specs.List.{list_any, IsDistinct, AllByRecursion}
+use Rattle.std.proofs.lemmas.Bool.{true≢false}
+use Rattle.std.proofs.lemmas.List.Folds.{list_any-append}
+use Rattle.slab.specs.Slab.{Slab}
+use Rattle.dom_model.specs.Worlds.World.{Registration, Observing}
+use Rattle.dom_model.specs.Commands.Reply.{Record}
+use Rattle.dom_model.specs.MutationObservers.Observing.{registered_on}
+use Rattle.dom_model.specs.MutationObservers.Records.{queue_of}
+use Rattle.dom_model.specs.MutationAlgorithms.Discarding.{nodes_of_registration, nodes_of_record, queues_from, queued_records, observed_nodes}
+use Rattle.dom_model.proofs.PlainLists.Numbers.{Same, same_or, same, apart}
+use Rattle.dom_observe.specs.declared.registration.Registration as held
+use Rattle.dom_observe.specs.Watchers.{Watchers, Watches, on}
+use Rattle.dom_observe.specs.Registrations.{at, found, listed}
+use Rattle.dom_observe.specs.Kept.{nodes_of, queues_of}
+use Rattle.dom_observe.specs.Naming.{names_one}
+use Rattle.dom_observe.proofs.Asked.{any-found}
+
+or-left : (a b : Bool) → (a || b) ≡ false → a ≡ false
+or-left true b h = absurd (true≢false h)
+or-left false b h = refl
+
+or-right : (a b : Bool) → (a || b) ≡ false → b ≡ false
+or-right true b h = absurd (true≢false h)
+or-right false b h = h
+
+neither : (a b : Bool) → a ≡ false → b ≡ false → (a || b) ≡ false
+neither true b h i = h
+neither false b h i = i
+
+-- two answers that are no alike are the same
+alike : (a b : Bool) → (a ≡ false → b ≡ false) → (b ≡ false → a ≡ false) → a ≡ b
+alike true true f g = refl
+alike true false f g = g refl
+alike false true f g = sym (f refl)
+alike false false f g = refl
+
+-- a search in the lists that a function makes
+pub any-flat : {A B : Type 0} (p : B → Bool) (f : A → List B) (xs : List A) → list_any p (flat_map f xs) ≡ list_any (λ x. list_any p (f x)) xs
+any-flat p f [] = refl
+any-flat p f (x ∷ xs) = list_any-append p (f x) (flat_map f xs) ∙ ap (λ b. list_any p (f x) || b) (any-flat p f xs)
+
+absent : {A : Type 0} (k : ℕ) (es : List (ℕ × List A)) → AllByRecursion (λ y. (k == y) ≡ false) (keys_of es) → on k es ≡ []
+absent k [] h = refl
+absent k (e ∷ es) h = rw h.0 (absent k es h.1)
+
+module _ {A : Type 0} (p : A → Bool) where
+  -- none passes under any number
+  some_under : (n : ℕ) (es : List (ℕ × List A)) → list_any (λ e. list_any p e.1) es ≡ false → list_any p (on n es) ≡ false
+  some_under n [] h = refl
+  some_under n (e ∷ es) h = go (n == e.0) (some_under n es (or-right (list_any p e.1) (list_any (λ d. list_any p d.1) es) h))
+    where
+      go : (b : Bool) → list_any p (on n es) ≡ false → list_any p (if b then e.1 else on n es) ≡ false
+      go true i = or-left (list_any p e.1) (list_any (λ d. list_any p d.1) es) h
+      go false i = i
+
+  none_under : (es : List (ℕ × List A)) → IsDistinct nat_eq (keys_of es) → ((n : ℕ) → list_any p (on n es) ≡ false) → list_any (λ e. list_any p e.1) es ≡ false
+  unfolding IsDistinct
+  none_under [] u h = refl
+  none_under (e ∷ es) u h = neither (list_any p e.1) (list_any (λ d. list_any p d.1) es) here (none_under es u.1 rest)
+    where
+      here : list_any p e.1 ≡ false
+      here = elim (same_or e.0 e.0) [ same d t ↦ rw t at (h e.0) | apart ne t ↦ absurd (ne refl) ]
+
+      rest : (n : ℕ) → list_any p (on n es) ≡ false
+      rest n = go (same_or n e.0) (h n)
+        where
+          go : Same n e.0 → list_any p (if n == e.0 then e.1 else on n es) ≡ false → list_any p (on n es) ≡ false
+          go (same d t) i = ap (λ k. list_any p (on k es)) d ∙ ap (list_any p) (absent e.0 es u.0)
+          go (apart ne t) i = rw t at i
+
+  fewer : (q : A → Bool) (xs : List A) → list_any p xs ≡ false → list_any p (filter q xs) ≡ false
+  fewer q [] h = refl
+  fewer q (x ∷ xs) h = go (q x) (fewer q xs (or-right (p x) (list_any p xs) h))
+    where
+      go : (b : Bool) → list_any p (filter q xs) ≡ false → list_any p (cond b (x ∷ filter q xs) (filter q xs)) ≡ false
+      go true i = neither (p x) (list_any p (filter q xs)) (or-left (p x) (list_any p xs) h) i
+      go false i = i
+
+module _ (p : Registration → Bool) where
+  none_on : (rs : List Registration) → ((n : ℕ) → list_any p (registered_on n rs) ≡ false) → list_any p rs ≡ false
+  none_on [] h = refl
+  none_on (r ∷ rs) h = neither (p r) (list_any p rs) here (none_on rs rest)
+    where
+      here : p r ≡ false
+      here = elim (same_or r.node r.node) [ same d t ↦ or-left (p r) (list_any p (registered_on r.node rs)) (rw t at (h r.node)) | apart ne t ↦ absurd (ne refl) ]
+
+      rest : (n : ℕ) → list_any p (registered_on n rs) ≡ false
+      rest n = go (r.node == n) (h n)
+        where
+          go : (b : Bool) → list_any p (cond b (r ∷ registered_on n rs) (registered_on n rs)) ≡ false → list_any p (registered_on n rs) ≡ false
+          go true i = or-right (p r) (list_any p (registered_on n rs)) i
+          go false i = i
+
+  -- what is registered by node passes where what is registered does
+  pub any-registered : (es : List (ℕ × List Registration)) (rs : List Registration) → IsDistinct nat_eq (keys_of es) → ((n : ℕ) → on n es ≡ registered_on n rs)
+      → list_any (λ e. list_any p e.1) es ≡ list_any p rs
+  any-registered es rs u has =
+      alike (list_any (λ e. list_any p e.1) es) (list_any p rs)
+      (λ none. none_on rs (λ n. ap (list_any p) (sym (has n)) ∙ some_under p n es none))
+      (λ none. none_under p es u (λ n. ap (list_any p) (has n) ∙ fewer p (λ (r : Registration). r.node == n) rs none))
+
+-- the records that wait are those of the queues
+pub queues-waiting : (x : Observing) (places : List ℕ) (qs : List (List Record)) (o : ℕ) → length places ≡ length qs
+    → ((i : ℕ) → i < length qs → slice_index_or qs i [] ≡ queue_of (i + o) x) → queues_from o places x ≡ flat_map (λ q. q) qs
+queues-waiting x [] [] o e h = refl
+queues-waiting x [] (q ∷ qs) o e h = absurd (omega (arith, e))
+queues-waiting x (place ∷ places) [] o e h = absurd (omega (arith, e))
+queues-waiting x (place ∷ places) (q ∷ qs) o e h =
+    let zero_on : 0 + o ≡ o = omega arith in
+    let first : q ≡ queue_of o x = h 0 (omega arith) ∙ ap (λ k. queue_of k x) zero_on in
+    let rest = queues-waiting x places qs (suc o) (omega (arith, e)) (λ i lt. h (suc i) (omega (arith, lt)) ∙ ap (λ k. queue_of k x) (later i)) in
+    (λ i. sym first i ++ rest i)
+  where
+    later : (i : ℕ) → suc i + o ≡ i + suc o
+    later i = omega arith
+
+module _ {A : Type 0} (table : Slab held.Registration) where
+  pub keys-nodes_of : (es : List (ℕ × Vec ℕ A)) → keys_of (nodes_of table es) ≡ keys_of es
+  keys-nodes_of [] = refl
+  keys-nodes_of (e ∷ es) = ap (λ ks. e.0 ∷ ks) (keys-nodes_of es)
+
+  -- what is under the keys of all nodes
+  pub any-nodes_of : (p : ℕ → Bool) (es : List (ℕ × Vec ℕ A)) → list_any (λ keys. list_any (λ key. names_one p (at table key)) keys.items) (map (λ e. e.1) es)
+      ≡ list_any (λ e. list_any (λ r. list_any p (nodes_of_registration r)) e.1) (nodes_of table es)
+  any-nodes_of p [] = refl
+  any-nodes_of p (e ∷ es) = (λ i. any-found (λ r. list_any p (nodes_of_registration r)) (at table) e.1.items i || any-nodes_of p es i)
+
+pub any-queues_of : {A : Type 0} (p : Record → Bool) (qs : List (Vec Record A)) → list_any (λ q. list_any p q.items) qs ≡ list_any p (flat_map (λ q. q) (queues_of qs))
+any-queues_of p [] = refl
+any-queues_of p (q ∷ qs) = ap (λ b. list_any p q.items || b) (any-queues_of p qs) ∙ sym (list_any-append p q.items (flat_map (λ r. r) (queues_of qs)))
+
+-- the nodes that are named, in the order of the definitions
+pub any-observed : (p : ℕ → Bool) (x : Observing) → list_any p (observed_nodes x)
+    ≡ (list_any (λ r. list_any p (nodes_of_registration r)) x.registrations || list_any (λ r. list_any p (nodes_of_record r)) (queued_records x))
+any-observed p x =
+    list_any-append p (flat_map nodes_of_registration x.registrations) (flat_map nodes_of_record (queued_records x))
+    ∙ (λ i. any-flat p nodes_of_registration x.registrations i || any-flat p nodes_of_record (queued_records x) i)

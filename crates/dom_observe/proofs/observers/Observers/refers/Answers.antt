@@ -1,0 +1,43 @@
+-- What the registrations and the queues name is what the definitions have as observed.
+use Rattle.std.proofs.Common.{◌≡◌, ℕ, Bool, ◌||◌, ◌+◌, List, ap, sym, ◌∙◌, subst, nat_eq, arith}
+use Rattle.std.specs.List.{list_any, IsDistinct}
+use Rattle.dom_model.specs.PlainLists.Lists.{among}
+use Rattle.dom_model.specs.Forests.Forest.{inclusive_descendants}
+use Rattle.dom_model.specs.Commands.Reply.{Record}
+use Rattle.dom_model.specs.Worlds.World.{Registration}
+use Rattle.dom_model.specs.MutationObservers.Records.{queue_of}
+use Rattle.dom_model.specs.MutationAlgorithms.Discarding.{nodes_of_registration, nodes_of_record, queued_records}
+use Rattle.dom_observe.specs.Watchers.{Watchers, Watches}
+use Rattle.dom_observe.specs.Kept.{nodes_of, queues_of}
+use Rattle.dom_observe.proofs.Named.{any-registered, queues-waiting, keys-nodes_of, any-nodes_of, any-queues_of, any-observed}
+use Rattle.dom_observe.proofs.observers.Observers.refers.Goals as goal
+
+pub returns-then-is_named : goal.returns-then-is_named
+returns-then-is_named g c = λ x w.
+    let a = c.self.inside in
+    let p = λ (m : ℕ). among m (inclusive_descendants c.args.tree.now.forest c.args.top) in
+    let one = λ (r : Registration). list_any p (nodes_of_registration r) in
+    let shown = subst (λ (o : Watchers). Watches o x) (sym c.self.view_is) w in
+    let distinct = subst (IsDistinct nat_eq) (sym (keys-nodes_of a.table a.nodes.entries)) c.self.invariant.unique in
+    let named : c.is_named.result ≡ list_any one x.registrations =
+    c.is_named.ensures ∙ any-nodes_of a.table p a.nodes.entries ∙ any-registered one (nodes_of a.table a.nodes.entries) x.registrations distinct shown.registrations in
+    c.if-is_named.true
+    ∙ sym (any-observed p x ∙ ap (λ b. b || list_any (λ (r : Record). list_any p (nodes_of_record r)) (queued_records x)) (sym named ∙ c.if-is_named.true))
+
+pub returns-else-is_named : goal.returns-else-is_named
+returns-else-is_named g c = λ x w.
+    let a = c.self.inside in
+    let p = λ (m : ℕ). among m (inclusive_descendants c.args.tree.now.forest c.args.top) in
+    let one = λ (r : Registration). list_any p (nodes_of_registration r) in
+    let told = λ (r : Record). list_any p (nodes_of_record r) in
+    let shown = subst (λ (o : Watchers). Watches o x) (sym c.self.view_is) w in
+    let distinct = subst (IsDistinct nat_eq) (sym (keys-nodes_of a.table a.nodes.entries)) c.self.invariant.unique in
+    let named : c.is_named.result ≡ list_any one x.registrations =
+    c.is_named.ensures ∙ any-nodes_of a.table p a.nodes.entries ∙ any-registered one (nodes_of a.table a.nodes.entries) x.registrations distinct shown.registrations in
+    let end : (i : ℕ) → i ≡ i + 0 = λ i. omega arith in
+    let waiting = queues-waiting x x.places (queues_of a.queues.items) 0 shown.made (λ i lt. shown.queues i lt ∙ ap (λ k. queue_of k x) (end i)) in
+    c.is_told.ensures
+    ∙ ap (list_any (λ q. list_any told q.items)) c.as_slice.ensures.value
+    ∙ any-queues_of told a.queues.items
+    ∙ ap (list_any told) (sym waiting)
+    ∙ sym (any-observed p x ∙ ap (λ b. b || list_any told (queued_records x)) (sym named ∙ c.if-is_named.false))

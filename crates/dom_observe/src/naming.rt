@@ -1,0 +1,113 @@
+//! Which nodes the registrations and the records that wait name.
+
+ghost use Rattle.std.specs.Prelude.{◌≡◌, ℕ};
+ghost use Rattle.std.specs.List.{list_any};
+ghost use Rattle.dom_model.specs.PlainLists.Lists.{among};
+ghost use Rattle.dom_model.specs.Forests.Forest.{inclusive_descendants};
+ghost use Rattle.dom_model.specs.MutationAlgorithms.Discarding.{if_any, nodes_of_registration, nodes_of_record};
+ghost use Rattle.indexmap.specs.IndexMap.{values};
+ghost use Rattle.dom_observe.specs.Registrations.{plain, at};
+ghost use Rattle.dom_observe.specs.Naming.{names_one};
+
+use crate::record::Record;
+use crate::registration::Registration;
+use dom_tree::{NodeId, Tree};
+use indexmap::IndexMap;
+use slab::Slab;
+
+// Whether a node, which the tree may not hold, stands inside another.
+fn is_inside<X>(tree: &Tree<X>, top: NodeId, node: NodeId) -> bool
+    ensures { result ≡ among node (inclusive_descendants tree.now.forest top) }
+{
+    tree.sound();
+    tree.holds(node) && tree.is_ancestor(top, node)
+}
+
+// The same of a node that may be missing.
+fn is_some_inside<X>(tree: &Tree<X>, top: NodeId, node: Option<NodeId>) -> bool
+    ensures { result ≡ list_any (λ m. among m (inclusive_descendants tree.now.forest top)) (if_any node) }
+{
+    match node {
+        Some(node) => is_inside(tree, top, node),
+        None => false,
+    }
+}
+
+// The same of one of several nodes.
+fn is_any_inside<X>(tree: &Tree<X>, top: NodeId, nodes: &[NodeId]) -> bool
+    ensures { result ≡ list_any (λ m. among m (inclusive_descendants tree.now.forest top)) nodes.now }
+{
+    nodes.iter().any(|node| is_inside(tree, top, *node))
+}
+
+// Whether a registration names a node inside.
+fn names<X>(tree: &Tree<X>, top: NodeId, registration: &Registration) -> bool
+    ensures { result ≡ list_any (λ m. among m (inclusive_descendants tree.now.forest top)) (nodes_of_registration (plain registration.now)) }
+{
+    is_inside(tree, top, registration.node) || is_some_inside(tree, top, registration.source)
+}
+
+// The same of what is under a key.
+fn names_at<X>(tree: &Tree<X>, top: NodeId, table: &Slab<Registration>, key: usize) -> bool
+    ensures { result ≡ names_one (λ m. among m (inclusive_descendants tree.now.forest top)) (at table.now key) }
+{
+    match table.get(key) {
+        Some(registration) => names(tree, top, registration),
+        None => false,
+    }
+}
+
+// The same of one of several keys.
+fn any_names<X>(
+    tree: &Tree<X>,
+    top: NodeId,
+    table: &Slab<Registration>,
+    keys: &[usize],
+) -> bool
+    ensures { result ≡ list_any (λ key. names_one (λ m. among m (inclusive_descendants tree.now.forest top)) (at table.now key)) keys.now }
+{
+    keys.iter().any(|key| names_at(tree, top, table, *key))
+}
+
+// Whether a record names a node inside.
+fn tells<X>(tree: &Tree<X>, top: NodeId, told: &Record) -> bool
+    ensures { result ≡ list_any (λ m. among m (inclusive_descendants tree.now.forest top)) (nodes_of_record told.now) }
+{
+    is_inside(tree, top, told.target)
+        || (is_any_inside(tree, top, told.added.as_slice())
+            || (is_any_inside(tree, top, told.removed.as_slice())
+                || (is_some_inside(tree, top, told.previous)
+                    || is_some_inside(tree, top, told.next))))
+}
+
+// The same of one of several records.
+fn any_tells<X>(tree: &Tree<X>, top: NodeId, records: &[Record]) -> bool
+    ensures { result ≡ list_any (λ r. list_any (λ m. among m (inclusive_descendants tree.now.forest top)) (nodes_of_record r)) records.now }
+{
+    records.iter().any(|told| tells(tree, top, told))
+}
+
+// Whether a registration, of those under the keys of nodes, names a node inside.
+pub fn is_named<X>(
+    tree: &Tree<X>,
+    top: NodeId,
+    table: &Slab<Registration>,
+    nodes: &IndexMap<u32, Vec<usize>>,
+) -> bool
+    ensures { result ≡ list_any (λ keys. list_any (λ key. names_one (λ m. among m (inclusive_descendants tree.now.forest top)) (at table.now key)) keys.items) (values nodes.now) }
+{
+    nodes.values().any(
+        |keys: &Vec<usize>| -> bool
+            ensures { result ≡ list_any (λ key. names_one (λ m. among m (inclusive_descendants tree.entry.now.forest top)) (at table.entry.now key)) keys.now.items }
+        { any_names(tree, top, table, keys.as_slice()) },
+    )
+}
+
+// Whether a record in a queue names a node inside.
+pub fn is_told<X>(tree: &Tree<X>, top: NodeId, queues: &[Vec<Record>]) -> bool
+    ensures { result ≡ list_any (λ queue. list_any (λ r. list_any (λ m. among m (inclusive_descendants tree.now.forest top)) (nodes_of_record r)) queue.items) queues.now }
+{
+    queues
+        .iter()
+        .any(|queue| any_tells(tree, top, queue.as_slice()))
+}
