@@ -3,6 +3,7 @@ pub mod Chained
 pub mod Ends
 pub mod Inside
 pub mod Making
+pub mod Marking
 pub mod Pairs
 pub mod Steps
 pub mod Walking
