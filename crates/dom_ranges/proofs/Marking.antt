@@ -25,7 +25,7 @@ use Rattle.dom_model.proofs.TokenText.EditsMade.EditsOfSplitting.{leave-split}
 use Rattle.dom_ranges.specs.Markers.{MoveAsMarkers, MoveWhereNodesComeIn, MoveWhereANodeLeaves, MoveWhereUnitsAreReplaced, MoveWhereATextIsSplit}
 
 -- an edit that leaves a sound world
-edit-moves : (e : Edit) (w v : World) → IsSound w → IsSound v → Leave (e ∷ []) w v → MoveAsMarkers w e (on_world e w).ranges
+pub edit-moves : (e : Edit) (w v : World) → IsSound w → IsSound v → Leave (e ∷ []) w v → MoveAsMarkers w e (on_world e w).ranges
 edit-moves e w v s sv h = record {
   before = ranges-found (texts_of w) w (marked-first w (kinds-childless None w.forest s.forest.kinds)) (ready-sound w s);
   after = subst (λ rs. marked_ranges 0 rs (on_texts e (texts_of w)) ≡ rs) (sym (leave-ranges (e ∷ []) w v h))
