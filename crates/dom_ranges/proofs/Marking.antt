@@ -1,14 +1,12 @@
 -- The live ranges stand as their markers do, before an edit of the token texts and after it.
-use Rattle.std.proofs.Common.{◌≡◌, ℕ, ◌+◌, ◌<◌, ◌≤◌, true, List, [], ◌∷◌, length, Option, Some, None, refl, ap, sym, subst}
-use Rattle.dom_model.specs.declared.Kind.TheVariants.{Text}
+use Rattle.std.proofs.Common.{◌≡◌, ◌<◌, true, [], ◌∷◌, None, refl, ap, sym, subst}
 use Rattle.dom_model.specs.Forests.Kinds.{is_character_data}
-use Rattle.dom_model.specs.Forests.Forest.{parent_of, index_of, occurs}
-use Rattle.dom_model.specs.Worlds.World.{Range, World}
+use Rattle.dom_model.specs.Forests.Forest.{occurs}
+use Rattle.dom_model.specs.Worlds.World.{World}
 use Rattle.dom_model.specs.Worlds.Sound.{IsSound}
-use Rattle.dom_model.specs.MutationAlgorithms.Checks.{kind_passes, is_of_kind}
 use Rattle.dom_model.specs.MutationAlgorithms.Editing.{remove, put_in, gap_before}
-use Rattle.dom_model.specs.DataAndCopies.Data.{data_of, replace_units, split}
-use Rattle.dom_model.specs.TokenText.Tokens.{Edit, Insertion, Removal, Splice, Parting, Merge, point, texts_of, on_texts, marked_ranges}
+use Rattle.dom_model.specs.DataAndCopies.Data.{replace_units, split}
+use Rattle.dom_model.specs.TokenText.Tokens.{Edit, Insertion, Removal, Splice, Parting, point, texts_of, on_texts, marked_ranges}
 use Rattle.dom_model.specs.TokenText.Edits.{on_world, removal_from, parting_from, index_before, split_edits_by}
 use Rattle.dom_model.proofs.Soundness.SoundWorlds.{child_there, sound-remove}
 use Rattle.dom_model.proofs.Soundness.SoundPlacing.{IsPlaceable, sound-put_one}

@@ -1,14 +1,13 @@
 -- Two Texts are joined: the live ranges stand as their markers do.
-use Rattle.std.proofs.Common.{◌≡◌, ℕ, ◌+◌, ◌<◌, ◌≤◌, ◌==◌, true, false, List, [], ◌∷◌, length, Option, Some, None, refl, ap, sym, ◌∙◌, subst, arith}
-use Rattle.dom_model.specs.declared.Kind.{Kind}
-use Rattle.dom_model.specs.declared.Kind.TheVariants.{Text, DocumentType}
+use Rattle.std.proofs.Common.{◌≡◌, ℕ, ◌+◌, ◌<◌, ◌≤◌, ◌==◌, true, false, List, [], ◌∷◌, length, Some, None, refl, ap, sym, ◌∙◌, subst, arith}
+use Rattle.dom_model.specs.declared.Kind.TheVariants.{Text}
 use Rattle.dom_model.specs.Forests.Kinds.{is_kind, is_character_data}
 use Rattle.dom_model.specs.Forests.Texts.{spliced}
-use Rattle.dom_model.specs.Forests.Forest.{Node, Forest, occurs, parent_of, children_of, index_of, with_node}
+use Rattle.dom_model.specs.Forests.Forest.{occurs, parent_of, children_of, index_of, inclusive_descendants}
 use Rattle.dom_model.specs.Forests.Lengths.{unit_count, node_length}
-use Rattle.dom_model.specs.Worlds.World.{Content, Point, Range, World}
+use Rattle.dom_model.specs.Worlds.World.{Point, World}
 use Rattle.dom_model.specs.Worlds.Sound.{IsBoundary, IsRange, IsSound}
-use Rattle.dom_model.specs.BoundaryPoints.Points.{map_ranges, moved_range, after_splice, after_merge}
+use Rattle.dom_model.specs.BoundaryPoints.Points.{map_ranges, moved_range, after_removal, after_splice, after_merge}
 use Rattle.dom_model.specs.MutationAlgorithms.Checks.{kind_passes, is_of_kind}
 use Rattle.dom_model.specs.MutationAlgorithms.Editing.{remove}
 use Rattle.dom_model.specs.DataAndCopies.Data.{content_in, data_of, with_data, replace_units}
@@ -16,12 +15,12 @@ use Rattle.dom_model.specs.TokenText.Tokens.{Removal, Merge}
 use Rattle.dom_model.specs.TokenText.Edits.{removal_from, merge_from}
 use Rattle.dom_model.proofs.PlainLists.Numbers.{same_or, same, apart}
 use Rattle.dom_model.proofs.Forests.Changes.{change_at}
-use Rattle.dom_model.proofs.Worlds.SameShape.{IsAlike, with_node-alike, occurs-alike, parent-alike, kind-alike, index-alike}
+use Rattle.dom_model.proofs.Worlds.SameShape.{IsAlike, with_node-alike, occurs-alike, parent-alike, kind-alike, index-alike, inside-alike}
 use Rattle.dom_model.proofs.Worlds.Measured.{entry-with_node}
 use Rattle.dom_model.proofs.BoundaryPoints.MergeOrder.{joined-settled}
 use Rattle.dom_model.proofs.RangesAndContents.RangesMerged.{IsUpTo, range-merged}
 use Rattle.dom_model.proofs.Soundness.SoundForests.{entry_there, data-childless}
-use Rattle.dom_model.proofs.Soundness.SoundWorlds.{Lives, each-moved, child_there, sound-remove}
+use Rattle.dom_model.proofs.Soundness.SoundWorlds.{each-moved, child_there, sound-remove}
 use Rattle.dom_model.proofs.Soundness.SoundData.{length-data, length-other, length-spliced, sound-replace_units}
 use Rattle.dom_model.proofs.Soundness.SoundSplitting.{text_has_data}
 use Rattle.dom_model.proofs.Soundness.SoundJoining.{text_is_no_doctype, AreUpTo, lives-both}
@@ -128,9 +127,16 @@ module _ (w : World) (s : IsSound w) (n next parent : ℕ) (par : parent_of w.fo
       par_moved : parent_of moved.forest next ≡ Some parent
       par_moved = parent-alike a next ∙ par_next
 
+  as-joined : MoveAsMarkers w (Merge n next) (removal_from next (Some parent) moved).ranges
+  as-joined =
+      subst (λ o. MoveAsMarkers w (Merge n next) (merge_from n next o w).ranges) par_next
+      (edit-moves (Merge n next) w (remove true next moved) s (sound-remove true next moved sound-moved) leave-joined)
+
+  -- the second Text stands where it stood, with what it had
+  pub as-stood : MoveAsMarkers w (Merge n next) (map_ranges (after_removal (inclusive_descendants w.forest next) parent (index_of w.forest next)) moved.ranges)
+  as-stood =
+      subst (λ i. MoveAsMarkers w (Merge n next) (map_ranges (after_removal (inclusive_descendants w.forest next) parent i) moved.ranges)) (index-alike a next)
+      (subst (λ ns. MoveAsMarkers w (Merge n next) (map_ranges (after_removal ns parent (index_of joined.forest next)) moved.ranges)) (inside-alike a next) as-joined)
+
 pub moves-joined : MoveWhereTextsAreJoined
-moves-joined w s n next parent par par_next behind text text_next =
-    subst (λ o. MoveAsMarkers w (Merge n next) (merge_from n next o w).ranges) par_next
-    (edit-moves (Merge n next) w (remove true next (moved w s n next parent par par_next behind text text_next)) s
-    (sound-remove true next (moved w s n next parent par par_next behind text text_next) (sound-moved w s n next parent par par_next behind text text_next))
-    (leave-joined w s n next parent par par_next behind text text_next))
+moves-joined w s n next parent par par_next behind text text_next = as-stood w s n next parent par par_next behind text text_next

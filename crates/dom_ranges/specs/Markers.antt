@@ -6,11 +6,11 @@ use Rattle.dom_model.specs.declared.Kind.TheVariants.{Text}
 use Rattle.dom_model.specs.PlainLists.Lists.{hits}
 use Rattle.dom_model.specs.Forests.Kinds.{is_character_data, may_stand_in}
 use Rattle.dom_model.specs.Forests.Forest.{Forest, occurs, parent_of, index_of, ancestors, inclusive_descendants}
-use Rattle.dom_model.specs.Worlds.World.{Content, Point, Range, World}
+use Rattle.dom_model.specs.Worlds.World.{Content, Range, World}
 use Rattle.dom_model.specs.Worlds.Sound.{IsSound}
 use Rattle.dom_model.specs.BoundaryPoints.Points.{map_ranges, after_gap, after_removal, after_splice, after_split, after_merge}
 use Rattle.dom_model.specs.MutationAlgorithms.Checks.{kind_passes, is_of_kind}
-use Rattle.dom_model.specs.DataAndCopies.Data.{data_of, replace_units, tail_of}
+use Rattle.dom_model.specs.DataAndCopies.Data.{data_of, tail_of}
 use Rattle.dom_model.specs.TokenText.Tokens.{Edit, Insertion, Removal, Splice, Parting, Merge, point, texts_of, on_texts, marked_ranges}
 use Rattle.dom_model.specs.TokenText.Edits.{index_before}
 
@@ -57,18 +57,13 @@ MoveWhereATextIsSplit =
     (map_ranges (after_split n offset w.made parent (index_of w.forest n))
     (map_ranges (after_gap parent (index_of w.forest n + 1) 1) w.ranges)))
 
--- the node with the units of a list behind its own
-abbrev pub with_units : ℕ → List ℕ → World → Forest Content
-with_units n units w = (replace_units n (length (data_of w n)) 0 units w).forest
-
 -- a Text is joined with the next, which stands behind it under one parent. Three maps, one after another: the units that come to the first
 -- Text, the merge, and the removal of the second Text
 abbrev pub MoveWhereTextsAreJoined : Type 0
 MoveWhereTextsAreJoined =
     (w : World) → IsSound w → (n next parent : ℕ) → parent_of w.forest n ≡ Some parent → parent_of w.forest next ≡ Some parent → index_of w.forest next ≡ index_of w.forest n + 1 →
     is_of_kind Text w.forest n ≡ true → is_of_kind Text w.forest next ≡ true →
-    let joined = with_units n (data_of w next) w in
     MoveAsMarkers w (Merge n next)
-    (map_ranges (after_removal (inclusive_descendants joined next) parent (index_of joined next))
+    (map_ranges (after_removal (inclusive_descendants w.forest next) parent (index_of w.forest next))
     (map_ranges (after_merge next n (length (data_of w n)) parent (index_of w.forest next))
     (map_ranges (after_splice n (length (data_of w n)) 0 (length (data_of w next))) w.ranges)))
