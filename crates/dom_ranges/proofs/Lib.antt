@@ -3,6 +3,8 @@ pub mod Chained
 pub mod Ends
 pub mod Inside
 pub mod Making
+pub mod Marking
+pub mod MarkingJoined
 pub mod Pairs
 pub mod Steps
 pub mod Walking

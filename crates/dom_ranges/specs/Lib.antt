@@ -1,3 +1,4 @@
 pub mod Chained
+pub mod Markers
 pub mod Shifting
 pub mod Tables

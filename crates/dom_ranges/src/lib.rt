@@ -3,6 +3,7 @@
 
 mod adjusting;
 mod chains;
+pub mod laws;
 mod numbers;
 mod ranges;
 mod setting;
