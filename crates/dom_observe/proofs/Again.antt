@@ -1,13 +1,12 @@
 -- An observer observes a node again: the transient registrations that come from there end, and its registration gets the options.
-use Rattle.std.proofs.Common.{◌≡◌, ◌≢◌, ℕ, zero, suc, ◌<◌, ◌≤◌, ◌==◌, Bool, true, false, not, ◌&&◌, ◌||◌, if◌then◌else◌, List, [], ◌∷◌, length, map, filter, Option, None, Some, refl, ap, sym, ◌∙◌, subst, arith, cond, option_map}
+use Rattle.std.proofs.Common.{◌≡◌, ◌≢◌, ℕ, ◌≤◌, ◌==◌, Bool, true, false, ◌&&◌, ◌||◌, if◌then◌else◌, List, [], ◌∷◌, length, map, filter, Option, None, Some, refl, ap, sym, ◌∙◌, subst, arith, cond, option_map}
 use Rattle.std.specs.Prelude.{filter_map, is_some, is_none, find}
 use Rattle.std.specs.Option.{option_map_or}
 use Rattle.std.specs.List.{AllByRecursion, cons_option, list_any}
 use Rattle.std.proofs.lemmas.Bool.{true≢false}
 use Rattle.dom_model.specs.Worlds.World.{Registration, Options}
 use Rattle.dom_model.specs.MutationObservers.Records.{is_registered, with_options}
-use Rattle.dom_model.proofs.PlainLists.Numbers.{Same, same_or, same, apart}
-use Rattle.dom_observe.specs.declared.registration.Ended.{Ended}
+use Rattle.dom_model.proofs.PlainLists.Numbers.{same_or, same, apart}
 use Rattle.dom_observe.specs.declared.registration.Ended.TheVariants.{From, Transient}
 use Rattle.dom_observe.specs.Watchers.{on}
 use Rattle.dom_observe.specs.Registrations.{spares, left_by, is_live, own_at, with_new_options, StandsOn, AllStand}

@@ -1,5 +1,5 @@
 -- Listeners, one after another, and the pending list.
-use Rattle.std.proofs.Common.{◌≡◌, ℕ, zero, suc, ◌+◌, ◌<◌, ◌==◌, Bool, true, false, ◌||◌, if◌then◌else◌, List, [], ◌∷◌, ◌++◌, length, map, filter, take, Option, None, Some, refl, ap, sym, ◌∙◌, subst, arith, cond, append-nil, nat_eq}
+use Rattle.std.proofs.Common.{◌≡◌, ℕ, zero, suc, ◌<◌, ◌==◌, Bool, true, false, ◌||◌, if◌then◌else◌, List, [], ◌∷◌, ◌++◌, map, filter, take, Option, None, Some, refl, ap, sym, ◌∙◌, subst, cond, append-nil, nat_eq}
 use Rattle.std.specs.Prelude.{unwrap_or, slice_get, filter_map, option_to_list}
 use Rattle.std.specs.Map.{lookup, keys_of}
 use Rattle.std.specs.Option.{option_and_then}
@@ -12,8 +12,7 @@ use Rattle.indexmap.specs.IndexMap.{insert_entry}
 use Rattle.dom_model.specs.declared.RecordType.{RecordType}
 use Rattle.dom_model.specs.PlainLists.Lists.{among}
 use Rattle.dom_model.specs.Worlds.World.{Registration, Mutation}
-use Rattle.dom_model.specs.Commands.Reply.{Record}
-use Rattle.dom_model.specs.MutationObservers.Records.{interests, interested, observers_of, asks_old_value, record_with, record_by, record_for}
+use Rattle.dom_model.specs.MutationObservers.Records.{interests, interested, asks_old_value, record_with, record_by, record_for}
 use Rattle.dom_model.proofs.PlainLists.Numbers.{Same, same_or, same, apart}
 use Rattle.dom_model.proofs.MutationObservers.Queues.{with_last, with_all_last}
 use Rattle.dom_observe.specs.Registrations.{concerns, Stands}

@@ -1,26 +1,22 @@
 -- What the code keeps goes with its steps.
-use Rattle.std.proofs.Common.{◌≡◌, ℕ, zero, suc, ◌+◌, ◌<◌, ◌≤◌, ◌==◌, Bool, true, false, not, if◌then◌else◌, List, [], ◌∷◌, ◌++◌, length, map, filter, Option, None, Some, refl, ap, sym, ◌∙◌, subst, arith, cond, ◌⊎◌, inl, inr, length-append, nat_eq}
+use Rattle.std.proofs.Common.{◌≡◌, ℕ, zero, suc, ◌<◌, ◌≤◌, ◌==◌, Bool, true, false, if◌then◌else◌, List, [], ◌∷◌, ◌++◌, length, map, filter, Option, None, Some, refl, ap, sym, ◌∙◌, subst, arith, cond, ◌⊎◌, inl, inr, length-append, nat_eq}
 use Rattle.std.specs.Prelude.{slice_index_or, slice_set, Vec, filter_map, flat_map, is_some}
-use Rattle.std.specs.Option.{option_map_or}
 use Rattle.std.specs.Map.{keys_of}
-use Rattle.std.specs.List.{IsDistinct, AllByRecursion, cons_option, list_any}
+use Rattle.std.specs.List.{IsDistinct, AllByRecursion, cons_option}
 use Rattle.std.proofs.lemmas.List.{get_or_append_left, get_or-append_right, get_or_past, get_or-set_same, get_or-set_other, length-set}
 use Rattle.std.proofs.lemmas.List.Elements.{filter_map-append}
 use Rattle.std.proofs.lemmas.Bool.{cases_lt, true≢false}
 use Rattle.slab.specs.Slab.{Slab}
 use Rattle.dom_model.specs.PlainLists.Lists.{among}
-use Rattle.dom_model.specs.Worlds.World as model
-use Rattle.dom_model.specs.Worlds.World.{Registration, Options}
+use Rattle.dom_model.specs.Worlds.World.{Registration}
 use Rattle.dom_model.specs.MutationObservers.Observing.{registered_on, standing_on}
-use Rattle.dom_model.specs.MutationObservers.Records.{is_registered, with_options}
 use Rattle.dom_model.specs.Commands.Reply.{Record}
 use Rattle.dom_model.proofs.PlainLists.Numbers.{Same, same_or, same, apart}
 use Rattle.dom_observe.specs.declared.registration.Registration as held
 use Rattle.dom_observe.specs.declared.registration.Ended.{Ended}
 use Rattle.dom_observe.specs.Watchers.{on}
-use Rattle.dom_observe.specs.Registrations.{at, found, listed, spares, left_by, is_live, own_at, with_new_options, AllLive, Stands, StandsOn, AllStand}
+use Rattle.dom_observe.specs.Registrations.{at, found, listed, spares, left_by, is_live, Stands, StandsOn, AllStand}
 use Rattle.dom_observe.specs.Kept.{nodes_of, queues_of, IsKept}
-use Rattle.dom_observe.proofs.Counting.{tally, count-none, any-from_count}
 use Rattle.dom_observe.proofs.Tables.{all_imply, all_append, all_filter}
 
 -- what a function makes of each list, and of no list nothing

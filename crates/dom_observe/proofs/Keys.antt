@@ -1,5 +1,5 @@
 -- The keys that each node has, as the map from nodes to keys changes.
-use Rattle.std.proofs.Common.{◌≡◌, ℕ, zero, suc, ◌+◌, ◌==◌, Bool, true, false, cond, not, if◌then◌else◌, List, [], ◌∷◌, ◌++◌, length, map, filter, Option, Some, None, refl, ap, sym, ◌∙◌, subst, nat_eq, append-nil, arith}
+use Rattle.std.proofs.Common.{◌≡◌, ℕ, zero, suc, ◌+◌, ◌==◌, Bool, true, false, cond, not, if◌then◌else◌, List, [], ◌∷◌, ◌++◌, length, filter, Option, Some, None, refl, ap, sym, ◌∙◌, subst, nat_eq, append-nil, arith}
 use Rattle.std.specs.Prelude.{Vec, slice_index_or}
 use Rattle.std.specs.Map.{lookup, set_value, keys_of}
 use Rattle.std.specs.List.{IsDistinct, AllByRecursion}

@@ -1,5 +1,5 @@
 -- The nodes that registrations and waiting records name, asked in the order of the code and in that of the definitions.
-use Rattle.std.proofs.Common.{◌≡◌, ℕ, zero, suc, ◌+◌, ◌<◌, ◌==◌, Bool, true, false, ◌||◌, if◌then◌else◌, List, [], ◌∷◌, ◌++◌, length, map, filter, Option, None, Some, refl, ap, sym, ◌∙◌, subst, nat_eq, arith, cond}
+use Rattle.std.proofs.Common.{◌≡◌, ℕ, suc, ◌+◌, ◌<◌, ◌==◌, Bool, true, false, ◌||◌, if◌then◌else◌, List, [], ◌∷◌, ◌++◌, length, map, filter, refl, ap, sym, ◌∙◌, nat_eq, arith, cond}
 use Rattle.std.specs.Prelude.{Vec, slice_index_or, flat_map}
 use Rattle.std.specs.Map.{keys_of}
 use Rattle.std.specs.List.{list_any, IsDistinct, AllByRecursion}
@@ -13,8 +13,8 @@ use Rattle.dom_model.specs.MutationObservers.Records.{queue_of}
 use Rattle.dom_model.specs.MutationAlgorithms.Discarding.{nodes_of_registration, nodes_of_record, queues_from, queued_records, observed_nodes}
 use Rattle.dom_model.proofs.PlainLists.Numbers.{Same, same_or, same, apart}
 use Rattle.dom_observe.specs.declared.registration.Registration as held
-use Rattle.dom_observe.specs.Watchers.{Watchers, Watches, on}
-use Rattle.dom_observe.specs.Registrations.{at, found, listed}
+use Rattle.dom_observe.specs.Watchers.{on}
+use Rattle.dom_observe.specs.Registrations.{at}
 use Rattle.dom_observe.specs.Kept.{nodes_of, queues_of}
 use Rattle.dom_observe.specs.Naming.{names_one}
 use Rattle.dom_observe.proofs.Asked.{any-found}

@@ -1,12 +1,12 @@
 -- What is told of a mutation that is queued, by the registrations that stand on the ancestors of its target.
-use Rattle.std.proofs.Common.{◌≡◌, ℕ, ◌<◌, ◌≤◌, Bool, true, false, List, [], ◌∷◌, ◌++◌, length, map, filter, Option, None, Some, refl, ap, sym, ◌∙◌, subst, arith}
+use Rattle.std.proofs.Common.{◌≡◌, ℕ, ◌<◌, Bool, true, false, List, [], ◌∷◌, length, map, filter, Option, None, refl, ap, sym, ◌∙◌, subst, arith}
 use Rattle.std.specs.Prelude.{filter_map, flat_map, option_to_list, slice_index_or, Vec}
 use Rattle.std.specs.List.{AllByRecursion}
 use Rattle.std.specs.Map.{keys_of}
 use Rattle.std.proofs.lemmas.Bool.{true≢false}
 use Rattle.slab.specs.Slab.{Slab}
 use Rattle.dom_model.specs.PlainLists.Lists.{among}
-use Rattle.dom_model.specs.Worlds.World.{Registration, Mutation, Observing}
+use Rattle.dom_model.specs.Worlds.World.{Registration, Mutation}
 use Rattle.dom_model.specs.MutationObservers.Observing.{registered_on, standing_on}
 use Rattle.dom_model.specs.Commands.Reply.{Record}
 use Rattle.dom_model.specs.MutationObservers.Records.{interests, interested, observers_of, asks_old_value, record_for}

@@ -1,5 +1,5 @@
 -- The observing part that observers stand for goes with them, step by step.
-use Rattle.std.proofs.Common.{◌≡◌, ℕ, zero, suc, ◌+◌, ◌-◌, ◌<◌, ◌≤◌, ◌==◌, Bool, true, false, not, ◌&&◌, if◌then◌else◌, List, [], ◌∷◌, ◌++◌, length, map, filter, None, Some, refl, ap, sym, ◌∙◌, subst, arith, cond, length-append, append-nil, ◌⊎◌, inl, inr}
+use Rattle.std.proofs.Common.{◌≡◌, ℕ, zero, suc, ◌-◌, ◌<◌, ◌≤◌, ◌==◌, Bool, true, false, not, ◌&&◌, if◌then◌else◌, List, [], ◌∷◌, ◌++◌, length, map, filter, refl, ap, sym, ◌∙◌, subst, arith, length-append, append-nil, ◌⊎◌, inl, inr}
 use Rattle.std.specs.Prelude.{slice_index_or, slice_set, is_none, option_to_list}
 use Rattle.std.specs.List.{list_any}
 use Rattle.std.proofs.lemmas.List.{get_or_append_left, get_or-append_right, get_or_past, get_or-set_same, get_or-set_other, get_or-map, length-set, length-map}
@@ -8,7 +8,7 @@ use Rattle.std.proofs.lemmas.Bool.{cases_lt}
 use Rattle.dom_model.specs.Worlds.World.{Options, Registration, Mutation, Observing}
 use Rattle.dom_model.specs.Commands.Reply.{Record}
 use Rattle.dom_model.specs.MutationObservers.Observing.{registered_on, standing_on, transient_of, with_transients, noted}
-use Rattle.dom_model.specs.MutationObservers.Records.{is_registered, is_transient_from, new_registration, with_options, registered, observed, taken_up_to, queue_of, with_observer, records_taken, disconnected, record_by, record_for, interested, observers_of, after_notify}
+use Rattle.dom_model.specs.MutationObservers.Records.{is_registered, is_transient_from, new_registration, with_options, registered, observed, queue_of, with_observer, records_taken, record_by, record_for, interested, observers_of, after_notify}
 use Rattle.dom_model.proofs.PlainLists.Numbers.{Same, same_or, same, apart}
 use Rattle.dom_model.proofs.MutationObservers.Queues.{IsTimely, queue-with_observer, queue-made, queue-taken, queue-kept, timely-taken, timely-noted, queue-noted, pending-noted, queue-notified, pending-notified, with_all_last}
 use Rattle.dom_model.proofs.MutationObservers.NodeRegistrations.{registered_on-filter, registered-there, registrations-observed, registrations-observed_again, registrations-transients}

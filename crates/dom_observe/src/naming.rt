@@ -58,12 +58,7 @@ fn names_at<X>(tree: &Tree<X>, top: NodeId, table: &Slab<Registration>, key: usi
 }
 
 // The same of one of several keys.
-fn any_names<X>(
-    tree: &Tree<X>,
-    top: NodeId,
-    table: &Slab<Registration>,
-    keys: &[usize],
-) -> bool
+fn any_names<X>(tree: &Tree<X>, top: NodeId, table: &Slab<Registration>, keys: &[usize]) -> bool
     ensures { result ≡ list_any (λ key. names_one (λ m. among m (inclusive_descendants tree.now.forest top)) (at table.now key)) keys.now }
 {
     keys.iter().any(|key| names_at(tree, top, table, *key))

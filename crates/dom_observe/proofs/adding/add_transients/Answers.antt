@@ -1,9 +1,6 @@
 -- Each key gives the node one more transient registration, or none.
-use Rattle.std.proofs.Common.{◌≡◌, ℕ, List, [], ◌++◌, if◌then◌else◌, ◌==◌, Bool, true, false, Option, Some, None, option_map, refl, ap, sym, ◌∙◌, subst, append-nil}
+use Rattle.std.proofs.Common.{◌≡◌, List, [], ◌++◌, if◌then◌else◌, ◌==◌, Bool, true, false, Some, None, option_map, ap, sym, ◌∙◌, subst, append-nil}
 use Rattle.std.specs.Prelude.{slice_index_or}
-use Rattle.std.specs.List.{AllByRecursion}
-use Rattle.dom_model.specs.Worlds.World.{Registration}
-use Rattle.dom_observe.specs.declared.registration.Registration as held
 use Rattle.dom_observe.specs.Registrations.{plain, at, listed, AllStand, transient_under}
 use Rattle.dom_observe.proofs.Tables.{alike_self, turn-none, turn-added, turn-alike, turn-stands, all_live-added}
 use Rattle.dom_observe.proofs.adding.add_transients.Goals as goal

@@ -1,6 +1,5 @@
 -- Each step goes to the parent, which has fewer ancestors.
-use Rattle.std.proofs.Common.{◌≡◌, ◌++◌, refl, sym, ◌∙◌, ap, append_assoc, append-nil, []}
-use Rattle.std.specs.Prelude.{flat_map}
+use Rattle.std.proofs.Common.{sym, ◌∙◌, append-nil, []}
 use Rattle.dom_model.specs.Forests.Forest.{ancestors}
 use Rattle.dom_model.proofs.Forests.Entries.{occurs-HasNode}
 use Rattle.dom_model.proofs.Forests.Paths.{root-path}

@@ -1,5 +1,5 @@
 -- Each step goes to the parent, past a node whose registrations do not answer.
-use Rattle.std.proofs.Common.{◌≡◌, ℕ, true, false, List, [], refl, sym, ◌∙◌, ap}
+use Rattle.std.proofs.Common.{◌≡◌, true, false, [], sym, ◌∙◌, ap}
 use Rattle.std.specs.List.{list_any}
 use Rattle.dom_model.specs.Forests.Forest.{ancestors}
 use Rattle.dom_model.proofs.Forests.Entries.{occurs-HasNode}

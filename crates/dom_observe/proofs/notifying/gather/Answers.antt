@@ -1,10 +1,10 @@
 -- The next pending observer is told what waits for it.
-use Rattle.std.proofs.Common.{◌≡◌, ℕ, suc, ◌+◌, ◌==◌, ◌++◌, [], ◌∷◌, Bool, true, false, if◌then◌else◌, List, Option, Some, None, length, filter, map, take, refl, ap, sym, ◌∙◌, arith, option_copied, nat_eq}
+use Rattle.std.proofs.Common.{◌≡◌, ℕ, suc, ◌+◌, ◌==◌, ◌++◌, [], ◌∷◌, true, false, if◌then◌else◌, List, Some, None, length, filter, map, take, refl, ap, sym, ◌∙◌, arith, option_copied, nat_eq}
 use Rattle.std.specs.Prelude.{slice_index_or, slice_set, slice_get, Vec}
 use Rattle.std.specs.List.{IsDistinct}
 use Rattle.std.proofs.lemmas.List.{length-set}
 use Rattle.dom_model.specs.PlainLists.Lists.{among}
-use Rattle.dom_model.specs.Commands.Reply.{Record, Told}
+use Rattle.dom_model.specs.Commands.Reply.{Record}
 use Rattle.dom_model.specs.MutationObservers.Records.{has_records}
 use Rattle.dom_observe.specs.Kept.{queues_of}
 use Rattle.dom_observe.specs.Notifying.{told_of, waiting_for}

@@ -1,5 +1,5 @@
 -- The first pending observers are told, and their queues are empty.
-use Rattle.std.proofs.Common.{◌≡◌, ℕ, Bool, List, [], if◌then◌else◌, filter, length, map, take}
+use Rattle.std.proofs.Common.{◌≡◌, ℕ, [], if◌then◌else◌, filter, length, map, take}
 use Rattle.std.specs.Prelude.{slice_index_or}
 use Rattle.dom_model.specs.PlainLists.Lists.{among}
 use Rattle.dom_model.specs.MutationObservers.Records.{has_records}

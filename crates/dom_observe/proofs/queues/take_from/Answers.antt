@@ -1,5 +1,5 @@
 -- One queue is emptied.
-use Rattle.std.proofs.Common.{◌≡◌, ◌<◌, [], length, ap, sym, ◌∙◌, arith}
+use Rattle.std.proofs.Common.{◌<◌, [], length, ap, sym, ◌∙◌, arith}
 use Rattle.std.specs.Prelude.{slice_set, slice_index_or}
 use Rattle.dom_observe.specs.Kept.{queues_of}
 use Rattle.dom_observe.proofs.Keeping.{queues_of-set, queues_of-at}

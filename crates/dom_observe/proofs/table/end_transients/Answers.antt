@@ -1,11 +1,9 @@
 -- Where there may be transient registrations they end, and otherwise there is none.
-use Rattle.std.proofs.Common.{ℕ, true, false, subst}
-use Rattle.std.proofs.lemmas.Bool.{true≢false}
+use Rattle.std.proofs.Common.{false, subst}
 use Rattle.std.specs.List.{AllByRecursion}
-use Rattle.dom_model.specs.Worlds.World.{Registration}
 use Rattle.dom_observe.specs.declared.registration.Ended.TheVariants.{Transient}
 use Rattle.dom_observe.specs.Watchers.{on}
-use Rattle.dom_observe.specs.Registrations.{at, listed, StandsOn, AllStand}
+use Rattle.dom_observe.specs.Registrations.{at, listed, StandsOn}
 use Rattle.dom_observe.proofs.Again.{found-calm, calm_source}
 use Rattle.dom_observe.proofs.Keeping.{found-ended, stand-ended}
 use Rattle.dom_observe.proofs.table.end_transients.Goals as goal

@@ -1,5 +1,5 @@
 -- Each key gives one more listener, or none.
-use Rattle.std.proofs.Common.{◌≡◌, ℕ, ◌<◌, ◌==◌, ◌||◌, ◌++◌, [], ◌∷◌, Bool, true, false, if◌then◌else◌, List, Option, Some, None, take, refl, nat_eq, ap, sym, ◌∙◌, subst, append-nil}
+use Rattle.std.proofs.Common.{◌≡◌, ℕ, ◌<◌, ◌==◌, ◌||◌, ◌++◌, Bool, true, false, if◌then◌else◌, Some, None, take, refl, nat_eq, ap, sym, ◌∙◌, subst, append-nil}
 use Rattle.std.specs.Prelude.{slice_index_or, unwrap_or, option_to_list}
 use Rattle.std.specs.List.{AllByRecursion}
 use Rattle.std.specs.Map.{keys_of, lookup}

@@ -1,8 +1,7 @@
 -- One more queue, and nothing in it.
-use Rattle.std.proofs.Common.{◌≡◌, [], ◌∷◌, ◌++◌, ap, sym, ◌∙◌, subst, List}
-use Rattle.dom_model.specs.Commands.Reply.{Record}
+use Rattle.std.proofs.Common.{ap, sym, ◌∙◌, subst}
 use Rattle.dom_model.specs.MutationObservers.Records.{with_observer}
-use Rattle.dom_observe.specs.Watchers.{Watchers, Watches}
+use Rattle.dom_observe.specs.Watchers.{Watches}
 use Rattle.dom_observe.specs.Kept.{nodes_of, queues_of, IsKept}
 use Rattle.dom_observe.proofs.Keeping.{queues_of-push, kept-made}
 use Rattle.dom_observe.proofs.Watching.{watches-made}

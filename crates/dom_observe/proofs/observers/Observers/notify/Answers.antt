@@ -3,12 +3,12 @@ use Rattle.std.proofs.Common.{◌≡◌, ◌<◌, ℕ, Bool, true, false, List, 
 use Rattle.std.specs.Prelude.{slice_index_or, is_none}
 use Rattle.std.specs.List.{AllByRecursion}
 use Rattle.dom_model.specs.PlainLists.Lists.{among}
-use Rattle.dom_model.specs.Worlds.World.{Registration, Observing}
+use Rattle.dom_model.specs.Worlds.World.{Registration}
 use Rattle.dom_model.specs.Commands.Reply.{Record}
 use Rattle.dom_model.specs.MutationObservers.Records.{has_records, told_in}
-use Rattle.dom_observe.specs.Watchers.{Watchers, Watches, on}
+use Rattle.dom_observe.specs.Watchers.{Watchers, Watches}
 use Rattle.dom_observe.specs.Registrations.{at, listed}
-use Rattle.dom_observe.specs.Kept.{nodes_of, queues_of, IsKept}
+use Rattle.dom_observe.specs.Kept.{nodes_of, queues_of}
 use Rattle.dom_observe.proofs.Keeping.{on-nodes_of, queues_of-length, stand_grown}
 use Rattle.dom_observe.proofs.Gathered.{waiting-told}
 use Rattle.dom_observe.proofs.Watching.{watches-notified}

@@ -1,19 +1,17 @@
 -- The registration gets the options, or a new one comes last.
-use Rattle.std.proofs.Common.{◌≡◌, ◌≤◌, ◌<◌, ℕ, Bool, true, false, not, List, [], ◌∷◌, ◌++◌, if◌then◌else◌, ◌==◌, length, map, filter, find, Option, Some, None, option_map, refl, ap, sym, ◌∙◌, subst, arith}
-use Rattle.std.specs.Prelude.{filter_map, slice_index_or, is_some}
+use Rattle.std.proofs.Common.{◌≡◌, ◌≤◌, ◌<◌, ℕ, not, List, [], ◌∷◌, ◌++◌, if◌then◌else◌, ◌==◌, length, map, filter, find, Some, None, option_map, refl, ap, sym, ◌∙◌, subst, arith}
+use Rattle.std.specs.Prelude.{filter_map, slice_index_or}
 use Rattle.std.specs.List.{list_any}
-use Rattle.std.proofs.lemmas.Bool.{true≢false}
-use Rattle.dom_model.specs.Worlds.World.{Registration, Observing}
+use Rattle.dom_model.specs.Worlds.World.{Registration}
 use Rattle.dom_model.specs.MutationObservers.Observing.{registered_on}
 use Rattle.dom_model.specs.MutationObservers.Records.{is_registered, is_transient_from, with_options, new_registration}
-use Rattle.dom_observe.specs.declared.registration.Ended.TheVariants.{From}
 use Rattle.dom_observe.specs.Watchers.{Watchers, Watches, on}
-use Rattle.dom_observe.specs.Registrations.{plain, at, found, listed, own_at, AllStand}
-use Rattle.dom_observe.specs.Kept.{nodes_of, queues_of, IsKept}
+use Rattle.dom_observe.specs.Registrations.{plain, at, listed, own_at, AllStand}
+use Rattle.dom_observe.specs.Kept.{nodes_of, queues_of}
 use Rattle.dom_observe.proofs.Outcomes.{on_ok, by_outcome}
 use Rattle.dom_observe.proofs.Counting.{tally, count-filter}
 use Rattle.dom_observe.proofs.Tables.{live_of_stands, found-added, stands-added}
-use Rattle.dom_observe.proofs.Keeping.{on-nodes_of, kept_table, queues_of-length}
+use Rattle.dom_observe.proofs.Keeping.{on-nodes_of, kept_table}
 use Rattle.dom_observe.proofs.Again.{any_own, stand-again, found-again}
 use Rattle.dom_observe.proofs.Watching.{watches-observed, watches-observed_again}
 use Rattle.dom_observe.proofs.observers.Observers.observe.Goals as goal

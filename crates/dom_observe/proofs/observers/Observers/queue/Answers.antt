@@ -1,19 +1,18 @@
 -- Each observer that the mutation interests gets its record, and is pending.
-use Rattle.std.proofs.Common.{◌≡◌, ◌<◌, ℕ, Bool, true, false, List, [], ◌∷◌, ◌++◌, length, map, filter, Option, None, Some, refl, ap, sym, ◌∙◌, subst, arith}
-use Rattle.std.specs.Prelude.{flat_map, filter_map, slice_index_or, option_to_list}
+use Rattle.std.proofs.Common.{◌≡◌, ◌<◌, ℕ, List, [], ◌∷◌, ◌++◌, length, filter, refl, ap, sym, ◌∙◌, subst, arith}
+use Rattle.std.specs.Prelude.{flat_map, filter_map, slice_index_or}
 use Rattle.std.specs.List.{AllByRecursion}
 use Rattle.std.specs.Map.{keys_of}
 use Rattle.dom_model.specs.Forests.Forest.{ancestors}
-use Rattle.dom_model.specs.PlainLists.Lists.{among}
-use Rattle.dom_model.specs.Worlds.World.{Registration, Mutation, Observing}
+use Rattle.dom_model.specs.Worlds.World.{Mutation}
 use Rattle.dom_model.specs.MutationObservers.Observing.{standing_on, registered_on}
 use Rattle.dom_model.specs.MutationObservers.Records.{interests}
 use Rattle.dom_model.proofs.MutationObservers.Queues.{with_all_last}
 use Rattle.dom_observe.specs.Names.{text_of}
 use Rattle.dom_observe.specs.Watchers.{Watchers, Watches, on}
-use Rattle.dom_observe.specs.Registrations.{at, listed, Stands}
-use Rattle.dom_observe.specs.Kept.{nodes_of, queues_of, IsKept}
-use Rattle.dom_observe.specs.Telling.{listeners, flag_of, delivered}
+use Rattle.dom_observe.specs.Registrations.{at, listed}
+use Rattle.dom_observe.specs.Kept.{nodes_of, queues_of}
+use Rattle.dom_observe.specs.Telling.{listeners, delivered}
 use Rattle.dom_observe.proofs.Outcomes.{on_ok}
 use Rattle.dom_observe.proofs.Keeping.{on-nodes_of, queues_of-length, nobody}
 use Rattle.dom_observe.proofs.Queued.{standing_on-none, standing_stands, unheard, kept-queued, told-queued, pended-queued}

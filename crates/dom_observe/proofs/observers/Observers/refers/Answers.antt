@@ -1,5 +1,5 @@
 -- What the registrations and the queues name is what the definitions have as observed.
-use Rattle.std.proofs.Common.{◌≡◌, ℕ, Bool, ◌||◌, ◌+◌, List, ap, sym, ◌∙◌, subst, nat_eq, arith}
+use Rattle.std.proofs.Common.{◌≡◌, ℕ, ◌||◌, ◌+◌, ap, sym, ◌∙◌, subst, nat_eq, arith}
 use Rattle.std.specs.List.{list_any, IsDistinct}
 use Rattle.dom_model.specs.PlainLists.Lists.{among}
 use Rattle.dom_model.specs.Forests.Forest.{inclusive_descendants}

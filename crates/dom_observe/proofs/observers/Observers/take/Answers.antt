@@ -1,5 +1,5 @@
 -- One queue is emptied.
-use Rattle.std.proofs.Common.{◌≡◌, ◌<◌, [], length, ap, sym, ◌∙◌, subst, arith, List}
+use Rattle.std.proofs.Common.{◌<◌, length, sym, ◌∙◌, subst, arith, List}
 use Rattle.dom_model.specs.Commands.Reply.{Record}
 use Rattle.dom_model.specs.MutationObservers.Records.{records_taken}
 use Rattle.dom_observe.specs.Watchers.{Watchers, Watches}

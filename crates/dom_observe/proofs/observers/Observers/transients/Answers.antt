@@ -1,15 +1,14 @@
 -- The registrations that stand on the ancestors leave transient ones.
 use Rattle.std.proofs.Common.{◌≡◌, ℕ, Bool, true, false, if◌then◌else◌, ◌==◌, List, [], ◌∷◌, ◌++◌, length, refl, ap, sym, ◌∙◌, subst, arith, append-nil}
-use Rattle.std.specs.Prelude.{flat_map, filter_map}
 use Rattle.std.specs.List.{AllByRecursion}
 use Rattle.std.proofs.lemmas.Bool.{true≢false}
 use Rattle.dom_model.proofs.PlainLists.Numbers.{same_or, same, apart}
 use Rattle.dom_model.specs.Forests.Forest.{ancestors}
-use Rattle.dom_model.specs.Worlds.World.{Registration, Observing}
-use Rattle.dom_model.specs.MutationObservers.Observing.{standing_on, registered_on}
+use Rattle.dom_model.specs.Worlds.World.{Registration}
+use Rattle.dom_model.specs.MutationObservers.Observing.{standing_on}
 use Rattle.dom_observe.specs.Watchers.{Watchers, Watches, on}
-use Rattle.dom_observe.specs.Registrations.{at, found, listed, is_live, AllLive, Stands, AllStand, with_added_transients}
-use Rattle.dom_observe.specs.Kept.{nodes_of, queues_of, IsKept}
+use Rattle.dom_observe.specs.Registrations.{at, found, listed, is_live, AllLive, Stands, with_added_transients}
+use Rattle.dom_observe.specs.Kept.{nodes_of, queues_of}
 use Rattle.dom_observe.proofs.Outcomes.{on_ok}
 use Rattle.dom_observe.proofs.Tables.{live_of_stands}
 use Rattle.dom_observe.proofs.Keeping.{on-nodes_of, kept_table, stand_loosely, all_flat, stands_of, found_standing}

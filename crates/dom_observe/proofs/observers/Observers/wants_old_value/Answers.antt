@@ -1,16 +1,16 @@
 -- What the registrations above the target answer.
-use Rattle.std.proofs.Common.{◌≡◌, ℕ, Bool, true, false, ◌&&◌, not, ◌==◌, length, List, filter, refl, ap, sym, ◌∙◌, subst}
-use Rattle.std.specs.Prelude.{filter_map, flat_map}
+use Rattle.std.proofs.Common.{◌≡◌, ℕ, true, ap, sym, ◌∙◌, subst}
+use Rattle.std.specs.Prelude.{filter_map}
 use Rattle.std.specs.List.{list_any}
 use Rattle.dom_model.specs.Forests.Forest.{ancestors}
-use Rattle.dom_model.specs.Worlds.World.{Registration, Mutation, Observing}
-use Rattle.dom_model.specs.MutationObservers.Observing.{standing_on, registered_on}
-use Rattle.dom_model.specs.MutationObservers.Records.{interests, interested, asks_old_value}
+use Rattle.dom_model.specs.Worlds.World.{Registration}
+use Rattle.dom_model.specs.MutationObservers.Observing.{registered_on}
+use Rattle.dom_model.specs.MutationObservers.Records.{interests, asks_old_value}
 use Rattle.dom_observe.specs.Names.{text_of}
 use Rattle.dom_observe.specs.Watchers.{Watchers, Watches, on}
-use Rattle.dom_observe.specs.Registrations.{at, found, listed, concerns}
-use Rattle.dom_observe.specs.Asking.{IsAbout, answers}
-use Rattle.dom_observe.proofs.Asked.{any-filter, any-both}
+use Rattle.dom_observe.specs.Registrations.{at, listed}
+use Rattle.dom_observe.specs.Asking.{answers}
+use Rattle.dom_observe.proofs.Asked.{any-both}
 use Rattle.dom_observe.proofs.Keeping.{on-nodes_of, found_standing}
 use Rattle.dom_observe.proofs.observers.Observers.wants_old_value.Goals as goal
 

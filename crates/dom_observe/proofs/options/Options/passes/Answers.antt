@@ -1,4 +1,4 @@
-use Rattle.std.proofs.Common.{◌≡◌, ◌∙◌, ap, sym, string_bytes, Some, List, map}
+use Rattle.std.proofs.Common.{◌≡◌, ◌∙◌, ap, sym, string_bytes, Some, map}
 use Rattle.std.specs.Prelude.{bytes_eq}
 use Rattle.std.specs.List.{list_any}
 use Rattle.dom_model.specs.MutationObservers.Records.{name_passes}
