@@ -78,12 +78,15 @@ fn refused_for_arguments(rt: HostRuntime) -> Result<(), Fail> {
 
 // A command, told in numbers: its place in the table, and its arguments. Of a refusal there is nothing to tell.
 fn told(alloc: Global, line: &[u8]) -> Result<Vec<u32>, AllocError> {
+    match read_line(alloc, line) {
+        Ok(command) => numbers_of(alloc, &command),
+        Err(ReadError::Own(_)) => Ok(Vec::new(alloc)),
+        Err(ReadError::Memory) => Err(AllocError),
+    }
+}
+
+fn numbers_of(alloc: Global, command: &Command) -> Result<Vec<u32>, AllocError> {
     let mut told = Vec::new(alloc);
-    let command = match read_line(alloc, line) {
-        Ok(command) => command,
-        Err(ReadError::Own(_)) => return Ok(told),
-        Err(ReadError::Memory) => return Err(AllocError),
-    };
     match command {
         Command::NewDocument => told.push(0)?,
         Command::CreateElement(document, name) => {
