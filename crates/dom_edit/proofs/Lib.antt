@@ -1,4 +1,4 @@
 pub mod AmongChildren
 pub mod Leaves
 pub mod Placing
-pub mod First
+pub mod Following

@@ -1,45 +1,54 @@
--- What the code keeps of a world, as plain values, and the worlds that it stands for.
--- DOM Standard, "Nodes", "Live ranges", "Interface NodeIterator", "Interface TreeWalker".
-use Rattle.std.specs.Prelude.{◌≡◌, ℕ, ◌≤◌, List, Option, All, IfSome}
-use Rattle.dom_model.specs.Forests.Forest.{Forest, Grove, HasNode, IsForest}
+-- What the code keeps of a world, and the worlds that it stands for.
+-- DOM Standard, "Nodes", "Live ranges", "Interface NodeIterator", "Interface TreeWalker", "Mutation observers".
+use Rattle.std.specs.Prelude.{◌≡◌, ℕ, ◌≤◌, List, [], Option, All, IfSome}
+use Rattle.dom_model.specs.Forests.Forest.{Forest, HasNode, IsForest}
 use Rattle.dom_model.specs.Forests.Documents.{HasOneDocument}
-use Rattle.dom_model.specs.Worlds.World.{Content, Range, Iterator, Walker, Observing, World}
+use Rattle.dom_model.specs.Worlds.World.{Content, Range}
+use Rattle.dom_model.specs.Worlds.World as model
 use Rattle.dom_model.specs.Worlds.Sound.{IsRange, IsIterator, IsWalker, IsSound}
 use Rattle.dom_model.proofs.Worlds.Owners.{HasOwners}
-
--- the values of the parts, without what watches: the tree, the live ranges and how many nodes may have ends, static ranges, iterators and walkers
-pub record Kept : Type 0 where
-  pub tree : Grove Content
-  pub ranges : List (Option Range)
-  pub covered : ℕ
-  pub statics : List Range
-  pub iters : List Iterator
-  pub walkers : List Walker
+use Rattle.dom_observe.specs.Watchers.{Watches}
+use Rattle.dom_edit.specs.declared.world.World.{World}
 
 -- both nodes of a static range are held
 pub record AreHeld (f : Forest Content) (r : Range) : Type 0 where
   pub start : HasNode f r.start.node
   pub end : HasNode f r.end.node
 
--- what holds of the parts at every time, also where memory was wanting half-way; nothing of queues
-pub record IsWhole (v : Kept) : Type 0 where
+-- what holds of a world of the code at every time, also where memory was wanting half-way; nothing of queues
+pub record IsWhole (v : World) : Type 0 where
   pub forest : IsForest v.tree
   pub documents : HasOneDocument v.tree.forest
   pub owners : HasOwners v.tree.forest
-  pub covered : v.tree.made ≤ v.covered
-  pub ranges : All (λ (r : Option Range). IfSome r (IsRange v.tree.forest)) v.ranges
+  pub covered : v.tree.made ≤ v.ranges.covered
+  pub ranges : All (λ (r : Option Range). IfSome r (IsRange v.tree.forest)) v.ranges.ranges
   pub statics : All (AreHeld v.tree.forest) v.statics
   pub iterators : All (IsIterator v.tree.forest) v.iters
   pub walkers : All (IsWalker v.tree.forest) v.walkers
 
--- the parts show a world, where the observers watch its observing part
-pub record Shows (v : Kept) (watches : Observing → Type 0) (w : World) : Type 0 where
+-- all parts but those that watch are the world's
+pub record Keeps (v : World) (w : model.World) : Type 0 where
   pub forest : w.forest ≡ v.tree.forest
   pub made : w.made ≡ v.tree.made
-  pub ranges : w.ranges ≡ v.ranges
+  pub ranges : w.ranges ≡ v.ranges.ranges
   pub static_ranges : w.static_ranges ≡ v.statics
   pub iterators : w.iterators ≡ v.iters
   pub walkers : w.walkers ≡ v.walkers
-  pub watched : watches w.observing
+
+-- the code's world stands for the definitions'
+pub record Shows (v : World) (w : model.World) : Type 0 where
+  pub keeps : Keeps v w
+  pub watched : Watches v.observers w.observing
   pub sound : IsSound w
   pub whole : IsWhole v
+
+-- there is a world that it stands for
+pub record IsShown (v : World) : Type 0 where
+  pub stands_for : model.World
+  pub shows : Shows v stands_for
+
+-- From one world of the code to another as a step of the definitions goes: whatever the old one keeps and watches, the new one keeps and
+-- watches what the step makes of it.
+pub record Follows (old new : World) (step : model.World → model.World) : Type 0 where
+  pub keeps : (w : model.World) → Keeps old w → Keeps new (step w)
+  pub watches : (w : model.World) → Keeps old w → Watches old.observers w.observing → Watches new.observers (step w).observing

@@ -3,9 +3,15 @@
 
 mod checks;
 mod content;
+mod edits;
+mod refusal;
+mod removing;
 mod surroundings;
 #[cfg(test)]
 mod tests;
+mod world;
 
 pub use checks::{check_insert, check_replace};
 pub use content::Content;
+pub use refusal::Refusal;
+pub use world::World;

@@ -1,0 +1,59 @@
+-- Steps of the definitions that follow one another, and what a world of the code shows after one.
+use Rattle.std.proofs.Common.{◌≡◌, ◌≤◌, [], refl, All, subst, sym}
+use Rattle.std.specs.Prelude.{Option, IfSome}
+use Rattle.dom_model.specs.Forests.Forest.{IsForest}
+use Rattle.dom_model.specs.Forests.Documents.{HasOneDocument}
+use Rattle.dom_model.specs.Worlds.World as model
+use Rattle.dom_model.specs.Worlds.World.{Content, Range}
+use Rattle.dom_model.specs.Worlds.Sound.{IsRange, IsIterator, IsWalker, IsSound}
+use Rattle.dom_model.proofs.Worlds.Owners.{HasOwners}
+use Rattle.dom_edit.specs.declared.world.World.{World}
+use Rattle.dom_edit.specs.Whole.{AreHeld, IsWhole, Keeps, Shows, Follows}
+
+-- no step
+pub follows-none : (v : World) → Follows v v (λ w. w)
+follows-none v = record { keeps = λ w k. k; watches = λ w k o. o }
+
+-- one step after another
+pub follows-then : (a b c : World) (first second : model.World → model.World) → Follows a b first → Follows b c second → Follows a c (λ w. second (first w))
+follows-then a b c first second f s = record {
+  keeps = λ w k. s.keeps (first w) (f.keeps w k);
+  watches = λ w k o. s.watches (first w) (f.keeps w k) (f.watches w k o);
+}
+
+-- what is shown after a step
+pub shows-next : (old new : World) (step : model.World → model.World) (w : model.World) → Shows old w → Follows old new step → IsSound (step w) → IsWhole new → Shows new (step w)
+shows-next old new step w shown f sound whole = record {
+  keeps = f.keeps w shown.keeps;
+  watched = f.watches w shown.keeps shown.watched;
+  sound = sound;
+  whole = whole;
+}
+
+-- the world with the same parts, in which nobody watches
+abbrev pub unwatched : World → model.World
+unwatched v = record {
+  forest = v.tree.forest;
+  made = v.tree.made;
+  ranges = v.ranges.ranges;
+  iterators = v.iters;
+  walkers = v.walkers;
+  observing = record { registrations = []; mutations = []; places = []; notified = 0 };
+  static_ranges = v.statics;
+}
+
+pub keeps-unwatched : (v : World) → Keeps v (unwatched v)
+keeps-unwatched v = record { forest = refl; made = refl; ranges = refl; static_ranges = refl; iterators = refl; walkers = refl }
+
+-- a world of the code is whole where it keeps a sound world, each node document is where it should be, and all nodes are covered
+pub whole-sound : (v : World) (w : model.World) → Keeps v w → IsSound w → HasOneDocument v.tree.forest → HasOwners v.tree.forest → v.tree.made ≤ v.ranges.covered → All (AreHeld v.tree.forest) v.statics → IsWhole v
+whole-sound v w k s documents owners covered statics = record {
+  forest = subst (λ g. IsForest g) (rw (k.forest, k.made) refl) s.forest;
+  documents = documents;
+  owners = owners;
+  covered = covered;
+  ranges = rw (k.forest, k.ranges) at s.ranges;
+  statics = statics;
+  iterators = rw (k.forest, k.iterators) at s.iterators;
+  walkers = rw (k.forest, k.walkers) at s.walkers;
+}

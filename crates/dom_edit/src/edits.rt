@@ -1,0 +1,147 @@
+//! The edits of a world's trees (DOM Standard, "Mutation algorithms").
+//!
+//! Each adjusts the live ranges, moves the iterators, makes transient registrations and queues its records, as the standard says.
+
+ghost use Rattle.std.specs.Prelude.{◌≡◌, true, false, None, OnOk};
+ghost use Rattle.std.specs.Option.{ForSome};
+ghost use Rattle.std.specs.Result.{IfErr};
+ghost use Rattle.dom_model.specs.declared.Kind.TheVariants.{Document};
+ghost use Rattle.dom_model.specs.Forests.Kinds.{may_be_parent};
+ghost use Rattle.dom_model.specs.Forests.Forest.{HasNode};
+ghost use Rattle.dom_model.specs.MutationAlgorithms.Checks.{check_insert, check_replace, is_of_kind, kind_passes};
+ghost use Rattle.dom_model.specs.MutationAlgorithms.Editing.{remove, pre_insert, append, replace, replace_all, adopt};
+ghost use Rattle.dom_edit.specs.Whole.{IsWhole, Follows};
+ghost use Rattle.dom_edit.specs.Refusals.{check_remove_child, check_only_child, check_adopt, IsRefused};
+
+use crate::refusal::Refusal;
+use crate::world::World;
+use dom_tree::NodeId;
+use std::alloc::{AllocError, Global};
+
+impl World {
+    /// Puts a node, or the children of a fragment, in under a parent, before a child of it or last (pre-insert).
+    ///
+    /// It refuses as [`crate::check_insert`] does. A node that has a parent leaves it first, with a record of its own.
+    pub fn insert_before(
+        &mut self,
+        alloc: Global,
+        parent: NodeId,
+        node: NodeId,
+        child: Option<NodeId>,
+    ) -> Result<(), Refusal>
+        requires whole { IsWhole self.old }
+        requires parent_held { HasNode self.old.tree.forest parent }
+        requires node_held { HasNode self.old.tree.forest node }
+        requires child_held { ForSome child (λ c. HasNode self.old.tree.forest c) }
+        ensures allowed { OnOk result (check_insert self.old.tree.forest parent node child ≡ None) }
+        ensures inserted { OnOk result (Follows self.old self.new (pre_insert node parent child)) }
+        ensures refused { IfErr result (λ e. IsRefused e (check_insert self.old.tree.forest parent node child) self.old self.new) }
+        ensures whole { IsWhole self.new }
+    {
+        let _ = (alloc, parent, node, child);
+        Err(Refusal::Memory)
+    }
+
+    /// Puts a node, or the children of a fragment, in as the last of a parent's children (append).
+    pub fn append(&mut self, alloc: Global, parent: NodeId, node: NodeId) -> Result<(), Refusal>
+        requires whole { IsWhole self.old }
+        requires parent_held { HasNode self.old.tree.forest parent }
+        requires node_held { HasNode self.old.tree.forest node }
+        ensures allowed { OnOk result (check_insert self.old.tree.forest parent node None ≡ None) }
+        ensures appended { OnOk result (Follows self.old self.new (append node parent)) }
+        ensures refused { IfErr result (λ e. IsRefused e (check_insert self.old.tree.forest parent node None) self.old self.new) }
+        ensures whole { IsWhole self.new }
+    {
+        self.insert_before(alloc, parent, node, None)
+    }
+
+    /// Puts a node, or the children of a fragment, in the place of a child of a parent (replace).
+    ///
+    /// It refuses as [`crate::check_replace`] does. The child goes first.
+    pub fn replace(
+        &mut self,
+        alloc: Global,
+        parent: NodeId,
+        node: NodeId,
+        child: NodeId,
+    ) -> Result<(), Refusal>
+        requires whole { IsWhole self.old }
+        requires parent_held { HasNode self.old.tree.forest parent }
+        requires node_held { HasNode self.old.tree.forest node }
+        requires child_held { HasNode self.old.tree.forest child }
+        ensures allowed { OnOk result (check_replace self.old.tree.forest parent node child ≡ None) }
+        ensures replaced { OnOk result (Follows self.old self.new (replace child node parent)) }
+        ensures refused { IfErr result (λ e. IsRefused e (check_replace self.old.tree.forest parent node child) self.old self.new) }
+        ensures whole { IsWhole self.new }
+    {
+        let _ = (alloc, parent, node, child);
+        Err(Refusal::Memory)
+    }
+
+    /// Takes a child out of a parent, or refuses with `NotFoundError` where it does not stand under it (pre-remove).
+    pub fn remove_child(
+        &mut self,
+        alloc: Global,
+        parent: NodeId,
+        child: NodeId,
+    ) -> Result<(), Refusal>
+        requires whole { IsWhole self.old }
+        requires parent_held { HasNode self.old.tree.forest parent }
+        requires child_held { HasNode self.old.tree.forest child }
+        ensures allowed { OnOk result (check_remove_child self.old.tree.forest parent child ≡ None) }
+        ensures removed { OnOk result (Follows self.old self.new (remove false child)) }
+        ensures refused { IfErr result (λ e. IsRefused e (check_remove_child self.old.tree.forest parent child) self.old self.new) }
+        ensures whole { IsWhole self.new }
+    {
+        let _ = (alloc, parent, child);
+        Err(Refusal::Memory)
+    }
+
+    /// Takes a node out of its parent; a root stays as it is (remove).
+    pub fn remove(&mut self, alloc: Global, node: NodeId) -> Result<(), AllocError>
+        requires whole { IsWhole self.old }
+        requires held { HasNode self.old.tree.forest node }
+        ensures removed { OnOk result (Follows self.old self.new (remove false node)) }
+        ensures whole { IsWhole self.new }
+    {
+        self.remove_node(alloc, node, false)
+    }
+
+    /// Makes a node, the children of a fragment, or nothing, all that stands under a parent (replace all).
+    ///
+    /// It refuses as [`crate::check_insert`] does of the node as the last child, before the children go.
+    pub fn replace_children(
+        &mut self,
+        alloc: Global,
+        parent: NodeId,
+        node: Option<NodeId>,
+    ) -> Result<(), Refusal>
+        requires whole { IsWhole self.old }
+        requires parent_held { HasNode self.old.tree.forest parent }
+        requires parent_kind { kind_passes may_be_parent self.old.tree.forest parent ≡ true }
+        requires node_held { ForSome node (λ n. HasNode self.old.tree.forest n) }
+        ensures allowed { OnOk result (check_only_child self.old.tree.forest parent node ≡ None) }
+        ensures replaced { OnOk result (Follows self.old self.new (replace_all node parent)) }
+        ensures refused { IfErr result (λ e. IsRefused e (check_only_child self.old.tree.forest parent node) self.old self.new) }
+        ensures whole { IsWhole self.new }
+    {
+        let _ = (alloc, parent, node);
+        Err(Refusal::Memory)
+    }
+
+    /// Takes a node out of its parent, and gives it and all that stands under it a node document (adopt).
+    ///
+    /// A Document is refused with `NotSupportedError`.
+    pub fn adopt(&mut self, alloc: Global, document: NodeId, node: NodeId) -> Result<(), Refusal>
+        requires whole { IsWhole self.old }
+        requires document_kind { is_of_kind Document self.old.tree.forest document ≡ true }
+        requires node_held { HasNode self.old.tree.forest node }
+        ensures allowed { OnOk result (check_adopt self.old.tree.forest node ≡ None) }
+        ensures adopted { OnOk result (Follows self.old self.new (adopt node document)) }
+        ensures refused { IfErr result (λ e. IsRefused e (check_adopt self.old.tree.forest node) self.old self.new) }
+        ensures whole { IsWhole self.new }
+    {
+        let _ = (alloc, document, node);
+        Err(Refusal::Memory)
+    }
+}

