@@ -8,7 +8,7 @@ use Rattle.dom_model.specs.Worlds.World.{Content, Range}
 use Rattle.dom_model.specs.Worlds.Sound.{IsRange, IsIterator, IsWalker, IsSound}
 use Rattle.dom_model.proofs.Worlds.Owners.{HasOwners}
 use Rattle.dom_edit.specs.declared.world.World.{World}
-use Rattle.dom_edit.specs.Whole.{AreHeld, IsWhole, Keeps, Shows, Follows}
+use Rattle.dom_edit.specs.Whole.{AreHeld, IsWhole, Keeps, Shows, Follows, unwatched}
 
 -- no step
 pub follows-none : (v : World) → Follows v v (λ w. w)
@@ -28,18 +28,6 @@ shows-next old new step w shown f sound whole = record {
   watched = f.watches w shown.keeps shown.watched;
   sound = sound;
   whole = whole;
-}
-
--- the world with the same parts, in which nobody watches
-abbrev pub unwatched : World → model.World
-unwatched v = record {
-  forest = v.tree.forest;
-  made = v.tree.made;
-  ranges = v.ranges.ranges;
-  iterators = v.iters;
-  walkers = v.walkers;
-  observing = record { registrations = []; mutations = []; places = []; notified = 0 };
-  static_ranges = v.statics;
 }
 
 pub keeps-unwatched : (v : World) → Keeps v (unwatched v)

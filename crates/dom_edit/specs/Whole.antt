@@ -52,3 +52,15 @@ pub record IsShown (v : World) : Type 0 where
 pub record Follows (old new : World) (step : model.World → model.World) : Type 0 where
   pub keeps : (w : model.World) → Keeps old w → Keeps new (step w)
   pub watches : (w : model.World) → Keeps old w → Watches old.observers w.observing → Watches new.observers (step w).observing
+
+-- the world with the same parts, in which nobody watches
+abbrev pub unwatched : World → model.World
+unwatched v = record {
+  forest = v.tree.forest;
+  made = v.tree.made;
+  ranges = v.ranges.ranges;
+  iterators = v.iters;
+  walkers = v.walkers;
+  observing = record { registrations = []; mutations = []; places = []; notified = 0 };
+  static_ranges = v.statics;
+}
