@@ -1,6 +1,7 @@
 //! What a node holds besides its label and its place.
 
 ghost use Rattle.std.specs.Prelude.{◌≡◌, IfOk};
+ghost use Rattle.dom_model.specs.Commands.Answer.{with_text};
 
 use dom_attrs::Attrs;
 use dom_tree::Body;
@@ -26,6 +27,16 @@ impl Model for Content {
 }
 
 impl Content {
+    /// Data alone.
+    pub fn of_text(alloc: Global, text: Units) -> Content
+        ensures { result ≡ with_text text }
+    {
+        Content {
+            text,
+            attrs: Attrs::new(alloc),
+        }
+    }
+
     /// A copy, in memory of its own.
     pub fn try_clone(&self, alloc: Global) -> Result<Content, AllocError>
         ensures { IfOk result (λ copy. copy ≡ self.now) }

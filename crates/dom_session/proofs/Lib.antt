@@ -1,9 +1,5 @@
+pub mod Stepping
 pub mod Steps
-pub mod Siblings
-pub mod Detaching
-pub mod Standing
-pub mod Kept
-pub mod Moves
+pub mod TreeEdits
 pub mod Waits
 pub mod Applying
-pub mod Leaves

@@ -1,7 +1,7 @@
 pub mod Views
 pub mod Stands
+pub mod Refusing
 pub mod Limiting
 pub mod Bounding
-pub mod Appending
 pub mod Printing
 pub mod Codes

@@ -1,10 +1,10 @@
 //! The commands that a session takes, one for each name of the table.
 
-use crate::ids::{RangeId, StaticId, WalkerId};
 use dom_model::Move;
 use dom_observe::{ObserverId, RawOptions};
 use dom_point::Point;
-use dom_traverse::{Filter, IterId};
+use dom_ranges::{RangeId, StaticId};
+use dom_traverse::{Filter, IterId, WalkerId};
 use dom_tree::NodeId;
 use dom_units::Units;
 

@@ -1,19 +1,21 @@
 //! The commands that make nodes.
 
-ghost use Rattle.std.specs.Prelude.{◌≡◌, ℕ, ◌≤◌, [], true, IfOk, OnErr, option_map, string_bytes};
+ghost use Rattle.std.specs.Prelude.{◌≡◌, ◌≤◌, true, IfOk, option_map, string_bytes};
 ghost use Rattle.dom_model.specs.Worlds.World.{document_label};
 ghost use Rattle.dom_model.specs.Commands.Answer.{named};
 ghost use Rattle.dom_model.specs.Commands.Command.{NewDocument, CreateElement, CreateText};
 ghost use Rattle.dom_model.specs.Commands.Reply.{is_refusal};
 ghost use Rattle.dom_session.specs.Views.{reply_view};
-ghost use Rattle.dom_session.specs.Stands.{IsStep, making_refusal};
+ghost use Rattle.dom_edit.specs.Whole.{IsShown};
+ghost use Rattle.dom_session.specs.Stands.{IsStep};
+ghost use Rattle.dom_session.specs.Refusing.{making_refusal};
 ghost use Rattle.dom_session.specs.Limiting.{numbered};
 
-use crate::content::Content;
 use crate::reply::{Answer, Reply};
+use dom_edit::{Content, World};
 use dom_kinds::{DomError, Kind, Label, is_element_name};
 use dom_model::OwnError;
-use dom_tree::{NodeId, Tree};
+use dom_tree::NodeId;
 use dom_units::Units;
 use std::alloc::{AllocError, Global};
 
@@ -37,16 +39,16 @@ fn label(alloc: Global, kind: Kind, name: String) -> Label
 }
 
 // Why a document may not get a new node.
-fn refusal(tree: &Tree<Content>, numbers: u64, document: NodeId) -> Option<Reply>
-    ensures { option_map reply_view result ≡ making_refusal tree.now numbers document }
+fn refusal(world: &World, numbers: u64, document: NodeId) -> Option<Reply>
+    ensures { option_map reply_view result ≡ making_refusal world.now numbers document }
 {
-    if !tree.holds(document) {
+    if !world.tree.holds(document) {
         return Some(Reply::Own(OwnError::NoSuchObject));
     }
-    if tree.label(document).kind != Kind::Document {
+    if world.tree.label(document).kind != Kind::Document {
         return Some(Reply::Dom(DomError::TypeError));
     }
-    if numbers <= tree.made() {
+    if numbers <= world.tree.made() {
         return Some(Reply::Own(OwnError::Limit));
     }
     None
@@ -54,67 +56,64 @@ fn refusal(tree: &Tree<Content>, numbers: u64, document: NodeId) -> Option<Reply
 
 /// Makes a Document.
 pub fn new_document(
-    tree: &mut Tree<Content>,
+    world: &mut World,
     numbers: u64,
     alloc: Global,
 ) -> Result<Reply, AllocError>
-    requires { numbers ≤ 4294967295 }
-    ensures step { IfOk result (IsStep tree.old tree.new (numbered numbers) NewDocument) }
-    ensures refused { IfOk result (λ reply. is_refusal (reply_view reply) ≡ true → tree.new ≡ tree.old) }
-    ensures unchanged { OnErr result (tree.new ≡ tree.old) }
+    requires numbers { numbers ≤ 4294967295 }
+    requires shown { IsShown world.old }
+    ensures step { IfOk result (IsStep world.old world.new (numbered numbers) NewDocument) }
+    ensures refused { IfOk result (λ reply. is_refusal (reply_view reply) ≡ true → world.new ≡ world.old) }
 {
-    if numbers <= tree.made() {
+    if numbers <= world.tree.made() {
         return Ok(Reply::Own(OwnError::Limit));
     }
     let body = Content::of_text(alloc, Units::new(alloc));
-    let id = tree.make(document_label(alloc), body, None)?;
-    tree.sound();
+    let id = world.make(alloc, document_label(alloc), body, None)?;
     Ok(Reply::Done(Answer::Number(id.number())))
 }
 
 /// Makes an Element.
 pub fn create_element(
-    tree: &mut Tree<Content>,
+    world: &mut World,
     numbers: u64,
     alloc: Global,
     document: NodeId,
     name: String,
 ) -> Result<Reply, AllocError>
-    requires { numbers ≤ 4294967295 }
-    ensures step { IfOk result (IsStep tree.old tree.new (numbered numbers) (CreateElement document (string_bytes name))) }
-    ensures refused { IfOk result (λ reply. is_refusal (reply_view reply) ≡ true → tree.new ≡ tree.old) }
-    ensures unchanged { OnErr result (tree.new ≡ tree.old) }
+    requires numbers { numbers ≤ 4294967295 }
+    requires shown { IsShown world.old }
+    ensures step { IfOk result (IsStep world.old world.new (numbered numbers) (CreateElement document (string_bytes name))) }
+    ensures refused { IfOk result (λ reply. is_refusal (reply_view reply) ≡ true → world.new ≡ world.old) }
 {
-    if let Some(reply) = refusal(tree, numbers, document) {
+    if let Some(reply) = refusal(world, numbers, document) {
         return Ok(reply);
     }
     if !is_element_name(name.as_str()) {
         return Ok(Reply::Dom(DomError::InvalidCharacterError));
     }
     let body = Content::of_text(alloc, Units::new(alloc));
-    let id = tree.make(label(alloc, Kind::Element, name), body, Some(document))?;
-    tree.sound();
+    let id = world.make(alloc, label(alloc, Kind::Element, name), body, Some(document))?;
     Ok(Reply::Done(Answer::Number(id.number())))
 }
 
 /// Makes a Text.
 pub fn create_text(
-    tree: &mut Tree<Content>,
+    world: &mut World,
     numbers: u64,
     alloc: Global,
     document: NodeId,
     text: Units,
 ) -> Result<Reply, AllocError>
-    requires { numbers ≤ 4294967295 }
-    ensures step { IfOk result (IsStep tree.old tree.new (numbered numbers) (CreateText document text)) }
-    ensures refused { IfOk result (λ reply. is_refusal (reply_view reply) ≡ true → tree.new ≡ tree.old) }
-    ensures unchanged { OnErr result (tree.new ≡ tree.old) }
+    requires numbers { numbers ≤ 4294967295 }
+    requires shown { IsShown world.old }
+    ensures step { IfOk result (IsStep world.old world.new (numbered numbers) (CreateText document text)) }
+    ensures refused { IfOk result (λ reply. is_refusal (reply_view reply) ≡ true → world.new ≡ world.old) }
 {
-    if let Some(reply) = refusal(tree, numbers, document) {
+    if let Some(reply) = refusal(world, numbers, document) {
         return Ok(reply);
     }
     let label = label(alloc, Kind::Text, String::new(alloc));
-    let id = tree.make(label, Content::of_text(alloc, text), Some(document))?;
-    tree.sound();
+    let id = world.make(alloc, label, Content::of_text(alloc, text), Some(document))?;
     Ok(Reply::Done(Answer::Number(id.number())))
 }

@@ -9,8 +9,8 @@ ghost use Rattle.dom_session.specs.Views.{reply_view};
 ghost use Rattle.dom_session.specs.Stands.{IsStep};
 ghost use Rattle.dom_session.specs.Printing.{row_at, waiting_for};
 
-use crate::content::Content;
 use crate::reply::{Answer, Reply, TreeRow};
+use dom_edit::{Content, World};
 use dom_model::OwnError;
 use dom_tree::{NodeId, Tree};
 use std::alloc::{AllocError, Global};
@@ -75,12 +75,12 @@ fn rows_of(tree: &Tree<Content>, alloc: Global, top: NodeId) -> Result<Vec<TreeR
 }
 
 /// Prints a node and all that stands below it.
-pub fn print_tree(tree: &Tree<Content>, alloc: Global, top: NodeId) -> Result<Reply, AllocError>
-    ensures { IfOk result (λ reply. (b : Bounds) → IsStep tree.now tree.now b (TreeCommand top) reply) }
+pub fn print_tree(world: &World, alloc: Global, top: NodeId) -> Result<Reply, AllocError>
+    ensures { IfOk result (λ reply. (b : Bounds) → IsStep world.now world.now b (TreeCommand top) reply) }
 {
-    if !tree.holds(top) {
+    if !world.tree.holds(top) {
         return Ok(Reply::Own(OwnError::NoSuchObject));
     }
-    let rows = rows_of(tree, alloc, top)?;
+    let rows = rows_of(&world.tree, alloc, top)?;
     Ok(Reply::Done(Answer::Rows(rows)))
 }

@@ -1,6 +1,6 @@
 //! The replies that a session gives.
 
-use crate::content::Content;
+use dom_edit::Content;
 use dom_kinds::{DomError, Label};
 use dom_model::OwnError;
 use dom_observe::{ObserverId, Record};

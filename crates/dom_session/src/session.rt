@@ -1,7 +1,7 @@
-//! One session over one tree.
+//! One session over one world.
 
 ghost use Rattle.std.specs.Prelude.{◌≡◌, ℕ, ◌≤◌, true, IsErr, IfOk, OnErr};
-ghost use Rattle.dom_model.specs.Worlds.World.{World, first_world};
+ghost use Rattle.dom_model.specs.Worlds.World.{World as PlainWorld, first_world};
 ghost use Rattle.dom_model.specs.Commands.Reply.{is_refusal};
 ghost use Rattle.dom_session.specs.Views.{command_view, reply_view};
 ghost use Rattle.dom_session.specs.Stands.{StandsFor, IsAnswered};
@@ -9,11 +9,8 @@ ghost use Rattle.dom_session.specs.Bounding.{bounds_of};
 
 use crate::answering::answered;
 use crate::command::Command;
-use crate::content::Content;
-use crate::making::document_label;
 use crate::reply::Reply;
-use dom_tree::Tree;
-use dom_units::Units;
+use dom_edit::World;
 use std::alloc::{AllocError, Global};
 use std::marker::Model;
 
@@ -28,10 +25,10 @@ pub struct Limits {
 #[derive(Clone, Copy, Debug, PartialEq, Eq)]
 pub struct Ended;
 
-/// The nodes of one client, and how many it may make.
+/// The world of one client, and how many objects it may make.
 #[derive(Drop)]
 pub struct Session {
-    tree: Tree<Content>,
+    world: World,
     limits: Limits,
     ended: bool,
     alloc: Global,
@@ -39,20 +36,22 @@ pub struct Session {
 
 impl Model for Session {
     ghost use Rattle.dom_session.specs.Stands.{Held};
-    ghost use Rattle.dom_session.specs.Codes.{held_code};
+    ghost use Rattle.std.specs.Coded.{codes};
+    ghost use Rattle.dom_model.specs.Forests.ForestCode.{grove_code};
+    ghost use Rattle.dom_session.specs.Codes.{content_code};
 
     ghost Value = { Held };
 
-    ghost coded = { held_code };
+    ghost coded = { Prim.hlevel (codes, grove_code content_code) };
 
     ghost use Rattle.dom_session.specs.Bounding.{bounds_of};
 
-    ghost view = { λ s. record { tree = s.tree; bounds = bounds_of s.limits; ended = s.ended } };
+    ghost view = { λ s. record { world = s.world; bounds = bounds_of s.limits; ended = s.ended } };
 
-    ghost use Rattle.std.specs.Prelude.{◌≤◌};
-    ghost use Rattle.dom_session.specs.Stands.{IsSessionForest};
+    ghost use Rattle.std.specs.Prelude.{◌≡◌, ◌≤◌, false};
+    ghost use Rattle.dom_edit.specs.Whole.{IsShown};
 
-    ghost invariant = { λ s. (s.limits.numbers ≤ 4294967295) × IsSessionForest s.tree.forest };
+    ghost invariant = { λ s. (s.limits.numbers ≤ 4294967295) × (s.ended ≡ false → IsShown s.world) };
 }
 
 impl Session {
@@ -63,12 +62,9 @@ impl Session {
         ensures first { IfOk result (λ session. StandsFor session first_world) }
         ensures bounds { IfOk result (λ session. session.bounds ≡ bounds_of limits) }
     {
-        let mut tree = Tree::new(alloc);
-        let body = Content::of_text(alloc, Units::new(alloc));
-        tree.make(document_label(alloc), body, None)?;
-        tree.sound();
+        let world = World::new(alloc)?;
         Ok(Session {
-            tree,
+            world,
             limits,
             ended: false,
             alloc,
@@ -79,7 +75,7 @@ impl Session {
     pub fn apply(&mut self, command: Command) -> Result<Reply, Ended>
         // For every world that the session stands for, the reply is that world's answer, and the session stands for its next world.
         ensures answers { IfOk result
-            (λ reply. (w : World) → StandsFor self.old w → IsAnswered reply w self.old self.new (command_view command)) }
+            (λ reply. (w : PlainWorld) → StandsFor self.old w → IsAnswered reply w self.old self.new (command_view command)) }
         ensures refused { IfOk result (λ reply. is_refusal (reply_view reply) ≡ true → self.new ≡ self.old) }
         ensures ended { OnErr result (self.new.ended ≡ true) }
         ensures stays_ended { self.old.ended ≡ true → IsErr result }
@@ -88,8 +84,7 @@ impl Session {
         if self.ended {
             return Err(Ended);
         }
-        self.tree.sound();
-        match answered(&mut self.tree, self.limits.numbers, self.alloc, command) {
+        match answered(&mut self.world, self.limits.numbers, self.alloc, command) {
             Ok(reply) => Ok(reply),
             Err(_) => {
                 self.ended = true;

@@ -5,13 +5,14 @@ use Rattle.dom_model.specs.Worlds.World.{no_content}
 use Rattle.dom_model.specs.Commands.Answer.{named}
 use Rattle.dom_model.specs.Commands.Command.{CreateElement}
 use Rattle.dom_session.specs.Limiting.{numbered}
-use Rattle.dom_session.proofs.Steps.{IsStep-makes, answer-create_element}
+use Rattle.dom_session.proofs.Steps.{step-makes, answer-create_element}
 use Rattle.dom_session.proofs.making.create_element.Goals as goal
 
 pub returns-clause-step : goal.returns-clause-step
 returns-clause-step c =
     let name = string_bytes c.args.name in
     let valid : is_element_name name ≡ true = cc in
-    IsStep-makes c.args.tree.now c.make.new.self (numbered c.args.numbers) (CreateElement c.args.document name) c.args.document (named Element name) no_content c.number.result
-    (λ w shown. answer-create_element c.args.tree.now c.args.numbers c.args.document name w shown (sym c.in_default.ensures) valid)
-    (rw (c.label.ensures, c.of_text-body.ensures, c.new.ensures) at c.in_ok-id.ensures.made) c.sound.ensures refl (c.number.ensures ∙ c.in_ok-id.ensures.number)
+    step-makes c.args.world.now c.make.new.self (numbered c.args.numbers) (CreateElement c.args.document name) c.args.document c.number.result (named Element name) no_content
+    (λ w shown. answer-create_element c.args.world.now c.args.numbers c.args.document name w shown (sym c.in_default.ensures) valid)
+    (c.number.ensures ∙ c.in_ok-id.ensures.number)
+    (rw (c.label.ensures, c.of_text-body.ensures, c.new.ensures) at c.in_ok-id.ensures.made) c.make.ensures.whole

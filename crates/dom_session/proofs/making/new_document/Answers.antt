@@ -3,13 +3,14 @@ use Rattle.std.proofs.lemmas.Bool.Decides.{nat_tests}
 use Rattle.dom_model.specs.Worlds.World.{no_content, document_label}
 use Rattle.dom_model.specs.Commands.Command.{NewDocument}
 use Rattle.dom_session.specs.Limiting.{numbered}
-use Rattle.dom_session.proofs.Steps.{IsStep-makes, answer-new_document}
+use Rattle.dom_session.proofs.Steps.{step-makes, answer-new_document}
 use Rattle.dom_session.proofs.making.new_document.Goals as goal
 
 pub returns-clause-step : goal.returns-clause-step
 returns-clause-step c =
-    let old = c.args.tree.now in
-    let room : nat_lt c.args.numbers (old.made + 1) ≡ false = grind (arith, nat_tests) in
-    IsStep-makes old c.make.new.self (numbered c.args.numbers) NewDocument old.made document_label no_content c.number.result
+    let old = c.args.world.now in
+    let room : nat_lt c.args.numbers (old.tree.made + 1) ≡ false = grind (arith, nat_tests) in
+    step-makes old c.make.new.self (numbered c.args.numbers) NewDocument old.tree.made c.number.result document_label no_content
     (λ w shown. answer-new_document old c.args.numbers w shown room)
-    (rw (c.document_label.ensures, c.of_text-body.ensures, c.new.ensures) at c.in_ok-id.ensures.made) c.sound.ensures refl (c.number.ensures ∙ c.in_ok-id.ensures.number)
+    (c.number.ensures ∙ c.in_ok-id.ensures.number)
+    (rw (c.document_label.ensures, c.of_text-body.ensures, c.new.ensures) at c.in_ok-id.ensures.made) c.make.ensures.whole

@@ -1,16 +1,16 @@
 use Rattle.dom_session.specs.Bounding.{bounds_of}
 use Rattle.dom_session.specs.Limiting.{numbered}
 use Rattle.dom_session.specs.Views.{command_view}
-use Rattle.dom_session.proofs.Applying.{IsSessionForest-step, IsAnswered-step}
+use Rattle.dom_session.proofs.Applying.{IsShown-step, IsAnswered-step}
 use Rattle.dom_session.proofs.session.Session.apply.Goals as goal
 
 pub invariant_of-self : goal.invariant_of-self
 invariant_of-self c =
-    (c.self.invariant.0, IsSessionForest-step c.self.inside.tree c.answered.new.tree (numbered c.self.inside.limits.numbers) (command_view c.args.command) c.in-Ok.reply c.sound.ensures c.self.invariant.1 c.in-Ok.ensures.step)
+    (c.self.invariant.0, λ on. IsShown-step c.self.inside.world c.answered.new.world (numbered c.self.inside.limits.numbers) (command_view c.args.command) c.in-Ok.reply (c.self.invariant.1 on) c.in-Ok.ensures.step)
 
 pub returns-in-Ok-clause-answers : goal.returns-in-Ok-clause-answers
 returns-in-Ok-clause-answers c =
     rw (← c.self.view_is)
-    (IsAnswered-step (record { tree = c.self.inside.tree; bounds = bounds_of c.self.inside.limits; ended = c.self.inside.ended })
-    (record { tree = c.answered.new.tree; bounds = bounds_of c.self.inside.limits; ended = c.self.inside.ended })
+    (IsAnswered-step (record { world = c.self.inside.world; bounds = bounds_of c.self.inside.limits; ended = c.self.inside.ended })
+    (record { world = c.answered.new.world; bounds = bounds_of c.self.inside.limits; ended = c.self.inside.ended })
     c.args.command c.in-Ok.reply c.in-Ok.ensures.step)

@@ -1,0 +1,61 @@
+-- What each command's proof is made of: a refusal, an answer that leaves the world, and a step that the world of the code follows.
+use Rattle.std.proofs.Common.{◌≡◌, Bool, true, false, List, [], ◌∷◌, Option, Some, None, refl, sym, ap, ◌∙◌, subst}
+use Rattle.std.specs.Prelude.{if◌then◌else◌}
+use Rattle.dom_model.specs.Worlds.World as model
+use Rattle.dom_model.specs.Commands.Command.{Command}
+use Rattle.dom_model.specs.Commands.Reply as model_reply
+use Rattle.dom_model.specs.Commands.Answer.{Bounds, Step, guarded, refused, answer}
+use Rattle.dom_model.specs.MutationAlgorithms.Checks.{first_refusal}
+use Rattle.dom_model.specs.Worlds.Sound.{IsSound}
+use Rattle.dom_model.proofs.Soundness.SoundAnswers.{sound-answer}
+use Rattle.dom_edit.specs.declared.world.World.{World}
+use Rattle.dom_edit.specs.Whole.{IsWhole, Shows, Follows}
+use Rattle.dom_session.specs.declared.reply.Reply.{Reply}
+use Rattle.dom_session.specs.Views.{reply_view}
+use Rattle.dom_session.specs.Stands.{IsStep}
+
+-- where none of the tests holds, the step is taken
+pub guarded-none : (cs : List (Bool × model_reply.Reply)) (w : model.World) (s : Step) → first_refusal cs ≡ None → guarded cs w s ≡ s
+guarded-none [] w s h = refl
+guarded-none (c ∷ cs) w s h = at c.0 (first_refusal cs) (guarded cs w s) c.1 (guarded-none cs w s) h
+  where
+    at : (t : Bool) (o : Option model_reply.Reply) (rest : Step) (r : model_reply.Reply) → (o ≡ None → rest ≡ s) → (if t then Some r else o) ≡ None → (if t then refused r w else rest) ≡ s
+    at true o rest r more e = absurd (cc e)
+    at false o rest r more e = more e
+
+-- where one holds, its refusal is the answer
+pub guarded-some : (cs : List (Bool × model_reply.Reply)) (w : model.World) (s : Step) (r : model_reply.Reply) → first_refusal cs ≡ Some r → guarded cs w s ≡ refused r w
+guarded-some [] w s r h = absurd (cc h)
+guarded-some (c ∷ cs) w s r h = at c.0 (first_refusal cs) (guarded cs w s) c.1 (guarded-some cs w s r) h
+  where
+    at : (t : Bool) (o : Option model_reply.Reply) (rest : Step) (x : model_reply.Reply) → (o ≡ Some r → rest ≡ refused r w) → (if t then Some x else o) ≡ Some r → (if t then refused x w else rest) ≡ refused r w
+    at true o rest x more e = let same : x ≡ r = cc e in ap (λ y. refused y w) same
+    at false o rest x more e = more e
+
+module _ (b : Bounds) (c : Command) (reply : Reply) where
+  -- A step that the world of the code follows. What the reply is may be read off the world that is shown.
+  pub step-follows : (old new : World) (step : model.World → model.World) → ((w : model.World) → Shows old w → answer b w c ≡ record { reply = reply_view reply; world = step w }) → Follows old new step → IsWhole new → IsStep old new b c reply
+  step-follows old new step e f whole = record {
+    reply_is = λ w shown. sym (ap (λ (s : Step). s.reply) (e w shown));
+    world_is = λ w shown.
+        let P : model.World → Type 0 = λ v. IsSound v in
+        let same : (answer b w c).world ≡ step w = ap (λ (s : Step). s.world) (e w shown) in
+        let sound : IsSound (step w) = subst P same (sound-answer b w c shown.sound) in
+        let Q : model.World → Type 0 = λ v. Shows new v in
+        let next : Shows new (step w) = record {
+          keeps = f.keeps w shown.keeps;
+          watched = f.watches w shown.keeps shown.watched;
+          sound = sound;
+          whole = whole;
+        } in
+        subst Q (sym same) next;
+  }
+
+  -- an answer, or a refusal, that leaves the world
+  pub step-stays : (v : World) → ((w : model.World) → Shows v w → answer b w c ≡ record { reply = reply_view reply; world = w }) → IsStep v v b c reply
+  step-stays v e = record {
+    reply_is = λ w shown. sym (ap (λ (s : Step). s.reply) (e w shown));
+    world_is = λ w shown.
+        let Q : model.World → Type 0 = λ u. Shows v u in
+        subst Q (sym (ap (λ (s : Step). s.world) (e w shown))) shown;
+  }

@@ -1,0 +1,28 @@
+-- What stands in the way of a command, asked of the world of the code.
+use Rattle.std.specs.Prelude.{◌≡◌, ℕ, ◌+◌, nat_lt, false, not, [], ◌∷◌, Bool, Option, Some, None, is_none}
+use Rattle.dom_model.specs.declared.Kind.{Kind}
+use Rattle.dom_model.specs.declared.Kind.TheVariants.{Document}
+use Rattle.dom_model.specs.declared.DomError.TheVariants.{TypeError}
+use Rattle.dom_model.specs.declared.OwnError.TheVariants.{NoSuchObject, Limit}
+use Rattle.dom_model.specs.Forests.Kinds.{is_kind}
+use Rattle.dom_model.specs.Forests.Forest.{entry_in}
+use Rattle.dom_model.specs.MutationAlgorithms.Checks.{first_refusal, kind_passes}
+use Rattle.dom_model.specs.Commands.Reply as model
+use Rattle.dom_edit.specs.declared.world.World.{World}
+
+-- no node of that number
+abbrev pub lacks_node : World → ℕ → Bool
+lacks_node v n = is_none (entry_in v.tree.forest n)
+
+-- no node of that number, where one is given
+abbrev pub lacks_given : World → Option ℕ → Bool
+lacks_given v None = false
+lacks_given v (Some n) = lacks_node v n
+
+-- what stands in the way of a new node in a document: no such node, not a Document, no number left
+abbrev pub making_refusal : World → ℕ → ℕ → Option model.Reply
+making_refusal v numbers document =
+    first_refusal ((lacks_node v document, model.Own NoSuchObject)
+    ∷ (not (kind_passes (is_kind Document) v.tree.forest document), model.Dom TypeError)
+    ∷ (nat_lt numbers (v.tree.made + 1), model.Own Limit)
+    ∷ [])
