@@ -6,11 +6,15 @@ mod command;
 mod editing;
 pub mod laws;
 mod making;
+mod observing;
 mod printing;
+mod questions;
+mod ranging;
 mod reply;
 mod session;
 #[cfg(test)]
 mod tests;
+mod traversing;
 
 pub use command::Command;
 pub use dom_attrs::Attrs;

@@ -5,12 +5,14 @@ ghost use Rattle.dom_model.specs.Worlds.World.{document_label};
 ghost use Rattle.dom_model.specs.Commands.Answer.{named};
 ghost use Rattle.dom_model.specs.Commands.Command.{NewDocument, CreateElement, CreateText};
 ghost use Rattle.dom_model.specs.Commands.Reply.{is_refusal};
-ghost use Rattle.dom_session.specs.Views.{reply_view};
+ghost use Rattle.dom_session.specs.Views.{command_view, reply_view};
 ghost use Rattle.dom_edit.specs.Whole.{IsShown};
 ghost use Rattle.dom_session.specs.Stands.{IsStep};
 ghost use Rattle.dom_session.specs.Refusing.{making_refusal};
 ghost use Rattle.dom_session.specs.Limiting.{numbered};
 
+use crate::command::Command;
+use crate::editing::edit_tree;
 use crate::reply::{Answer, Reply};
 use dom_edit::{Content, World};
 use dom_kinds::{DomError, Kind, Label, is_element_name};
@@ -55,11 +57,7 @@ fn refusal(world: &World, numbers: u64, document: NodeId) -> Option<Reply>
 }
 
 /// Makes a Document.
-pub fn new_document(
-    world: &mut World,
-    numbers: u64,
-    alloc: Global,
-) -> Result<Reply, AllocError>
+pub fn new_document(world: &mut World, numbers: u64, alloc: Global) -> Result<Reply, AllocError>
     requires numbers { numbers ≤ 4294967295 }
     requires shown { IsShown world.old }
     ensures step { IfOk result (IsStep world.old world.new (numbered numbers) NewDocument) }
@@ -93,7 +91,12 @@ pub fn create_element(
         return Ok(Reply::Dom(DomError::InvalidCharacterError));
     }
     let body = Content::of_text(alloc, Units::new(alloc));
-    let id = world.make(alloc, label(alloc, Kind::Element, name), body, Some(document))?;
+    let id = world.make(
+        alloc,
+        label(alloc, Kind::Element, name),
+        body,
+        Some(document),
+    )?;
     Ok(Reply::Done(Answer::Number(id.number())))
 }
 
@@ -116,4 +119,26 @@ pub fn create_text(
     let label = label(alloc, Kind::Text, String::new(alloc));
     let id = world.make(alloc, label, Content::of_text(alloc, text), Some(document))?;
     Ok(Reply::Done(Answer::Number(id.number())))
+}
+
+/// Answers the commands that make nodes.
+pub fn make_nodes(
+    world: &mut World,
+    numbers: u64,
+    alloc: Global,
+    command: Command,
+) -> Result<Reply, AllocError>
+    requires numbers { numbers ≤ 4294967295 }
+    requires shown { IsShown world.old }
+    ensures step { IfOk result (IsStep world.old world.new (numbered numbers) (command_view command)) }
+    ensures refused { IfOk result (λ reply. is_refusal (reply_view reply) ≡ true → world.new ≡ world.old) }
+{
+    match command {
+        Command::NewDocument => new_document(world, numbers, alloc),
+        Command::CreateElement(document, name) => create_element(
+            world, numbers, alloc, document, name,
+        ),
+        Command::CreateText(document, text) => create_text(world, numbers, alloc, document, text),
+        other => edit_tree(world, numbers, alloc, other),
+    }
 }
