@@ -3,3 +3,4 @@ pub mod Leaves
 pub mod Placing
 pub mod Following
 pub mod Queuing
+pub mod Leaving
