@@ -4,6 +4,7 @@
 mod checks;
 mod content;
 mod edits;
+mod records;
 mod refusal;
 mod removing;
 mod surroundings;
