@@ -5,4 +5,4 @@ mod copying;
 mod standing;
 
 pub use copying::{clone_node, import};
-pub use standing::contains;
+pub use standing::{contains, position};

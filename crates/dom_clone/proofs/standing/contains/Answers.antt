@@ -1,5 +1,5 @@
 use Rattle.std.proofs.Common.{sym, ◌∙◌}
-use Rattle.dom_clone.proofs.Standing.{contains-absent}
+use Rattle.dom_clone.proofs.Positions.{contains-absent}
 use Rattle.dom_clone.proofs.standing.contains.Goals as goal
 
 pub returns-else-holds : goal.returns-else-holds
