@@ -1,0 +1,8 @@
+use Rattle.std.proofs.Common.{sym, ◌∙◌}
+use Rattle.dom_clone.proofs.Positions.{contains-absent}
+use Rattle.dom_clone.proofs.standing.contains.Goals as goal
+
+pub returns-else-holds : goal.returns-else-holds
+returns-else-holds c =
+    let out = c.if-holds.false in
+    out ∙ sym (contains-absent c.args.tree.now.forest c.args.node c.args.other (sym c.holds.ensures ∙ out))
