@@ -2,3 +2,5 @@ pub mod AmongChildren
 pub mod Leaves
 pub mod Placing
 pub mod Following
+pub mod PlacedRoots
+pub mod PlacedWorlds

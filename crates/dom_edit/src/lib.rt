@@ -4,6 +4,8 @@
 mod checks;
 mod content;
 mod edits;
+mod putting;
+mod records;
 mod refusal;
 mod removing;
 mod surroundings;
