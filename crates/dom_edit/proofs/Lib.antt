@@ -4,3 +4,5 @@ pub mod Placing
 pub mod Following
 pub mod Queuing
 pub mod Leaving
+pub mod PlacedRoots
+pub mod PlacedWorlds

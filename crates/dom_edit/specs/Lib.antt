@@ -1,3 +1,4 @@
 pub mod Places
 pub mod Whole
 pub mod Refusals
+pub mod Inserting

@@ -1,0 +1,74 @@
+-- The world of the code once roots have come in under a parent.
+use Rattle.std.proofs.Common.{◌≡◌, ℕ, ◌<◌, List, length, Option, ap, sym, ◌∙◌, subst}
+use Rattle.std.proofs.lemmas.List.Elements.{All-weaker}
+use Rattle.dom_model.specs.Forests.Forest.{Forest, Grove, HasNode}
+use Rattle.dom_model.specs.Worlds.World.{Content, Range}
+use Rattle.dom_model.specs.Worlds.World as model
+use Rattle.dom_model.specs.Worlds.Sound.{IsSound}
+use Rattle.dom_model.specs.MutationAlgorithms.Editing.{put_all, gap_before}
+use Rattle.dom_model.proofs.Forests.Entries.{HasNode-occurs, occurs-HasNode}
+use Rattle.dom_model.proofs.Soundness.SoundPlacing.{sound-put_all}
+use Rattle.dom_observe.specs.Watchers.{Watches}
+use Rattle.dom_edit.specs.declared.world.World.{World}
+use Rattle.dom_edit.specs.Whole.{AreHeld, IsWhole, Keeps, Follows, unwatched}
+use Rattle.dom_edit.specs.Inserting.{all_placed, with_room, IsOpen}
+use Rattle.dom_edit.proofs.Following.{keeps-unwatched, whole-sound}
+use Rattle.dom_edit.proofs.PlacedRoots.{placed-world, placed-all}
+use Rattle.dom_model.specs.Worlds.Sound.{IsRegistration}
+use Rattle.std.proofs.lemmas.List.Elements.{All-nil}
+
+-- a whole world is sound, as one in which nobody watches
+pub sound-unwatched : (v : World) → IsWhole v → IsSound (unwatched v)
+sound-unwatched v h = record {
+  forest = h.forest;
+  ranges = h.ranges;
+  iterators = h.iterators;
+  walkers = h.walkers;
+  registrations = All-nil (IsRegistration v.tree.forest);
+}
+
+-- the world with room made, and the roots in
+abbrev pub with_placed : ℕ → Option ℕ → List ℕ → World → World
+with_placed parent child nodes v = record v {
+  tree = record v.tree { forest = all_placed parent child nodes v.tree.forest };
+  ranges = record v.ranges { ranges = with_room v.tree.forest parent child (length nodes) v.ranges.ranges };
+}
+
+-- the two steps of the definitions
+abbrev pub placing : ℕ → Option ℕ → List ℕ → model.World → model.World
+placing parent child nodes w = put_all parent child nodes (gap_before parent child (length nodes) w)
+
+pub follows-placing : (parent : ℕ) (child : Option ℕ) (nodes : List ℕ) (v : World) → Follows v (with_placed parent child nodes v) (placing parent child nodes)
+follows-placing parent child nodes v = record {
+  keeps = λ w k.
+      let e = sym (placed-world parent child nodes w) in
+      subst (Keeps (with_placed parent child nodes v)) e (record {
+        forest = ap (all_placed parent child nodes) k.forest;
+        made = k.made;
+        ranges = ap (λ (f : Forest Content). with_room f parent child (length nodes) w.ranges) k.forest ∙ ap (with_room v.tree.forest parent child (length nodes)) k.ranges;
+        static_ranges = k.static_ranges;
+        iterators = k.iterators;
+        walkers = k.walkers;
+      });
+  watches = λ w k o.
+      let e = sym (placed-world parent child nodes w) in
+      subst (λ (x : model.World). Watches v.observers x.observing) e o;
+}
+
+pub whole-placed : (parent : ℕ) (child : Option ℕ) (nodes : List ℕ) (v : World) → IsWhole v → IsOpen v.tree.forest parent child nodes → IsWhole (with_placed parent child nodes v)
+whole-placed parent child nodes v h ready =
+    let new = with_placed parent child nodes v in
+    let placed = placed-all v.tree h.forest parent child nodes ready (record { documents = h.documents; owners = h.owners }) in
+    let there : (m : ℕ) → HasNode v.tree.forest m → HasNode new.tree.forest m = λ m i. HasNode-occurs new.tree.forest m (subst (λ x. 0 < x) (sym (placed.numbers m)) (occurs-HasNode v.tree.forest m i)) in
+    whole-sound new (placing parent child nodes (unwatched v)) ((follows-placing parent child nodes v).keeps (unwatched v) (keeps-unwatched v))
+    (sound-put_all parent child nodes (unwatched v) (sound-unwatched v h) ready.parent_there ready.placeable ready.before_child)
+    placed.owned.documents placed.owned.owners h.covered
+    (All-weaker (AreHeld v.tree.forest) (AreHeld new.tree.forest) (λ r i. record { start = there r.start.node i.start; end = there r.end.node i.end }) v.statics h.statics)
+
+-- room is made, and then the tree changes
+pub placed-is : (parent : ℕ) (child : Option ℕ) (nodes : List ℕ) (v u : World) (t : Grove Content) →
+    u ≡ record v { ranges = record v.ranges { ranges = with_room v.tree.forest parent child (length nodes) v.ranges.ranges } } →
+    t ≡ record u.tree { forest = all_placed parent child nodes u.tree.forest } → with_placed parent child nodes v ≡ record u { tree = t }
+placed-is parent child nodes v u t e d =
+    sym (ap (λ (s : Grove Content). record u { tree = s }) d
+    ∙ ap (λ (x : World). record x { tree = record x.tree { forest = all_placed parent child nodes x.tree.forest } }) e)

@@ -1,0 +1,18 @@
+use Rattle.std.proofs.Common.{ℕ, List, Option, ap, sym, ◌∙◌, subst, length}
+use Rattle.dom_model.specs.Worlds.World.{Range}
+use Rattle.dom_edit.specs.Inserting.{IsOpen}
+use Rattle.dom_edit.proofs.PlacedRoots.{room-fits, room-elsewhere}
+use Rattle.dom_edit.proofs.world.World.make_room.Goals as goal
+
+pub returns-then-not-stands_in : goal.returns-then-not-stands_in
+returns-then-not-stands_in c =
+    let v = c.args.self.now in
+    ap (λ (rs : List (Option Range)). record v { ranges = record v.ranges { ranges = rs } })
+    (sym (room-elsewhere v.tree.forest c.args.parent c.args.child (length c.args.nodes.now) v.ranges.ranges (sym c.stands_in.ensures ∙ c.if-not-stands_in.true)))
+
+pub gap-requires : goal.gap-requires
+gap-requires c =
+    let v = c.args.self.now in
+    let ready = subst (λ (b : Option ℕ). IsOpen v.tree.forest c.args.parent b c.args.nodes.now) c.in-Some.is c.requires.ready in
+    let small = rw c.live.ensures at c.live.type_inv in
+    room-fits v.tree c.requires.whole.forest c.args.parent c.in-Some.child c.args.nodes.now c.index_under-index.result ready small v.ranges.ranges c.requires.whole.ranges

@@ -1,0 +1,15 @@
+use Rattle.std.proofs.Common.{subst}
+use Rattle.dom_edit.specs.declared.world.World.{World}
+use Rattle.dom_edit.specs.Whole.{IsWhole, Follows}
+use Rattle.dom_edit.proofs.PlacedWorlds.{placing, follows-placing, whole-placed, placed-is}
+use Rattle.dom_edit.proofs.world.World.place.Goals as goal
+
+pub returns-clause-placed : goal.returns-clause-placed
+returns-clause-placed c =
+    let e = placed-is c.args.parent c.args.child c.args.nodes.now c.args.self.now c.make_room.new.self c.put_all.new.tree c.make_room.ensures c.put_all.ensures in
+    subst (λ (u : World). Follows c.args.self.now u (placing c.args.parent c.args.child c.args.nodes.now)) e (follows-placing c.args.parent c.args.child c.args.nodes.now c.args.self.now)
+
+pub returns-clause-whole : goal.returns-clause-whole
+returns-clause-whole c =
+    let e = placed-is c.args.parent c.args.child c.args.nodes.now c.args.self.now c.make_room.new.self c.put_all.new.tree c.make_room.ensures c.put_all.ensures in
+    subst IsWhole e (whole-placed c.args.parent c.args.child c.args.nodes.now c.args.self.now c.requires.whole c.requires.ready)

@@ -1,0 +1,28 @@
+-- What comes in under a parent: nodes one after another, and the live range ends that make room for them.
+-- DOM Standard, "Mutation algorithms" (insert), "Live ranges".
+use Rattle.std.specs.Prelude.{ℕ, ◌<◌, List, [], ◌∷◌, Option, Some, None}
+use Rattle.dom_model.specs.Forests.Forest.{Forest, entry_in, occurs, index_of, put, adopted}
+use Rattle.dom_model.specs.Worlds.World.{Content, Range}
+use Rattle.dom_model.specs.BoundaryPoints.Points.{after_gap, map_ranges}
+use Rattle.dom_model.specs.MutationAlgorithms.Editing.{document_in}
+use Rattle.dom_model.proofs.Soundness.SoundPlacing.{ArePlaceable, IsChildOf}
+
+-- one root put under a parent, in the parent's node document
+abbrev pub placed_in : ℕ → Option ℕ → ℕ → Forest Content → Forest Content
+placed_in parent child n f = adopted n (document_in (entry_in f parent)) (put parent n child f)
+
+-- several, one after another
+abbrev pub all_placed : ℕ → Option ℕ → List ℕ → Forest Content → Forest Content
+all_placed parent child [] f = f
+all_placed parent child (n ∷ ns) f = all_placed parent child ns (placed_in parent child n f)
+
+-- live ranges that have made room before a child
+abbrev pub with_room : Forest Content → ℕ → Option ℕ → ℕ → List (Option Range) → List (Option Range)
+with_room f parent None count rs = rs
+with_room f parent (Some c) count rs = map_ranges (after_gap parent (index_of f c) count) rs
+
+-- roots that may be put under a parent, before a child of it or last
+pub record IsOpen (f : Forest Content) (parent : ℕ) (child : Option ℕ) (nodes : List ℕ) : Type 0 where
+  pub parent_there : 0 < occurs parent f
+  pub before_child : IsChildOf f parent child
+  pub placeable : ArePlaceable f parent nodes

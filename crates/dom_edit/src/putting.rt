@@ -1,0 +1,87 @@
+//! Roots come in under a parent (DOM Standard, "Mutation algorithms", insert; "Live ranges"). Nothing here takes memory.
+
+ghost use Rattle.std.specs.Prelude.{◌≡◌, length};
+ghost use Rattle.dom_model.specs.Forests.Forest.{index_of, parent_of};
+ghost use Rattle.dom_model.proofs.MutationAlgorithms.OwnersKept.{IsOwnedWell};
+ghost use Rattle.dom_model.specs.MutationAlgorithms.Editing.{put_all, gap_before};
+ghost use Rattle.dom_edit.specs.Inserting.{placed_in, all_placed, with_room, IsOpen};
+ghost use Rattle.dom_edit.specs.Whole.{IsWhole, Follows};
+ghost use Rattle.std.specs.Prelude.{Some, [], ◌∷◌};
+
+use crate::content::Content;
+use crate::world::World;
+use dom_tree::{NodeId, Tree};
+
+// Puts a root in, in the parent's node document. The nodes under it are asked of only where they have another one.
+fn put_in(tree: &mut Tree<Content>, parent: NodeId, child: Option<NodeId>, node: NodeId)
+    requires owned { IsOwnedWell tree.old.forest }
+    requires ready { IsOpen tree.old.forest parent child (node ∷ []) }
+    ensures { tree.new ≡ record tree.old { forest = placed_in parent child node tree.old.forest } }
+{
+    tree.sound();
+    let document = tree.document_of(parent);
+    let own = tree.document_of(node);
+    tree.put(parent, node, child);
+    tree.sound();
+    if own != document {
+        tree.set_document(node, document);
+    }
+}
+
+// Puts roots in, one after another.
+fn put_all(tree: &mut Tree<Content>, parent: NodeId, child: Option<NodeId>, nodes: &[NodeId])
+    requires owned { IsOwnedWell tree.old.forest }
+    requires ready { IsOpen tree.old.forest parent child nodes.now }
+    ensures { tree.new ≡ record tree.old { forest = all_placed parent child nodes.now tree.old.forest } }
+{
+    for node in nodes {
+        tree.sound();
+        let before = child;
+        put_in(tree, parent, before, *node);
+    }
+}
+
+// The index of a child. Where it is not known all children of the parent are numbered.
+fn index_under(tree: &mut Tree<Content>, parent: NodeId, child: NodeId) -> usize
+    requires { parent_of tree.old.forest child ≡ Some parent }
+    ensures index { result ≡ index_of tree.old.forest child }
+    ensures unchanged { tree.new ≡ tree.old }
+{
+    tree.sound();
+    if let Some(index) = tree.kept_index(child) {
+        return index;
+    }
+    tree.number_children(parent);
+    tree.index(child)
+}
+
+impl World {
+    // Live range ends behind a child make room for nodes before it. The child's index is looked for only where an end stands in the parent.
+    fn make_room(&mut self, parent: NodeId, child: Option<NodeId>, nodes: &[NodeId])
+        requires whole { IsWhole self.old }
+        requires ready { IsOpen self.old.tree.forest parent child nodes.now }
+        ensures { self.new ≡ record self.old { ranges = record self.old.ranges { ranges = with_room self.old.tree.forest parent child (length nodes.now) self.old.ranges.ranges } } }
+    {
+        let Some(child) = child else {
+            return;
+        };
+        if !self.ranges.stands_in(parent) {
+            return;
+        }
+        let _ = self.tree.live();
+        let index = index_under(&mut self.tree, parent, child);
+        self.ranges.gap(parent, index, nodes.len());
+    }
+
+    /// Puts roots in under a parent, before a child of it or last, once the live range ends have made room.
+    pub(crate) fn place(&mut self, parent: NodeId, child: Option<NodeId>, nodes: &[NodeId])
+        requires whole { IsWhole self.old }
+        requires ready { IsOpen self.old.tree.forest parent child nodes.now }
+        ensures placed { Follows self.old self.new (λ w. put_all parent child nodes.now (gap_before parent child (length nodes.now) w)) }
+        ensures whole { IsWhole self.new }
+    {
+        let before = child;
+        self.make_room(parent, before, nodes);
+        put_all(&mut self.tree, parent, child, nodes);
+    }
+}
