@@ -4,10 +4,7 @@
 mod checks;
 mod content;
 mod edits;
-<<<<<<< HEAD
-=======
 mod putting;
->>>>>>> 8cb09bbee5f354c96fbec8b2b19837235bbd82e7
 mod records;
 mod refusal;
 mod removing;

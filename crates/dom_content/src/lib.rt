@@ -1,0 +1,10 @@
+//! The contents of live ranges: their text, and how they are deleted, extracted and copied (DOM Standard, "Interface Range").
+#![tactic(auto)]
+
+mod deleting;
+mod drawing;
+mod texts;
+
+pub use deleting::delete_contents;
+pub use drawing::{clone_contents, extract};
+pub use texts::range_text;

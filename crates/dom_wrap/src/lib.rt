@@ -1,0 +1,8 @@
+//! What is put around a live range and into it (DOM Standard, "Interface Range", insertNode, surroundContents).
+#![tactic(auto)]
+
+mod inserting;
+mod surrounding;
+
+pub use inserting::insert_node;
+pub use surrounding::surround;
