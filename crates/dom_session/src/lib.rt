@@ -2,7 +2,10 @@
 #![tactic(auto)]
 
 mod answering;
+mod attributes;
 mod command;
+mod contents;
+mod copies;
 mod editing;
 pub mod laws;
 mod making;
@@ -14,6 +17,7 @@ mod reply;
 mod session;
 #[cfg(test)]
 mod tests;
+mod texts;
 mod traversing;
 
 pub use command::Command;

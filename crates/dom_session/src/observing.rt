@@ -9,6 +9,7 @@ ghost use Rattle.dom_session.specs.Limiting.{numbered};
 
 use crate::command::Command;
 use crate::reply::Reply;
+use crate::texts::change_texts;
 use dom_edit::World;
 use std::alloc::{AllocError, Global};
 
@@ -24,7 +25,5 @@ pub fn watch(
     ensures step { IfOk result (IsStep world.old world.new (numbered numbers) (command_view command)) }
     ensures refused { IfOk result (λ reply. is_refusal (reply_view reply) ≡ true → world.new ≡ world.old) }
 {
-    // no line that is served makes one of the others yet: each ends the session, as want of memory does
-    let _ = (world, numbers, alloc, command);
-    Err(AllocError)
+    change_texts(world, numbers, alloc, command)
 }
