@@ -1,6 +1,9 @@
 //! Copies, equality, and how nodes stand to each other (DOM Standard, "Interface Node", "Interface Document").
 
-ghost use Rattle.std.specs.Prelude.{◌≡◌, ◌≤◌, true, IfOk};
+ghost use Rattle.std.specs.Prelude.{◌≡◌, ◌≤◌, ◌+◌, ◌*◌, nat_lt, true, IfOk};
+ghost use Rattle.dom_model.specs.Forests.Forest.{size};
+ghost use Rattle.dom_model.specs.Commands.Command.{ImportNode, CloneNode, IsEqual, IsContaining, ComparePosition};
+ghost use Rattle.dom_model.specs.Commands.Guards.{Bounds};
 ghost use Rattle.dom_model.specs.Commands.Reply.{is_refusal};
 ghost use Rattle.dom_edit.specs.Whole.{IsShown};
 ghost use Rattle.dom_session.specs.Views.{command_view, reply_view};
@@ -9,9 +12,121 @@ ghost use Rattle.dom_session.specs.Limiting.{numbered};
 
 use crate::command::Command;
 use crate::contents::change_contents;
-use crate::reply::Reply;
-use dom_edit::World;
+use crate::reply::{Answer, Reply};
+use dom_edit::{Refusal, World};
+use dom_kinds::{DomError, Kind};
+use dom_model::OwnError;
+use dom_tree::NodeId;
 use std::alloc::{AllocError, Global};
+
+/// Whether too few numbers are left for a command that copies: twice the nodes in use, and eight.
+pub fn lacks_numbers(world: &World, numbers: u64) -> bool
+    requires { numbers ≤ 4294967295 }
+    ensures { result ≡ nat_lt numbers (world.now.tree.made + (2 * size world.now.tree.forest + 8)) }
+{
+    let made = world.tree.made();
+    let live = world.tree.live();
+    made >= numbers || live >= numbers || numbers - made < 2 * live + 8
+}
+
+/// Copies a node into a document, with or without all below it.
+pub fn import_node(
+    world: &mut World,
+    numbers: u64,
+    alloc: Global,
+    document: NodeId,
+    node: NodeId,
+    deep: bool,
+) -> Result<Reply, AllocError>
+    requires numbers { numbers ≤ 4294967295 }
+    requires shown { IsShown world.old }
+    ensures step { IfOk result (IsStep world.old world.new (numbered numbers) (ImportNode document node deep)) }
+    ensures refused { IfOk result (λ reply. is_refusal (reply_view reply) ≡ true → world.new ≡ world.old) }
+{
+    if !world.tree.holds(document) || !world.tree.holds(node) {
+        return Ok(Reply::Own(OwnError::NoSuchObject));
+    }
+    if world.tree.label(document).kind != Kind::Document {
+        return Ok(Reply::Dom(DomError::TypeError));
+    }
+    if lacks_numbers(world, numbers) {
+        return Ok(Reply::Own(OwnError::Limit));
+    }
+    match dom_clone::import(world, alloc, document, node, deep) {
+        Ok(copy) => Ok(Reply::Done(Answer::Number(copy.number()))),
+        Err(Refusal::Dom(error)) => Ok(Reply::Dom(error)),
+        Err(Refusal::Memory) => Err(AllocError),
+    }
+}
+
+/// Copies a node, with or without all below it.
+pub fn clone_node(
+    world: &mut World,
+    numbers: u64,
+    alloc: Global,
+    node: NodeId,
+    deep: bool,
+) -> Result<Reply, AllocError>
+    requires numbers { numbers ≤ 4294967295 }
+    requires shown { IsShown world.old }
+    ensures step { IfOk result (IsStep world.old world.new (numbered numbers) (CloneNode node deep)) }
+    ensures refused { IfOk result (λ reply. is_refusal (reply_view reply) ≡ true → world.new ≡ world.old) }
+{
+    if !world.tree.holds(node) {
+        return Ok(Reply::Own(OwnError::NoSuchObject));
+    }
+    if lacks_numbers(world, numbers) {
+        return Ok(Reply::Own(OwnError::Limit));
+    }
+    let copy = dom_clone::clone_node(world, alloc, node, deep)?;
+    Ok(Reply::Done(Answer::Number(copy.number())))
+}
+
+/// Whether two nodes are equal; none is equal to no node.
+pub fn is_equal(world: &World, node: NodeId, other: Option<NodeId>) -> Reply
+    requires shown { IsShown world.now }
+    ensures { (b : Bounds) → IsStep world.now world.now b (IsEqual node other) result }
+{
+    if !world.tree.holds(node) {
+        return Reply::Own(OwnError::NoSuchObject);
+    }
+    let Some(other) = other else {
+        return Reply::Done(Answer::Flag(false));
+    };
+    if !world.tree.holds(other) {
+        return Reply::Own(OwnError::NoSuchObject);
+    }
+    Reply::Done(Answer::Flag(dom_clone::is_equal(&world.tree, node, other)))
+}
+
+/// Whether the second is an inclusive descendant of the first; none is of no node.
+pub fn contains(world: &World, node: NodeId, other: Option<NodeId>) -> Reply
+    requires shown { IsShown world.now }
+    ensures { (b : Bounds) → IsStep world.now world.now b (IsContaining node other) result }
+{
+    if !world.tree.holds(node) {
+        return Reply::Own(OwnError::NoSuchObject);
+    }
+    let Some(other) = other else {
+        return Reply::Done(Answer::Flag(false));
+    };
+    if !world.tree.holds(other) {
+        return Reply::Own(OwnError::NoSuchObject);
+    }
+    Reply::Done(Answer::Flag(dom_clone::contains(&world.tree, node, other)))
+}
+
+/// Where the second stands, seen from the first.
+pub fn compare_position(world: &World, node: NodeId, other: NodeId) -> Reply
+    requires shown { IsShown world.now }
+    ensures { (b : Bounds) → IsStep world.now world.now b (ComparePosition node other) result }
+{
+    if !world.tree.holds(node) || !world.tree.holds(other) {
+        return Reply::Own(OwnError::NoSuchObject);
+    }
+    let position = dom_clone::position(&world.tree, node, other);
+    Reply::Done(Answer::Number(u32::from(position)))
+}
 
 /// Answers the commands that copy or compare nodes.
 pub fn copy_nodes(
@@ -25,5 +140,14 @@ pub fn copy_nodes(
     ensures step { IfOk result (IsStep world.old world.new (numbered numbers) (command_view command)) }
     ensures refused { IfOk result (λ reply. is_refusal (reply_view reply) ≡ true → world.new ≡ world.old) }
 {
-    change_contents(world, numbers, alloc, command)
+    match command {
+        Command::ImportNode(document, node, deep) => import_node(
+            world, numbers, alloc, document, node, deep,
+        ),
+        Command::CloneNode(node, deep) => clone_node(world, numbers, alloc, node, deep),
+        Command::IsEqual(node, other) => Ok(is_equal(world, node, other)),
+        Command::IsContaining(node, other) => Ok(contains(world, node, other)),
+        Command::ComparePosition(node, other) => Ok(compare_position(world, node, other)),
+        other => change_contents(world, numbers, alloc, other),
+    }
 }
