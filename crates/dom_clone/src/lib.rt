@@ -2,7 +2,9 @@
 #![tactic(auto)]
 
 mod copying;
+mod equality;
 mod standing;
 
 pub use copying::{clone_node, import};
+pub use equality::is_equal;
 pub use standing::{contains, position};
