@@ -4,3 +4,6 @@ pub mod Placing
 pub mod Following
 pub mod Queuing
 pub mod Leaving
+pub mod Making
+pub mod Beginning
+pub mod Adopting
