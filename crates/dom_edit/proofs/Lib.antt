@@ -6,3 +6,6 @@ pub mod Queuing
 pub mod Leaving
 pub mod PlacedRoots
 pub mod PlacedWorlds
+pub mod Making
+pub mod Beginning
+pub mod Adopting
