@@ -7,3 +7,4 @@ pub mod Leaving
 pub mod Making
 pub mod Beginning
 pub mod Adopting
+pub mod Naming
