@@ -9,3 +9,4 @@ pub mod PlacedWorlds
 pub mod Making
 pub mod Beginning
 pub mod Adopting
+pub mod Naming

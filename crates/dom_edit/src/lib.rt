@@ -3,6 +3,7 @@
 
 mod checks;
 mod content;
+mod discarding;
 mod edits;
 mod putting;
 mod records;
