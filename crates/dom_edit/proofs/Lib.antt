@@ -4,3 +4,4 @@ pub mod Placing
 pub mod Following
 pub mod PlacedRoots
 pub mod PlacedWorlds
+pub mod InsertedNodes

@@ -4,6 +4,7 @@
 mod checks;
 mod content;
 mod edits;
+mod inserting;
 mod putting;
 mod records;
 mod refusal;
