@@ -5,3 +5,4 @@ pub mod Following
 pub mod PlacedRoots
 pub mod PlacedWorlds
 pub mod InsertedNodes
+pub mod ReplacedNodes

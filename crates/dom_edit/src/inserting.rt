@@ -119,6 +119,7 @@ impl World {
         requires whole { IsWhole self.old }
         requires ready { IsOpen self.old.tree.forest parent child nodes.now }
         ensures inserted { OnOk result (Follows self.old self.new (insert_all suppressed parent child nodes.now)) }
+        ensures parent_held { OnOk result (HasNode self.new.tree.forest parent) }
         ensures whole { IsWhole self.new }
     {
         let before = child;
@@ -145,6 +146,7 @@ impl World {
         requires allowed { IsInsertable self.old.tree.forest node parent child }
         requires nodes { nodes.now ≡ entering self.old.tree.forest node }
         ensures inserted { OnOk result (Follows self.old self.new (insert suppressed node parent child)) }
+        ensures parent_held { OnOk result (HasNode self.new.tree.forest parent) }
         ensures whole { IsWhole self.new }
     {
         if nodes.is_empty() {

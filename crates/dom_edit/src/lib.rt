@@ -9,6 +9,7 @@ mod putting;
 mod records;
 mod refusal;
 mod removing;
+mod replacing;
 mod surroundings;
 #[cfg(test)]
 mod tests;
