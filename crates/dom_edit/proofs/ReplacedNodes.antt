@@ -1,29 +1,27 @@
 -- Steps of a replacement, and what is known of the world between them. DOM Standard, "Mutation algorithms": pre-insert, replace, replace all.
-use Rattle.std.specs.Prelude.{IfSome}
-use Rattle.std.proofs.Common.{◌≡◌, ℕ, zero, suc, ◌<◌, ◌≤◌, ◌==◌, Bool, true, false, not, if◌then◌else◌, List, [], ◌∷◌, length, Option, Some, None, refl, ap, sym, ◌∙◌, subst, arith}
-use Rattle.std.proofs.lemmas.Bool.Decides.{nat_tests}
+use Rattle.std.specs.Option.{ForSome}
+use Rattle.std.proofs.Common.{◌≡◌, ℕ, zero, suc, ◌<◌, ◌≤◌, ◌==◌, Bool, true, false, if◌then◌else◌, List, [], ◌∷◌, length, Option, Some, None, refl, ap, sym, ◌∙◌, subst, arith}
 use Rattle.dom_model.specs.declared.Kind.TheVariants.{DocumentFragment}
 use Rattle.dom_model.specs.declared.DomError.TheVariants.{HierarchyRequestError}
-use Rattle.dom_model.specs.PlainLists.Lists.{hits, left_out, is_number}
+use Rattle.dom_model.specs.PlainLists.Lists.{hits, is_number}
 use Rattle.dom_model.specs.Forests.Kinds.{is_kind}
 use Rattle.dom_model.specs.Forests.Forest.{Forest, HasNode, occurs, parent_of, children_of, next_of, previous_of, ancestors}
 use Rattle.dom_model.specs.Worlds.World.{Content}
 use Rattle.dom_model.specs.Worlds.World as model
-use Rattle.dom_model.specs.Worlds.Sound.{IsSound}
 use Rattle.dom_model.specs.MutationAlgorithms.Checks.{is_of_kind, kind_refuses, document_refuses_instead, check_insert, check_replace}
 use Rattle.dom_model.specs.MutationAlgorithms.Editing.{remove, remove_all, tree_record, insert, pre_insert, replace, added_by, insert_if_any, replaced_record, replace_all}
-use Rattle.dom_model.proofs.PlainLists.Numbers.{same_or, same, apart}
 use Rattle.dom_model.proofs.Forests.Climbing.{ancestors-there, hits-first}
 use Rattle.dom_model.proofs.Forests.Entries.{HasNode-occurs, occurs-HasNode}
 use Rattle.dom_model.proofs.Forests.Indices.{child-parent, child-there}
 use Rattle.dom_model.proofs.Forests.Lying.{left_out-absent}
 use Rattle.dom_model.proofs.MutationAlgorithms.Emptied.{all_left_out, children-remove, children-remove_all}
-use Rattle.dom_model.proofs.MutationAlgorithms.Loosened.{loosened-remove, loosened-remove_all}
+use Rattle.dom_model.proofs.MutationAlgorithms.Loosened.{IsLoosened, loosened-remove, loosened-remove_all}
 use Rattle.dom_model.proofs.Soundness.SoundWorlds.{child_there}
 use Rattle.dom_model.proofs.Soundness.SoundInserting.{IsInsertable}
 use Rattle.dom_model.proofs.Soundness.SoundEditing.{IsChecked, checks, checks_insert, may_come_before, may_come_instead, insertable-loosened}
 use Rattle.dom_edit.specs.declared.world.World.{World}
 use Rattle.dom_edit.specs.Whole.{IsWhole, Keeps, Follows, unwatched}
+use Rattle.dom_edit.specs.Refusals.{check_only_child}
 use Rattle.dom_edit.specs.Inserting.{entering, entering_if_any, AreThere}
 use Rattle.dom_edit.proofs.Following.{follows-then}
 use Rattle.dom_edit.proofs.PlacedWorlds.{sound-unwatched}
@@ -151,18 +149,28 @@ follows-replace a b c d child n parent previous reference nodes p r e removed in
 
 -- Replace all.
 
-pub insertable-emptied : (a b : World) → IsWhole a → (parent n : ℕ) → HasNode a.tree.forest n → check_insert a.tree.forest parent n None ≡ None → Follows a b (remove_all (children_of a.tree.forest parent)) → IsInsertable b.tree.forest n parent None
-insertable-emptied a b h parent n there checked f =
-    let s = sound-unwatched a h in
-    let ns = children_of a.tree.forest parent in
-    let held : AreThere a.tree.forest ns = λ m i. child-there a.tree.forest h.forest.once m parent i in
-    let l = loosened-remove_all ns (unwatched a) s held in
-    let i = may_come_before (unwatched a) s parent n None (occurs-HasNode a.tree.forest n there) checked in
-    subst (λ (g : Forest Content). IsInsertable g n parent None) (sym (forest-after a b (remove_all ns) f)) (insertable-loosened a.tree.forest (remove_all ns (unwatched a)).forest n parent l i)
+pub children-held : (a : World) → IsWhole a → (parent : ℕ) (removed : List ℕ) → removed ≡ children_of a.tree.forest parent → AreThere a.tree.forest removed
+children-held a h parent removed r m i = child-there a.tree.forest h.forest.once m parent (subst (λ (ns : List ℕ). 0 < hits m ns) r i)
 
-pub entering-kept : (a b : World) → IsWhole a → (parent n : ℕ) → HasNode a.tree.forest n → HasNode a.tree.forest parent → check_insert a.tree.forest parent n None ≡ None → Follows a b (remove_all (children_of a.tree.forest parent)) → entering b.tree.forest n ≡ entering a.tree.forest n
-entering-kept a b h parent n there held checked f =
-    entering-emptied a b h parent n (occurs-HasNode a.tree.forest parent held) (checks_insert a.tree.forest parent n None checked).outside f
+module _ (a b : World) (h : IsWhole a) (parent : ℕ) (removed : List ℕ) (r : removed ≡ children_of a.tree.forest parent) (f : Follows a b (remove_all removed)) where
+  loosened : IsLoosened a.tree.forest b.tree.forest
+  loosened = subst (IsLoosened a.tree.forest) (sym (forest-after a b (remove_all removed) f)) (loosened-remove_all removed (unwatched a) (sound-unwatched a h) (children-held a h parent removed r))
+
+  pub parent-emptied : HasNode a.tree.forest parent → HasNode b.tree.forest parent
+  parent-emptied held = HasNode-occurs b.tree.forest parent (subst (λ x. 0 < x) (sym (loosened.numbers parent)) (occurs-HasNode a.tree.forest parent held))
+
+  pub insertable-only : (node : Option ℕ) → ForSome node (λ n. HasNode a.tree.forest n) → check_only_child a.tree.forest parent node ≡ None → ForSome node (λ n. IsInsertable b.tree.forest n parent None)
+  insertable-only None held checked n e = absurd (cc e)
+  insertable-only (Some m) held checked n e =
+      let d : m ≡ n = cc e in
+      let i = may_come_before (unwatched a) (sound-unwatched a h) parent m None (occurs-HasNode a.tree.forest m (held m refl)) checked in
+      subst (λ k. IsInsertable b.tree.forest k parent None) d (insertable-loosened a.tree.forest b.tree.forest m parent loosened i)
+
+  pub entering-only : HasNode a.tree.forest parent → (node : Option ℕ) → ForSome node (λ n. HasNode a.tree.forest n) → check_only_child a.tree.forest parent node ≡ None → entering_if_any b.tree.forest node ≡ entering_if_any a.tree.forest node
+  entering-only there None held checked = refl
+  entering-only there (Some m) held checked =
+      entering-emptied a b h parent m (occurs-HasNode a.tree.forest parent there) (checks_insert a.tree.forest parent m None checked).outside
+      (subst (λ (ns : List ℕ). Follows a b (remove_all ns)) r f)
 
 -- what comes in with a node that may be given
 pub added-entering : (a : World) (n : Option ℕ) (w : model.World) → Keeps a w → added_by w n ≡ entering_if_any a.tree.forest n

@@ -1,18 +1,21 @@
 //! Nodes come in where others stood (DOM Standard, "Mutation algorithms", pre-insert, replace, replace all).
 
-ghost use Rattle.std.specs.Prelude.{◌≡◌, None, if◌then◌else◌, IfOk, OnOk, true};
+ghost use Rattle.std.specs.Prelude.{◌≡◌, Some, None, MatchResult, if◌then◌else◌, IfOk, OnOk, true};
 ghost use Rattle.std.specs.Option.{ForSome};
 ghost use Rattle.dom_model.specs.PlainLists.Lists.{is_number};
 ghost use Rattle.dom_model.specs.Forests.Forest.{HasNode, next_of};
 ghost use Rattle.dom_model.specs.MutationAlgorithms.Editing.{insert_if_any, replaced_record};
 ghost use Rattle.dom_model.proofs.Soundness.SoundInserting.{IsInsertable};
 ghost use Rattle.dom_edit.specs.Inserting.{listed, entering_if_any};
+ghost use Rattle.dom_edit.specs.Refusals.{check_only_child};
 ghost use Rattle.dom_edit.specs.Whole.{IsWhole, Follows};
 
+use crate::checks::check_insert;
 use crate::content::Content;
 use crate::inserting::{NodeList, entering};
 use crate::surroundings::is_number;
 use crate::world::World;
+use dom_kinds::DomError;
 use dom_tree::{NodeId, Tree};
 use std::alloc::{AllocError, Global};
 
@@ -44,6 +47,22 @@ pub(crate) fn entering_if_any(
     match node {
         Some(node) => entering(tree, alloc, node),
         None => Ok(NodeList::Many(Vec::new(alloc))),
+    }
+}
+
+/// The check of a node, or of nothing, as the only child of a parent.
+pub(crate) fn check_only_child(
+    tree: &Tree<Content>,
+    parent: NodeId,
+    node: Option<NodeId>,
+) -> Result<(), DomError>
+    requires parent_held { HasNode tree.now.forest parent }
+    requires node_held { ForSome node (λ n. HasNode tree.now.forest n) }
+    ensures { MatchResult result (λ _. check_only_child tree.now.forest parent node ≡ None) (λ e. check_only_child tree.now.forest parent node ≡ Some e) }
+{
+    match node {
+        Some(node) => check_insert(tree, parent, node, None),
+        None => Ok(()),
     }
 }
 

@@ -1,4 +1,4 @@
-use Rattle.std.proofs.Common.{◌==◌, length, false, sym, ◌∙◌}
+use Rattle.std.proofs.Common.{sym, ◌∙◌}
 use Rattle.std.proofs.lemmas.Result.{on_ok_weaker}
 use Rattle.dom_edit.proofs.ReplacedNodes.{follows-added, follows-removed}
 use Rattle.dom_edit.proofs.world.World.queue_replaced.Goals as goal
