@@ -10,3 +10,5 @@ pub mod Making
 pub mod Beginning
 pub mod Adopting
 pub mod Naming
+pub mod InsertedNodes
+pub mod ReplacedNodes

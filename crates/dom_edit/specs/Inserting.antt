@@ -1,11 +1,16 @@
 -- What comes in under a parent: nodes one after another, and the live range ends that make room for them.
 -- DOM Standard, "Mutation algorithms" (insert), "Live ranges".
-use Rattle.std.specs.Prelude.{ℕ, ◌<◌, List, [], ◌∷◌, Option, Some, None}
-use Rattle.dom_model.specs.Forests.Forest.{Forest, entry_in, occurs, index_of, put, adopted}
+use Rattle.std.specs.Prelude.{if◌then◌else◌, ℕ, ◌<◌, List, [], ◌∷◌, Option, Some, None}
+use Rattle.dom_model.specs.PlainLists.Lists.{hits}
+use Rattle.dom_model.specs.Forests.Forest.{Forest, entry_in, occurs, children_of, index_of, put, adopted}
 use Rattle.dom_model.specs.Worlds.World.{Content, Range}
 use Rattle.dom_model.specs.BoundaryPoints.Points.{after_gap, map_ranges}
+use Rattle.dom_model.specs.declared.Kind.TheVariants.{DocumentFragment}
+use Rattle.dom_model.specs.MutationAlgorithms.Checks.{is_of_kind}
 use Rattle.dom_model.specs.MutationAlgorithms.Editing.{document_in}
 use Rattle.dom_model.proofs.Soundness.SoundPlacing.{ArePlaceable, IsChildOf}
+use Rattle.dom_edit.specs.declared.inserting.NodeList.{NodeList}
+use Rattle.dom_edit.specs.declared.inserting.NodeList.TheVariants.{One, Many}
 
 -- one root put under a parent, in the parent's node document
 abbrev pub placed_in : ℕ → Option ℕ → ℕ → Forest Content → Forest Content
@@ -26,3 +31,21 @@ pub record IsOpen (f : Forest Content) (parent : ℕ) (child : Option ℕ) (node
   pub parent_there : 0 < occurs parent f
   pub before_child : IsChildOf f parent child
   pub placeable : ArePlaceable f parent nodes
+
+-- each node of a list is there
+abbrev pub AreThere : Forest Content → List ℕ → Type 0
+AreThere f ns = (m : ℕ) → 0 < hits m ns → 0 < occurs m f
+
+-- what comes in with a node: a fragment's children, or the node alone
+abbrev pub entering : Forest Content → ℕ → List ℕ
+entering f n = if is_of_kind DocumentFragment f n then children_of f n else n ∷ []
+
+-- the same of a node that may be given
+abbrev pub entering_if_any : Forest Content → Option ℕ → List ℕ
+entering_if_any f None = []
+entering_if_any f (Some n) = entering f n
+
+-- the nodes of a list
+abbrev pub listed : NodeList → List ℕ
+listed (One nodes) = nodes
+listed (Many nodes) = nodes.items

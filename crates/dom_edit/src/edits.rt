@@ -13,7 +13,10 @@ ghost use Rattle.dom_model.specs.MutationAlgorithms.Editing.{remove, pre_insert,
 ghost use Rattle.dom_edit.specs.Whole.{IsWhole, Follows};
 ghost use Rattle.dom_edit.specs.Refusals.{check_remove_child, check_only_child, check_adopt, IsRefused};
 
+use crate::checks::{check_insert, check_replace};
+use crate::inserting::{children, entering};
 use crate::refusal::Refusal;
+use crate::replacing::{check_only_child, entering_if_any, reference_child};
 use crate::world::World;
 use dom_kinds::{DomError, Kind};
 use dom_tree::NodeId;
@@ -39,8 +42,14 @@ impl World {
         ensures refused { IfErr result (λ e. IsRefused e (check_insert self.old.tree.forest parent node child) self.old self.new) }
         ensures whole { IsWhole self.new }
     {
-        let _ = (alloc, parent, node, child);
-        Err(Refusal::Memory)
+        let given = child;
+        if let Err(error) = check_insert(&self.tree, parent, node, given) {
+            return Err(Refusal::Dom(error));
+        }
+        let reference = reference_child(&self.tree, node, child);
+        let nodes = entering(&self.tree, alloc, node)?;
+        self.insert(alloc, false, node, parent, reference, nodes.as_slice())?;
+        Ok(())
     }
 
     /// Puts a node, or the children of a fragment, in as the last of a parent's children (append).
@@ -75,8 +84,25 @@ impl World {
         ensures refused { IfErr result (λ e. IsRefused e (check_replace self.old.tree.forest parent node child) self.old self.new) }
         ensures whole { IsWhole self.new }
     {
-        let _ = (alloc, parent, node, child);
-        Err(Refusal::Memory)
+        if let Err(error) = check_replace(&self.tree, parent, node, child) {
+            return Err(Refusal::Dom(error));
+        }
+        let previous = self.tree.prev(child);
+        let following = self.tree.next(child);
+        let reference = reference_child(&self.tree, node, following);
+        let nodes = entering(&self.tree, alloc, node)?;
+        self.remove_node(alloc, child, true)?;
+        let before = reference;
+        self.insert(alloc, true, node, parent, before, nodes.as_slice())?;
+        self.queue_tree_record(
+            alloc,
+            parent,
+            nodes.as_slice(),
+            &[child],
+            previous,
+            reference,
+        )?;
+        Ok(())
     }
 
     /// Takes a child out of a parent, or refuses with `NotFoundError` where it does not stand under it (pre-remove).
@@ -129,8 +155,17 @@ impl World {
         ensures refused { IfErr result (λ e. IsRefused e (check_only_child self.old.tree.forest parent node) self.old self.new) }
         ensures whole { IsWhole self.new }
     {
-        let _ = (alloc, parent, node);
-        Err(Refusal::Memory)
+        let asked = node;
+        if let Err(error) = check_only_child(&self.tree, parent, asked) {
+            return Err(Refusal::Dom(error));
+        }
+        let entered = node;
+        let added = entering_if_any(&self.tree, alloc, entered)?;
+        let removed = children(&self.tree, alloc, parent)?;
+        self.remove_all(alloc, removed.as_slice())?;
+        self.insert_if_any(alloc, node, parent, added.as_slice())?;
+        self.queue_replaced(alloc, parent, added.as_slice(), removed.as_slice())?;
+        Ok(())
     }
 
     /// Takes a node out of its parent, and gives it and all that stands under it a node document (adopt).

@@ -5,10 +5,12 @@ mod checks;
 mod content;
 mod discarding;
 mod edits;
+mod inserting;
 mod putting;
 mod records;
 mod refusal;
 mod removing;
+mod replacing;
 mod surroundings;
 #[cfg(test)]
 mod tests;

@@ -60,8 +60,8 @@ pub(crate) fn is_of_kind(tree: &Tree<Content>, node: NodeId, kind: Kind) -> bool
     kind.number() == tree.label(node).kind.number()
 }
 
-// Whether the number is given, and is the node's.
-fn is_number(given: Option<NodeId>, node: NodeId) -> bool
+/// Whether the number is given, and is the node's.
+pub(crate) fn is_number(given: Option<NodeId>, node: NodeId) -> bool
     ensures { result ≡ is_number given node }
 {
     match given {

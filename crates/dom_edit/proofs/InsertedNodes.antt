@@ -1,0 +1,109 @@
+-- Steps of an insertion, and what is known of the world between them. DOM Standard, "Mutation algorithms": insert.
+use Rattle.std.proofs.Common.{◌≡◌, ℕ, zero, suc, ◌<◌, ◌==◌, Bool, true, false, if◌then◌else◌, List, [], ◌∷◌, ◌++◌, length, get_or, Option, refl, ap, sym, ◌∙◌, subst, arith}
+use Rattle.dom_model.specs.declared.Kind.TheVariants.{DocumentFragment}
+use Rattle.dom_model.specs.PlainLists.Lists.{hits}
+use Rattle.dom_model.specs.Forests.Forest.{Forest, HasNode, occurs, children_of}
+use Rattle.dom_model.specs.Worlds.World.{Content}
+use Rattle.dom_model.specs.Worlds.World as model
+use Rattle.dom_model.specs.MutationAlgorithms.Checks.{is_of_kind}
+use Rattle.dom_model.specs.MutationAlgorithms.Editing.{remove, remove_all, nodes_of, is_fragment, emptied_fragment, tree_record, freed, previous_to, insert_all, insert_nodes, insert}
+use Rattle.dom_model.proofs.Forests.Climbing.{hits-first}
+use Rattle.dom_model.proofs.Forests.Entries.{HasNode-occurs}
+use Rattle.dom_model.proofs.Forests.Indices.{child-there}
+use Rattle.dom_model.proofs.MutationAlgorithms.Loosened.{loosened-remove, loosened-remove_all}
+use Rattle.dom_model.proofs.Soundness.SoundInserting.{IsInsertable, IsReady, freed_ready}
+use Rattle.dom_observe.specs.Watchers.{Watches}
+use Rattle.dom_edit.specs.declared.world.World.{World}
+use Rattle.dom_edit.specs.Whole.{IsWhole, Keeps, Follows, unwatched}
+use Rattle.dom_edit.specs.Inserting.{entering, AreThere, IsOpen}
+use Rattle.dom_edit.proofs.Following.{keeps-unwatched, follows-then}
+use Rattle.dom_edit.proofs.PlacedRoots.{placed-all, placed-world}
+use Rattle.dom_edit.proofs.PlacedWorlds.{sound-unwatched, placing}
+
+-- a step that is another one, on all worlds with these parts
+pub follows-as : (a c : World) (s t : model.World → model.World) → ((w : model.World) → Keeps a w → t w ≡ s w) → Follows a c s → Follows a c t
+follows-as a c s t e f = record {
+  keeps = λ w k. subst (Keeps c) (sym (e w k)) (f.keeps w k);
+  watches = λ w k o. subst (λ (x : model.World). Watches c.observers x.observing) (sym (e w k)) (f.watches w k o);
+}
+
+-- the forest after a step
+pub forest-after : (a b : World) (s : model.World → model.World) → Follows a b s → b.tree.forest ≡ (s (unwatched a)).forest
+forest-after a b s f = sym (f.keeps (unwatched a) (keeps-unwatched a)).forest
+
+-- Nodes that are removed one after another.
+
+pub remove_all-more : (ns : List ℕ) (n : ℕ) (w : model.World) → remove_all (ns ++ n ∷ []) w ≡ remove true n (remove_all ns w)
+remove_all-more [] n w = refl
+remove_all-more (m ∷ ns) n w = remove_all-more ns n (remove true m w)
+
+pub item-hit : (xs : List ℕ) (i n : ℕ) → i < length xs → n ≡ get_or xs i n → 0 < hits n xs
+item-hit [] i n lt e = absurd (omega arith)
+item-hit (x ∷ xs) zero n lt e = subst (λ m. 0 < hits m (x ∷ xs)) (sym e) (hits-first x xs)
+item-hit (x ∷ xs) (suc i) n lt e = let h = item-hit xs i n (omega arith) e in omega arith
+
+pub there-removed : (a b : World) (n : ℕ) (suppressed : Bool) → IsWhole a → 0 < occurs n a.tree.forest → Follows a b (remove suppressed n) → (m : ℕ) → 0 < occurs m a.tree.forest → 0 < occurs m b.tree.forest
+there-removed a b n suppressed h i f m j =
+    let l = loosened-remove suppressed n (unwatched a) (sound-unwatched a h) i in
+    subst (λ (g : Forest Content). 0 < occurs m g) (sym (forest-after a b (remove suppressed n) f)) (subst (λ x. 0 < x) (sym (l.numbers m)) j)
+
+pub there-removed_all : (a b : World) (ns : List ℕ) → IsWhole a → AreThere a.tree.forest ns → Follows a b (remove_all ns) → (m : ℕ) → 0 < occurs m a.tree.forest → 0 < occurs m b.tree.forest
+there-removed_all a b ns h i f m j =
+    let l = loosened-remove_all ns (unwatched a) (sound-unwatched a h) i in
+    subst (λ (g : Forest Content). 0 < occurs m g) (sym (forest-after a b (remove_all ns) f)) (subst (λ x. 0 < x) (sym (l.numbers m)) j)
+
+-- What comes in with a node.
+
+pub nodes-entering : (a : World) (n : ℕ) (w : model.World) → Keeps a w → nodes_of w n ≡ entering a.tree.forest n
+nodes-entering a n w k = ap (λ (f : Forest Content). entering f n) k.forest
+
+if_so : {A : Type 0} (t : Bool) (x y : A) → t ≡ true → (if t then x else y) ≡ x
+if_so t x y e = rw e refl
+
+if_not : {A : Type 0} (t : Bool) (x y : A) → t ≡ false → (if t then x else y) ≡ y
+if_not t x y e = rw e refl
+
+-- a fragment's children are there
+pub entering-there : (a : World) (n : ℕ) → IsWhole a → is_of_kind DocumentFragment a.tree.forest n ≡ true → (ns : List ℕ) → ns ≡ entering a.tree.forest n → AreThere a.tree.forest ns
+entering-there a n h k ns e m i =
+    let d = e ∙ if_so (is_of_kind DocumentFragment a.tree.forest n) (children_of a.tree.forest n) (n ∷ []) k in
+    child-there a.tree.forest h.forest.once m n (subst (λ (xs : List ℕ). 0 < hits m xs) d i)
+
+pub freed-fragment : (a : World) (n : ℕ) (ns : List ℕ) → is_of_kind DocumentFragment a.tree.forest n ≡ true → (w : model.World) → Keeps a w → freed n ns w ≡ emptied_fragment n ns w
+freed-fragment a n ns e w k = if_so (is_fragment w n) (emptied_fragment n ns w) (remove false n w) (ap (λ (f : Forest Content). is_of_kind DocumentFragment f n) k.forest ∙ e)
+
+-- once the nodes have left where they stood they may be put
+pub open-freed : (a b : World) (n parent : ℕ) (child : Option ℕ) (ns : List ℕ) → IsWhole a → IsInsertable a.tree.forest n parent child → ns ≡ entering a.tree.forest n → Follows a b (freed n ns) → IsOpen b.tree.forest parent child ns
+open-freed a b n parent child ns h k e f =
+    let r = freed_ready n parent child (unwatched a) (sound-unwatched a h) k in
+    let r2 = subst (λ (ms : List ℕ). IsReady (freed n ms (unwatched a)) parent child ms) (sym e) r in
+    subst (λ (g : Forest Content). IsOpen g parent child ns) (sym (forest-after a b (freed n ns) f)) (record {
+      parent_there = r2.parent_there;
+      before_child = r2.before_child;
+      placeable = r2.placeable;
+    })
+
+-- The nodes come in.
+
+pub there-placed : (a b : World) (parent : ℕ) (child : Option ℕ) (ns : List ℕ) → IsWhole a → IsOpen a.tree.forest parent child ns → Follows a b (placing parent child ns) → HasNode b.tree.forest parent
+there-placed a b parent child ns h ready f =
+    let p = placed-all a.tree h.forest parent child ns ready (record { documents = h.documents; owners = h.owners }) in
+    let e = forest-after a b (placing parent child ns) f ∙ ap (λ (w : model.World). w.forest) (placed-world parent child ns (unwatched a)) in
+    HasNode-occurs b.tree.forest parent (subst (λ (g : Forest Content). 0 < occurs parent g) (sym e) (subst (λ x. 0 < x) (sym (p.numbers parent)) ready.parent_there))
+
+pub follows-insert_all : (a b c : World) (parent : ℕ) (child : Option ℕ) (ns : List ℕ) (suppressed : Bool) (previous : Option ℕ) → suppressed ≡ false → previous ≡ previous_to a.tree.forest parent child →
+    Follows a b (placing parent child ns) → Follows b c (tree_record parent ns [] previous child) → Follows a c (insert_all suppressed parent child ns)
+follows-insert_all a b c parent child ns suppressed previous s e f r =
+    follows-as a c (λ w. tree_record parent ns [] previous child (placing parent child ns w)) (insert_all suppressed parent child ns)
+    (λ w k. rw s (ap (λ q. tree_record parent ns [] q child (placing parent child ns w)) (ap (λ (g : Forest Content). previous_to g parent child) k.forest ∙ sym e)))
+    (follows-then a b c (placing parent child ns) (tree_record parent ns [] previous child) f r)
+
+pub follows-insert : (a b c : World) (n parent : ℕ) (child : Option ℕ) (ns : List ℕ) (suppressed : Bool) → (length ns == 0) ≡ false → ns ≡ entering a.tree.forest n → Follows a b (freed n ns) → Follows b c (insert_all suppressed parent child ns) → Follows a c (insert suppressed n parent child)
+follows-insert a b c n parent child ns suppressed some e f i =
+    follows-as a c (λ w. insert_all suppressed parent child ns (freed n ns w)) (insert suppressed n parent child)
+    (λ w k. ap (λ (ms : List ℕ). insert_nodes suppressed n parent child ms w) (nodes-entering a n w k ∙ sym e) ∙ parts w ns some)
+    (follows-then a b c (freed n ns) (insert_all suppressed parent child ns) f i)
+  where
+    parts : (w : model.World) (ms : List ℕ) → (length ms == 0) ≡ false → insert_nodes suppressed n parent child ms w ≡ insert_all suppressed parent child ms (freed n ms w)
+    parts w [] none = absurd (cc none)
+    parts w (m ∷ ms) none = refl

@@ -1,0 +1,18 @@
+use Rattle.std.proofs.Common.{sym, ◌∙◌}
+use Rattle.std.proofs.lemmas.Result.{on_ok_weaker}
+use Rattle.dom_edit.proofs.ReplacedNodes.{follows-added, follows-removed}
+use Rattle.dom_edit.proofs.world.World.queue_replaced.Goals as goal
+use Rattle.dom_edit.proofs.world.World.queue_replaced.Goals.{else-is_empty-via-then-is_empty+else-is_empty-2, else-is_empty-via-else-is_empty}
+
+pub returns-clause-queued : goal.returns-clause-queued
+returns-clause-queued c =
+    let old = c.args.self.now in
+    let new = c.queue_tree_record.new.self in
+    elim c.else-is_empty.branch [
+      | else-is_empty-via-then-is_empty+else-is_empty-2 w ↦
+          on_ok_weaker c.queue_tree_record.result
+          (follows-removed old new c.args.parent c.args.added.now c.args.removed.now (sym w.is_empty-then-is_empty.ensures ∙ w.if-is_empty-2.false)) c.queue_tree_record.ensures.queued
+      | else-is_empty-via-else-is_empty w ↦
+          on_ok_weaker c.queue_tree_record.result
+          (follows-added old new c.args.parent c.args.added.now c.args.removed.now (sym c.is_empty.ensures ∙ w.if-is_empty.false)) c.queue_tree_record.ensures.queued
+    ]

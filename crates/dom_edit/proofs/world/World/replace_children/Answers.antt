@@ -1,0 +1,27 @@
+use Rattle.std.proofs.Common.{sym, ◌∙◌, subst}
+use Rattle.dom_model.specs.MutationAlgorithms.Editing.{remove_all}
+use Rattle.dom_edit.specs.Whole.{Follows}
+use Rattle.dom_edit.proofs.ReplacedNodes.{children-held, parent-emptied, insertable-only, entering-only, follows-replace_all}
+use Rattle.dom_edit.proofs.world.World.replace_children.Goals as goal
+
+pub remove_all-requires-clause-held : goal.remove_all-requires-clause-held
+remove_all-requires-clause-held c = children-held c.args.self.now c.requires.whole c.args.parent c.as_slice.result.now (c.as_slice.ensures.value ∙ c.in_ok-removed.ensures)
+
+pub insert_if_any-requires-clause-parent_held : goal.insert_if_any-requires-clause-parent_held
+insert_if_any-requires-clause-parent_held c =
+    parent-emptied c.args.self.now c.remove_all.new.self c.requires.whole c.args.parent c.as_slice.result.now (c.as_slice.ensures.value ∙ c.in_ok-removed.ensures) c.in_ok-remove_all.ensures.removed c.requires.parent_held
+
+pub insert_if_any-requires-clause-allowed : goal.insert_if_any-requires-clause-allowed
+insert_if_any-requires-clause-allowed c =
+    insertable-only c.args.self.now c.remove_all.new.self c.requires.whole c.args.parent c.as_slice.result.now (c.as_slice.ensures.value ∙ c.in_ok-removed.ensures) c.in_ok-remove_all.ensures.removed c.args.node c.requires.node_held c.in_default.ensures
+
+pub insert_if_any-requires-clause-nodes : goal.insert_if_any-requires-clause-nodes
+insert_if_any-requires-clause-nodes c =
+    c.as_slice-2.ensures ∙ c.in_ok-added.ensures
+    ∙ sym (entering-only c.args.self.now c.remove_all.new.self c.requires.whole c.args.parent c.as_slice.result.now (c.as_slice.ensures.value ∙ c.in_ok-removed.ensures) c.in_ok-remove_all.ensures.removed c.requires.parent_held c.args.node c.requires.node_held c.in_default.ensures)
+
+pub returns-clause-replaced : goal.returns-clause-replaced
+returns-clause-replaced c =
+    follows-replace_all c.args.self.now c.remove_all.new.self c.insert_if_any.new.self c.queue_replaced.new.self c.args.node c.args.parent c.as_slice-3.result.now c.as_slice-4.result.now
+    (c.as_slice-3.ensures ∙ c.in_ok-added.ensures) (c.as_slice-4.ensures.value ∙ c.in_ok-removed.ensures)
+    (subst (λ ns. Follows c.args.self.now c.remove_all.new.self (remove_all ns)) (c.as_slice.ensures.value ∙ sym c.as_slice-4.ensures.value) c.in_ok-remove_all.ensures.removed) c.in_ok-insert_if_any.ensures.inserted c.in_ok-queue_replaced.ensures.queued

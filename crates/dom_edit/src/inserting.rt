@@ -1,0 +1,158 @@
+//! Nodes come in under a parent, from wherever they stand (DOM Standard, "Mutation algorithms", insert).
+
+ghost use Rattle.std.specs.Prelude.{◌≡◌, [], IfOk, OnOk, true};
+ghost use Rattle.dom_model.specs.Forests.Forest.{HasNode, children_of};
+ghost use Rattle.dom_model.specs.MutationAlgorithms.Editing.{remove_all, freed, previous_to, insert_all, insert};
+ghost use Rattle.dom_model.proofs.Soundness.SoundInserting.{IsInsertable};
+ghost use Rattle.dom_edit.specs.Inserting.{AreThere, listed, entering, IsOpen};
+ghost use Rattle.dom_edit.specs.Whole.{IsWhole, Follows};
+
+use crate::content::Content;
+use crate::surroundings::is_of_kind;
+use crate::world::World;
+use dom_kinds::Kind;
+use dom_tree::{NodeId, Tree};
+use std::alloc::{AllocError, Global};
+
+/// Nodes in a row. One alone takes no memory.
+#[derive(Drop)]
+pub(crate) enum NodeList {
+    One([NodeId; 1]),
+    Many(Vec<NodeId>),
+}
+
+impl NodeList {
+    /// The nodes.
+    pub(crate) fn as_slice(&self) -> &[NodeId]
+        ensures { result.now ≡ listed self.now }
+    {
+        match self {
+            NodeList::One(node) => node,
+            NodeList::Many(nodes) => nodes.as_slice(),
+        }
+    }
+}
+
+/// The children of a node.
+pub(crate) fn children(
+    tree: &Tree<Content>,
+    alloc: Global,
+    parent: NodeId,
+) -> Result<Vec<NodeId>, AllocError>
+    requires { HasNode tree.now.forest parent }
+    ensures { IfOk result (λ list. list.items ≡ children_of tree.now.forest parent) }
+{
+    tree.sound();
+    let mut list = Vec::new(alloc);
+    let mut child = tree.first(parent);
+    while let Some(id) = child {
+        list.push(id)?;
+        child = tree.next(id);
+    }
+    Ok(list)
+}
+
+/// What comes in with a node: the children of a fragment, or the node alone.
+pub(crate) fn entering(
+    tree: &Tree<Content>,
+    alloc: Global,
+    node: NodeId,
+) -> Result<NodeList, AllocError>
+    requires { HasNode tree.now.forest node }
+    ensures { IfOk result (λ list. listed list ≡ entering tree.now.forest node) }
+{
+    if is_of_kind(tree, node, Kind::DocumentFragment) {
+        return Ok(NodeList::Many(children(tree, alloc, node)?));
+    }
+    Ok(NodeList::One([node]))
+}
+
+// What stands before a place under a parent: the sibling before the child, or the last child.
+fn previous_to(tree: &Tree<Content>, parent: NodeId, child: Option<NodeId>) -> Option<NodeId>
+    requires { IsOpen tree.now.forest parent child [] }
+    ensures { result ≡ previous_to tree.now.forest parent child }
+{
+    match child {
+        Some(child) => tree.prev(child),
+        None => tree.last(parent),
+    }
+}
+
+impl World {
+    /// Takes nodes out of where they stand, one after another, with no record.
+    pub(crate) fn remove_all(&mut self, alloc: Global, nodes: &[NodeId]) -> Result<(), AllocError>
+        requires whole { IsWhole self.old }
+        requires held { AreThere self.old.tree.forest nodes.now }
+        ensures removed { OnOk result (Follows self.old self.new (remove_all nodes.now)) }
+        ensures whole { IsWhole self.new }
+    {
+        for node in nodes {
+            self.remove_node(alloc, *node, true)?;
+        }
+        Ok(())
+    }
+
+    // The nodes that come in leave where they stand: a fragment its children, with a record of its own, a node its parent.
+    fn free(&mut self, alloc: Global, node: NodeId, nodes: &[NodeId]) -> Result<(), AllocError>
+        requires whole { IsWhole self.old }
+        requires held { HasNode self.old.tree.forest node }
+        requires nodes { nodes.now ≡ entering self.old.tree.forest node }
+        ensures freed { OnOk result (Follows self.old self.new (freed node nodes.now)) }
+        ensures whole { IsWhole self.new }
+    {
+        if is_of_kind(&self.tree, node, Kind::DocumentFragment) {
+            self.remove_all(alloc, nodes)?;
+            return self.queue_tree_record(alloc, node, &[], nodes, None, None);
+        }
+        self.remove_node(alloc, node, false)
+    }
+
+    // Roots come in, with a record or, where it is suppressed, without one.
+    fn insert_all(
+        &mut self,
+        alloc: Global,
+        suppressed: bool,
+        parent: NodeId,
+        child: Option<NodeId>,
+        nodes: &[NodeId],
+    ) -> Result<(), AllocError>
+        requires whole { IsWhole self.old }
+        requires ready { IsOpen self.old.tree.forest parent child nodes.now }
+        ensures inserted { OnOk result (Follows self.old self.new (insert_all suppressed parent child nodes.now)) }
+        ensures parent_held { OnOk result (HasNode self.new.tree.forest parent) }
+        ensures whole { IsWhole self.new }
+    {
+        let before = child;
+        let after = child;
+        let previous = previous_to(&self.tree, parent, before);
+        self.place(parent, after, nodes);
+        if suppressed {
+            return Ok(());
+        }
+        self.queue_tree_record(alloc, parent, nodes, &[], previous, child)
+    }
+
+    /// Inserts a node, of which the list is what comes in with it, under a parent, before a child of it or last.
+    pub(crate) fn insert(
+        &mut self,
+        alloc: Global,
+        suppressed: bool,
+        node: NodeId,
+        parent: NodeId,
+        child: Option<NodeId>,
+        nodes: &[NodeId],
+    ) -> Result<(), AllocError>
+        requires whole { IsWhole self.old }
+        requires allowed { IsInsertable self.old.tree.forest node parent child }
+        requires nodes { nodes.now ≡ entering self.old.tree.forest node }
+        ensures inserted { OnOk result (Follows self.old self.new (insert suppressed node parent child)) }
+        ensures parent_held { OnOk result (HasNode self.new.tree.forest parent) }
+        ensures whole { IsWhole self.new }
+    {
+        if nodes.is_empty() {
+            return Ok(());
+        }
+        self.free(alloc, node, nodes)?;
+        self.insert_all(alloc, suppressed, parent, child, nodes)
+    }
+}

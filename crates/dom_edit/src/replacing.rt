@@ -1,0 +1,110 @@
+//! Nodes come in where others stood (DOM Standard, "Mutation algorithms", pre-insert, replace, replace all).
+
+ghost use Rattle.std.specs.Prelude.{◌≡◌, Some, None, MatchResult, if◌then◌else◌, IfOk, OnOk, true};
+ghost use Rattle.std.specs.Option.{ForSome};
+ghost use Rattle.dom_model.specs.PlainLists.Lists.{is_number};
+ghost use Rattle.dom_model.specs.Forests.Forest.{HasNode, next_of};
+ghost use Rattle.dom_model.specs.MutationAlgorithms.Editing.{insert_if_any, replaced_record};
+ghost use Rattle.dom_model.proofs.Soundness.SoundInserting.{IsInsertable};
+ghost use Rattle.dom_edit.specs.Inserting.{listed, entering_if_any};
+ghost use Rattle.dom_edit.specs.Refusals.{check_only_child};
+ghost use Rattle.dom_edit.specs.Whole.{IsWhole, Follows};
+
+use crate::checks::check_insert;
+use crate::content::Content;
+use crate::inserting::{NodeList, entering};
+use crate::surroundings::is_number;
+use crate::world::World;
+use dom_kinds::DomError;
+use dom_tree::{NodeId, Tree};
+use std::alloc::{AllocError, Global};
+
+/// What a node comes in before: the child, or the node's next sibling where the child is the node itself.
+pub(crate) fn reference_child(
+    tree: &Tree<Content>,
+    node: NodeId,
+    child: Option<NodeId>,
+) -> Option<NodeId>
+    requires { HasNode tree.now.forest node }
+    ensures { result ≡ (if is_number child node then next_of tree.now.forest node else child) }
+{
+    let given = child;
+    if is_number(given, node) {
+        return tree.next(node);
+    }
+    child
+}
+
+/// What comes in with a node; nothing where none is given.
+pub(crate) fn entering_if_any(
+    tree: &Tree<Content>,
+    alloc: Global,
+    node: Option<NodeId>,
+) -> Result<NodeList, AllocError>
+    requires { ForSome node (λ n. HasNode tree.now.forest n) }
+    ensures { IfOk result (λ list. listed list ≡ entering_if_any tree.now.forest node) }
+{
+    match node {
+        Some(node) => entering(tree, alloc, node),
+        None => Ok(NodeList::Many(Vec::new(alloc))),
+    }
+}
+
+/// The check of a node, or of nothing, as the only child of a parent.
+pub(crate) fn check_only_child(
+    tree: &Tree<Content>,
+    parent: NodeId,
+    node: Option<NodeId>,
+) -> Result<(), DomError>
+    requires parent_held { HasNode tree.now.forest parent }
+    requires node_held { ForSome node (λ n. HasNode tree.now.forest n) }
+    ensures { MatchResult result (λ _. check_only_child tree.now.forest parent node ≡ None) (λ e. check_only_child tree.now.forest parent node ≡ Some e) }
+{
+    match node {
+        Some(node) => check_insert(tree, parent, node, None),
+        None => Ok(()),
+    }
+}
+
+impl World {
+    /// Inserts a node, of which the list is what comes in with it, as the last of a parent's children, with no record. Nothing is done where none is given.
+    pub(crate) fn insert_if_any(
+        &mut self,
+        alloc: Global,
+        node: Option<NodeId>,
+        parent: NodeId,
+        nodes: &[NodeId],
+    ) -> Result<(), AllocError>
+        requires whole { IsWhole self.old }
+        requires parent_held { HasNode self.old.tree.forest parent }
+        requires allowed { ForSome node (λ n. IsInsertable self.old.tree.forest n parent None) }
+        requires nodes { nodes.now ≡ entering_if_any self.old.tree.forest node }
+        ensures inserted { OnOk result (Follows self.old self.new (insert_if_any node parent)) }
+        ensures parent_held { OnOk result (HasNode self.new.tree.forest parent) }
+        ensures whole { IsWhole self.new }
+    {
+        match node {
+            Some(node) => self.insert(alloc, true, node, parent, None, nodes),
+            None => Ok(()),
+        }
+    }
+
+    /// Queues a record of what replaced the children of a parent, where something came in or left.
+    pub(crate) fn queue_replaced(
+        &mut self,
+        alloc: Global,
+        parent: NodeId,
+        added: &[NodeId],
+        removed: &[NodeId],
+    ) -> Result<(), AllocError>
+        requires whole { IsWhole self.old }
+        requires parent_held { HasNode self.old.tree.forest parent }
+        ensures queued { OnOk result (Follows self.old self.new (replaced_record parent added.now removed.now)) }
+        ensures whole { IsWhole self.new }
+    {
+        if added.is_empty() && removed.is_empty() {
+            return Ok(());
+        }
+        self.queue_tree_record(alloc, parent, added, removed, None, None)
+    }
+}
