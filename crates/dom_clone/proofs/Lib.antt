@@ -1,2 +1,5 @@
+pub mod Grown
+pub mod Partial
 pub mod Positions
+pub mod Under
 pub mod Walks

@@ -1,16 +1,22 @@
 //! Copies of trees.
 
-ghost use Rattle.std.specs.Prelude.{◌≡◌, ℕ, ◌+◌, ◌≤◌, true, None, IfOk, OnOk};
+ghost use Rattle.std.specs.Prelude.{◌≡◌, ℕ, ◌+◌, ◌<◌, ◌≤◌, true, if◌then◌else◌, ◌++◌, Some, None, IfSome, IfOk, OnOk, unwrap_or};
+ghost use Rattle.std.specs.Option.{ForSome};
 ghost use Rattle.std.specs.Result.{IfErr};
 ghost use Rattle.dom_model.specs.declared.Kind.TheVariants.{Document};
-ghost use Rattle.dom_model.specs.Forests.Forest.{HasNode, size};
+ghost use Rattle.dom_model.specs.Forests.Kinds.{is_kind};
+ghost use Rattle.dom_model.specs.Forests.Forest.{HasNode, size, entry_in};
+ghost use Rattle.dom_model.specs.Commands.Making.{made_node};
 ghost use Rattle.dom_model.specs.MutationAlgorithms.Checks.{is_of_kind};
-ghost use Rattle.dom_model.specs.DataAndCopies.Clones.{original, clone_node, import_node};
+ghost use Rattle.dom_model.specs.DataAndCopies.Clones.{original, with_copies, clone_node, import_node};
+ghost use Rattle.dom_tree.specs.Standing.{MayStand};
 ghost use Rattle.dom_edit.specs.Whole.{IsWhole, Follows};
 ghost use Rattle.dom_edit.specs.Refusals.{check_adopt, IsRefused};
+ghost use Rattle.dom_clone.specs.Growing.{made_under, waiting_for};
 
-use dom_edit::{Refusal, World};
-use dom_tree::NodeId;
+use dom_edit::{Content, Refusal, World};
+use dom_kinds::{DomError, Kind};
+use dom_tree::{NodeId, Tree};
 use std::alloc::{AllocError, Global};
 
 /// Copies a node, with its descendants where the copy is deep (clone).
@@ -29,8 +35,8 @@ pub fn clone_node(
     ensures cloned { OnOk result (Follows world.old world.new (clone_node deep node)) }
     ensures whole { IsWhole world.new }
 {
-    let _ = (alloc, node, deep);
-    Err(AllocError)
+    let document = document_of_copies(&world.tree, node);
+    copy_tree(world, alloc, node, deep, document)
 }
 
 /// Copies a node, with its descendants where the copy is deep, into a document (import).
@@ -53,6 +59,116 @@ pub fn import(
     ensures refused { IfErr result (λ e. IsRefused e (check_adopt world.old.tree.forest node) world.old world.new) }
     ensures whole { IsWhole world.new }
 {
-    let _ = (alloc, document, node, deep);
-    Err(Refusal::Memory)
+    if world.tree.label(node).kind == Kind::Document {
+        return Err(Refusal::Dom(DomError::NotSupportedError));
+    }
+    let copy = copy_tree(world, alloc, node, deep, Some(document))?;
+    Ok(copy)
+}
+
+// The node document of a node's copies; none where the first of them is a Document, whose own it is.
+fn document_of_copies(tree: &Tree<Content>, node: NodeId) -> Option<NodeId>
+    requires { HasNode tree.now.forest node }
+    ensures { IfSome (entry_in tree.now.forest node) (λ e. result ≡ (if is_kind Document e.value.label.kind then None else Some e.value.document)) }
+{
+    if tree.label(node).kind == Kind::Document {
+        None
+    } else {
+        Some(tree.document_of(node))
+    }
+}
+
+// A node that waits to be copied, with its following siblings and all that stands below them, and the copy that they are to stand under.
+#[derive(Drop)]
+struct Waiting {
+    original: NodeId,
+    parent: NodeId,
+}
+
+// Lets a node wait, where there is one.
+fn wait_for(
+    waiting: &mut Vec<Waiting>,
+    original: Option<NodeId>,
+    parent: NodeId,
+) -> Result<(), AllocError>
+    ensures { OnOk result (waiting.new.items ≡ waiting.old.items ++ waiting_for original parent) }
+{
+    if let Some(original) = original {
+        waiting.push(Waiting { original, parent })?;
+    }
+    Ok(())
+}
+
+// Copies a node, with its descendants where the copy is deep, into a document or, where there is none, into the first copy.
+fn copy_tree(
+    world: &mut World,
+    alloc: Global,
+    node: NodeId,
+    deep: bool,
+    document: Option<NodeId>,
+) -> Result<NodeId, AllocError>
+    requires whole { IsWhole world.old }
+    requires held { HasNode world.old.tree.forest node }
+    requires room { world.old.tree.made + size (original deep node world.old.tree.forest) ≤ 4294967295 }
+    requires document_kind { ForSome document (λ d. is_of_kind Document world.old.tree.forest d ≡ true) }
+    requires own_document { document ≡ None → is_of_kind Document world.old.tree.forest node ≡ true }
+    ensures number { IfOk result (λ id. id ≡ world.old.tree.made) }
+    ensures copied { OnOk result (Follows world.old world.new (λ w. with_copies (unwrap_or document world.old.tree.made) (original deep node w.forest) w)) }
+    ensures whole { IsWhole world.new }
+{
+    let top = copy_node(world, alloc, node, document)?;
+    if !deep {
+        return Ok(top);
+    }
+    let mut waiting: Vec<Waiting> = Vec::new(alloc);
+    wait_for(&mut waiting, world.tree.first(node), top)?;
+    while let Some(next) = waiting.pop() {
+        let copy = copy_under(world, alloc, next.original, next.parent)?;
+        wait_for(&mut waiting, world.tree.next(next.original), next.parent)?;
+        wait_for(&mut waiting, world.tree.first(next.original), copy)?;
+    }
+    Ok(top)
+}
+
+// Copies one node into a document or, where there is none, into itself.
+fn copy_node(
+    world: &mut World,
+    alloc: Global,
+    node: NodeId,
+    document: Option<NodeId>,
+) -> Result<NodeId, AllocError>
+    requires whole { IsWhole world.old }
+    requires held { HasNode world.old.tree.forest node }
+    requires room { world.old.tree.made < 4294967295 }
+    requires document_kind { ForSome document (λ d. is_of_kind Document world.old.tree.forest d ≡ true) }
+    requires own_document { document ≡ None → is_of_kind Document world.old.tree.forest node ≡ true }
+    ensures number { IfOk result (λ id. id ≡ world.old.tree.made) }
+    ensures copied { IfSome (entry_in world.old.tree.forest node) (λ e. OnOk result (Follows world.old world.new (made_node (unwrap_or document world.old.tree.made) e.value.label e.value.body))) }
+    ensures whole { IsWhole world.new }
+{
+    let label = world.tree.label(node).try_clone(alloc)?;
+    let content = world.tree.body(node).try_clone(alloc)?;
+    world.make(alloc, label, content, document)
+}
+
+// Copies one node, to be the last child of a parent, into that one's node document.
+fn copy_under(
+    world: &mut World,
+    alloc: Global,
+    node: NodeId,
+    parent: NodeId,
+) -> Result<NodeId, AllocError>
+    requires whole { IsWhole world.old }
+    requires held { HasNode world.old.tree.forest node }
+    requires parent_held { HasNode world.old.tree.forest parent }
+    requires room { world.old.tree.made < 4294967295 }
+    requires kinds { MayStand world.old.tree.forest parent node }
+    ensures number { IfOk result (λ id. id ≡ world.old.tree.made) }
+    ensures copied { IfSome (entry_in world.old.tree.forest parent) (λ p. IfSome (entry_in world.old.tree.forest node) (λ e. OnOk result (Follows world.old world.new (made_under parent p.value.document e.value)))) }
+    ensures whole { IsWhole world.new }
+{
+    let document = world.tree.document_of(parent);
+    let copy = copy_node(world, alloc, node, Some(document))?;
+    world.tree.put(parent, copy, None);
+    Ok(copy)
 }

@@ -1,0 +1,90 @@
+use Rattle.std.proofs.Common.{◌≡◌, List, [], ◌∷◌, length, refl, ap, sym, subst, arith, unwrap_or}
+use Rattle.dom_model.specs.Forests.Forest.{size}
+use Rattle.dom_model.specs.DataAndCopies.Clones.{original, with_copies}
+use Rattle.dom_edit.specs.Whole.{Follows}
+use Rattle.dom_clone.specs.declared.copying.Waiting.{Waiting}
+use Rattle.dom_clone.proofs.Partial.{some-copied, first-held, copying-starts, copied-alone, copying-ends, next-held, parent-held, may-stand, more-to_come, original-held, next-made, copying-goes_on}
+use Rattle.dom_clone.proofs.copying.copy_tree.Goals as goal
+
+no_items : (ws : List Waiting) → length ws ≡ 0 → ws ≡ []
+no_items [] e = refl
+no_items (w ∷ ws) e = absurd (omega arith)
+
+pub copy_node-requires-clause-room : goal.copy_node-requires-clause-room
+copy_node-requires-clause-room c =
+    let v = c.args.world.now in
+    omega (arith, c.requires.room, some-copied v.tree.forest c.requires.whole.forest.once c.args.node c.requires.held c.args.deep)
+
+pub returns-then-not-deep-clause-copied : goal.returns-then-not-deep-clause-copied
+returns-then-not-deep-clause-copied c =
+    let v = c.args.world.now in
+    let d = unwrap_or c.args.document v.tree.made in
+    let k = copied-alone v c.copy_node.new.world c.requires.whole c.args.node d c.requires.held c.in_ok-top.ensures.copied in
+    subst (λ b. Follows v c.copy_node.new.world (λ w. with_copies d (original b c.args.node w.forest) w)) (sym c.if-not-deep.true) k
+
+pub first-requires : goal.first-requires
+first-requires c =
+    let v = c.args.world.now in
+    first-held v c.copy_node.new.world c.requires.whole c.args.node (unwrap_or c.args.document v.tree.made) c.requires.held c.in_ok-top.ensures.copied
+
+pub loop-next-init : goal.loop-next-init
+loop-next-init c =
+    let v = c.args.world.now in
+    let start = copying-starts v c.copy_node.new.world c.requires.whole c.args.node (unwrap_or c.args.document v.tree.made) c.requires.held c.in_ok-top.ensures.copied c.in_ok-top.ensures.whole in
+    rw (c.in_ok-wait_for.ensures, c.new-waiting.ensures.items, c.first.ensures, c.in_ok-top.ensures.number) start
+
+pub copy_under-requires-clause-held : goal.copy_under-requires-clause-held
+copy_under-requires-clause-held c =
+    let v = c.args.world.now in
+    next-held v c.requires.whole c.args.node (unwrap_or c.args.document v.tree.made) c.loop-next.world c.pop.new.self.items c.in-Some.next (rw c.in-Some.ensures.items at c.loop-next.invariant)
+
+pub copy_under-requires-clause-parent_held : goal.copy_under-requires-clause-parent_held
+copy_under-requires-clause-parent_held c =
+    let v = c.args.world.now in
+    parent-held v c.requires.whole c.args.node (unwrap_or c.args.document v.tree.made) c.loop-next.world c.pop.new.self.items c.in-Some.next (rw c.in-Some.ensures.items at c.loop-next.invariant)
+
+pub copy_under-requires-clause-room : goal.copy_under-requires-clause-room
+copy_under-requires-clause-room c =
+    let v = c.args.world.now in
+    let more = more-to_come v c.requires.whole c.args.node (unwrap_or c.args.document v.tree.made) c.loop-next.world c.pop.new.self.items c.in-Some.next (rw c.in-Some.ensures.items at c.loop-next.invariant) in
+    let e = ap (λ b. size (original b c.args.node v.tree.forest)) c.if-not-deep.false in
+    omega (arith, c.requires.room, more, e)
+
+pub copy_under-requires-clause-kinds : goal.copy_under-requires-clause-kinds
+copy_under-requires-clause-kinds c =
+    let v = c.args.world.now in
+    may-stand v c.requires.whole c.args.node (unwrap_or c.args.document v.tree.made) c.loop-next.world c.pop.new.self.items c.in-Some.next (rw c.in-Some.ensures.items at c.loop-next.invariant)
+
+pub next-requires : goal.next-requires
+next-requires c =
+    let v = c.args.world.now in
+    original-held v c.requires.whole c.args.node (unwrap_or c.args.document v.tree.made) c.loop-next.world c.pop.new.self.items c.in-Some.next (rw c.in-Some.ensures.items at c.loop-next.invariant) c.copy_under.new.world c.in_ok-copy.ensures.copied
+
+pub first-requires-in-Some : goal.first-requires-in-Some
+first-requires-in-Some c =
+    let v = c.args.world.now in
+    original-held v c.requires.whole c.args.node (unwrap_or c.args.document v.tree.made) c.loop-next.world c.pop.new.self.items c.in-Some.next (rw c.in-Some.ensures.items at c.loop-next.invariant) c.copy_under.new.world c.in_ok-copy.ensures.copied
+
+pub loop-next-smaller : goal.loop-next-smaller
+loop-next-smaller c =
+    let v = c.args.world.now in
+    let i = rw c.in-Some.ensures.items at c.loop-next.invariant in
+    let more = more-to_come v c.requires.whole c.args.node (unwrap_or c.args.document v.tree.made) c.loop-next.world c.pop.new.self.items c.in-Some.next i in
+    let made = next-made v c.requires.whole c.args.node (unwrap_or c.args.document v.tree.made) c.loop-next.world c.pop.new.self.items c.in-Some.next i c.copy_under.new.world c.in_ok-copy.ensures.copied in
+    omega (arith, more, made)
+
+pub loop-next-preserved : goal.loop-next-preserved
+loop-next-preserved c =
+    let v = c.args.world.now in
+    let i = rw c.in-Some.ensures.items at c.loop-next.invariant in
+    let step = copying-goes_on v c.requires.whole c.args.node (unwrap_or c.args.document v.tree.made) c.loop-next.world c.pop.new.self.items c.in-Some.next i c.copy_under.new.world c.in_ok-copy.ensures.copied c.in_ok-copy.ensures.whole in
+    rw (c.in_ok-wait_for-3.ensures, c.in_ok-wait_for-2.ensures, c.next.ensures, c.first-in-Some.ensures, c.in_ok-copy.ensures.number) step
+
+pub returns-clause-copied : goal.returns-clause-copied
+returns-clause-copied c =
+    let v = c.args.world.now in
+    let d = unwrap_or c.args.document v.tree.made in
+    let none : c.loop-next.waiting.items ≡ [] = no_items c.loop-next.waiting.items (omega (arith, c.loop-next.waiting.ok, c.in_default.ensures.cases.0)) in
+    let i = rw none at c.loop-next.invariant in
+    let k = copying-ends v c.args.node d c.loop-next.world i in
+    subst (λ b. Follows v c.loop-next.world (λ w. with_copies d (original b c.args.node w.forest) w)) (sym c.if-not-deep.false) k
