@@ -1,0 +1,5 @@
+pub mod Outcomes
+pub mod MovedOffsets
+pub mod ChangedBodies
+pub mod Unasked
+pub mod StaysWhole

@@ -6,6 +6,8 @@ ghost use Rattle.dom_model.specs.MutationAlgorithms.Checks.{is_of_kind};
 ghost use Rattle.dom_model.specs.DataAndCopies.Data.{set_attribute, remove_attribute, toggle_attribute, has_attribute, is_toggled_on};
 ghost use Rattle.dom_edit.specs.Whole.{IsWhole, Follows, unwatched};
 
+use crate::bodies::{has_in, remove_in, set_in};
+use crate::records::tell_attribute;
 use dom_edit::World;
 use dom_tree::NodeId;
 use dom_units::Units;
@@ -26,8 +28,8 @@ pub fn set_attribute(
     ensures set { OnOk result (Follows world.old world.new (set_attribute node (string_bytes name) value)) }
     ensures whole { IsWhole world.new }
 {
-    let _ = (alloc, node, name, value);
-    Err(AllocError)
+    tell_attribute(world, alloc, node, name.as_str())?;
+    set_in(&mut world.tree, node, name, value)
 }
 
 /// Removes an attribute, with a record of its value; nothing where it is not there ("remove an attribute by name").
@@ -42,8 +44,12 @@ pub fn remove_attribute(
     ensures removed { OnOk result (Follows world.old world.new (remove_attribute node name.now)) }
     ensures whole { IsWhole world.new }
 {
-    let _ = (alloc, node, name.len());
-    Err(AllocError)
+    if !has_in(&world.tree, node, name) {
+        return Ok(());
+    }
+    tell_attribute(world, alloc, node, name)?;
+    remove_in(&mut world.tree, node, name);
+    Ok(())
 }
 
 /// Adds an attribute with the empty value, or removes it: what is forced, or else the other way round than it is (toggleAttribute).
@@ -62,6 +68,15 @@ pub fn toggle_attribute(
     ensures toggled { OnOk result (Follows world.old world.new (toggle_attribute node (string_bytes name) force)) }
     ensures whole { IsWhole world.new }
 {
-    let _ = (alloc, node, name, force);
-    Err(AllocError)
+    let present = has_in(&world.tree, node, name.as_str());
+    let on = force.unwrap_or(!present);
+    if on == present {
+        return Ok(on);
+    }
+    if on {
+        set_attribute(world, alloc, node, name, Units::new(alloc))?;
+    } else {
+        remove_attribute(world, alloc, node, name.as_str())?;
+    }
+    Ok(on)
 }

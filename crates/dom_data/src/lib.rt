@@ -3,8 +3,10 @@
 #![tactic(auto)]
 
 mod attributes;
+mod bodies;
 mod contents;
 mod normalizing;
+mod records;
 mod replacing;
 mod splitting;
 

@@ -1,18 +1,42 @@
 //! The data of a node replaced, and read (DOM Standard, "Interface CharacterData").
 
-ghost use Rattle.std.specs.Prelude.{◌≡◌, true, None, IfOk, OnOk};
+ghost use Rattle.std.specs.Prelude.{◌≡◌, ◌+◌, ◌≤◌, length, true, None, IfOk, OnOk};
 ghost use Rattle.std.specs.Result.{IfErr};
 ghost use Rattle.dom_model.specs.Forests.Kinds.{is_character_data};
 ghost use Rattle.dom_model.specs.MutationAlgorithms.Checks.{kind_passes};
-ghost use Rattle.dom_model.specs.DataAndCopies.Data.{check_offset, replace_data, set_data, substring_data};
+ghost use Rattle.dom_model.specs.DataAndCopies.Data.{data_of, data_record, replace_units, check_offset, replace_data, set_data, substring_data};
 ghost use Rattle.dom_edit.specs.Whole.{IsWhole, Follows, unwatched};
 ghost use Rattle.dom_edit.specs.Refusals.{IsRefused};
 ghost use Rattle.dom_data.specs.Reading.{IsNamed};
 
+use crate::bodies::{data_in, splice_data};
+use crate::records::tell_data;
 use dom_edit::{Refusal, World};
+use dom_kinds::DomError;
 use dom_tree::NodeId;
 use dom_units::Units;
 use std::alloc::{AllocError, Global};
+
+// Puts `added` in place of the `count` units from `offset` on, with a record of the old data.
+fn replace_units(
+    world: &mut World,
+    alloc: Global,
+    node: NodeId,
+    offset: usize,
+    count: usize,
+    added: &[u16],
+) -> Result<(), AllocError>
+    requires whole { IsWhole world.old }
+    requires kind { kind_passes is_character_data world.old.tree.forest node ≡ true }
+    requires within { offset + count ≤ length (data_of (unwatched world.old) node) }
+    ensures replaced { OnOk result (Follows world.old world.new (λ w. replace_units node offset count added.now (data_record node w))) }
+    ensures whole { IsWhole world.new }
+{
+    tell_data(world, alloc, node)?;
+    splice_data(&mut world.tree, node, offset, count, added)?;
+    world.ranges.spliced(node, offset, count, added.len());
+    Ok(())
+}
 
 /// Puts `added` in place of `count` units from `offset` on, with a record of the old data ("replace data").
 ///
@@ -32,8 +56,13 @@ pub fn replace_data(
     ensures refused { IfErr result (λ e. IsRefused e (check_offset (unwatched world.old) node offset) world.old world.new) }
     ensures whole { IsWhole world.new }
 {
-    let _ = (alloc, node, offset, count, added.len());
-    Err(Refusal::Memory)
+    let length = data_in(&world.tree, node).len();
+    if offset > length {
+        return Err(Refusal::Dom(DomError::IndexSizeError));
+    }
+    let count = count.min(length - offset);
+    replace_units(world, alloc, node, offset, count, added)?;
+    Ok(())
 }
 
 /// Puts a text in place of all data of a node, with a record of the old data.
@@ -48,8 +77,8 @@ pub fn set_data(
     ensures set { OnOk result (Follows world.old world.new (set_data node text.now)) }
     ensures whole { IsWhole world.new }
 {
-    let _ = (alloc, node, text.len());
-    Err(AllocError)
+    let length = data_in(&world.tree, node).len();
+    replace_units(world, alloc, node, 0, length, text)
 }
 
 /// A copy of `count` units from `offset` on ("substring data").
@@ -68,6 +97,12 @@ pub fn substring(
     ensures units { IfOk result (λ units. units ≡ substring_data (unwatched world.now) node offset count) }
     ensures refused { IfErr result (λ e. IsNamed e (check_offset (unwatched world.now) node offset)) }
 {
-    let _ = (alloc, node, offset, count);
-    Err(Refusal::Memory)
+    let data = data_in(&world.tree, node);
+    let length = data.len();
+    if offset > length {
+        return Err(Refusal::Dom(DomError::IndexSizeError));
+    }
+    let count = count.min(length - offset);
+    let units = Units::from_units(alloc, data.slice(offset, count))?;
+    Ok(units)
 }

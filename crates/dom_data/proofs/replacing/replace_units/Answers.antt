@@ -1,0 +1,29 @@
+-- Units replaced, with the ends behind them.
+use Rattle.std.proofs.Common.{◌≡◌, ◌+◌, ◌≤◌, true, length, refl, ap, sym, subst, arith}
+use Rattle.dom_model.specs.Forests.Kinds.{is_character_data}
+use Rattle.dom_model.specs.Forests.Forest.{entry_in}
+use Rattle.dom_model.specs.MutationAlgorithms.Checks.{kind_passes}
+use Rattle.dom_model.specs.DataAndCopies.Data.{content_in, data_of}
+use Rattle.dom_model.proofs.Soundness.SoundData.{length-spliced}
+use Rattle.dom_edit.specs.declared.world.World.{World}
+use Rattle.dom_edit.specs.Whole.{unwatched}
+use Rattle.dom_data.proofs.MovedOffsets.{splice-fits}
+use Rattle.dom_data.proofs.StaysWhole.{whole-observed, whole-replaced}
+use Rattle.dom_data.proofs.replacing.replace_units.Goals as goal
+
+pub spliced-requires : goal.spliced-requires
+spliced-requires c =
+    let told = c.tell_data.new.world in
+    let n = c.args.node in
+    let forests = ap (λ (v : World). v.tree.forest) c.tell_data.ensures.kept in
+    let kind = subst (λ f. kind_passes is_character_data f n ≡ true) (sym forests) c.requires.kind in
+    let within = subst (λ f. c.args.offset + c.args.count ≤ length (content_in (entry_in f n)).text) (sym forests) c.requires.within in
+    let spliced_length = length-spliced c.args.offset c.args.count c.args.added.now (data_of (unwatched told) n) within in
+    let small = c.in_ok-splice_data.ensures.fits in
+    splice-fits told.tree.forest n c.args.offset c.args.count (length c.args.added.now) kind within (omega (arith, spliced_length, small))
+    told.ranges.ranges (whole-observed c.args.world.now told c.tell_data.ensures.kept c.requires.whole).ranges
+
+pub returns-clause-whole : goal.returns-clause-whole
+returns-clause-whole c =
+    whole-replaced c.args.world.now c.tell_data.new.world _ c.args.node c.args.offset c.args.count c.args.added.now c.requires.whole c.tell_data.ensures.kept c.requires.kind c.requires.within
+    c.in_ok-splice_data.ensures.ok c.spliced.ensures refl refl refl

@@ -1,0 +1,77 @@
+//! Data and attributes changed where a node keeps them.
+
+ghost use Rattle.std.specs.Prelude.{◌≡◌, ◌+◌, ◌^◌, ◌<◌, ◌≤◌, length, is_some, string_bytes, OnOk, OnErr};
+ghost use Rattle.dom_model.specs.Forests.Attributes.{attribute_value, with_attribute, without_attribute};
+ghost use Rattle.dom_model.specs.Forests.Forest.{HasNode, entry_in, with_node};
+ghost use Rattle.dom_model.specs.Forests.Texts.{spliced};
+ghost use Rattle.dom_model.specs.DataAndCopies.Data.{content_in, with_data, with_attributes};
+
+use dom_edit::Content;
+use dom_tree::{NodeId, Tree};
+use dom_units::Units;
+use std::alloc::AllocError;
+
+// The data of a node.
+pub(crate) fn data_in(tree: &Tree<Content>, node: NodeId) -> &Units
+    requires held { HasNode tree.now.forest node }
+    ensures { result.now ≡ (content_in (entry_in tree.now.forest node)).text }
+{
+    &tree.body(node).text
+}
+
+// Puts `added` in place of the `count` units of a node's data from `offset` on.
+pub(crate) fn splice_data(
+    tree: &mut Tree<Content>,
+    node: NodeId,
+    offset: usize,
+    count: usize,
+    added: &[u16],
+) -> Result<(), AllocError>
+    requires held { HasNode tree.old.forest node }
+    requires within { offset + count ≤ length (content_in (entry_in tree.old.forest node)).text }
+    ensures ok { OnOk result (tree.new ≡ record tree.old { forest = with_node node (with_data (spliced offset count added.now (content_in (entry_in tree.old.forest node)).text)) tree.old.forest }) }
+    ensures fits { OnOk result (length (spliced offset count added.now (content_in (entry_in tree.old.forest node)).text) < 2 ^ 64) }
+    ensures err { OnErr result (tree.new ≡ tree.old) }
+{
+    tree.sound();
+    let content = tree.body_mut(node);
+    let outcome = content.text.splice(offset, count, added);
+    // a law: so many units fit the memory
+    let _ = content.text.len();
+    outcome
+}
+
+// Whether a node has an attribute of that name.
+pub(crate) fn has_in(tree: &Tree<Content>, node: NodeId, name: &str) -> bool
+    requires held { HasNode tree.now.forest node }
+    ensures { result ≡ is_some (attribute_value name.now (content_in (entry_in tree.now.forest node)).attributes) }
+{
+    tree.body(node).attrs.get(name).is_some()
+}
+
+// Sets an attribute of a node, in place or last.
+pub(crate) fn set_in(
+    tree: &mut Tree<Content>,
+    node: NodeId,
+    name: String,
+    value: Units,
+) -> Result<(), AllocError>
+    requires held { HasNode tree.old.forest node }
+    ensures ok { OnOk result (tree.new ≡ record tree.old { forest = with_node node (with_attributes (with_attribute (string_bytes name) value (content_in (entry_in tree.old.forest node)).attributes)) tree.old.forest }) }
+    ensures err { OnErr result (tree.new ≡ tree.old) }
+{
+    tree.sound();
+    let content = tree.body_mut(node);
+    let _ = content.attrs.set(name, value)?;
+    Ok(())
+}
+
+// Takes an attribute of a node out.
+pub(crate) fn remove_in(tree: &mut Tree<Content>, node: NodeId, name: &str)
+    requires held { HasNode tree.old.forest node }
+    ensures { tree.new ≡ record tree.old { forest = with_node node (with_attributes (without_attribute name.now (content_in (entry_in tree.old.forest node)).attributes)) tree.old.forest } }
+{
+    tree.sound();
+    let content = tree.body_mut(node);
+    let _ = content.attrs.remove(name);
+}
