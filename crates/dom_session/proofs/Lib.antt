@@ -1,5 +1,6 @@
 pub mod Stepping
 pub mod Steps
+pub mod Instructions
 pub mod TreeEdits
 pub mod Waits
 pub mod Applying
