@@ -2,5 +2,6 @@ pub mod Stepping
 pub mod Steps
 pub mod Instructions
 pub mod TreeEdits
+pub mod Describing
 pub mod Waits
 pub mod Applying
