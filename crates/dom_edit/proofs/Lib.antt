@@ -2,3 +2,9 @@ pub mod AmongChildren
 pub mod Leaves
 pub mod Placing
 pub mod Following
+pub mod Queuing
+pub mod Leaving
+pub mod Making
+pub mod Beginning
+pub mod Adopting
+pub mod Naming

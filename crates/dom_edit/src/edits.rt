@@ -15,6 +15,7 @@ ghost use Rattle.dom_edit.specs.Refusals.{check_remove_child, check_only_child, 
 
 use crate::refusal::Refusal;
 use crate::world::World;
+use dom_kinds::{DomError, Kind};
 use dom_tree::NodeId;
 use std::alloc::{AllocError, Global};
 
@@ -93,8 +94,11 @@ impl World {
         ensures refused { IfErr result (λ e. IsRefused e (check_remove_child self.old.tree.forest parent child) self.old self.new) }
         ensures whole { IsWhole self.new }
     {
-        let _ = (alloc, parent, child);
-        Err(Refusal::Memory)
+        if self.tree.parent(child) != Some(parent) {
+            return Err(Refusal::Dom(DomError::NotFoundError));
+        }
+        self.remove_node(alloc, child, false)?;
+        Ok(())
     }
 
     /// Takes a node out of its parent; a root stays as it is (remove).
@@ -141,7 +145,14 @@ impl World {
         ensures refused { IfErr result (λ e. IsRefused e (check_adopt self.old.tree.forest node) self.old self.new) }
         ensures whole { IsWhole self.new }
     {
-        let _ = (alloc, document, node);
-        Err(Refusal::Memory)
+        if self.tree.label(node).kind == Kind::Document {
+            return Err(Refusal::Dom(DomError::NotSupportedError));
+        }
+        self.remove_node(alloc, node, false)?;
+        // nothing is to be set where the node document stays
+        if self.tree.document_of(node) != document {
+            self.tree.set_document(node, document);
+        }
+        Ok(())
     }
 }

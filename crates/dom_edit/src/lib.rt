@@ -3,7 +3,9 @@
 
 mod checks;
 mod content;
+mod discarding;
 mod edits;
+mod records;
 mod refusal;
 mod removing;
 mod surroundings;

@@ -1,8 +1,8 @@
 //! A node leaves its parent (DOM Standard, "Mutation algorithms", remove).
 
-ghost use Rattle.std.specs.Prelude.{OnOk};
-ghost use Rattle.dom_model.specs.Forests.Forest.{HasNode};
-ghost use Rattle.dom_model.specs.MutationAlgorithms.Editing.{remove};
+ghost use Rattle.std.specs.Prelude.{◌≡◌, OnOk, IsSome, IfSome};
+ghost use Rattle.dom_model.specs.Forests.Forest.{HasNode, parent_of};
+ghost use Rattle.dom_model.specs.MutationAlgorithms.Editing.{taken_out, transients_made, remove};
 ghost use Rattle.dom_edit.specs.Whole.{IsWhole, Follows};
 
 use crate::world::World;
@@ -10,6 +10,32 @@ use dom_tree::NodeId;
 use std::alloc::{AllocError, Global};
 
 impl World {
+    // Live range ends and iterators give way, and then the node becomes a root.
+    fn take_out(&mut self, node: NodeId)
+        requires whole { IsWhole self.old }
+        requires child { IsSome (parent_of self.old.tree.forest node) }
+        ensures taken { IfSome (parent_of self.old.tree.forest node) (λ parent. Follows self.old self.new (taken_out node parent)) }
+        ensures whole { IsWhole self.new }
+    {
+        self.ranges.removing(&self.tree, node);
+        self.iters.removing(&self.tree, node);
+        self.tree.cut(node);
+    }
+
+    // A node that left its parent is still watched as the parent is; nothing is looked for where nobody observes.
+    fn make_transients(&mut self, parent: NodeId, node: NodeId) -> Result<(), AllocError>
+        requires whole { IsWhole self.old }
+        requires held { HasNode self.old.tree.forest parent }
+        ensures made { OnOk result (Follows self.old self.new (transients_made node parent)) }
+        ensures parts { self.new ≡ record self.old { observers = self.new.observers } }
+        ensures whole { IsWhole self.new }
+    {
+        if self.observers.is_idle() {
+            return Ok(());
+        }
+        self.observers.transients(&self.tree, parent, node)
+    }
+
     /// Takes a node out of its parent, with a record of it or, where it is suppressed, without one. A root stays as it is.
     pub(crate) fn remove_node(
         &mut self,
@@ -22,7 +48,16 @@ impl World {
         ensures removed { OnOk result (Follows self.old self.new (remove suppressed node)) }
         ensures whole { IsWhole self.new }
     {
-        let _ = (alloc, node, suppressed);
-        Err(AllocError)
+        let Some(parent) = self.tree.parent(node) else {
+            return Ok(());
+        };
+        let previous = self.tree.prev(node);
+        let next = self.tree.next(node);
+        self.take_out(node);
+        self.make_transients(parent, node)?;
+        if suppressed {
+            return Ok(());
+        }
+        self.queue_tree_record(alloc, parent, &[], &[node], previous, next)
     }
 }

@@ -10,11 +10,13 @@ ghost use Rattle.dom_model.specs.MutationAlgorithms.Checks.{is_of_kind};
 ghost use Rattle.dom_edit.specs.Whole.{IsWhole, Shows, Follows};
 
 use crate::content::Content;
-use dom_kinds::Label;
+use dom_attrs::Attrs;
+use dom_kinds::{Kind, Label};
 use dom_observe::Observers;
 use dom_ranges::{Ranges, Statics};
 use dom_traverse::{Iters, Walkers};
 use dom_tree::{NodeId, Tree};
+use dom_units::Units;
 use std::alloc::{AllocError, Global};
 
 /// The nodes of a session, its live and static ranges, iterators and walkers, and its observers.
@@ -36,8 +38,26 @@ impl World {
     pub fn new(alloc: Global) -> Result<World, AllocError>
         ensures { IfOk result (λ world. Shows world first_world) }
     {
-        let _ = alloc;
-        Err(AllocError)
+        let label = Label {
+            kind: Kind::Document,
+            name: String::new(alloc),
+            public_id: String::new(alloc),
+            system_id: String::new(alloc),
+        };
+        let content = Content {
+            text: Units::new(alloc),
+            attrs: Attrs::new(alloc),
+        };
+        let mut world = World {
+            tree: Tree::new(alloc),
+            ranges: Ranges::new(alloc),
+            statics: Statics::new(alloc),
+            iters: Iters::new(alloc),
+            walkers: Walkers::new(alloc),
+            observers: Observers::new(alloc),
+        };
+        let _ = world.make(alloc, label, content, None)?;
+        Ok(world)
     }
 
     /// Makes a root with no children, in the given document or, where there is none, in itself. Its number is the next one.
@@ -56,7 +76,8 @@ impl World {
         ensures made { OnOk result (Follows self.old self.new (made_node (unwrap_or document self.old.tree.made) label content)) }
         ensures whole { IsWhole self.new }
     {
-        let _ = (alloc, document);
-        Err(AllocError)
+        let _ = alloc;
+        self.ranges.cover(self.tree.made() + 1)?;
+        self.tree.make(label, content, document)
     }
 }

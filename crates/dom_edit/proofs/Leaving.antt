@@ -1,0 +1,150 @@
+-- A node leaves its parent: what follows, and that the world stays whole.
+use Rattle.std.proofs.Common.{◌≡◌, ◌<◌, ◌≤◌, ℕ, Bool, true, List, [], ◌∷◌, Option, Some, None, IfSome, All, refl, ap, sym, ◌∙◌, subst, arith, ⊎_elim}
+use Rattle.std.proofs.lemmas.Bool.{cases_lt}
+use Rattle.std.proofs.lemmas.List.Elements.{All-nil, All-weaker}
+use Rattle.dom_model.specs.Forests.Forest.{HasNode, Forest, parent_of, previous_of, next_of, index_of, inclusive_descendants, ancestors, cut}
+use Rattle.dom_model.specs.Forests.Documents.{HasOneDocument}
+use Rattle.dom_model.specs.Worlds.World as model
+use Rattle.dom_model.specs.Worlds.World.{Content, Range, Registration, Observing}
+use Rattle.dom_model.specs.Worlds.Sound.{IsRegistration, IsSound}
+use Rattle.dom_model.specs.BoundaryPoints.Points.{map_ranges, after_removal}
+use Rattle.dom_model.specs.MutationAlgorithms.PreRemoval.{pre_removed_all}
+use Rattle.dom_model.specs.MutationAlgorithms.Editing.{taken_out, transients_made, tree_record_unless, removed_from, remove}
+use Rattle.dom_model.specs.MutationObservers.Observing.{standing_on}
+use Rattle.dom_model.proofs.Forests.Entries.{HasNode-occurs, occurs-HasNode}
+use Rattle.dom_model.proofs.Forests.Indices.{parent-there}
+use Rattle.dom_model.proofs.Forests.Paths.{parent-path}
+use Rattle.dom_model.proofs.Worlds.Owners.{HasOwners}
+use Rattle.dom_model.proofs.Soundness.SoundWorlds.{there_after_cut, sound-remove}
+use Rattle.dom_model.proofs.MutationAlgorithms.OwnersKept.{IsOwnedWell, owned-cut}
+use Rattle.dom_observe.specs.Watchers.{Watches}
+use Rattle.dom_observe.proofs.Watching.{watches-unstood}
+use Rattle.dom_edit.specs.declared.world.World.{World}
+use Rattle.dom_edit.specs.Whole.{AreHeld, IsWhole, Keeps, Follows, unwatched}
+use Rattle.dom_edit.proofs.Following.{keeps-unwatched, whole-sound}
+use Rattle.dom_edit.proofs.Queuing.{tree_mutation}
+
+-- what holds of what is there
+pub if_some : {A : Type 0} (P : A → Type 0) (o : Option A) → ((a : A) → o ≡ Some a → P a) → IfSome o P
+if_some P None h = tt
+if_some P (Some a) h = h a refl
+
+pub it_is : {A : Type 0} (P : A → Type 0) (o : Option A) (a : A) → o ≡ Some a → IfSome o P → P a
+it_is P o a e h = subst (λ q. IfSome q P) e h
+
+-- a world of the code in which nobody watches is sound
+pub sound-unwatched : (v : World) → IsWhole v → IsSound (unwatched v)
+sound-unwatched v h = record {
+  forest = h.forest;
+  ranges = h.ranges;
+  iterators = h.iterators;
+  walkers = h.walkers;
+  registrations = All-nil (IsRegistration v.tree.forest);
+}
+
+pub well_owned : (v : World) → IsWhole v → IsOwnedWell v.tree.forest
+well_owned v h = record { documents = h.documents; owners = h.owners }
+
+-- a node that is held is covered
+pub held-covered : (v : World) → IsWhole v → (n : ℕ) → HasNode v.tree.forest n → n < v.ranges.covered
+held-covered v h n held =
+    let there = occurs-HasNode v.tree.forest n held in
+    let covered = h.covered in
+    ⊎_elim
+    (λ (lt : n < v.tree.made). omega arith)
+    (λ (le : v.tree.made ≤ n). absurd (let z = h.forest.small n le in omega arith))
+    (cases_lt n v.tree.made)
+
+pub parent-held : (v : World) → IsWhole v → (n p : ℕ) → parent_of v.tree.forest n ≡ Some p → HasNode v.tree.forest p
+parent-held v h n p e =
+    HasNode-occurs v.tree.forest p (parent-path v.tree.forest h.forest.once n p (parent-there v.tree.forest n p e) e).0
+
+-- nodes that are held stay so
+pub statics-held : (f g : Forest Content) → ((n : ℕ) → HasNode f n → HasNode g n) → (rs : List Range) → All (AreHeld f) rs → All (AreHeld g) rs
+statics-held f g there rs h = All-weaker (AreHeld f) (AreHeld g) (λ r k. record { start = there r.start.node k.start; end = there r.end.node k.end }) rs h
+
+-- Ends and iterators give way, and the node becomes a root.
+
+pub follows-taken : (v new : World) (n p : ℕ)
+    → new.tree ≡ record { forest = cut n v.tree.forest; made = v.tree.made }
+    → new.ranges ≡ record { ranges = map_ranges (after_removal (inclusive_descendants v.tree.forest n) p (index_of v.tree.forest n)) v.ranges.ranges; covered = v.ranges.covered }
+    → new.statics ≡ v.statics → new.iters ≡ pre_removed_all v.tree.forest n v.iters → new.walkers ≡ v.walkers → new.observers ≡ v.observers
+    → Follows v new (taken_out n p)
+follows-taken v new n p tree ranges statics iters walkers observers = record {
+  keeps = λ w k. record {
+    forest = ap (cut n) k.forest ∙ sym (ap (λ t. t.forest) tree);
+    made = k.made ∙ sym (ap (λ t. t.made) tree);
+    ranges = rw (k.forest, k.ranges) (sym (ap (λ r. r.ranges) ranges));
+    static_ranges = k.static_ranges ∙ sym statics;
+    iterators = rw (k.forest, k.iterators) (sym iters);
+    walkers = k.walkers ∙ sym walkers;
+  };
+  watches = λ w k o. subst (λ b. Watches b w.observing) (sym observers) o;
+}
+
+pub whole-taken : (v new : World) (n p : ℕ) → IsWhole v → parent_of v.tree.forest n ≡ Some p → Follows v new (taken_out n p) → new.ranges.covered ≡ v.ranges.covered → IsWhole new
+whole-taken v new n p h e f covered =
+    let k = f.keeps (unwatched v) (keeps-unwatched v) in
+    let sound = subst (λ q. IsSound (removed_from true n q (unwatched v))) e (sound-remove true n (unwatched v) (sound-unwatched v h)) in
+    let owned = owned-cut n v.tree.forest h.forest.once (well_owned v h) in
+    let held = statics-held v.tree.forest (cut n v.tree.forest) (there_after_cut v.tree.forest n) v.statics h.statics in
+    let before = h.covered in
+    let same_made = k.made in
+    whole-sound new (transients_made n p (taken_out n p (unwatched v)))
+    (record { forest = k.forest; made = k.made; ranges = k.ranges; static_ranges = k.static_ranges; iterators = k.iterators; walkers = k.walkers })
+    sound (subst HasOneDocument k.forest owned.documents) (subst HasOwners k.forest owned.owners)
+    (omega arith)
+    (rw (k.forest, k.static_ranges) at held)
+
+-- Transient registrations.
+
+none-standing : (ns : List ℕ) → standing_on ns [] ≡ []
+none-standing [] = refl
+none-standing (n ∷ ns) = none-standing ns
+
+-- where nothing is observed no registration is left behind
+pub follows-idle : (v : World) (n p : ℕ) → ((x : Observing) → Watches v.observers x → x.registrations ≡ []) → Follows v v (transients_made n p)
+follows-idle v n p idle = record {
+  keeps = λ w k. record { forest = k.forest; made = k.made; ranges = k.ranges; static_ranges = k.static_ranges; iterators = k.iterators; walkers = k.walkers };
+  watches = λ w k o.
+      let above = ancestors p w.forest in
+      watches-unstood v.observers w.observing o (tree_mutation p [] [] None None w) n above (ap (standing_on above) (idle w.observing o) ∙ none-standing above);
+}
+
+-- The whole step.
+
+after-root : (v : World) (n : ℕ) (suppressed : Bool) (w : model.World) → parent_of v.tree.forest n ≡ None → Keeps v w → w ≡ remove suppressed n w
+after-root v n suppressed w e k =
+    sym (ap (λ q. removed_from suppressed n q w) (ap (λ f. parent_of f n) k.forest ∙ e))
+
+-- a root stays
+pub follows-root : (v : World) (n : ℕ) (suppressed : Bool) → parent_of v.tree.forest n ≡ None → Follows v v (remove suppressed n)
+follows-root v n suppressed e = record {
+  keeps = λ w k. subst (λ u. Keeps v u) (after-root v n suppressed w e k) k;
+  watches = λ w k o. subst (λ (u : model.World). Watches v.observers u.observing) (after-root v n suppressed w e k) o;
+}
+
+abbrev step : World → ℕ → ℕ → Bool → model.World → model.World
+step a n p suppressed w =
+    tree_record_unless suppressed p [] (n ∷ []) (previous_of a.tree.forest n) (next_of a.tree.forest n) (transients_made n p (taken_out n p w))
+
+after-removal : (a : World) (n p : ℕ) (suppressed : Bool) (w : model.World) → parent_of a.tree.forest n ≡ Some p → Keeps a w → step a n p suppressed w ≡ remove suppressed n w
+after-removal a n p suppressed w e k =
+    sym (ap (λ q. removed_from suppressed n q w) (ap (λ f. parent_of f n) k.forest ∙ e)
+    ∙ ap (λ f. tree_record_unless suppressed p [] (n ∷ []) (previous_of f n) (next_of f n) (transients_made n p (taken_out n p w))) k.forest)
+
+pub follows-removed : (a b c d : World) (n p : ℕ) (suppressed : Bool) → parent_of a.tree.forest n ≡ Some p → Follows a b (taken_out n p) → Follows b c (transients_made n p)
+    → Follows c d (tree_record_unless suppressed p [] (n ∷ []) (previous_of a.tree.forest n) (next_of a.tree.forest n)) → Follows a d (remove suppressed n)
+follows-removed a b c d n p suppressed e taken made noted = record {
+  keeps = λ w k.
+      subst (λ u. Keeps d u) (after-removal a n p suppressed w e k)
+      (noted.keeps (transients_made n p (taken_out n p w)) (made.keeps (taken_out n p w) (taken.keeps w k)));
+  watches = λ w k o.
+      subst (λ (u : model.World). Watches d.observers u.observing) (after-removal a n p suppressed w e k)
+      (noted.watches (transients_made n p (taken_out n p w)) (made.keeps (taken_out n p w) (taken.keeps w k))
+      (made.watches (taken_out n p w) (taken.keeps w k) (taken.watches w k o)));
+}
+
+-- a node that is held is so after it left its parent
+pub held-taken : (v new : World) (n p m : ℕ) → Follows v new (taken_out n p) → HasNode v.tree.forest m → HasNode new.tree.forest m
+held-taken v new n p m f h = subst (λ g. HasNode g m) (f.keeps (unwatched v) (keeps-unwatched v)).forest (there_after_cut v.tree.forest n m h)

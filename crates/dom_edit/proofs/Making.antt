@@ -1,0 +1,87 @@
+-- A node is made: what follows, and that the world stays whole.
+use Rattle.std.specs.Prelude.{unwrap_or, IsSome, []}
+use Rattle.std.specs.Option.{ForSome}
+use Rattle.std.proofs.Common.{◌≡◌, ◌+◌, ◌≤◌, ℕ, true, Option, Some, None, refl, ap, sym, ◌∙◌, subst, arith}
+use Rattle.dom_model.specs.declared.Kind.TheVariants.{Document}
+use Rattle.dom_model.specs.PlainLists.Lists.{or_else}
+use Rattle.dom_model.specs.Forests.Kinds.{Label, is_kind}
+use Rattle.dom_model.specs.Forests.Forest.{Forest, Node, empty, node, occurs, beside, entry_under, HasNode}
+use Rattle.dom_model.specs.Forests.Documents.{HasOneDocument}
+use Rattle.dom_model.specs.Worlds.World.{Content}
+use Rattle.dom_model.specs.Commands.Making.{made_node}
+use Rattle.dom_model.specs.MutationAlgorithms.Checks.{entry_has, is_of_kind}
+use Rattle.dom_model.proofs.PlainLists.Numbers.{same_or, same, apart}
+use Rattle.dom_model.proofs.Forests.Entries.{entry_under-absent, occurs-HasNode}
+use Rattle.dom_model.proofs.Forests.Documents.{HasOneDocument-new_root}
+use Rattle.dom_model.proofs.Worlds.Measured.{entry-joined, entry-beside, kind-beside}
+use Rattle.dom_model.proofs.Worlds.Owners.{IsOwned, HasOwners, HasOwners-new_root, kind-there}
+use Rattle.dom_model.proofs.Soundness.SoundMaking.{sound-made_node}
+use Rattle.dom_observe.specs.Watchers.{Watches}
+use Rattle.dom_edit.specs.declared.world.World.{World}
+use Rattle.dom_edit.specs.Whole.{IsWhole, Follows, unwatched}
+use Rattle.dom_edit.proofs.Following.{keeps-unwatched, whole-sound}
+use Rattle.dom_edit.proofs.Leaving.{sound-unwatched, statics-held}
+
+abbrev pub new_node : ℕ → Option ℕ → Label → Content → Node Content
+new_node made document label body = record { number = made; document = unwrap_or document made; label = label; body = body }
+
+root-entry : (x : Node Content) → entry_under None x.number (node x empty empty) ≡ Some (record { value = x; parent = None; children = [] })
+root-entry x = elim (same_or x.number x.number) [ same e t ↦ rw t refl | apart ne t ↦ absurd (ne refl) ]
+
+-- its node document is a Document: the one that is given, or itself
+owned-new : (f : Forest Content) (made : ℕ) (document : Option ℕ) (label : Label) (body : Content) → occurs made f ≡ 0 → ForSome document (λ d. is_of_kind Document f d ≡ true) → (document ≡ None → is_kind Document label.kind ≡ true)
+    → IsOwned (beside f (node (new_node made document label body) empty empty)) (new_node made document label body)
+owned-new f made None label body absent given own =
+    let x = new_node made None label body in
+    let told = entry_under-absent None made f absent in
+    let joined = entry-joined None made f (node x empty empty) ∙ ap (λ o. or_else o (entry_under None made (node x empty empty))) told in
+    ap (entry_has (is_kind Document)) (joined ∙ root-entry x) ∙ own refl
+owned-new f made (Some d) label body absent given own =
+    let x = new_node made (Some d) label body in
+    kind-beside f (node x empty empty) d (kind-there f d (given d refl)) (is_kind Document) ∙ given d refl
+
+pub follows-made : (v new : World) (document : Option ℕ) (label : Label) (body : Content)
+    → new.tree ≡ record { forest = beside v.tree.forest (node (new_node v.tree.made document label body) empty empty); made = v.tree.made + 1 }
+    → new.ranges.ranges ≡ v.ranges.ranges → new.statics ≡ v.statics → new.iters ≡ v.iters → new.walkers ≡ v.walkers → new.observers ≡ v.observers
+    → Follows v new (made_node (unwrap_or document v.tree.made) label body)
+follows-made v new document label body tree ranges statics iters walkers observers = record {
+  keeps = λ w k. record {
+    forest = rw (k.forest, k.made) (sym (ap (λ t. t.forest) tree));
+    made = rw k.made (sym (ap (λ t. t.made) tree));
+    ranges = k.ranges ∙ sym ranges;
+    static_ranges = k.static_ranges ∙ sym statics;
+    iterators = k.iterators ∙ sym iters;
+    walkers = k.walkers ∙ sym walkers;
+  };
+  watches = λ w k o. subst (λ b. Watches b w.observing) (sym observers) o;
+}
+
+pub whole-made : (v new : World) (document : Option ℕ) (label : Label) (body : Content) → IsWhole v → ForSome document (λ d. is_of_kind Document v.tree.forest d ≡ true)
+    → (document ≡ None → is_kind Document label.kind ≡ true) → Follows v new (made_node (unwrap_or document v.tree.made) label body) → v.tree.made + 1 ≤ new.ranges.covered → IsWhole new
+whole-made v new document label body h given own follows covered =
+    let f = v.tree.forest in
+    let x = new_node v.tree.made document label body in
+    let k = follows.keeps (unwatched v) (keeps-unwatched v) in
+    let owned = owned-new f v.tree.made document label body (h.forest.small v.tree.made (omega arith)) given own in
+    let there : (n : ℕ) → HasNode f n → HasNode (beside f (node x empty empty)) n = λ n held. subst (λ e. IsSome e) (sym (entry-beside f (node x empty empty) n (occurs-HasNode f n held))) held in
+    let held = statics-held f (beside f (node x empty empty)) there v.statics h.statics in
+    let made = k.made in
+    whole-sound new (made_node (unwrap_or document v.tree.made) label body (unwatched v)) k
+    (sound-made_node (unwrap_or document v.tree.made) label body (unwatched v) (sound-unwatched v h))
+    (subst HasOneDocument k.forest (HasOneDocument-new_root f x h.documents))
+    (subst HasOwners k.forest (HasOwners-new_root f x owned h.owners))
+    (omega arith)
+    (rw (k.forest, k.static_ranges) at held)
+
+-- more nodes are covered
+pub whole-covered : (v new : World) → IsWhole v → new.tree ≡ v.tree → new.ranges.ranges ≡ v.ranges.ranges → v.ranges.covered ≤ new.ranges.covered → new.statics ≡ v.statics → new.iters ≡ v.iters → new.walkers ≡ v.walkers → IsWhole new
+whole-covered v new h tree ranges covered statics iters walkers = record {
+  forest = rw tree h.forest;
+  documents = rw tree h.documents;
+  owners = rw tree h.owners;
+  covered = let before = h.covered in rw tree (omega arith);
+  ranges = rw (tree, ranges) h.ranges;
+  statics = rw (tree, statics) h.statics;
+  iterators = rw (tree, iters) h.iterators;
+  walkers = rw (tree, walkers) h.walkers;
+}

@@ -1,0 +1,194 @@
+-- What names the nodes of a tree, part by part, and a tree that nothing names.
+use Rattle.std.specs.Prelude.{◌==◌, ◌||◌, is_some, map}
+use Rattle.std.specs.List.{list_any, flat_map}
+use Rattle.std.proofs.Common.{◌≡◌, ℕ, suc, Bool, true, false, List, [], ◌∷◌, ◌++◌, Option, Some, None, All, refl, ap, sym, ◌∙◌, subst, arith}
+use Rattle.std.proofs.lemmas.Bool.{false≢true}
+use Rattle.std.proofs.lemmas.List.Folds.{list_any-append}
+use Rattle.std.proofs.lemmas.List.Elements.{All-nil, All-cons, All-head, All-tail}
+use Rattle.dom_model.specs.declared.Kind.{Kind}
+use Rattle.dom_model.specs.declared.Kind.TheVariants.{Element, Text, ProcessingInstruction, Comment, Document, DocumentType, DocumentFragment}
+use Rattle.dom_model.specs.PlainLists.Lists.{among}
+use Rattle.dom_model.specs.Forests.Kinds.{is_kind, may_stand_in}
+use Rattle.dom_model.specs.Forests.Forest.{Row, Forest, empty, node, HasNode, IsForest, one_at, rows, tree_at, parent_of, ancestors, without, inclusive_descendants}
+use Rattle.dom_model.specs.Forests.Documents.{HasOneDocument}
+use Rattle.dom_model.specs.Forests.EachNode.{EachNode}
+use Rattle.dom_model.specs.Worlds.World as model
+use Rattle.dom_model.specs.Worlds.World.{Content, Range}
+use Rattle.dom_model.specs.MutationAlgorithms.Checks.{is_of_kind}
+use Rattle.dom_model.specs.MutationAlgorithms.Discarding.{nodes_of_range, nodes_of_live, nodes_of_iterator, nodes_of_walker, observed_nodes, named_nodes, is_held_outside, is_in_use, discarded}
+use Rattle.dom_model.proofs.PlainLists.Numbers.{same_or, same, apart}
+use Rattle.dom_model.proofs.Forests.Changes.{seen, nothing, just}
+use Rattle.dom_model.proofs.Forests.Totals.{total-tree_at}
+use Rattle.dom_model.proofs.Forests.Climbing.{hits-ancestors, hits-not_among, not_among-hits}
+use Rattle.dom_model.proofs.Forests.Entries.{HasNode-occurs, occurs-HasNode}
+use Rattle.dom_model.proofs.Forests.EachNode.{EachNode-without}
+use Rattle.dom_model.proofs.Forests.Documents.{HasOneDocument-without}
+use Rattle.dom_model.proofs.Forests.Paths.{parent-path}
+use Rattle.dom_model.proofs.Forests.ToTheRoot.{among-top}
+use Rattle.dom_model.proofs.Forests.TreeOrder.Flattened.{hits-numbers}
+use Rattle.dom_model.proofs.Worlds.Owners.{IsOwned, HasOwners, EachNode-each, HasOwners-discarded, kind-there}
+use Rattle.dom_model.proofs.Soundness.SoundForests.{entry_there, child-fits}
+use Rattle.dom_model.proofs.Soundness.SoundDiscarding.{sound-without}
+use Rattle.dom_edit.specs.declared.world.World.{World}
+use Rattle.dom_edit.specs.Whole.{AreHeld, IsWhole, Keeps, Shows}
+use Rattle.dom_edit.proofs.Following.{whole-sound}
+
+five : (a b c d e : Bool) → ((((a || b) || c) || d) || e) ≡ (a || (b || (c || (d || e))))
+five true b c d e = refl
+five false true c d e = refl
+five false false true d e = refl
+five false false false d e = refl
+
+-- a number of a tree is among those that the parts of a world name
+pub named-parts : (v : World) (w : model.World) (top : ℕ) → Keeps v w → (p : ℕ → Bool) → p ≡ (λ m. among m (inclusive_descendants v.tree.forest top))
+    → ((((list_any p (flat_map nodes_of_live v.ranges.ranges) || list_any p (flat_map nodes_of_range v.statics)) || list_any p (flat_map nodes_of_iterator v.iters)) || list_any p (flat_map nodes_of_walker v.walkers)) || list_any p (observed_nodes w.observing))
+    ≡ list_any (λ m. among m (inclusive_descendants w.forest top)) (named_nodes w)
+named-parts v w top k p e =
+    let inside : p ≡ (λ m. among m (inclusive_descendants w.forest top)) = e ∙ ap (λ f m. among m (inclusive_descendants f top)) (sym k.forest) in
+    let ranges = flat_map nodes_of_live v.ranges.ranges in
+    let statics = flat_map nodes_of_range v.statics in
+    let iterators = flat_map nodes_of_iterator v.iters in
+    let walkers = flat_map nodes_of_walker v.walkers in
+    let observed = observed_nodes w.observing in
+    let all : named_nodes w ≡ ranges ++ (statics ++ (iterators ++ (walkers ++ observed))) = rw (k.ranges, k.static_ranges, k.iterators, k.walkers) refl in
+    let parted : list_any p (ranges ++ (statics ++ (iterators ++ (walkers ++ observed)))) ≡ (list_any p ranges || (list_any p statics || (list_any p iterators || (list_any p walkers || list_any p observed)))) =
+    rw (list_any-append p ranges (statics ++ (iterators ++ (walkers ++ observed))), list_any-append p statics (iterators ++ (walkers ++ observed)), list_any-append p iterators (walkers ++ observed), list_any-append p walkers observed) refl in
+    five (list_any p ranges) (list_any p statics) (list_any p iterators) (list_any p walkers) (list_any p observed)
+    ∙ (sym parted ∙ (ap (list_any p) (sym all) ∙ ap (λ q. list_any q (named_nodes w)) inside))
+
+-- A test that was made, or passed over.
+pub or-met : (value first a b : Bool) → value ≡ true → first ≡ true → first ≡ a → value ≡ (a || b)
+or-met value first a b v f e = let k : a ≡ true = sym e ∙ f in rw k v
+
+pub or-next : (value first second a b : Bool) → value ≡ second → first ≡ false → first ≡ a → second ≡ b → value ≡ (a || b)
+or-next value first second a b v f e d = let k : a ≡ false = sym e ∙ f in rw k (v ∙ d)
+
+-- Only a Document is a node document, and it is a root.
+
+no_document_below : (parent k : Kind) → may_stand_in parent k ≡ true → is_kind Document k ≡ true → ⊥
+no_document_below parent Element h e = false≢true e
+no_document_below parent Text h e = false≢true e
+no_document_below parent ProcessingInstruction h e = false≢true e
+no_document_below parent Comment h e = false≢true e
+no_document_below parent Document h e = false≢true h
+no_document_below parent DocumentType h e = false≢true e
+no_document_below parent DocumentFragment h e = false≢true e
+
+document-root : (f : Forest Content) (made : ℕ) → IsForest {X = Content} (record { forest = f; made = made }) → (d : ℕ) → is_of_kind Document f d ≡ true → parent_of f d ≡ None
+document-root f made s d k =
+    elim (seen (parent_of f d)) [
+      | nothing e ↦ e
+      | just u e ↦
+          let h = kind-there f d k in
+          let ed = entry_there f d h in
+          let eu = entry_there f u (parent-path f s.once d u h e).0 in
+          let fits = rw (ed.1, eu.1) at (child-fits {f = f} {made = made} s d u e h) in
+          let kind = rw ed.1 at k in
+          absurd (no_document_below eu.0.value.label.kind ed.0.value.label.kind fits kind)
+    ]
+
+-- a Document does not stand in the tree of another node
+document-outside : (f : Forest Content) (made : ℕ) → IsForest {X = Content} (record { forest = f; made = made }) → (n : ℕ) → is_of_kind Document f n ≡ false → (d : ℕ) → is_of_kind Document f d ≡ true
+    → among d (inclusive_descendants f n) ≡ false
+document-outside f made s n other d k =
+    let h = kind-there f d k in
+    let root = document-root f made s d k in
+    let ne : (d == n) ≡ false = elim (same_or d n) [ same e t ↦ absurd (let j : is_of_kind Document f n ≡ true = subst (λ m. is_of_kind Document f m ≡ true) e k in false≢true (sym other ∙ j)) | apart x t ↦ t ] in
+    let away = among-top {X = Content} {g = record { forest = f; made = made }} s n d (HasNode-occurs f d h) root ne in
+    let none = not_among-hits n (ancestors d f) (sym away) in
+    hits-not_among d (inclusive_descendants f n) (omega (arith, hits-numbers d (tree_at n f), hits-ancestors n d f s.once, none))
+
+none-passes : (test : ℕ → Bool) (depth : ℕ) (f : Forest Content) → EachNode (λ x. test x.document ≡ false) f → list_any test (map (λ (r : Row Content). r.at.document) (rows depth f)) ≡ false
+none-passes test depth empty h = refl
+none-passes test depth (node x kids rest) h =
+    let a = none-passes test (suc depth) kids h.1 in
+    let b = none-passes test depth rest h.2 in
+    rw h.0 (both (rows (suc depth) kids) (rows depth rest) a b)
+  where
+    both : (xs ys : List (Row Content)) → list_any test (map (λ (r : Row Content). r.at.document) xs) ≡ false → list_any test (map (λ (r : Row Content). r.at.document) ys) ≡ false
+        → list_any test (map (λ (r : Row Content). r.at.document) (xs ++ ys)) ≡ false
+    both [] ys h k = k
+    both (x ∷ xs) ys h k =
+        elim (test x.at.document) as (λ v. (v || list_any test (map (λ (r : Row Content). r.at.document) xs)) ≡ false → (v || list_any test (map (λ (r : Row Content). r.at.document) (xs ++ ys))) ≡ false) [
+          | true ↦ λ t. t
+          | false ↦ λ t. both xs ys t k
+        ] h
+
+pub no_parent : (o : Option ℕ) → is_some o ≡ false → o ≡ None
+no_parent None h = refl
+no_parent (Some p) h = absurd (false≢true (sym h))
+
+-- nothing outside holds a root that is no Document
+pub root-not_held : (v : World) → IsWhole v → (n : ℕ) → parent_of v.tree.forest n ≡ None → is_of_kind Document v.tree.forest n ≡ false → is_held_outside v.tree.forest n ≡ false
+root-not_held v h n root other =
+    let f = v.tree.forest in
+    let owned = EachNode-without (IsOwned f) n f h.owners in
+    let none = none-passes (λ m. among m (inclusive_descendants f n)) 0 (without n f)
+    (EachNode-each (IsOwned f) (λ x. among x.document (inclusive_descendants f n) ≡ false) (λ x k. document-outside f v.tree.made h.forest n other x.document k) (without n f) owned) in
+    rw (root, none) refl
+
+-- a tree that no node outside holds, and nothing else names, is not in use
+pub not_in_use : (v : World) (w : model.World) (n : ℕ) (named : Bool) → Keeps v w → named ≡ list_any (λ m. among m (inclusive_descendants w.forest n)) (named_nodes w) → named ≡ false
+    → is_held_outside v.tree.forest n ≡ false → is_in_use w n ≡ false
+not_in_use v w n named k e none free =
+    let held : is_held_outside w.forest n ≡ false = ap (λ f. is_held_outside f n) k.forest ∙ free in
+    let others : list_any (λ m. among m (inclusive_descendants w.forest n)) (named_nodes w) ≡ false = sym e ∙ none in
+    rw (held, others) refl
+
+neither : (a b : Bool) → (a || b) ≡ false → (a ≡ false) × (b ≡ false)
+neither true b h = absurd (false≢true (sym h))
+neither false b h = (refl, h)
+
+pub unheld : (v : World) (w : model.World) (n : ℕ) → Keeps v w → is_in_use w n ≡ false → is_held_outside v.tree.forest n ≡ false
+unheld v w n k free =
+    sym (ap (λ f. is_held_outside f n) k.forest) ∙ (neither (is_held_outside w.forest n) (list_any (λ m. among m (inclusive_descendants w.forest n)) (named_nodes w)) free).0
+
+-- What is left where a tree goes.
+
+statics-left : (f rest : Forest Content) (p : ℕ → Bool) → ((m : ℕ) → p m ≡ false → HasNode f m → HasNode rest m) → (rs : List Range)
+    → All (AreHeld f) rs → list_any p (flat_map nodes_of_range rs) ≡ false → All (AreHeld rest) rs
+statics-left f rest p stays [] h k = All-nil (AreHeld rest)
+statics-left f rest p stays (r ∷ rs) h k =
+    let start = neither (p r.start.node) (p r.end.node || list_any p (flat_map nodes_of_range rs)) k in
+    let end = neither (p r.end.node) (list_any p (flat_map nodes_of_range rs)) start.1 in
+    let first = All-head (AreHeld f) r rs h in
+    All-cons (AreHeld rest) r rs (record { start = stays r.start.node start.0 first.start; end = stays r.end.node end.0 first.end })
+    (statics-left f rest p stays rs (All-tail (AreHeld f) r rs h) end.1)
+
+pub whole-left : (v new : World) (w : model.World) (n : ℕ) → Shows v w → is_in_use w n ≡ false
+    → new.tree ≡ record { forest = without n v.tree.forest; made = v.tree.made } → new.ranges ≡ v.ranges → new.statics ≡ v.statics → new.iters ≡ v.iters → new.walkers ≡ v.walkers → IsWhole new
+whole-left v new w n s free tree ranges statics iters walkers =
+    let h = s.whole in
+    let k = s.keeps in
+    let f = v.tree.forest in
+    let rest = without n f in
+    let p : ℕ → Bool = λ m. among m (inclusive_descendants f n) in
+    let unnamed = (neither (is_held_outside w.forest n) (list_any (λ m. among m (inclusive_descendants w.forest n)) (named_nodes w)) free).1 in
+    let parted = named-parts v w n k p refl ∙ unnamed in
+    let a = list_any p (flat_map nodes_of_live v.ranges.ranges) in
+    let b = list_any p (flat_map nodes_of_range v.statics) in
+    let c = list_any p (flat_map nodes_of_iterator v.iters) in
+    let d = list_any p (flat_map nodes_of_walker v.walkers) in
+    let no_static = (neither a b (neither (a || b) c (neither ((a || b) || c) d (neither (((a || b) || c) || d) (list_any p (observed_nodes w.observing)) parted).0).0).0).1 in
+    let stays : (m : ℕ) → p m ≡ false → HasNode f m → HasNode rest m = λ m e held.
+    let i = not_among-hits m (inclusive_descendants f n) e in
+    let j = hits-numbers m (tree_at n f) in
+    let t = total-tree_at (one_at m) n f in
+    let there = occurs-HasNode f m held in
+    HasNode-occurs rest m (omega arith) in
+    let forest : rest ≡ new.tree.forest = sym (ap (λ t. t.forest) tree) in
+    let left = statics-left f rest p stays v.statics h.statics no_static in
+    let made : v.tree.made ≡ new.tree.made = sym (ap (λ t. t.made) tree) in
+    let keeps : Keeps new (discarded n w) = record {
+      forest = ap (without n) k.forest ∙ forest;
+      made = k.made ∙ made;
+      ranges = k.ranges ∙ sym (ap (λ r. r.ranges) ranges);
+      static_ranges = k.static_ranges ∙ sym statics;
+      iterators = k.iterators ∙ sym iters;
+      walkers = k.walkers ∙ sym walkers;
+    } in
+    whole-sound new (discarded n w) keeps (sound-without n w s.sound free)
+    (subst HasOneDocument forest (HasOneDocument-without n f h.documents))
+    (subst HasOwners forest (HasOwners-discarded n f h.forest.once (unheld v w n k free) h.owners))
+    (rw (tree, ranges) h.covered)
+    (rw (forest, sym statics) at left)

@@ -1,0 +1,27 @@
+use Rattle.std.proofs.Common.{◌≡◌, false, refl, arith}
+use Rattle.std.proofs.lemmas.Bool.Decides.{nat_tests}
+use Rattle.dom_edit.specs.declared.world.World.{World}
+use Rattle.dom_edit.proofs.Adopting.{removed-held, removed-root, removed-document, whole-adopted, follows-staying}
+use Rattle.dom_edit.proofs.world.World.adopt.Goals as goal
+
+pub document_of-requires : goal.document_of-requires
+document_of-requires c =
+    removed-held c.args.self.now c.remove_node.new.self false c.args.node c.requires.whole c.requires.node_held c.in_ok-remove_node.ensures.removed c.args.node c.requires.node_held
+
+pub set_document-requires : goal.set_document-requires
+set_document-requires c =
+    removed-held c.args.self.now c.remove_node.new.self false c.args.node c.requires.whole c.requires.node_held c.in_ok-remove_node.ensures.removed c.args.node c.requires.node_held
+
+pub returns-then-ne-clause-whole : goal.returns-then-ne-clause-whole
+returns-then-ne-clause-whole c =
+    let v = c.args.self.now in
+    let out = c.remove_node.new.self in
+    let new : World = record { tree = c.set_document.new.self; ranges = out.ranges; statics = out.statics; iters = out.iters; walkers = out.walkers; observers = out.observers } in
+    let root = removed-root v out false c.args.node c.requires.whole c.requires.node_held c.in_ok-remove_node.ensures.removed in
+    let document = removed-document v out false c.args.node c.requires.whole c.requires.node_held c.in_ok-remove_node.ensures.removed c.args.document c.requires.document_kind in
+    whole-adopted out new c.args.node c.args.document c.in_ok-remove_node.ensures.whole root document c.set_document.ensures refl refl refl refl
+
+pub returns-else-ne-clause-adopted : goal.returns-else-ne-clause-adopted
+returns-else-ne-clause-adopted c =
+    let same_document : c.document_of.result ≡ c.args.document = grind (arith, nat_tests) in
+    follows-staying c.args.self.now c.remove_node.new.self c.args.node c.args.document c.document_of.result c.in_ok-remove_node.ensures.whole c.in_ok-remove_node.ensures.removed c.document_of.ensures same_document

@@ -1,0 +1,16 @@
+use Rattle.std.specs.Prelude.{None, is_some}
+use Rattle.std.proofs.Common.{◌≡◌, false, refl, ap, sym, ◌∙◌}
+use Rattle.dom_model.specs.declared.Kind.TheVariants.{Document}
+use Rattle.dom_model.specs.Forests.Forest.{parent_of}
+use Rattle.dom_model.specs.MutationAlgorithms.Checks.{is_of_kind}
+use Rattle.dom_edit.proofs.Naming.{no_parent, root-not_held, not_in_use}
+use Rattle.dom_edit.proofs.world.World.can_discard.Goals as goal
+
+pub returns-then-not-is_of_kind : goal.returns-then-not-is_of_kind
+returns-then-not-is_of_kind c w s =
+    let v = c.args.self.now in
+    let root : parent_of v.tree.forest c.args.top ≡ None =
+    no_parent (parent_of v.tree.forest c.args.top) (ap is_some (sym c.parent.ensures) ∙ (sym c.is_some.ensures ∙ c.if-is_some.false)) in
+    let other : is_of_kind Document v.tree.forest c.args.top ≡ false = sym c.is_of_kind.ensures ∙ c.if-not-is_of_kind.true in
+    let free = not_in_use v w c.args.top c.is_named.result s.keeps (c.is_named.ensures w s) c.if-is_named.false (root-not_held v c.requires.whole c.args.top root other) in
+    rw (c.if-not-is_of_kind.true, free) refl

@@ -1,0 +1,12 @@
+use Rattle.std.proofs.Common.{refl}
+use Rattle.dom_edit.specs.declared.world.World.{World}
+use Rattle.dom_edit.proofs.Naming.{whole-left}
+use Rattle.dom_edit.proofs.world.World.discard.Goals as goal
+
+pub returns-clause-whole : goal.returns-clause-whole
+returns-clause-whole c =
+    let v = c.args.self.now in
+    let new : World = record { tree = c.free.new.self; ranges = v.ranges; statics = v.statics; iters = v.iters; walkers = v.walkers; observers = v.observers } in
+    let w = c.requires.shown.stands_for in
+    let s = c.requires.shown.shows in
+    whole-left v new w c.args.top s (c.requires.unused w s) c.free.ensures refl refl refl refl

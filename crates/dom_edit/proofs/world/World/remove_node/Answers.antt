@@ -1,0 +1,48 @@
+use Rattle.std.specs.Prelude.{Some}
+use Rattle.std.proofs.Common.{◌≡◌, true, false, subst, sym, ap}
+use Rattle.std.proofs.lemmas.Result.{on_ok_weaker}
+use Rattle.dom_model.specs.Forests.Forest.{HasNode, parent_of}
+use Rattle.dom_edit.specs.declared.world.World.{World}
+use Rattle.dom_edit.proofs.Following.{follows-none}
+use Rattle.dom_edit.proofs.Leaving.{it_is, parent-held, held-taken, follows-removed}
+use Rattle.dom_edit.proofs.world.World.remove_node.Goals as goal
+
+pub make_transients-requires-clause-held : goal.make_transients-requires-clause-held
+make_transients-requires-clause-held c =
+    let v = c.args.self.now in
+    let n = c.args.node in
+    let p = c.in-Some.parent in
+    let e : parent_of v.tree.forest n ≡ Some p = cc in
+    held-taken v c.take_out.new.self n p p (it_is _ (parent_of v.tree.forest n) p e c.take_out.ensures.taken) (parent-held v c.requires.whole n p e)
+
+pub returns-then-suppressed-clause-removed : goal.returns-then-suppressed-clause-removed
+returns-then-suppressed-clause-removed c =
+    let v = c.args.self.now in
+    let n = c.args.node in
+    let p = c.in-Some.parent in
+    let e : parent_of v.tree.forest n ≡ Some p = cc in
+    let f = it_is _ (parent_of v.tree.forest n) p e c.take_out.ensures.taken in
+    rw c.if-suppressed.true (follows-removed v c.take_out.new.self c.make_transients.new.self c.make_transients.new.self n p true e f c.in_ok-make_transients.ensures.made (follows-none c.make_transients.new.self))
+
+pub queue_tree_record-requires-clause-held : goal.queue_tree_record-requires-clause-held
+queue_tree_record-requires-clause-held c =
+    let v = c.args.self.now in
+    let n = c.args.node in
+    let p = c.in-Some.parent in
+    let e : parent_of v.tree.forest n ≡ Some p = cc in
+    let same_tree = ap (λ (w : World). w.tree.forest) c.make_transients.ensures.parts in
+    let held = held-taken v c.take_out.new.self n p p (it_is _ (parent_of v.tree.forest n) p e c.take_out.ensures.taken) (parent-held v c.requires.whole n p e) in
+    subst (λ f. HasNode f p) (sym same_tree) held
+
+pub returns-clause-removed : goal.returns-clause-removed
+returns-clause-removed c =
+    let v = c.args.self.now in
+    let n = c.args.node in
+    let p = c.in-Some.parent in
+    let e : parent_of v.tree.forest n ≡ Some p = cc in
+    let f = it_is _ (parent_of v.tree.forest n) p e c.take_out.ensures.taken in
+    let queued = rw (c.prev-previous.ensures, c.next-next.ensures) at c.queue_tree_record.ensures.queued in
+    rw c.if-suppressed.false
+    (on_ok_weaker c.queue_tree_record.result
+    (λ noted. follows-removed v c.take_out.new.self c.make_transients.new.self c.queue_tree_record.new.self n p false e f c.in_ok-make_transients.ensures.made noted)
+    queued)

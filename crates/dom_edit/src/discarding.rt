@@ -1,0 +1,57 @@
+//! Letting go of a tree that nothing names. The DOM Standard leaves it to garbage collection.
+
+ghost use Rattle.std.specs.Prelude.{◌≡◌, not, false};
+ghost use Rattle.std.specs.List.{list_any};
+ghost use Rattle.dom_model.specs.PlainLists.Lists.{among};
+ghost use Rattle.dom_model.specs.Forests.Forest.{HasNode, inclusive_descendants};
+ghost use Rattle.dom_model.specs.Worlds.World.{World as PlainWorld};
+ghost use Rattle.dom_model.specs.MutationAlgorithms.Discarding.{named_nodes, is_in_use, discarded};
+ghost use Rattle.dom_edit.specs.Whole.{IsWhole, Shows, IsShown, Follows};
+
+use crate::surroundings::is_of_kind;
+use crate::world::World;
+use dom_kinds::Kind;
+use dom_tree::NodeId;
+
+impl World {
+    /// Whether nothing outside of a node and its descendants names one of them: no parent, no node of which one is the node document, no
+    /// range, iterator, walker or registration, and no record that waits.
+    ///
+    /// It looks at every node only where a Document is asked about that nothing else names.
+    pub fn can_discard(&self, top: NodeId) -> bool
+        requires whole { IsWhole self.now }
+        requires held { HasNode self.now.tree.forest top }
+        ensures { (w : PlainWorld) → Shows self.now w → result ≡ not (is_in_use w top) }
+    {
+        if self.tree.parent(top).is_some() || self.is_named(top) {
+            return false;
+        }
+        // only a Document can be a node document, and it has no parent
+        !is_of_kind(&self.tree, top, Kind::Document) || !self.tree.refers(top)
+    }
+
+    // Whether something else than a tree names a node or a descendant of it.
+    fn is_named(&self, top: NodeId) -> bool
+        requires { HasNode self.now.tree.forest top }
+        ensures { (w : PlainWorld) → Shows self.now w → result ≡ list_any (λ m. among m (inclusive_descendants w.forest top)) (named_nodes w) }
+    {
+        self.ranges.refers(&self.tree, top)
+            || self.statics.refers(&self.tree, top)
+            || self.iters.refers(&self.tree, top)
+            || self.walkers.refers(&self.tree, top)
+            || self.observers.refers(&self.tree, top)
+    }
+
+    /// Lets go of a node and its descendants. Their numbers are not used again.
+    ///
+    /// [`World::can_discard`] tells whether nothing names them.
+    pub fn discard(&mut self, top: NodeId)
+        requires shown { IsShown self.old }
+        requires held { HasNode self.old.tree.forest top }
+        requires unused { (w : PlainWorld) → Shows self.old w → is_in_use w top ≡ false }
+        ensures discarded { Follows self.old self.new (discarded top) }
+        ensures whole { IsWhole self.new }
+    {
+        self.tree.free(top);
+    }
+}
