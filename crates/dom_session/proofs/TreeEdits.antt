@@ -11,10 +11,13 @@ use Rattle.dom_model.specs.Forests.Arena.{Entry}
 use Rattle.dom_model.specs.Forests.Forest.{Node, Forest, entry_in, parent_of}
 use Rattle.dom_model.specs.Worlds.World as model
 use Rattle.dom_model.specs.Worlds.World.{Content}
-use Rattle.dom_model.specs.Commands.Command.{Command, InsertBefore, AppendChild, AdoptNode, ReplaceChild, RemoveChild, Remove, ReplaceChildren}
+use Rattle.dom_model.specs.Commands.Command.{Command, InsertBefore, AppendChild, AdoptNode, ReplaceChild, RemoveChild, Remove, ReplaceChildren, Discard}
 use Rattle.dom_model.specs.Commands.Reply as model_reply
-use Rattle.dom_model.specs.Commands.Answer.{Bounds, refused, answer}
+use Rattle.dom_model.specs.Commands.Answer.{Bounds, Step, guarded, refused, answer}
+use Rattle.dom_model.specs.Commands.Guards.{does}
 use Rattle.dom_model.specs.Commands.AnswerTree.{is_child_node}
+use Rattle.dom_model.specs.declared.OwnError.TheVariants.{NoSuchObject, InUse}
+use Rattle.dom_model.specs.MutationAlgorithms.Discarding.{is_in_use, discarded}
 use Rattle.dom_model.specs.MutationAlgorithms.Checks.{first_refusal, entry_has, kind_passes, is_of_kind, check_insert, check_replace}
 use Rattle.dom_model.specs.MutationAlgorithms.Editing.{remove, pre_insert, append, replace, replace_all, adopt}
 use Rattle.dom_edit.specs.declared.world.World.{World}
@@ -51,6 +54,10 @@ throws-some false x e h = absurd (cc h)
 throws-none : (t : Bool) (x : DomError) → first_refusal ((t, x) ∷ []) ≡ None → t ≡ false
 throws-none true x h = absurd (cc h)
 throws-none false x h = refl
+
+pub not-false : (t : Bool) → not t ≡ false → t ≡ true
+not-false true h = refl
+not-false false h = absurd (cc h)
 
 pub not-true : (t : Bool) → not t ≡ true → t ≡ false
 not-true true h = absurd (cc h)
@@ -121,3 +128,20 @@ module _ (v : World) (b : Bounds) where
     refused-adopt_node e check =
         let t = throws-some (is_of_kind Document v.tree.forest n) NotSupportedError e check in
         rw (shown.keeps.forest, not-none (entry_in v.tree.forest d) hd, not-none (entry_in v.tree.forest n) hn, kind, t.holds, ← t.name) refl
+
+-- two tests, of which none holds, or only the second
+past-two : (a c : Bool) (x y : model_reply.Reply) (w : model.World) (s : Step) → a ≡ false → c ≡ false → guarded ((a, x) ∷ (c, y) ∷ []) w s ≡ s
+past-two a c x y w s ha hc = rw (ha, hc) refl
+
+at-second : (a c : Bool) (x y : model_reply.Reply) (w : model.World) (s : Step) → a ≡ false → c ≡ true → guarded ((a, x) ∷ (c, y) ∷ []) w s ≡ refused y w
+at-second a c x y w s ha hc = rw (ha, hc) refl
+
+module _ (v : World) (b : Bounds) (n : ℕ) (w : model.World) (shown : Shows v w) (hn : is_some (entry_in v.tree.forest n) ≡ true) where
+  held-there : is_none (entry_in w.forest n) ≡ false
+  held-there = rw shown.keeps.forest (not-none (entry_in v.tree.forest n) hn)
+
+  pub answer-discard : is_in_use w n ≡ false → answer b w (Discard n) ≡ record { reply = model_reply.Done model_reply.Nothing; world = discarded n w }
+  answer-discard unused = past-two (is_none (entry_in w.forest n)) (is_in_use w n) (model_reply.Own NoSuchObject) (model_reply.Own InUse) w (does (discarded n w)) held-there unused
+
+  pub refused-discard : is_in_use w n ≡ true → answer b w (Discard n) ≡ refused (model_reply.Own InUse) w
+  refused-discard used = at-second (is_none (entry_in w.forest n)) (is_in_use w n) (model_reply.Own NoSuchObject) (model_reply.Own InUse) w (does (discarded n w)) held-there used

@@ -6,7 +6,7 @@ ghost use Rattle.dom_model.specs.Forests.Kinds.{may_be_parent};
 ghost use Rattle.dom_model.specs.Forests.Forest.{HasNode};
 ghost use Rattle.dom_model.specs.MutationAlgorithms.Checks.{is_of_kind};
 ghost use Rattle.dom_model.specs.Commands.AnswerTree.{is_child_node};
-ghost use Rattle.dom_model.specs.Commands.Command.{InsertBefore, AppendChild, AdoptNode, ReplaceChild, RemoveChild, Remove, ReplaceChildren};
+ghost use Rattle.dom_model.specs.Commands.Command.{InsertBefore, AppendChild, AdoptNode, ReplaceChild, RemoveChild, Remove, ReplaceChildren, Discard};
 ghost use Rattle.dom_model.specs.Commands.Guards.{Bounds};
 ghost use Rattle.dom_model.specs.Commands.Reply.{is_refusal};
 ghost use Rattle.dom_edit.specs.Whole.{IsShown};
@@ -209,6 +209,22 @@ pub fn adopt_node(
     }
 }
 
+/// Lets a node and all that stands under it go, where nothing else names one of them.
+pub fn discard(world: &mut World, top: NodeId) -> Reply
+    requires shown { IsShown world.old }
+    ensures step { (b : Bounds) → IsStep world.old world.new b (Discard top) result }
+    ensures refused { is_refusal (reply_view result) ≡ true → world.new ≡ world.old }
+{
+    if !world.tree.holds(top) {
+        return Reply::Own(OwnError::NoSuchObject);
+    }
+    if !world.can_discard(top) {
+        return Reply::Own(OwnError::InUse);
+    }
+    world.discard(top);
+    Reply::Done(Answer::Nothing)
+}
+
 /// Answers the commands that change where nodes stand.
 pub fn edit_tree(
     world: &mut World,
@@ -233,6 +249,7 @@ pub fn edit_tree(
         Command::RemoveChild(parent, child) => remove_child(world, alloc, parent, child),
         Command::Remove(node) => remove(world, alloc, node),
         Command::ReplaceChildren(parent, node) => replace_children(world, alloc, parent, node),
+        Command::Discard(top) => Ok(discard(world, top)),
         other => ask_tree(world, numbers, alloc, other),
     }
 }
