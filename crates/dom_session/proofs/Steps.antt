@@ -2,17 +2,19 @@
 use Rattle.std.proofs.Common.{◌≡◌, ℕ, ◌+◌, nat_lt, Bool, true, false, not, List, [], ◌∷◌, None, refl, sym, ap, ◌∙◌}
 use Rattle.std.specs.Prelude.{is_none}
 use Rattle.dom_model.specs.Forests.Forest.{entry_in}
-use Rattle.dom_model.specs.declared.Kind.TheVariants.{Element, Text, Document}
-use Rattle.dom_model.specs.declared.DomError.TheVariants.{TypeError}
+use Rattle.dom_model.specs.declared.Kind.TheVariants.{Element, Text, ProcessingInstruction, Comment, Document, DocumentFragment}
+use Rattle.dom_model.specs.declared.DomError.TheVariants.{TypeError, InvalidCharacterError}
 use Rattle.dom_model.specs.declared.OwnError.TheVariants.{NoSuchObject, Limit}
 use Rattle.dom_model.specs.Forests.Kinds.{Label, is_kind}
 use Rattle.dom_model.specs.Worlds.World.{Content, no_content, document_label}
 use Rattle.dom_model.specs.Worlds.World as model
 use Rattle.dom_model.specs.Commands.Reply as model_reply
 use Rattle.dom_model.specs.MutationAlgorithms.Checks.{first_refusal, kind_passes}
-use Rattle.dom_model.specs.Forests.Names.{is_element_name}
-use Rattle.dom_model.specs.Commands.Command.{Command, NewDocument, CreateElement, CreateText}
+use Rattle.dom_model.specs.Forests.Names.{is_element_name, is_doctype_name}
+use Rattle.dom_model.specs.Commands.AnswerMaking.{closes_instruction, doctype_label}
+use Rattle.dom_model.specs.Commands.Command.{Command, NewDocument, CreateElement, CreateText, CreateComment, CreatePI, CreateDoctype, CreateFragment}
 use Rattle.dom_model.specs.Commands.Answer.{Bounds, Step, guarded, no_node, wrong_kind, no_room, bad_name, made_node, makes, named, with_text, answer}
+use Rattle.dom_model.specs.Commands.Guards.{throws}
 use Rattle.dom_edit.specs.declared.world.World.{World}
 use Rattle.dom_edit.specs.Whole.{IsWhole, Shows, Follows}
 use Rattle.dom_session.specs.declared.reply.Answer.TheVariants.{Number}
@@ -50,6 +52,23 @@ answer-create_element v n d name w shown none valid =
 pub answer-create_text : (v : World) (n d : ℕ) (text : List ℕ) (w : model.World) → Shows v w → making_refusal v n d ≡ None → answer (numbered n) w (CreateText d text) ≡ makes d (named Text []) (with_text text) w
 answer-create_text v n d text w shown none =
     guarded-making v (numbered n) d [] w (makes d (named Text []) (with_text text) w) shown none
+
+pub answer-create_comment : (v : World) (n d : ℕ) (text : List ℕ) (w : model.World) → Shows v w → making_refusal v n d ≡ None → answer (numbered n) w (CreateComment d text) ≡ makes d (named Comment []) (with_text text) w
+answer-create_comment v n d text w shown none =
+    guarded-making v (numbered n) d [] w (makes d (named Comment []) (with_text text) w) shown none
+
+pub answer-create_instruction : (v : World) (n d : ℕ) (target text : List ℕ) (w : model.World) → Shows v w → making_refusal v n d ≡ None → is_element_name target ≡ true → closes_instruction text ≡ false → answer (numbered n) w (CreatePI d target text) ≡ makes d (named ProcessingInstruction target) (with_text text) w
+answer-create_instruction v n d target text w shown none valid apart =
+    guarded-making v (numbered n) d (bad_name (is_element_name target) ∷ throws (closes_instruction text) InvalidCharacterError ∷ []) w (makes d (named ProcessingInstruction target) (with_text text) w) shown none
+    ∙ rw (valid, apart) refl
+
+pub answer-create_doctype : (v : World) (n d : ℕ) (name public_id system_id : List ℕ) (w : model.World) → Shows v w → making_refusal v n d ≡ None → is_doctype_name name ≡ true → answer (numbered n) w (CreateDoctype d name public_id system_id) ≡ makes d (doctype_label name public_id system_id) no_content w
+answer-create_doctype v n d name public_id system_id w shown none valid =
+    guarded-making v (numbered n) d (bad_name (is_doctype_name name) ∷ []) w (makes d (doctype_label name public_id system_id) no_content w) shown none ∙ rw valid refl
+
+pub answer-create_fragment : (v : World) (n d : ℕ) (w : model.World) → Shows v w → making_refusal v n d ≡ None → answer (numbered n) w (CreateFragment d) ≡ makes d (named DocumentFragment []) no_content w
+answer-create_fragment v n d w shown none =
+    guarded-making v (numbered n) d [] w (makes d (named DocumentFragment []) no_content w) shown none
 
 pub answer-new_document : (v : World) (n : ℕ) (w : model.World) → Shows v w → nat_lt n (v.tree.made + 1) ≡ false → answer (numbered n) w NewDocument ≡ makes v.tree.made document_label no_content w
 answer-new_document v n w shown room = rw (shown.keeps.made, room) refl

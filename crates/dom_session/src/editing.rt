@@ -1,21 +1,85 @@
 //! The commands that change where nodes stand (DOM Standard, "Interface Node", "Mutation algorithms").
 
-ghost use Rattle.std.specs.Prelude.{◌≡◌, ◌≤◌, true, IfOk};
-ghost use Rattle.dom_model.specs.Commands.Command.{AppendChild};
+ghost use Rattle.std.specs.Prelude.{◌≡◌, ◌≤◌, true, not, IfOk};
+ghost use Rattle.dom_model.specs.declared.Kind.TheVariants.{Document};
+ghost use Rattle.dom_model.specs.Forests.Kinds.{may_be_parent};
+ghost use Rattle.dom_model.specs.Forests.Forest.{HasNode};
+ghost use Rattle.dom_model.specs.MutationAlgorithms.Checks.{is_of_kind};
+ghost use Rattle.dom_model.specs.Commands.AnswerTree.{is_child_node};
+ghost use Rattle.dom_model.specs.Commands.Command.{InsertBefore, AppendChild, AdoptNode, ReplaceChild, RemoveChild, Remove, ReplaceChildren, Discard};
 ghost use Rattle.dom_model.specs.Commands.Guards.{Bounds};
 ghost use Rattle.dom_model.specs.Commands.Reply.{is_refusal};
 ghost use Rattle.dom_edit.specs.Whole.{IsShown};
 ghost use Rattle.dom_session.specs.Views.{command_view, reply_view};
 ghost use Rattle.dom_session.specs.Stands.{IsStep};
 ghost use Rattle.dom_session.specs.Limiting.{numbered};
+ghost use Rattle.dom_session.specs.Refusing.{lacks_given};
 
 use crate::command::Command;
 use crate::questions::ask_tree;
 use crate::reply::{Answer, Reply};
 use dom_edit::{Refusal, World};
+use dom_kinds::{DomError, Kind};
 use dom_model::OwnError;
 use dom_tree::NodeId;
 use std::alloc::{AllocError, Global};
+
+// Whether there is such a node, where one is given.
+fn holds_given(world: &World, id: &Option<NodeId>) -> bool
+    ensures { result ≡ not (lacks_given world.now id.now) }
+{
+    match id {
+        Some(id) => world.tree.holds(*id),
+        None => true,
+    }
+}
+
+// Whether a node is a Document.
+fn is_document(world: &World, id: NodeId) -> bool
+    requires { HasNode world.now.tree.forest id }
+    ensures { result ≡ is_of_kind Document world.now.tree.forest id }
+{
+    world.tree.label(id).kind == Kind::Document
+}
+
+// Whether a kind can be removed by itself: a Document and a DocumentFragment have no parent.
+fn is_child_node(kind: Kind) -> bool
+    ensures { result ≡ is_child_node kind }
+{
+    !matches!(kind, Kind::Document | Kind::DocumentFragment)
+}
+
+// Whether nodes of the kind may have children.
+fn may_be_parent(kind: Kind) -> bool
+    ensures { result ≡ may_be_parent kind }
+{
+    matches!(
+        kind,
+        Kind::Document | Kind::DocumentFragment | Kind::Element
+    )
+}
+
+/// Inserts a node under a parent, before a child of it or last.
+pub fn insert_before(
+    world: &mut World,
+    alloc: Global,
+    parent: NodeId,
+    node: NodeId,
+    child: Option<NodeId>,
+) -> Result<Reply, AllocError>
+    requires shown { IsShown world.old }
+    ensures step { IfOk result (λ reply. (b : Bounds) → IsStep world.old world.new b (InsertBefore parent node child) reply) }
+    ensures refused { IfOk result (λ reply. is_refusal (reply_view reply) ≡ true → world.new ≡ world.old) }
+{
+    if !world.tree.holds(parent) || !world.tree.holds(node) || !holds_given(world, &child) {
+        return Ok(Reply::Own(OwnError::NoSuchObject));
+    }
+    match world.insert_before(alloc, parent, node, child) {
+        Ok(()) => Ok(Reply::Done(Answer::Number(node.number()))),
+        Err(Refusal::Dom(error)) => Ok(Reply::Dom(error)),
+        Err(Refusal::Memory) => Err(AllocError),
+    }
+}
 
 /// Appends a node to the children of a parent.
 pub fn append_child(
@@ -38,6 +102,129 @@ pub fn append_child(
     }
 }
 
+/// Puts a node in the place of a child of a parent, and answers the child.
+pub fn replace_child(
+    world: &mut World,
+    alloc: Global,
+    parent: NodeId,
+    node: NodeId,
+    child: NodeId,
+) -> Result<Reply, AllocError>
+    requires shown { IsShown world.old }
+    ensures step { IfOk result (λ reply. (b : Bounds) → IsStep world.old world.new b (ReplaceChild parent node child) reply) }
+    ensures refused { IfOk result (λ reply. is_refusal (reply_view reply) ≡ true → world.new ≡ world.old) }
+{
+    if !world.tree.holds(parent) || !world.tree.holds(node) || !world.tree.holds(child) {
+        return Ok(Reply::Own(OwnError::NoSuchObject));
+    }
+    match world.replace(alloc, parent, node, child) {
+        Ok(()) => Ok(Reply::Done(Answer::Number(child.number()))),
+        Err(Refusal::Dom(error)) => Ok(Reply::Dom(error)),
+        Err(Refusal::Memory) => Err(AllocError),
+    }
+}
+
+/// Takes a child out of a parent.
+pub fn remove_child(
+    world: &mut World,
+    alloc: Global,
+    parent: NodeId,
+    child: NodeId,
+) -> Result<Reply, AllocError>
+    requires shown { IsShown world.old }
+    ensures step { IfOk result (λ reply. (b : Bounds) → IsStep world.old world.new b (RemoveChild parent child) reply) }
+    ensures refused { IfOk result (λ reply. is_refusal (reply_view reply) ≡ true → world.new ≡ world.old) }
+{
+    if !world.tree.holds(parent) || !world.tree.holds(child) {
+        return Ok(Reply::Own(OwnError::NoSuchObject));
+    }
+    match world.remove_child(alloc, parent, child) {
+        Ok(()) => Ok(Reply::Done(Answer::Number(child.number()))),
+        Err(Refusal::Dom(error)) => Ok(Reply::Dom(error)),
+        Err(Refusal::Memory) => Err(AllocError),
+    }
+}
+
+/// Takes a node out of its parent, where it has one.
+pub fn remove(world: &mut World, alloc: Global, node: NodeId) -> Result<Reply, AllocError>
+    requires shown { IsShown world.old }
+    ensures step { IfOk result (λ reply. (b : Bounds) → IsStep world.old world.new b (Remove node) reply) }
+    ensures refused { IfOk result (λ reply. is_refusal (reply_view reply) ≡ true → world.new ≡ world.old) }
+{
+    if !world.tree.holds(node) {
+        return Ok(Reply::Own(OwnError::NoSuchObject));
+    }
+    if !is_child_node(world.tree.label(node).kind) {
+        return Ok(Reply::Dom(DomError::TypeError));
+    }
+    world.remove(alloc, node)?;
+    Ok(Reply::Done(Answer::Nothing))
+}
+
+/// Makes a node, or nothing, all that stands under a parent.
+pub fn replace_children(
+    world: &mut World,
+    alloc: Global,
+    parent: NodeId,
+    node: Option<NodeId>,
+) -> Result<Reply, AllocError>
+    requires shown { IsShown world.old }
+    ensures step { IfOk result (λ reply. (b : Bounds) → IsStep world.old world.new b (ReplaceChildren parent node) reply) }
+    ensures refused { IfOk result (λ reply. is_refusal (reply_view reply) ≡ true → world.new ≡ world.old) }
+{
+    if !world.tree.holds(parent) || !holds_given(world, &node) {
+        return Ok(Reply::Own(OwnError::NoSuchObject));
+    }
+    if !may_be_parent(world.tree.label(parent).kind) {
+        return Ok(Reply::Dom(DomError::TypeError));
+    }
+    match world.replace_children(alloc, parent, node) {
+        Ok(()) => Ok(Reply::Done(Answer::Nothing)),
+        Err(Refusal::Dom(error)) => Ok(Reply::Dom(error)),
+        Err(Refusal::Memory) => Err(AllocError),
+    }
+}
+
+/// Takes a node out of its parent, into a document.
+pub fn adopt_node(
+    world: &mut World,
+    alloc: Global,
+    document: NodeId,
+    node: NodeId,
+) -> Result<Reply, AllocError>
+    requires shown { IsShown world.old }
+    ensures step { IfOk result (λ reply. (b : Bounds) → IsStep world.old world.new b (AdoptNode document node) reply) }
+    ensures refused { IfOk result (λ reply. is_refusal (reply_view reply) ≡ true → world.new ≡ world.old) }
+{
+    if !world.tree.holds(document) || !world.tree.holds(node) {
+        return Ok(Reply::Own(OwnError::NoSuchObject));
+    }
+    if !is_document(world, document) {
+        return Ok(Reply::Dom(DomError::TypeError));
+    }
+    match world.adopt(alloc, document, node) {
+        Ok(()) => Ok(Reply::Done(Answer::Number(node.number()))),
+        Err(Refusal::Dom(error)) => Ok(Reply::Dom(error)),
+        Err(Refusal::Memory) => Err(AllocError),
+    }
+}
+
+/// Lets a node and all that stands under it go, where nothing else names one of them.
+pub fn discard(world: &mut World, top: NodeId) -> Reply
+    requires shown { IsShown world.old }
+    ensures step { (b : Bounds) → IsStep world.old world.new b (Discard top) result }
+    ensures refused { is_refusal (reply_view result) ≡ true → world.new ≡ world.old }
+{
+    if !world.tree.holds(top) {
+        return Reply::Own(OwnError::NoSuchObject);
+    }
+    if !world.can_discard(top) {
+        return Reply::Own(OwnError::InUse);
+    }
+    world.discard(top);
+    Reply::Done(Answer::Nothing)
+}
+
 /// Answers the commands that change where nodes stand.
 pub fn edit_tree(
     world: &mut World,
@@ -51,7 +238,18 @@ pub fn edit_tree(
     ensures refused { IfOk result (λ reply. is_refusal (reply_view reply) ≡ true → world.new ≡ world.old) }
 {
     match command {
+        Command::InsertBefore(parent, node, child) => insert_before(
+            world, alloc, parent, node, child,
+        ),
         Command::AppendChild(parent, node) => append_child(world, alloc, parent, node),
+        Command::AdoptNode(document, node) => adopt_node(world, alloc, document, node),
+        Command::ReplaceChild(parent, node, child) => replace_child(
+            world, alloc, parent, node, child,
+        ),
+        Command::RemoveChild(parent, child) => remove_child(world, alloc, parent, child),
+        Command::Remove(node) => remove(world, alloc, node),
+        Command::ReplaceChildren(parent, node) => replace_children(world, alloc, parent, node),
+        Command::Discard(top) => Ok(discard(world, top)),
         other => ask_tree(world, numbers, alloc, other),
     }
 }

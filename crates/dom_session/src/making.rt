@@ -3,7 +3,8 @@
 ghost use Rattle.std.specs.Prelude.{◌≡◌, ◌≤◌, true, IfOk, option_map, string_bytes};
 ghost use Rattle.dom_model.specs.Worlds.World.{document_label};
 ghost use Rattle.dom_model.specs.Commands.Answer.{named};
-ghost use Rattle.dom_model.specs.Commands.Command.{NewDocument, CreateElement, CreateText};
+ghost use Rattle.dom_model.specs.Commands.AnswerMaking.{doctype_label, closes_instruction};
+ghost use Rattle.dom_model.specs.Commands.Command.{NewDocument, CreateElement, CreateText, CreateComment, CreatePI, CreateDoctype, CreateFragment};
 ghost use Rattle.dom_model.specs.Commands.Reply.{is_refusal};
 ghost use Rattle.dom_session.specs.Views.{command_view, reply_view};
 ghost use Rattle.dom_edit.specs.Whole.{IsShown};
@@ -15,7 +16,7 @@ use crate::command::Command;
 use crate::editing::edit_tree;
 use crate::reply::{Answer, Reply};
 use dom_edit::{Content, World};
-use dom_kinds::{DomError, Kind, Label, is_element_name};
+use dom_kinds::{DomError, Kind, Label, is_doctype_name, is_element_name};
 use dom_model::OwnError;
 use dom_tree::NodeId;
 use dom_units::Units;
@@ -121,6 +122,122 @@ pub fn create_text(
     Ok(Reply::Done(Answer::Number(id.number())))
 }
 
+/// Makes a Comment.
+pub fn create_comment(
+    world: &mut World,
+    numbers: u64,
+    alloc: Global,
+    document: NodeId,
+    text: Units,
+) -> Result<Reply, AllocError>
+    requires numbers { numbers ≤ 4294967295 }
+    requires shown { IsShown world.old }
+    ensures step { IfOk result (IsStep world.old world.new (numbered numbers) (CreateComment document text)) }
+    ensures refused { IfOk result (λ reply. is_refusal (reply_view reply) ≡ true → world.new ≡ world.old) }
+{
+    if let Some(reply) = refusal(world, numbers, document) {
+        return Ok(reply);
+    }
+    let label = label(alloc, Kind::Comment, String::new(alloc));
+    let id = world.make(alloc, label, Content::of_text(alloc, text), Some(document))?;
+    Ok(Reply::Done(Answer::Number(id.number())))
+}
+
+// Whether `?>` stands in the units, which would end a processing instruction.
+fn closes_instruction(units: &[u16]) -> bool
+    ensures { result ≡ closes_instruction units.now }
+{
+    let mut after_question_mark = false;
+    for unit in units {
+        if after_question_mark && *unit == 62 {
+            return true;
+        }
+        after_question_mark = *unit == 63;
+    }
+    false
+}
+
+/// Makes a ProcessingInstruction.
+pub fn create_instruction(
+    world: &mut World,
+    numbers: u64,
+    alloc: Global,
+    document: NodeId,
+    target: String,
+    text: Units,
+) -> Result<Reply, AllocError>
+    requires numbers { numbers ≤ 4294967295 }
+    requires shown { IsShown world.old }
+    ensures step { IfOk result (IsStep world.old world.new (numbered numbers) (CreatePI document (string_bytes target) text)) }
+    ensures refused { IfOk result (λ reply. is_refusal (reply_view reply) ≡ true → world.new ≡ world.old) }
+{
+    if let Some(reply) = refusal(world, numbers, document) {
+        return Ok(reply);
+    }
+    if !is_element_name(target.as_str()) {
+        return Ok(Reply::Dom(DomError::InvalidCharacterError));
+    }
+    if closes_instruction(text.units()) {
+        return Ok(Reply::Dom(DomError::InvalidCharacterError));
+    }
+    let label = label(alloc, Kind::ProcessingInstruction, target);
+    let id = world.make(alloc, label, Content::of_text(alloc, text), Some(document))?;
+    Ok(Reply::Done(Answer::Number(id.number())))
+}
+
+/// Makes a DocumentType.
+pub fn create_doctype(
+    world: &mut World,
+    numbers: u64,
+    alloc: Global,
+    document: NodeId,
+    name: String,
+    public_id: String,
+    system_id: String,
+) -> Result<Reply, AllocError>
+    requires numbers { numbers ≤ 4294967295 }
+    requires shown { IsShown world.old }
+    ensures step { IfOk result (IsStep world.old world.new (numbered numbers) (CreateDoctype document (string_bytes name) (string_bytes public_id) (string_bytes system_id))) }
+    ensures refused { IfOk result (λ reply. is_refusal (reply_view reply) ≡ true → world.new ≡ world.old) }
+{
+    if let Some(reply) = refusal(world, numbers, document) {
+        return Ok(reply);
+    }
+    if !is_doctype_name(name.as_str()) {
+        return Ok(Reply::Dom(DomError::InvalidCharacterError));
+    }
+    let label = Label {
+        kind: Kind::DocumentType,
+        name,
+        public_id,
+        system_id,
+    };
+    let body = Content::of_text(alloc, Units::new(alloc));
+    let id = world.make(alloc, label, body, Some(document))?;
+    Ok(Reply::Done(Answer::Number(id.number())))
+}
+
+/// Makes a DocumentFragment.
+pub fn create_fragment(
+    world: &mut World,
+    numbers: u64,
+    alloc: Global,
+    document: NodeId,
+) -> Result<Reply, AllocError>
+    requires numbers { numbers ≤ 4294967295 }
+    requires shown { IsShown world.old }
+    ensures step { IfOk result (IsStep world.old world.new (numbered numbers) (CreateFragment document)) }
+    ensures refused { IfOk result (λ reply. is_refusal (reply_view reply) ≡ true → world.new ≡ world.old) }
+{
+    if let Some(reply) = refusal(world, numbers, document) {
+        return Ok(reply);
+    }
+    let label = label(alloc, Kind::DocumentFragment, String::new(alloc));
+    let body = Content::of_text(alloc, Units::new(alloc));
+    let id = world.make(alloc, label, body, Some(document))?;
+    Ok(Reply::Done(Answer::Number(id.number())))
+}
+
 /// Answers the commands that make nodes.
 pub fn make_nodes(
     world: &mut World,
@@ -139,6 +256,16 @@ pub fn make_nodes(
             world, numbers, alloc, document, name,
         ),
         Command::CreateText(document, text) => create_text(world, numbers, alloc, document, text),
+        Command::CreateComment(document, text) => create_comment(
+            world, numbers, alloc, document, text,
+        ),
+        Command::CreatePI(document, target, text) => create_instruction(
+            world, numbers, alloc, document, target, text,
+        ),
+        Command::CreateDoctype(document, name, public_id, system_id) => create_doctype(
+            world, numbers, alloc, document, name, public_id, system_id,
+        ),
+        Command::CreateFragment(document) => create_fragment(world, numbers, alloc, document),
         other => edit_tree(world, numbers, alloc, other),
     }
 }

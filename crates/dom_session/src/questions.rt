@@ -1,6 +1,9 @@
 //! Questions about nodes (DOM Standard, "Interface Node").
 
 ghost use Rattle.std.specs.Prelude.{◌≡◌, ◌≤◌, true, IfOk};
+ghost use Rattle.dom_model.specs.Forests.Forest.{HasNode, children_of};
+ghost use Rattle.dom_model.specs.Commands.Command.{DescribeNode, Children, Index, Length, Root};
+ghost use Rattle.dom_model.specs.Commands.Guards.{Bounds};
 ghost use Rattle.dom_model.specs.Commands.Reply.{is_refusal};
 ghost use Rattle.dom_edit.specs.Whole.{IsShown};
 ghost use Rattle.dom_session.specs.Views.{command_view, reply_view};
@@ -10,9 +13,95 @@ ghost use Rattle.dom_session.specs.Limiting.{numbered};
 use crate::command::Command;
 use crate::printing::print_tree;
 use crate::ranging::act_on_ranges;
-use crate::reply::Reply;
-use dom_edit::World;
+use crate::reply::{Answer, Description, Reply};
+use dom_edit::{Content, World};
+use dom_model::OwnError;
+use dom_tree::{NodeId, Tree};
 use std::alloc::{AllocError, Global};
+
+/// Tells where a node stands, and what it is.
+pub fn describe_node(world: &World, alloc: Global, node: NodeId) -> Result<Reply, AllocError>
+    ensures { IfOk result (λ reply. (b : Bounds) → IsStep world.now world.now b (DescribeNode node) reply) }
+{
+    if !world.tree.holds(node) {
+        return Ok(Reply::Own(OwnError::NoSuchObject));
+    }
+    let label = world.tree.label(node).try_clone(alloc)?;
+    Ok(Reply::Done(Answer::NodeAt(Description {
+        document: world.tree.document_of(node),
+        label,
+        next: world.tree.next(node),
+        parent: world.tree.parent(node),
+        previous: world.tree.prev(node),
+    })))
+}
+
+// The numbers of the children of a node, in order.
+fn child_numbers(
+    tree: &Tree<Content>,
+    alloc: Global,
+    parent: NodeId,
+) -> Result<Vec<u32>, AllocError>
+    requires { HasNode tree.now.forest parent }
+    ensures { IfOk result (λ numbers. numbers.items ≡ children_of tree.now.forest parent) }
+{
+    tree.sound();
+    let mut numbers: Vec<u32> = Vec::with_capacity(alloc, tree.count(parent))?;
+    let mut child = tree.first(parent);
+    while let Some(id) = child {
+        numbers.push(id.number())?;
+        child = tree.next(id);
+    }
+    Ok(numbers)
+}
+
+/// The children of a node, in order.
+pub fn children(world: &World, alloc: Global, node: NodeId) -> Result<Reply, AllocError>
+    ensures { IfOk result (λ reply. (b : Bounds) → IsStep world.now world.now b (Children node) reply) }
+{
+    if !world.tree.holds(node) {
+        return Ok(Reply::Own(OwnError::NoSuchObject));
+    }
+    let numbers = child_numbers(&world.tree, alloc, node)?;
+    Ok(Reply::Done(Answer::Numbers(numbers)))
+}
+
+/// How many siblings stand before a node. Where that is not known, all of them are counted, so that it is known of each.
+pub fn index(world: &mut World, node: NodeId) -> Reply
+    ensures step { (b : Bounds) → IsStep world.old world.new b (Index node) result }
+    ensures unchanged { world.new ≡ world.old }
+{
+    if !world.tree.holds(node) {
+        return Reply::Own(OwnError::NoSuchObject);
+    }
+    world.tree.sound();
+    if world.tree.kept_index(node).is_none()
+        && let Some(parent) = world.tree.parent(node)
+    {
+        world.tree.number_children(parent);
+    }
+    Reply::Done(Answer::Count(world.tree.index(node)))
+}
+
+/// The length of a node.
+pub fn length(world: &World, node: NodeId) -> Reply
+    ensures { (b : Bounds) → IsStep world.now world.now b (Length node) result }
+{
+    if !world.tree.holds(node) {
+        return Reply::Own(OwnError::NoSuchObject);
+    }
+    Reply::Done(Answer::Count(world.tree.length(node)))
+}
+
+/// The root of a node.
+pub fn root(world: &World, node: NodeId) -> Reply
+    ensures { (b : Bounds) → IsStep world.now world.now b (Root node) result }
+{
+    if !world.tree.holds(node) {
+        return Reply::Own(OwnError::NoSuchObject);
+    }
+    Reply::Done(Answer::Number(world.tree.root(node).number()))
+}
 
 /// Answers the questions about nodes.
 pub fn ask_tree(
@@ -27,6 +116,11 @@ pub fn ask_tree(
     ensures refused { IfOk result (λ reply. is_refusal (reply_view reply) ≡ true → world.new ≡ world.old) }
 {
     match command {
+        Command::DescribeNode(node) => describe_node(world, alloc, node),
+        Command::Children(node) => children(world, alloc, node),
+        Command::Index(node) => Ok(index(world, node)),
+        Command::Length(node) => Ok(length(world, node)),
+        Command::Root(node) => Ok(root(world, node)),
         Command::Tree(top) => print_tree(world, alloc, top),
         other => act_on_ranges(world, numbers, alloc, other),
     }

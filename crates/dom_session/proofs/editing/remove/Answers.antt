@@ -1,0 +1,23 @@
+use Rattle.std.proofs.Common.{◌≡◌, true, false, ◌∙◌}
+use Rattle.std.specs.Prelude.{is_some}
+use Rattle.dom_model.specs.Forests.Forest.{entry_in}
+use Rattle.dom_session.specs.declared.reply.Answer.TheVariants.{Nothing}
+use Rattle.dom_session.specs.declared.reply.Reply.TheVariants.{Done}
+use Rattle.dom_model.specs.Commands.Command.{Remove}
+use Rattle.dom_model.specs.Commands.AnswerTree.{is_child_node}
+use Rattle.dom_model.specs.MutationAlgorithms.Checks.{kind_passes}
+use Rattle.dom_model.specs.MutationAlgorithms.Editing.{remove}
+use Rattle.dom_session.proofs.Stepping.{step-follows}
+use Rattle.dom_session.proofs.TreeEdits.{kind_passes-label, answer-remove}
+use Rattle.dom_session.proofs.editing.remove.Goals as goal
+
+pub returns-clause-step : goal.returns-clause-step
+returns-clause-step c b =
+    let old = c.args.world.now in
+    let n = c.args.node in
+    let hn : is_some (entry_in old.tree.forest n) ≡ true = cc in
+    let test : is_child_node c.label.result.now.kind ≡ true = cc in
+    let kind : kind_passes is_child_node old.tree.forest n ≡ true = kind_passes-label is_child_node old.tree.forest n c.label.result.now hn c.label.ensures ∙ test in
+    step-follows b (Remove n) (Done Nothing) old c.remove.new.self (remove false n)
+    (λ w shown. answer-remove old b n w shown hn kind)
+    c.in_ok-remove.ensures.removed c.remove.ensures.whole

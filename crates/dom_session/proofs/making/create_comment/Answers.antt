@@ -1,0 +1,14 @@
+use Rattle.std.proofs.Common.{[], sym, ◌∙◌}
+use Rattle.dom_model.specs.declared.Kind.TheVariants.{Comment}
+use Rattle.dom_model.specs.Commands.Answer.{named, with_text}
+use Rattle.dom_model.specs.Commands.Command.{CreateComment}
+use Rattle.dom_session.specs.Limiting.{numbered}
+use Rattle.dom_session.proofs.Steps.{step-makes, answer-create_comment}
+use Rattle.dom_session.proofs.making.create_comment.Goals as goal
+
+pub returns-clause-step : goal.returns-clause-step
+returns-clause-step c =
+    step-makes c.args.world.now c.make.new.self (numbered c.args.numbers) (CreateComment c.args.document c.args.text) c.args.document c.number.result (named Comment []) (with_text c.args.text)
+    (λ w shown. answer-create_comment c.args.world.now c.args.numbers c.args.document c.args.text w shown (sym c.in_default.ensures))
+    (c.number.ensures ∙ c.in_ok-id.ensures.number)
+    (rw (c.label-label.ensures, c.of_text.ensures, c.new.ensures.bytes) at c.in_ok-id.ensures.made) c.make.ensures.whole

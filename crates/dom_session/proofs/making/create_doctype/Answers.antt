@@ -1,0 +1,19 @@
+use Rattle.std.proofs.Common.{◌≡◌, true, sym, ◌∙◌, string_bytes}
+use Rattle.dom_model.specs.Forests.Names.{is_doctype_name}
+use Rattle.dom_model.specs.Worlds.World.{no_content}
+use Rattle.dom_model.specs.Commands.AnswerMaking.{doctype_label}
+use Rattle.dom_model.specs.Commands.Command.{CreateDoctype}
+use Rattle.dom_session.specs.Limiting.{numbered}
+use Rattle.dom_session.proofs.Steps.{step-makes, answer-create_doctype}
+use Rattle.dom_session.proofs.making.create_doctype.Goals as goal
+
+pub returns-clause-step : goal.returns-clause-step
+returns-clause-step c =
+    let name = string_bytes c.args.name in
+    let public_id = string_bytes c.args.public_id in
+    let system_id = string_bytes c.args.system_id in
+    let valid : is_doctype_name name ≡ true = cc in
+    step-makes c.args.world.now c.make.new.self (numbered c.args.numbers) (CreateDoctype c.args.document name public_id system_id) c.args.document c.number.result (doctype_label name public_id system_id) no_content
+    (λ w shown. answer-create_doctype c.args.world.now c.args.numbers c.args.document name public_id system_id w shown (sym c.in_default.ensures) valid)
+    (c.number.ensures ∙ c.in_ok-id.ensures.number)
+    (rw (c.of_text-body.ensures, c.new.ensures) at c.in_ok-id.ensures.made) c.make.ensures.whole

@@ -1,0 +1,15 @@
+use Rattle.std.proofs.Common.{[], sym, ◌∙◌}
+use Rattle.dom_model.specs.declared.Kind.TheVariants.{DocumentFragment}
+use Rattle.dom_model.specs.Worlds.World.{no_content}
+use Rattle.dom_model.specs.Commands.Answer.{named}
+use Rattle.dom_model.specs.Commands.Command.{CreateFragment}
+use Rattle.dom_session.specs.Limiting.{numbered}
+use Rattle.dom_session.proofs.Steps.{step-makes, answer-create_fragment}
+use Rattle.dom_session.proofs.making.create_fragment.Goals as goal
+
+pub returns-clause-step : goal.returns-clause-step
+returns-clause-step c =
+    step-makes c.args.world.now c.make.new.self (numbered c.args.numbers) (CreateFragment c.args.document) c.args.document c.number.result (named DocumentFragment []) no_content
+    (λ w shown. answer-create_fragment c.args.world.now c.args.numbers c.args.document w shown (sym c.in_default.ensures))
+    (c.number.ensures ∙ c.in_ok-id.ensures.number)
+    (rw (c.label-label.ensures, c.of_text-body.ensures, c.new-2.ensures, c.new.ensures.bytes) at c.in_ok-id.ensures.made) c.make.ensures.whole

@@ -1,0 +1,19 @@
+use Rattle.std.proofs.Common.{◌≡◌, true, false, sym, ◌∙◌, string_bytes}
+use Rattle.dom_model.specs.declared.Kind.TheVariants.{ProcessingInstruction}
+use Rattle.dom_model.specs.Forests.Names.{is_element_name}
+use Rattle.dom_model.specs.Commands.Answer.{named, with_text}
+use Rattle.dom_model.specs.Commands.AnswerMaking.{closes_instruction}
+use Rattle.dom_model.specs.Commands.Command.{CreatePI}
+use Rattle.dom_session.specs.Limiting.{numbered}
+use Rattle.dom_session.proofs.Steps.{step-makes, answer-create_instruction}
+use Rattle.dom_session.proofs.making.create_instruction.Goals as goal
+
+pub returns-clause-step : goal.returns-clause-step
+returns-clause-step c =
+    let target = string_bytes c.args.target in
+    let valid : is_element_name target ≡ true = cc in
+    let apart : closes_instruction c.args.text ≡ false = cc in
+    step-makes c.args.world.now c.make.new.self (numbered c.args.numbers) (CreatePI c.args.document target c.args.text) c.args.document c.number.result (named ProcessingInstruction target) (with_text c.args.text)
+    (λ w shown. answer-create_instruction c.args.world.now c.args.numbers c.args.document target c.args.text w shown (sym c.in_default.ensures) valid apart)
+    (c.number.ensures ∙ c.in_ok-id.ensures.number)
+    (rw (c.label-label.ensures, c.of_text.ensures) at c.in_ok-id.ensures.made) c.make.ensures.whole

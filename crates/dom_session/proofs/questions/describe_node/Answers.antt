@@ -1,0 +1,18 @@
+use Rattle.std.proofs.Common.{◌≡◌, true, sym, subst}
+use Rattle.std.specs.Prelude.{is_some, IfSome}
+use Rattle.dom_model.specs.Forests.Forest.{entry_in}
+use Rattle.dom_model.specs.Commands.Command.{DescribeNode}
+use Rattle.dom_session.specs.declared.reply.Answer.TheVariants.{NodeAt}
+use Rattle.dom_session.specs.declared.reply.Reply.TheVariants.{Done}
+use Rattle.dom_session.proofs.Stepping.{step-stays}
+use Rattle.dom_session.proofs.Describing.{answer-node}
+use Rattle.dom_session.proofs.questions.describe_node.Goals as goal
+
+pub returns : goal.returns
+returns c b =
+    let v = c.args.world.now in
+    let n = c.args.node in
+    let h : is_some (entry_in v.tree.forest n) ≡ true = cc in
+    let label = subst (λ l. IfSome (entry_in v.tree.forest n) (λ e. l ≡ e.value.label)) (sym c.in_ok-label.ensures) c.label.ensures in
+    step-stays b (DescribeNode n) (Done (NodeAt (record { document = c.document_of.result; label = c.in_ok-label.label; next = c.next.result; parent = c.parent.result; previous = c.prev.result }))) v
+    (λ w shown. answer-node v b n c.document_of.result c.in_ok-label.label c.next.result c.parent.result c.prev.result w shown h c.document_of.ensures label c.next.ensures c.parent.ensures c.prev.ensures)
