@@ -3,3 +3,6 @@ pub mod Steps
 pub mod TreeEdits
 pub mod Waits
 pub mod Applying
+pub mod Parts
+pub mod RangeFacts
+pub mod RangeAnswers

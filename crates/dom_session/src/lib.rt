@@ -3,6 +3,7 @@
 
 mod answering;
 mod command;
+mod comparing;
 mod editing;
 pub mod laws;
 mod making;
@@ -12,6 +13,8 @@ mod questions;
 mod ranging;
 mod reply;
 mod session;
+mod setting;
+mod statics;
 #[cfg(test)]
 mod tests;
 mod traversing;
