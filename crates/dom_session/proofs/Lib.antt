@@ -6,3 +6,6 @@ pub mod NodeCopies
 pub mod Describing
 pub mod Waits
 pub mod Applying
+pub mod Parts
+pub mod RangeFacts
+pub mod RangeAnswers

@@ -6,6 +6,7 @@ mod attributes;
 mod command;
 mod contents;
 mod copies;
+mod comparing;
 mod editing;
 pub mod laws;
 mod making;
@@ -15,6 +16,8 @@ mod questions;
 mod ranging;
 mod reply;
 mod session;
+mod setting;
+mod statics;
 #[cfg(test)]
 mod tests;
 mod texts;

@@ -1,6 +1,8 @@
-//! The commands on live and static ranges (DOM Standard, "Ranges").
+//! The commands that make, tell and release live ranges (DOM Standard, "Ranges").
 
 ghost use Rattle.std.specs.Prelude.{◌≡◌, ◌≤◌, true, IfOk};
+ghost use Rattle.dom_model.specs.Commands.Command.{CreateRange, CloneRange, DescribeRange, ReleaseRange};
+ghost use Rattle.dom_model.specs.Commands.Guards.{Bounds};
 ghost use Rattle.dom_model.specs.Commands.Reply.{is_refusal};
 ghost use Rattle.dom_edit.specs.Whole.{IsShown};
 ghost use Rattle.dom_session.specs.Views.{command_view, reply_view};
@@ -8,12 +10,83 @@ ghost use Rattle.dom_session.specs.Stands.{IsStep};
 ghost use Rattle.dom_session.specs.Limiting.{numbered};
 
 use crate::command::Command;
-use crate::reply::Reply;
-use crate::traversing::traverse;
+use crate::reply::{Answer, Reply};
+use crate::setting::set_ranges;
 use dom_edit::World;
+use dom_kinds::{DomError, Kind};
+use dom_model::OwnError;
+use dom_point::Point;
+use dom_ranges::RangeId;
+use dom_tree::NodeId;
 use std::alloc::{AllocError, Global};
 
-/// Answers the commands on ranges.
+/// Makes a live range whose ends both stand at the start of a document.
+pub fn create_range(world: &mut World, numbers: u64, document: NodeId) -> Result<Reply, AllocError>
+    requires numbers { numbers ≤ 4294967295 }
+    requires shown { IsShown world.old }
+    ensures step { IfOk result (IsStep world.old world.new (numbered numbers) (CreateRange document)) }
+    ensures refused { IfOk result (λ reply. is_refusal (reply_view reply) ≡ true → world.new ≡ world.old) }
+{
+    if !world.tree.holds(document) {
+        return Ok(Reply::Own(OwnError::NoSuchObject));
+    }
+    if world.tree.label(document).kind != Kind::Document {
+        return Ok(Reply::Dom(DomError::TypeError));
+    }
+    if numbers <= world.ranges.made() {
+        return Ok(Reply::Own(OwnError::Limit));
+    }
+    let start = Point {
+        node: document,
+        offset: 0,
+    };
+    let id = world.ranges.make(&world.tree, start, start)?;
+    Ok(Reply::Done(Answer::Number(id.number())))
+}
+
+/// Makes a live range with the ends of another.
+pub fn clone_range(world: &mut World, numbers: u64, range: RangeId) -> Result<Reply, AllocError>
+    requires numbers { numbers ≤ 4294967295 }
+    requires shown { IsShown world.old }
+    ensures step { IfOk result (IsStep world.old world.new (numbered numbers) (CloneRange range)) }
+    ensures refused { IfOk result (λ reply. is_refusal (reply_view reply) ≡ true → world.new ≡ world.old) }
+{
+    if !world.ranges.holds(range) {
+        return Ok(Reply::Own(OwnError::NoSuchObject));
+    }
+    if numbers <= world.ranges.made() {
+        return Ok(Reply::Own(OwnError::Limit));
+    }
+    let (start, end) = world.ranges.ends(range);
+    let id = world.ranges.make(&world.tree, start, end)?;
+    Ok(Reply::Done(Answer::Number(id.number())))
+}
+
+/// Tells where a live range starts and ends.
+pub fn describe_range(world: &World, range: RangeId) -> Reply
+    ensures step { (b : Bounds) → IsStep world.now world.now b (DescribeRange range) result }
+{
+    if !world.ranges.holds(range) {
+        return Reply::Own(OwnError::NoSuchObject);
+    }
+    let (start, end) = world.ranges.ends(range);
+    Reply::Done(Answer::Ends(start, end))
+}
+
+/// Lets a live range go: it is adjusted no more, and its number is not used again.
+pub fn release_range(world: &mut World, range: RangeId) -> Reply
+    requires shown { IsShown world.old }
+    ensures step { (b : Bounds) → IsStep world.old world.new b (ReleaseRange range) result }
+    ensures refused { is_refusal (reply_view result) ≡ true → world.new ≡ world.old }
+{
+    if !world.ranges.holds(range) {
+        return Reply::Own(OwnError::NoSuchObject);
+    }
+    world.ranges.release(range);
+    Reply::Done(Answer::Nothing)
+}
+
+/// Answers the commands that make, tell and release live ranges.
 pub fn act_on_ranges(
     world: &mut World,
     numbers: u64,
@@ -25,5 +98,11 @@ pub fn act_on_ranges(
     ensures step { IfOk result (IsStep world.old world.new (numbered numbers) (command_view command)) }
     ensures refused { IfOk result (λ reply. is_refusal (reply_view reply) ≡ true → world.new ≡ world.old) }
 {
-    traverse(world, numbers, alloc, command)
+    match command {
+        Command::CreateRange(document) => create_range(world, numbers, document),
+        Command::CloneRange(range) => clone_range(world, numbers, range),
+        Command::DescribeRange(range) => Ok(describe_range(world, range)),
+        Command::ReleaseRange(range) => Ok(release_range(world, range)),
+        other => set_ranges(world, numbers, alloc, other),
+    }
 }

@@ -1,0 +1,72 @@
+-- What a world that is whole tells of the nodes and live ranges that it holds.
+use Rattle.std.proofs.Common.{◌≡◌, ℕ, ◌<◌, ◌≤◌, Bool, true, false, length, Option, Some, None, IsSome, ◌∷◌, refl, sym, ap, ◌∙◌, subst, arith, ⊎_elim}
+use Rattle.std.specs.Prelude.{IfSome, is_some, is_none}
+use Rattle.std.specs.Option.{ForSome}
+use Rattle.std.proofs.lemmas.Bool.{cases_lt}
+use Rattle.std.proofs.lemmas.List.{get_or_past}
+use Rattle.dom_model.specs.declared.Kind.TheVariants.{Document, DocumentType}
+use Rattle.dom_model.specs.Forests.Kinds.{is_kind}
+use Rattle.dom_model.specs.Forests.Forest.{Forest, Grove, HasNode, IsForest, occurs, entry_in, parent_of, root_of}
+use Rattle.dom_model.specs.Forests.Lengths.{unit_count}
+use Rattle.dom_model.specs.MutationAlgorithms.Checks.{is_of_kind}
+use Rattle.dom_model.specs.Worlds.World.{Content, Point, Range}
+use Rattle.dom_model.specs.Worlds.Sound.{IsBoundary, IsRange}
+use Rattle.dom_model.specs.PlainLists.Lists.{last_of}
+use Rattle.dom_model.proofs.Forests.Entries.{occurs-HasNode}
+use Rattle.dom_model.proofs.Forests.Climbing.{ancestors-there}
+use Rattle.dom_model.proofs.Forests.Above.{above}
+use Rattle.dom_model.proofs.Soundness.SoundWorlds.{IsLive}
+use Rattle.dom_model.proofs.Soundness.SoundRangeSteps.{document_is_no_doctype}
+use Rattle.dom_model.proofs.RangesAndContents.RangesSet.{range_at_point}
+use Rattle.dom_model.specs.RangesAndContents.Ranges.{collapsed_at}
+use Rattle.dom_ranges.specs.Tables.{range_in, StandsIn, IsBoundaryIn, IsRangeIn}
+use Rattle.dom_edit.specs.declared.world.World.{World}
+use Rattle.dom_edit.specs.Whole.{IsWhole}
+
+-- a node that is held, or none
+pub none-or_some : {A : Type 0} (o : Option A) → is_some o ≡ true → is_none o ≡ false
+none-or_some None h = absurd (cc h)
+none-or_some (Some a) h = refl
+
+boundary-in : (f : Forest Content) (p : Point) → IsBoundary f p → IsBoundaryIn unit_count f p
+boundary-in f p b = record { there = b.there; kind = b.kind; within = b.within }
+
+-- a range in the words of the table of ranges
+pub range-in : (f : Forest Content) (r : Range) → IsRange f r → IsRangeIn unit_count f r
+range-in f r h = record { starts = boundary-in f r.start h.starts; ends = boundary-in f r.end h.ends; one_root = h.one_root; in_order = h.in_order }
+
+pub stands-in : (f : Forest Content) (r : Range) → IsRange f r → StandsIn f r
+stands-in f r h = record { start = h.starts.there; end = h.ends.there; one_root = h.one_root }
+
+-- the start of a document is a range
+pub range-of_document : (f : Forest Content) (d : ℕ) → HasNode f d → is_of_kind Document f d ≡ true → IsRange f (collapsed_at (record { node = d; offset = 0 }))
+range-of_document f d there h =
+    range_at_point f (record { node = d; offset = 0 }) (record { there = there; kind = document_is_no_doctype f d h; within = omega arith })
+
+-- a node and its parent have one root
+pub root-above : {X : Type 0} {g : Grove X} → IsForest g → (n q : ℕ) → HasNode g.forest n → parent_of g.forest n ≡ Some q → root_of g.forest n ≡ root_of g.forest q
+root-above {X} {g} s n q h p =
+    let a = above s n q h p in
+    let e = ancestors-there q g.forest (occurs-HasNode g.forest q a.there) in
+    ap last_of (a.path ∙ ap (λ ns. n ∷ ns) e.1) ∙ sym (ap last_of e.1)
+
+module _ (v : World) (h : IsWhole v) where
+  pub node-covered : (n : ℕ) → HasNode v.tree.forest n → n < v.ranges.covered
+  node-covered n there =
+      ⊎_elim
+      (λ (lt : n < v.tree.made). let k = h.covered in omega arith)
+      (λ (le : v.tree.made ≤ n). let k = h.forest.small n le in let o = occurs-HasNode v.tree.forest n there in absurd (omega arith))
+      (cases_lt n v.tree.made)
+
+  pub range-live : (r : ℕ) → IsLive v.tree.forest (range_in v.ranges r)
+  range-live r =
+      ⊎_elim
+      (λ (lt : r < length v.ranges.ranges). h.ranges r None lt)
+      (λ (le : length v.ranges.ranges ≤ r). subst (IsLive v.tree.forest) (sym (get_or_past v.ranges.ranges r None le)) tt)
+      (cases_lt r (length v.ranges.ranges))
+
+  pub range-held : (r : ℕ) (range : Range) → range_in v.ranges r ≡ Some range → IsRange v.tree.forest range
+  range-held r range e = subst (IsLive v.tree.forest) e (range-live r)
+
+  pub range-stands : (r : ℕ) → ForSome (range_in v.ranges r) (StandsIn v.tree.forest)
+  range-stands r range e = stands-in v.tree.forest range (range-held r range e)

@@ -1,0 +1,48 @@
+use Rattle.std.proofs.Common.{◌≡◌, true, sym, ◌∙◌, subst}
+use Rattle.std.specs.Prelude.{is_some}
+use Rattle.dom_model.specs.Forests.Forest.{entry_in}
+use Rattle.dom_model.specs.Forests.Lengths.{unit_count}
+use Rattle.dom_model.specs.Worlds.World.{Point, Range}
+use Rattle.dom_model.specs.RangesAndContents.Ranges.{same_root, check_point, is_point_in}
+use Rattle.dom_model.specs.Commands.Command.{IsPointInRange}
+use Rattle.dom_ranges.specs.Tables.{range_in}
+use Rattle.dom_session.specs.declared.reply.Answer.TheVariants.{Flag}
+use Rattle.dom_session.specs.declared.reply.Reply.TheVariants.{Done, Dom}
+use Rattle.dom_session.proofs.Stepping.{step-stays}
+use Rattle.dom_session.proofs.RangeAnswers.{passed, told, answer-is_point_in_range, refusal-is_point_in_range}
+use Rattle.dom_session.proofs.comparing.is_point_in_range.Goals as goal
+
+pub returns-in-Ok : goal.returns-in-Ok
+returns-in-Ok c =
+    let v = c.args.world.now in
+    let f = v.tree.forest in
+    let r = c.args.range in
+    let n = c.args.node in
+    let p : Point = record { node = n; offset = c.args.offset } in
+    let range : Range = record { start = c.ends.result.0; end = c.ends.result.1 } in
+    let live : is_some (range_in v.ranges r) ≡ true = cc in
+    let there : is_some (entry_in f n) ≡ true = cc in
+    let root : same_root f n range.start.node ≡ true = subst (λ (q : Point). same_root f n q.node ≡ true) c.start.view_is (sym c.same_root.ensures ∙ c.if-not-same_root.false) in
+    let check = passed (check_point unit_count f p) c.in-Ok.field-0 (sym c.in-Ok.is ∙ c.checked_point.ensures) in
+    let placed : c.is_inside.result ≡ is_point_in f p range = c.is_inside.ensures in
+    record {
+      step = λ b. rw placed (step-stays b (IsPointInRange r n c.args.offset) (Done (Flag (is_point_in f p range))) v
+          (λ w shown. answer-is_point_in_range v b w shown r n live there c.args.offset range c.ends.ensures.ends root check));
+    }
+
+pub returns-in-Err : goal.returns-in-Err
+returns-in-Err c =
+    let v = c.args.world.now in
+    let f = v.tree.forest in
+    let r = c.args.range in
+    let n = c.args.node in
+    let p : Point = record { node = n; offset = c.args.offset } in
+    let range : Range = record { start = c.ends.result.0; end = c.ends.result.1 } in
+    let live : is_some (range_in v.ranges r) ≡ true = cc in
+    let there : is_some (entry_in f n) ≡ true = cc in
+    let root : same_root f n range.start.node ≡ true = subst (λ (q : Point). same_root f n q.node ≡ true) c.start.view_is (sym c.same_root.ensures ∙ c.if-not-same_root.false) in
+    let check = told (check_point unit_count f p) c.in-Err.error (sym c.in-Err.is ∙ c.checked_point.ensures) in
+    record {
+      step = λ b. step-stays b (IsPointInRange r n c.args.offset) (Dom c.in-Err.error) v
+          (λ w shown. refusal-is_point_in_range v b w shown r n live there c.args.offset range c.ends.ensures.ends root c.in-Err.error check);
+    }

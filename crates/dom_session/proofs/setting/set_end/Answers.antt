@@ -1,0 +1,41 @@
+use Rattle.std.proofs.Common.{◌≡◌, true, sym, ◌∙◌}
+use Rattle.std.specs.Prelude.{is_some}
+use Rattle.dom_model.specs.Forests.Forest.{entry_in}
+use Rattle.dom_model.specs.Forests.Lengths.{unit_count}
+use Rattle.dom_model.specs.Worlds.World.{Point}
+use Rattle.dom_model.specs.RangesAndContents.Ranges.{end_set, check_point}
+use Rattle.dom_model.specs.Commands.Command.{SetEnd}
+use Rattle.dom_ranges.specs.Tables.{range_in}
+use Rattle.dom_session.specs.declared.reply.Answer.TheVariants.{Nothing}
+use Rattle.dom_session.specs.declared.reply.Reply.TheVariants.{Done, Dom}
+use Rattle.dom_session.proofs.Parts.{step-set, step-refused}
+use Rattle.dom_session.proofs.RangeFacts.{node-covered}
+use Rattle.dom_session.proofs.RangeAnswers.{passed, told, answer-set_end, refusal-set_end}
+use Rattle.dom_session.proofs.setting.set_end.Goals as goal
+
+pub set_end-requires-clause-covered : goal.set_end-requires-clause-covered
+set_end-requires-clause-covered c = node-covered c.args.world.now c.requires.shown.shows.whole c.args.node cc
+
+pub returns-in-Ok-clause-step : goal.returns-in-Ok-clause-step
+returns-in-Ok-clause-step c b =
+    let old = c.args.world.now in
+    let r = c.args.range in
+    let n = c.args.node in
+    let p : Point = record { node = n; offset = c.args.offset } in
+    let live : is_some (range_in old.ranges r) ≡ true = cc in
+    let there : is_some (entry_in old.tree.forest n) ≡ true = cc in
+    let check = passed (check_point unit_count old.tree.forest p) c.in-Ok.field-0 (sym c.in-Ok.is ∙ c.set_end.ensures.refusal) in
+    step-set b (SetEnd r n c.args.offset) (Done Nothing) old c.set_end.new.self r (range_in old.ranges r) (λ range. end_set old.tree.forest p range) c.requires.shown live c.in-Ok.ensures.set
+    (λ range held w shown. answer-set_end old b w shown r n live there c.args.offset range held check)
+
+pub returns-in-Err-clause-step : goal.returns-in-Err-clause-step
+returns-in-Err-clause-step c b =
+    let old = c.args.world.now in
+    let r = c.args.range in
+    let n = c.args.node in
+    let p : Point = record { node = n; offset = c.args.offset } in
+    let live : is_some (range_in old.ranges r) ≡ true = cc in
+    let there : is_some (entry_in old.tree.forest n) ≡ true = cc in
+    let check = told (check_point unit_count old.tree.forest p) c.in-Err.error (sym c.in-Err.is ∙ c.set_end.ensures.refusal) in
+    step-refused b (SetEnd r n c.args.offset) (Dom c.in-Err.error) old c.set_end.new.self c.in-Err.ensures.unchanged
+    (λ w shown. refusal-set_end old b w shown r n live there c.args.offset c.in-Err.error check)

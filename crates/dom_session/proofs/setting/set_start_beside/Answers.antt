@@ -1,0 +1,28 @@
+use Rattle.std.proofs.Common.{◌≡◌, true, Some, subst, ◌∙◌}
+use Rattle.std.specs.Prelude.{IfSome, is_some}
+use Rattle.dom_model.specs.Forests.Forest.{entry_in}
+use Rattle.dom_model.specs.Worlds.Sound.{IsBoundary}
+use Rattle.dom_model.specs.RangesAndContents.Ranges.{start_set}
+use Rattle.dom_ranges.specs.Tables.{range_in}
+use Rattle.dom_session.specs.declared.reply.Answer.TheVariants.{Nothing}
+use Rattle.dom_session.specs.declared.reply.Reply.TheVariants.{Done}
+use Rattle.dom_session.proofs.Parts.{step-set}
+use Rattle.dom_session.proofs.RangeFacts.{node-covered}
+use Rattle.dom_session.proofs.RangeAnswers.{answer-sets_start}
+use Rattle.dom_session.proofs.setting.set_start_beside.Goals as goal
+
+pub set_start-requires-clause-covered : goal.set_start-requires-clause-covered
+set_start-requires-clause-covered c =
+    let f = c.args.world.now.tree.forest in
+    let b : IsBoundary f c.in-Some.point = subst (λ o. IfSome o (IsBoundary f)) c.in-Some.is c.requires.boundary in
+    node-covered c.args.world.now c.requires.shown.shows.whole c.in-Some.point.node b.there
+
+pub returns-in-Ok-clause-step : goal.returns-in-Ok-clause-step
+returns-in-Ok-clause-step c b d e =
+    let old = c.args.world.now in
+    let r = c.args.range in
+    let n = c.args.node in
+    let live : is_some (range_in old.ranges r) ≡ true = cc in
+    let there : is_some (entry_in old.tree.forest n) ≡ true = cc in
+    step-set b d (Done Nothing) old c.set_start.new.self r (range_in old.ranges r) (λ range. start_set old.tree.forest c.in-Some.point range) c.requires.shown live c.in-Ok.ensures.set
+    (λ range held w shown. e w shown ∙ answer-sets_start old b w shown r n live there c.args.point c.in-Some.point range c.in-Some.is held)

@@ -1,0 +1,243 @@
+//! The questions about live ranges: how points and nodes stand to them (DOM Standard, "Interface Range").
+
+ghost use Rattle.std.specs.Prelude.{◌≡◌, ◌≤◌, true, IfOk};
+ghost use Rattle.dom_model.specs.Forests.Forest.{HasNode, root_of};
+ghost use Rattle.dom_model.specs.declared.Kind.TheVariants.{DocumentType};
+ghost use Rattle.dom_model.specs.MutationAlgorithms.Checks.{is_of_kind};
+ghost use Rattle.dom_model.specs.Forests.Lengths.{unit_count};
+ghost use Rattle.dom_model.specs.Worlds.World.{Range};
+ghost use Rattle.dom_model.specs.RangesAndContents.Ranges.{same_root as has_same_root, is_before as comes_before, check_point, place_against, is_point_in, intersects};
+ghost use Rattle.dom_model.specs.Commands.Command.{CompareBoundaryPoints, ComparePoint, IsPointInRange, IntersectsNode, CommonAncestor};
+ghost use Rattle.dom_model.specs.Commands.Guards.{Bounds};
+ghost use Rattle.dom_model.specs.Commands.Reply.{is_refusal};
+ghost use Rattle.dom_ranges.specs.Tables.{StandsIn, refused};
+ghost use Rattle.dom_edit.specs.Whole.{IsShown};
+ghost use Rattle.dom_session.specs.Views.{command_view, reply_view};
+ghost use Rattle.dom_session.specs.Stands.{IsStep};
+ghost use Rattle.dom_session.specs.Limiting.{numbered};
+
+use crate::command::Command;
+use crate::reply::{Answer, Reply};
+use crate::statics::act_on_statics;
+use dom_edit::{Content, World};
+use dom_kinds::{DomError, Kind};
+use dom_model::OwnError;
+use dom_point::{Point, common, order};
+use dom_ranges::RangeId;
+use dom_tree::{NodeId, Tree};
+use std::alloc::{AllocError, Global};
+use std::cmp::Ordering;
+
+// Whether two nodes have one root.
+fn same_root(tree: &Tree<Content>, a: NodeId, b: NodeId) -> bool
+    requires a_held { HasNode tree.now.forest a }
+    requires b_held { HasNode tree.now.forest b }
+    ensures { result ≡ has_same_root tree.now.forest a b }
+{
+    tree.root(a) == tree.root(b)
+}
+
+// Whether the first of two points of one root comes before the second.
+fn is_before(tree: &Tree<Content>, a: Point, b: Point) -> bool
+    requires a_held { HasNode tree.now.forest a.node }
+    requires b_held { HasNode tree.now.forest b.node }
+    requires one_root { root_of tree.now.forest a.node ≡ root_of tree.now.forest b.node }
+    ensures { result ≡ comes_before tree.now.forest a b }
+{
+    match order(tree, a, b) {
+        Ordering::Less => true,
+        Ordering::Equal | Ordering::Greater => false,
+    }
+}
+
+// The refusal of a point to be a boundary point.
+fn checked_point(tree: &Tree<Content>, node: NodeId, offset: usize) -> Result<(), DomError>
+    requires { HasNode tree.now.forest node }
+    ensures { result ≡ refused (check_point unit_count tree.now.forest (record { node = node; offset = offset })) }
+{
+    if tree.label(node).kind == Kind::DocumentType {
+        return Err(DomError::InvalidNodeTypeError);
+    }
+    if tree.length(node) < offset {
+        return Err(DomError::IndexSizeError);
+    }
+    Ok(())
+}
+
+// Where a point of the range's root stands: before it, after it, or in it.
+fn place(tree: &Tree<Content>, point: Point, start: Point, end: Point) -> Ordering
+    requires point_held { HasNode tree.now.forest point.node }
+    requires stands { StandsIn tree.now.forest (record { start = start; end = end }) }
+    requires one_root { root_of tree.now.forest point.node ≡ root_of tree.now.forest start.node }
+    ensures { result ≡ place_against tree.now.forest point (record { start = start; end = end }) }
+{
+    if is_before(tree, point, start) {
+        return Ordering::Less;
+    }
+    if is_before(tree, end, point) {
+        return Ordering::Greater;
+    }
+    Ordering::Equal
+}
+
+// Whether a point of the range's root stands neither before the range nor after it.
+fn is_inside(tree: &Tree<Content>, point: Point, start: Point, end: Point) -> bool
+    requires point_held { HasNode tree.now.forest point.node }
+    requires stands { StandsIn tree.now.forest (record { start = start; end = end }) }
+    requires one_root { has_same_root tree.now.forest point.node start.node ≡ true }
+    ensures { result ≡ is_point_in tree.now.forest point (record { start = start; end = end }) }
+{
+    !is_before(tree, point, start) && !is_before(tree, end, point)
+}
+
+/// Compares an end of a live range with one of a source: with `how` 0 both starts, 1 the end with the source's start, 2 both ends, 3 the
+/// start with the source's end.
+pub fn compare_boundary_points(world: &World, range: RangeId, how: u32, source: RangeId) -> Reply
+    requires shown { IsShown world.now }
+    ensures step { (b : Bounds) → IsStep world.now world.now b (CompareBoundaryPoints range how source) result }
+{
+    if !world.ranges.holds(range) || !world.ranges.holds(source) {
+        return Reply::Own(OwnError::NoSuchObject);
+    }
+    if how > 3 {
+        return Reply::Dom(DomError::NotSupportedError);
+    }
+    let (start, end) = world.ranges.ends(range);
+    let (source_start, source_end) = world.ranges.ends(source);
+    if !same_root(&world.tree, start.node, source_start.node) {
+        return Reply::Dom(DomError::WrongDocumentError);
+    }
+    let this = if how == 0 || how == 3 { start } else { end };
+    let other = if how == 0 || how == 1 {
+        source_start
+    } else {
+        source_end
+    };
+    Reply::Done(Answer::Order(order(&world.tree, this, other)))
+}
+
+/// Whether a point stands before a live range, in it, or after it.
+pub fn compare_point(world: &World, range: RangeId, node: NodeId, offset: u32) -> Reply
+    requires shown { IsShown world.now }
+    ensures step { (b : Bounds) → IsStep world.now world.now b (ComparePoint range node offset) result }
+{
+    if !world.ranges.holds(range) || !world.tree.holds(node) {
+        return Reply::Own(OwnError::NoSuchObject);
+    }
+    let offset = offset as usize;
+    let (start, end) = world.ranges.ends(range);
+    if !same_root(&world.tree, node, start.node) {
+        return Reply::Dom(DomError::WrongDocumentError);
+    }
+    match checked_point(&world.tree, node, offset) {
+        Ok(()) => Reply::Done(Answer::Order(place(
+            &world.tree,
+            Point { node, offset },
+            start,
+            end,
+        ))),
+        Err(error) => Reply::Dom(error),
+    }
+}
+
+/// Whether a point stands in a live range; a point of another root does not.
+pub fn is_point_in_range(world: &World, range: RangeId, node: NodeId, offset: u32) -> Reply
+    requires shown { IsShown world.now }
+    ensures step { (b : Bounds) → IsStep world.now world.now b (IsPointInRange range node offset) result }
+{
+    if !world.ranges.holds(range) || !world.tree.holds(node) {
+        return Reply::Own(OwnError::NoSuchObject);
+    }
+    let offset = offset as usize;
+    let (start, end) = world.ranges.ends(range);
+    if !same_root(&world.tree, node, start.node) {
+        return Reply::Done(Answer::Flag(false));
+    }
+    match checked_point(&world.tree, node, offset) {
+        Ok(()) => Reply::Done(Answer::Flag(is_inside(
+            &world.tree,
+            Point { node, offset },
+            start,
+            end,
+        ))),
+        Err(error) => Reply::Dom(error),
+    }
+}
+
+// Whether a node of the range's root meets the range. A root does.
+fn meets(tree: &Tree<Content>, node: NodeId, start: Point, end: Point) -> bool
+    requires node_held { HasNode tree.now.forest node }
+    requires stands { StandsIn tree.now.forest (record { start = start; end = end }) }
+    ensures { result ≡ intersects tree.now.forest node (record { start = start; end = end }) }
+{
+    tree.sound();
+    if !same_root(tree, node, start.node) {
+        return false;
+    }
+    let Some(parent) = tree.parent(node) else {
+        return true;
+    };
+    // an index is below the count, so the offset behind the node is a number of the machine too
+    let _ = tree.count(parent);
+    let index = tree.index(node);
+    let before = Point {
+        node: parent,
+        offset: index,
+    };
+    let after = Point {
+        node: parent,
+        offset: index + 1,
+    };
+    is_before(tree, before, end) && is_before(tree, start, after)
+}
+
+/// Whether a live range and a node meet.
+pub fn intersects_node(world: &World, range: RangeId, node: NodeId) -> Reply
+    requires shown { IsShown world.now }
+    ensures step { (b : Bounds) → IsStep world.now world.now b (IntersectsNode range node) result }
+{
+    if !world.ranges.holds(range) || !world.tree.holds(node) {
+        return Reply::Own(OwnError::NoSuchObject);
+    }
+    let (start, end) = world.ranges.ends(range);
+    Reply::Done(Answer::Flag(meets(&world.tree, node, start, end)))
+}
+
+/// The deepest node that has both ends of a live range in it.
+pub fn common_ancestor(world: &World, range: RangeId) -> Reply
+    requires shown { IsShown world.now }
+    ensures step { (b : Bounds) → IsStep world.now world.now b (CommonAncestor range) result }
+{
+    if !world.ranges.holds(range) {
+        return Reply::Own(OwnError::NoSuchObject);
+    }
+    let (start, end) = world.ranges.ends(range);
+    let node = common(&world.tree, start.node, end.node);
+    Reply::Done(Answer::Number(node.number()))
+}
+
+/// Answers the questions about live ranges.
+pub fn compare(
+    world: &mut World,
+    numbers: u64,
+    alloc: Global,
+    command: Command,
+) -> Result<Reply, AllocError>
+    requires numbers { numbers ≤ 4294967295 }
+    requires shown { IsShown world.old }
+    ensures step { IfOk result (IsStep world.old world.new (numbered numbers) (command_view command)) }
+    ensures refused { IfOk result (λ reply. is_refusal (reply_view reply) ≡ true → world.new ≡ world.old) }
+{
+    match command {
+        Command::CompareBoundaryPoints(range, how, source) => Ok(compare_boundary_points(
+            world, range, how, source,
+        )),
+        Command::ComparePoint(range, node, offset) => Ok(compare_point(world, range, node, offset)),
+        Command::IsPointInRange(range, node, offset) => Ok(is_point_in_range(
+            world, range, node, offset,
+        )),
+        Command::IntersectsNode(range, node) => Ok(intersects_node(world, range, node)),
+        Command::CommonAncestor(range) => Ok(common_ancestor(world, range)),
+        other => act_on_statics(world, numbers, alloc, other),
+    }
+}

@@ -1,0 +1,251 @@
+//! The commands that set the ends of live ranges (DOM Standard, "Interface Range").
+
+ghost use Rattle.std.specs.Prelude.{◌≡◌, ℕ, ◌≤◌, true, IfOk, IfSome};
+ghost use Rattle.dom_model.specs.Forests.Forest.{HasNode};
+ghost use Rattle.dom_model.specs.Worlds.World.{World as PlainWorld};
+ghost use Rattle.dom_model.specs.Worlds.Sound.{IsBoundary};
+ghost use Rattle.dom_model.specs.RangesAndContents.Ranges.{point_before as place_before, point_after as place_after};
+ghost use Rattle.dom_model.specs.Commands.Command.{Command as PlainCommand, SetStart, SetEnd, SetStartBefore, SetStartAfter, SetEndBefore, SetEndAfter, Collapse, SelectNode, SelectNodeContents};
+ghost use Rattle.dom_model.specs.Commands.Guards.{Bounds};
+ghost use Rattle.dom_model.specs.Commands.Answer.{answer};
+ghost use Rattle.dom_model.specs.Commands.AnswerRanges.{sets_start, sets_end};
+ghost use Rattle.dom_model.specs.Commands.Reply.{is_refusal};
+ghost use Rattle.dom_edit.specs.Whole.{IsShown, Shows};
+ghost use Rattle.dom_session.specs.Views.{command_view, reply_view};
+ghost use Rattle.dom_session.specs.Stands.{IsStep};
+ghost use Rattle.dom_session.specs.Limiting.{numbered};
+
+use crate::command::Command;
+use crate::comparing::compare;
+use crate::reply::{Answer, Reply};
+use dom_edit::{Content, World};
+use dom_kinds::DomError;
+use dom_model::OwnError;
+use dom_point::Point;
+use dom_ranges::RangeId;
+use dom_tree::{NodeId, Tree};
+use std::alloc::{AllocError, Global};
+
+// The point ahead of a node in its parent; none without a parent.
+fn point_before(tree: &Tree<Content>, node: NodeId) -> Option<Point>
+    requires { HasNode tree.now.forest node }
+    ensures { result ≡ place_before tree.now.forest node }
+{
+    let parent = tree.parent(node)?;
+    Some(Point {
+        node: parent,
+        offset: tree.index(node),
+    })
+}
+
+// The point behind a node in its parent; none without a parent.
+fn point_after(tree: &Tree<Content>, node: NodeId) -> Option<Point>
+    requires { HasNode tree.now.forest node }
+    ensures { result ≡ place_after tree.now.forest node }
+{
+    tree.sound();
+    let parent = tree.parent(node)?;
+    // an index is below the count, so the offset behind the node is a number of the machine too
+    let _ = tree.count(parent);
+    Some(Point {
+        node: parent,
+        offset: tree.index(node) + 1,
+    })
+}
+
+/// Sets the start of a live range.
+pub fn set_start(world: &mut World, range: RangeId, node: NodeId, offset: u32) -> Reply
+    requires shown { IsShown world.old }
+    ensures step { (b : Bounds) → IsStep world.old world.new b (SetStart range node offset) result }
+    ensures refused { is_refusal (reply_view result) ≡ true → world.new ≡ world.old }
+{
+    if !world.ranges.holds(range) || !world.tree.holds(node) {
+        return Reply::Own(OwnError::NoSuchObject);
+    }
+    let offset = offset as usize;
+    match world
+        .ranges
+        .set_start(&world.tree, range, Point { node, offset })
+    {
+        Ok(()) => Reply::Done(Answer::Nothing),
+        Err(error) => Reply::Dom(error),
+    }
+}
+
+/// Sets the end of a live range.
+pub fn set_end(world: &mut World, range: RangeId, node: NodeId, offset: u32) -> Reply
+    requires shown { IsShown world.old }
+    ensures step { (b : Bounds) → IsStep world.old world.new b (SetEnd range node offset) result }
+    ensures refused { is_refusal (reply_view result) ≡ true → world.new ≡ world.old }
+{
+    if !world.ranges.holds(range) || !world.tree.holds(node) {
+        return Reply::Own(OwnError::NoSuchObject);
+    }
+    let offset = offset as usize;
+    match world
+        .ranges
+        .set_end(&world.tree, range, Point { node, offset })
+    {
+        Ok(()) => Reply::Done(Answer::Nothing),
+        Err(error) => Reply::Dom(error),
+    }
+}
+
+// Sets the start to a point beside a node; a node without a parent has none.
+fn set_start_beside(world: &mut World, range: RangeId, node: NodeId, point: Option<Point>) -> Reply
+    requires shown { IsShown world.old }
+    requires boundary { IfSome point (IsBoundary world.old.tree.forest) }
+    ensures step { (b : Bounds) (c : PlainCommand) → ((w : PlainWorld) → Shows world.old w → answer b w c ≡ sets_start range node point w) → IsStep world.old world.new b c result }
+    ensures refused { is_refusal (reply_view result) ≡ true → world.new ≡ world.old }
+{
+    if !world.ranges.holds(range) || !world.tree.holds(node) {
+        return Reply::Own(OwnError::NoSuchObject);
+    }
+    let Some(point) = point else {
+        return Reply::Dom(DomError::InvalidNodeTypeError);
+    };
+    match world.ranges.set_start(&world.tree, range, point) {
+        Ok(()) => Reply::Done(Answer::Nothing),
+        Err(error) => Reply::Dom(error),
+    }
+}
+
+// Sets the end to a point beside a node; a node without a parent has none.
+fn set_end_beside(world: &mut World, range: RangeId, node: NodeId, point: Option<Point>) -> Reply
+    requires shown { IsShown world.old }
+    requires boundary { IfSome point (IsBoundary world.old.tree.forest) }
+    ensures step { (b : Bounds) (c : PlainCommand) → ((w : PlainWorld) → Shows world.old w → answer b w c ≡ sets_end range node point w) → IsStep world.old world.new b c result }
+    ensures refused { is_refusal (reply_view result) ≡ true → world.new ≡ world.old }
+{
+    if !world.ranges.holds(range) || !world.tree.holds(node) {
+        return Reply::Own(OwnError::NoSuchObject);
+    }
+    let Some(point) = point else {
+        return Reply::Dom(DomError::InvalidNodeTypeError);
+    };
+    match world.ranges.set_end(&world.tree, range, point) {
+        Ok(()) => Reply::Done(Answer::Nothing),
+        Err(error) => Reply::Dom(error),
+    }
+}
+
+/// Sets the start of a live range before a node.
+pub fn set_start_before(world: &mut World, range: RangeId, node: NodeId) -> Reply
+    requires shown { IsShown world.old }
+    ensures step { (b : Bounds) → IsStep world.old world.new b (SetStartBefore range node) result }
+    ensures refused { is_refusal (reply_view result) ≡ true → world.new ≡ world.old }
+{
+    if !world.tree.holds(node) {
+        return Reply::Own(OwnError::NoSuchObject);
+    }
+    let point = point_before(&world.tree, node);
+    set_start_beside(world, range, node, point)
+}
+
+/// Sets the start of a live range after a node.
+pub fn set_start_after(world: &mut World, range: RangeId, node: NodeId) -> Reply
+    requires shown { IsShown world.old }
+    ensures step { (b : Bounds) → IsStep world.old world.new b (SetStartAfter range node) result }
+    ensures refused { is_refusal (reply_view result) ≡ true → world.new ≡ world.old }
+{
+    if !world.tree.holds(node) {
+        return Reply::Own(OwnError::NoSuchObject);
+    }
+    let point = point_after(&world.tree, node);
+    set_start_beside(world, range, node, point)
+}
+
+/// Sets the end of a live range before a node.
+pub fn set_end_before(world: &mut World, range: RangeId, node: NodeId) -> Reply
+    requires shown { IsShown world.old }
+    ensures step { (b : Bounds) → IsStep world.old world.new b (SetEndBefore range node) result }
+    ensures refused { is_refusal (reply_view result) ≡ true → world.new ≡ world.old }
+{
+    if !world.tree.holds(node) {
+        return Reply::Own(OwnError::NoSuchObject);
+    }
+    let point = point_before(&world.tree, node);
+    set_end_beside(world, range, node, point)
+}
+
+/// Sets the end of a live range after a node.
+pub fn set_end_after(world: &mut World, range: RangeId, node: NodeId) -> Reply
+    requires shown { IsShown world.old }
+    ensures step { (b : Bounds) → IsStep world.old world.new b (SetEndAfter range node) result }
+    ensures refused { is_refusal (reply_view result) ≡ true → world.new ≡ world.old }
+{
+    if !world.tree.holds(node) {
+        return Reply::Own(OwnError::NoSuchObject);
+    }
+    let point = point_after(&world.tree, node);
+    set_end_beside(world, range, node, point)
+}
+
+/// Moves one end of a live range to the other: the end to the start, or the start to the end.
+pub fn collapse(world: &mut World, range: RangeId, to_start: bool) -> Reply
+    requires shown { IsShown world.old }
+    ensures step { (b : Bounds) → IsStep world.old world.new b (Collapse range to_start) result }
+    ensures refused { is_refusal (reply_view result) ≡ true → world.new ≡ world.old }
+{
+    if !world.ranges.holds(range) {
+        return Reply::Own(OwnError::NoSuchObject);
+    }
+    world.ranges.collapse(range, to_start);
+    Reply::Done(Answer::Nothing)
+}
+
+/// Sets the ends of a live range around a node.
+pub fn select_node(world: &mut World, range: RangeId, node: NodeId) -> Reply
+    requires shown { IsShown world.old }
+    ensures step { (b : Bounds) → IsStep world.old world.new b (SelectNode range node) result }
+    ensures refused { is_refusal (reply_view result) ≡ true → world.new ≡ world.old }
+{
+    if !world.ranges.holds(range) || !world.tree.holds(node) {
+        return Reply::Own(OwnError::NoSuchObject);
+    }
+    match world.ranges.select(&world.tree, range, node) {
+        Ok(()) => Reply::Done(Answer::Nothing),
+        Err(error) => Reply::Dom(error),
+    }
+}
+
+/// Sets the ends of a live range around what a node has.
+pub fn select_node_contents(world: &mut World, range: RangeId, node: NodeId) -> Reply
+    requires shown { IsShown world.old }
+    ensures step { (b : Bounds) → IsStep world.old world.new b (SelectNodeContents range node) result }
+    ensures refused { is_refusal (reply_view result) ≡ true → world.new ≡ world.old }
+{
+    if !world.ranges.holds(range) || !world.tree.holds(node) {
+        return Reply::Own(OwnError::NoSuchObject);
+    }
+    match world.ranges.select_contents(&world.tree, range, node) {
+        Ok(()) => Reply::Done(Answer::Nothing),
+        Err(error) => Reply::Dom(error),
+    }
+}
+
+/// Answers the commands that set the ends of live ranges.
+pub fn set_ranges(
+    world: &mut World,
+    numbers: u64,
+    alloc: Global,
+    command: Command,
+) -> Result<Reply, AllocError>
+    requires numbers { numbers ≤ 4294967295 }
+    requires shown { IsShown world.old }
+    ensures step { IfOk result (IsStep world.old world.new (numbered numbers) (command_view command)) }
+    ensures refused { IfOk result (λ reply. is_refusal (reply_view reply) ≡ true → world.new ≡ world.old) }
+{
+    match command {
+        Command::SetStart(range, node, offset) => Ok(set_start(world, range, node, offset)),
+        Command::SetEnd(range, node, offset) => Ok(set_end(world, range, node, offset)),
+        Command::SetStartBefore(range, node) => Ok(set_start_before(world, range, node)),
+        Command::SetStartAfter(range, node) => Ok(set_start_after(world, range, node)),
+        Command::SetEndBefore(range, node) => Ok(set_end_before(world, range, node)),
+        Command::SetEndAfter(range, node) => Ok(set_end_after(world, range, node)),
+        Command::Collapse(range, to_start) => Ok(collapse(world, range, to_start)),
+        Command::SelectNode(range, node) => Ok(select_node(world, range, node)),
+        Command::SelectNodeContents(range, node) => Ok(select_node_contents(world, range, node)),
+        other => compare(world, numbers, alloc, other),
+    }
+}

@@ -1,0 +1,78 @@
+//! The commands on static ranges (DOM Standard, "Interface StaticRange").
+
+ghost use Rattle.std.specs.Prelude.{◌≡◌, ◌≤◌, true, IfOk};
+ghost use Rattle.dom_model.specs.Commands.Command.{CreateStaticRange, DescribeStaticRange};
+ghost use Rattle.dom_model.specs.Commands.Guards.{Bounds};
+ghost use Rattle.dom_model.specs.Commands.Reply.{is_refusal};
+ghost use Rattle.dom_edit.specs.Whole.{IsShown};
+ghost use Rattle.dom_session.specs.Views.{command_view, reply_view};
+ghost use Rattle.dom_session.specs.Stands.{IsStep};
+ghost use Rattle.dom_session.specs.Limiting.{numbered};
+
+use crate::command::Command;
+use crate::reply::{Answer, Reply};
+use crate::traversing::traverse;
+use dom_edit::World;
+use dom_model::OwnError;
+use dom_point::Point;
+use dom_ranges::{StaticId, Statics};
+use std::alloc::{AllocError, Global};
+
+/// Makes a static range. Its offsets may lie past the lengths of its nodes.
+pub fn create_static_range(
+    world: &mut World,
+    numbers: u64,
+    start: Point,
+    end: Point,
+) -> Result<Reply, AllocError>
+    requires numbers { numbers ≤ 4294967295 }
+    requires shown { IsShown world.old }
+    ensures step { IfOk result (IsStep world.old world.new (numbered numbers) (CreateStaticRange start end)) }
+    ensures refused { IfOk result (λ reply. is_refusal (reply_view reply) ≡ true → world.new ≡ world.old) }
+{
+    if !world.tree.holds(start.node) || !world.tree.holds(end.node) {
+        return Ok(Reply::Own(OwnError::NoSuchObject));
+    }
+    if numbers <= world.statics.made() {
+        return Ok(Reply::Own(OwnError::Limit));
+    }
+    match Statics::check(&world.tree, start.node, end.node) {
+        Ok(()) => {
+            let id = world.statics.make(start, end)?;
+            Ok(Reply::Done(Answer::Number(id.number())))
+        }
+        Err(error) => Ok(Reply::Dom(error)),
+    }
+}
+
+/// Tells where a static range starts and ends, and whether it is valid as the tree stands.
+pub fn describe_static_range(world: &World, range: StaticId) -> Reply
+    requires shown { IsShown world.now }
+    ensures step { (b : Bounds) → IsStep world.now world.now b (DescribeStaticRange range) result }
+{
+    if !world.statics.holds(range) {
+        return Reply::Own(OwnError::NoSuchObject);
+    }
+    let (start, end) = world.statics.ends(range);
+    let is_valid = world.statics.is_valid(&world.tree, range);
+    Reply::Done(Answer::StaticEnds(start, end, is_valid))
+}
+
+/// Answers the commands on static ranges.
+pub fn act_on_statics(
+    world: &mut World,
+    numbers: u64,
+    alloc: Global,
+    command: Command,
+) -> Result<Reply, AllocError>
+    requires numbers { numbers ≤ 4294967295 }
+    requires shown { IsShown world.old }
+    ensures step { IfOk result (IsStep world.old world.new (numbered numbers) (command_view command)) }
+    ensures refused { IfOk result (λ reply. is_refusal (reply_view reply) ≡ true → world.new ≡ world.old) }
+{
+    match command {
+        Command::CreateStaticRange(start, end) => create_static_range(world, numbers, start, end),
+        Command::DescribeStaticRange(range) => Ok(describe_static_range(world, range)),
+        other => traverse(world, numbers, alloc, other),
+    }
+}
