@@ -33,10 +33,6 @@ module _ (v : World) (whole : IsWhole v) where
       })
       whole_next
 
-  pub step-create_observer : (n id : ℕ) (o : Watchers) (reply : Reply) → nat_lt n (length v.observers.queues + 1) ≡ false → id ≡ length v.observers.queues → reply_view reply ≡ model_reply.Done (model_reply.Number id) → ((x : Observing) → Watches v.observers x → Watches o (with_observer x)) → IsStep v (record v { observers = o }) (numbered n) CreateObserver reply
-  step-create_observer n id o reply room is said watched =
-      step-observers (numbered n) CreateObserver reply o with_observer (λ w s. rw (said, is, s.watched.made, room) refl) watched
-
   pub step-observe : (b : Bounds) (i n : ℕ) (given : GivenOptions) (o : Watchers) (reply : Reply) → nat_lt i (length v.observers.queues) ≡ true → is_some (entry_in v.tree.forest n) ≡ true → options_refusal given ≡ None → reply_view reply ≡ model_reply.Done model_reply.Nothing → ((x : Observing) → Watches v.observers x → Watches o (observed i n (options_of given) x)) → IsStep v (record v { observers = o }) b (Observe i n given) reply
   step-observe b i n given o reply made there allowed said watched =
       step-observers b (Observe i n given) reply o (observed i n (options_of given))
@@ -46,10 +42,6 @@ module _ (v : World) (whole : IsWhole v) where
   step-disconnect b i o reply made said watched =
       step-observers b (Disconnect i) reply o (disconnected i) (λ w s. rw (said, s.watched.made, made) refl) watched
 
-  pub step-take_records : (b : Bounds) (i : ℕ) (records : List model_reply.Record) (o : Watchers) (reply : Reply) → nat_lt i (length v.observers.queues) ≡ true → reply_view reply ≡ model_reply.Done (model_reply.Records records) → ((x : Observing) → Watches v.observers x → records ≡ queue_of i x) → ((x : Observing) → Watches v.observers x → Watches o (records_taken i x)) → IsStep v (record v { observers = o }) b (TakeRecords i) reply
-  step-take_records b i records o reply made said taken watched =
-      step-observers b (TakeRecords i) reply o (records_taken i) (λ w s. rw (said, taken w.observing s.watched, s.watched.made, made) refl) watched
-
   pub step-notify : (b : Bounds) (all : List model_reply.Told) (o : Watchers) (reply : Reply) → reply_view reply ≡ model_reply.Done (model_reply.Notified all) → ((x : Observing) → Watches v.observers x → all ≡ told x) → ((x : Observing) → Watches v.observers x → Watches o (after_notify x)) → IsStep v (record v { observers = o }) b Notify reply
   step-notify b all o reply said are watched =
       step-observers b Notify reply o after_notify (λ w s. rw (said, are w.observing s.watched) refl) watched
@@ -58,10 +50,6 @@ module _ (v : World) (whole : IsWhole v) where
   pub step-not_observed : (b : Bounds) (i n : ℕ) (given : GivenOptions) (error : DomError) (reply : Reply) → nat_lt i (length v.observers.queues) ≡ true → is_some (entry_in v.tree.forest n) ≡ true → options_refusal given ≡ Some error → reply_view reply ≡ model_reply.Dom error → IsStep v v b (Observe i n given) reply
   step-not_observed b i n given error reply made there not_allowed said =
       step-stays b (Observe i n given) reply v (λ w s. rw (said, s.watched.made, made, s.keeps.forest, not-none (entry_in v.tree.forest n) there, not_allowed) refl)
-
-pub step-pending : (v : World) (b : Bounds) (numbers : List ℕ) (reply : Reply) → numbers ≡ v.observers.pending → reply_view reply ≡ model_reply.Done (model_reply.Numbers numbers) → IsStep v v b Pending reply
-step-pending v b numbers reply are said =
-    step-stays b Pending reply v (λ w s. rw (said, are, s.watched.pending) refl)
 
 -- the options that are settled are those of the definitions, and nothing stands in their way
 pub settled-ok : (given : GivenOptions) (options : Options) → settled given ≡ Ok options → (options_refusal given ≡ None) × (options ≡ options_of given)

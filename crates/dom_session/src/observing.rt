@@ -81,7 +81,7 @@ pub fn take_records(world: &mut World, observer: ObserverId) -> Reply
 }
 
 // Each observer with its records, which are moved.
-fn named(alloc: Global, all: Vec<(ObserverId, Vec<Record>)>) -> Result<Vec<Told>, AllocError>
+fn all_told(alloc: Global, all: Vec<(ObserverId, Vec<Record>)>) -> Result<Vec<Told>, AllocError>
     ensures { IfOk result (λ told. told.items ≡ told_of all.items) }
 {
     let mut told: Vec<Told> = Vec::new(alloc);
@@ -98,11 +98,11 @@ pub fn notify(world: &mut World, alloc: Global) -> Result<Reply, AllocError>
     ensures refused { IfOk result (λ reply. is_refusal (reply_view reply) ≡ true → world.new ≡ world.old) }
 {
     let all = world.observers.notify()?;
-    Ok(Reply::Done(Answer::Notified(named(alloc, all)?)))
+    Ok(Reply::Done(Answer::Notified(all_told(alloc, all)?)))
 }
 
 // The numbers of the observers that wait, in their order.
-fn waiting(observers: &Observers, alloc: Global) -> Result<Vec<u32>, AllocError>
+fn pending_numbers(observers: &Observers, alloc: Global) -> Result<Vec<u32>, AllocError>
     ensures { IfOk result (λ numbers. numbers.items ≡ observers.now.pending) }
 {
     let mut numbers: Vec<u32> = Vec::new(alloc);
@@ -116,7 +116,7 @@ fn waiting(observers: &Observers, alloc: Global) -> Result<Vec<u32>, AllocError>
 pub fn pending(world: &World, alloc: Global) -> Result<Reply, AllocError>
     ensures step { IfOk result (λ reply. (b : Bounds) → IsStep world.now world.now b Pending reply) }
 {
-    let numbers = waiting(&world.observers, alloc)?;
+    let numbers = pending_numbers(&world.observers, alloc)?;
     Ok(Reply::Done(Answer::Numbers(numbers)))
 }
 
@@ -139,6 +139,7 @@ pub fn watch(
         Command::TakeRecords(observer) => Ok(take_records(world, observer)),
         Command::Notify => notify(world, alloc),
         Command::Pending => pending(world, alloc),
+        // no other command comes so far down the chain
         _ => Err(AllocError),
     }
 }
