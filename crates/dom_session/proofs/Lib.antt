@@ -4,6 +4,8 @@ pub mod Instructions
 pub mod TreeEdits
 pub mod NodeCopies
 pub mod Describing
+pub mod TraversalSteps
+pub mod ObserverSteps
 pub mod Waits
 pub mod Applying
 pub mod Parts

@@ -1,19 +1,127 @@
 //! The commands on mutation observers (DOM Standard, "Mutation observers").
 
 ghost use Rattle.std.specs.Prelude.{◌≡◌, ◌≤◌, true, IfOk};
+ghost use Rattle.dom_model.specs.Commands.Command.{CreateObserver, Observe, Disconnect, TakeRecords, Notify, Pending};
+ghost use Rattle.dom_model.specs.Commands.Guards.{Bounds};
 ghost use Rattle.dom_model.specs.Commands.Reply.{is_refusal};
+ghost use Rattle.dom_observe.specs.Notifying.{told_of};
 ghost use Rattle.dom_edit.specs.Whole.{IsShown};
 ghost use Rattle.dom_session.specs.Views.{command_view, reply_view};
 ghost use Rattle.dom_session.specs.Stands.{IsStep};
 ghost use Rattle.dom_session.specs.Limiting.{numbered};
 
 use crate::command::Command;
-use crate::reply::Reply;
+use crate::reply::{Answer, Reply, Told};
 use crate::texts::change_texts;
 use dom_edit::World;
+use dom_model::OwnError;
+use dom_observe::{ObserverId, Observers, RawOptions, Record, settle};
+use dom_tree::NodeId;
 use std::alloc::{AllocError, Global};
 
-/// Answers the commands on observers.
+/// Makes a mutation observer, with nothing to observe yet (`new MutationObserver()`).
+pub fn create_observer(world: &mut World, numbers: u64) -> Result<Reply, AllocError>
+    requires numbers { numbers ≤ 4294967295 }
+    requires shown { IsShown world.old }
+    ensures step { IfOk result (IsStep world.old world.new (numbered numbers) CreateObserver) }
+    ensures refused { IfOk result (λ reply. is_refusal (reply_view reply) ≡ true → world.new ≡ world.old) }
+{
+    if numbers <= world.observers.made() as u64 {
+        return Ok(Reply::Own(OwnError::Limit));
+    }
+    let id = world.observers.make()?;
+    Ok(Reply::Done(Answer::Number(id.number())))
+}
+
+/// Lets an observer watch a node, in place of how it watched it before (`observe`).
+pub fn observe(
+    world: &mut World,
+    observer: ObserverId,
+    node: NodeId,
+    options: RawOptions,
+) -> Result<Reply, AllocError>
+    requires shown { IsShown world.old }
+    ensures step { IfOk result (λ reply. (b : Bounds) → IsStep world.old world.new b (Observe observer node options) reply) }
+    ensures refused { IfOk result (λ reply. is_refusal (reply_view reply) ≡ true → world.new ≡ world.old) }
+{
+    if !world.observers.holds(observer) || !world.tree.holds(node) {
+        return Ok(Reply::Own(OwnError::NoSuchObject));
+    }
+    match settle(options) {
+        Ok(options) => {
+            world.observers.observe(observer, node, options)?;
+            Ok(Reply::Done(Answer::Nothing))
+        }
+        Err(error) => Ok(Reply::Dom(error)),
+    }
+}
+
+/// Lets an observer watch nothing more, and drops the records that wait for it (`disconnect`).
+pub fn disconnect(world: &mut World, observer: ObserverId) -> Reply
+    requires shown { IsShown world.old }
+    ensures step { (b : Bounds) → IsStep world.old world.new b (Disconnect observer) result }
+    ensures refused { is_refusal (reply_view result) ≡ true → world.new ≡ world.old }
+{
+    if !world.observers.holds(observer) {
+        return Reply::Own(OwnError::NoSuchObject);
+    }
+    world.observers.disconnect(observer);
+    Reply::Done(Answer::Nothing)
+}
+
+/// Takes the records that wait for an observer (`takeRecords`).
+pub fn take_records(world: &mut World, observer: ObserverId) -> Reply
+    requires shown { IsShown world.old }
+    ensures step { (b : Bounds) → IsStep world.old world.new b (TakeRecords observer) result }
+    ensures refused { is_refusal (reply_view result) ≡ true → world.new ≡ world.old }
+{
+    if !world.observers.holds(observer) {
+        return Reply::Own(OwnError::NoSuchObject);
+    }
+    Reply::Done(Answer::Records(world.observers.take(observer)))
+}
+
+// Each observer with its records, which are moved.
+fn all_told(alloc: Global, all: Vec<(ObserverId, Vec<Record>)>) -> Result<Vec<Told>, AllocError>
+    ensures { IfOk result (λ told. told.items ≡ told_of all.items) }
+{
+    let mut told: Vec<Told> = Vec::new(alloc);
+    for (observer, records) in all {
+        told.push(Told { observer, records })?;
+    }
+    Ok(told)
+}
+
+/// Tells each observer that waits its records, in the order in which they began to wait ("notify mutation observers").
+pub fn notify(world: &mut World, alloc: Global) -> Result<Reply, AllocError>
+    requires shown { IsShown world.old }
+    ensures step { IfOk result (λ reply. (b : Bounds) → IsStep world.old world.new b Notify reply) }
+    ensures refused { IfOk result (λ reply. is_refusal (reply_view reply) ≡ true → world.new ≡ world.old) }
+{
+    let all = world.observers.notify()?;
+    Ok(Reply::Done(Answer::Notified(all_told(alloc, all)?)))
+}
+
+// The numbers of the observers that wait, in their order.
+fn pending_numbers(observers: &Observers, alloc: Global) -> Result<Vec<u32>, AllocError>
+    ensures { IfOk result (λ numbers. numbers.items ≡ observers.now.pending) }
+{
+    let mut numbers: Vec<u32> = Vec::new(alloc);
+    while let Some(observer) = observers.pending(numbers.len()) {
+        numbers.push(observer.number())?;
+    }
+    Ok(numbers)
+}
+
+/// The observers that wait to be told, in the order in which they began to wait.
+pub fn pending(world: &World, alloc: Global) -> Result<Reply, AllocError>
+    ensures step { IfOk result (λ reply. (b : Bounds) → IsStep world.now world.now b Pending reply) }
+{
+    let numbers = pending_numbers(&world.observers, alloc)?;
+    Ok(Reply::Done(Answer::Numbers(numbers)))
+}
+
+/// Answers the commands on observers, the last group: every other command is answered before it.
 pub fn watch(
     world: &mut World,
     numbers: u64,
@@ -25,5 +133,13 @@ pub fn watch(
     ensures step { IfOk result (IsStep world.old world.new (numbered numbers) (command_view command)) }
     ensures refused { IfOk result (λ reply. is_refusal (reply_view reply) ≡ true → world.new ≡ world.old) }
 {
-    change_texts(world, numbers, alloc, command)
+    match command {
+        Command::CreateObserver => create_observer(world, numbers),
+        Command::Observe(observer, node, options) => observe(world, observer, node, options),
+        Command::Disconnect(observer) => Ok(disconnect(world, observer)),
+        Command::TakeRecords(observer) => Ok(take_records(world, observer)),
+        Command::Notify => notify(world, alloc),
+        Command::Pending => pending(world, alloc),
+        other => change_texts(world, numbers, alloc, other),
+    }
 }

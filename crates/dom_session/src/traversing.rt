@@ -1,7 +1,9 @@
 //! The commands on iterators and walkers (DOM Standard, "Traversal").
 
 ghost use Rattle.std.specs.Prelude.{◌≡◌, ◌≤◌, true, IfOk};
-ghost use Rattle.dom_model.specs.Commands.Reply.{is_refusal};
+ghost use Rattle.dom_model.specs.Commands.Command.{CreateIterator, CreateWalker, DescribeIterator, NextNode, PreviousNode, DescribeWalker, SetCurrent, Walk};
+ghost use Rattle.dom_model.specs.Commands.Guards.{Bounds};
+ghost use Rattle.dom_model.specs.Commands.Reply.{is_refusal, Done, MaybeNumber};
 ghost use Rattle.dom_edit.specs.Whole.{IsShown};
 ghost use Rattle.dom_session.specs.Views.{command_view, reply_view};
 ghost use Rattle.dom_session.specs.Stands.{IsStep};
@@ -9,9 +11,140 @@ ghost use Rattle.dom_session.specs.Limiting.{numbered};
 
 use crate::command::Command;
 use crate::observing::watch;
-use crate::reply::Reply;
+use crate::reply::{Answer, Reply};
 use dom_edit::World;
+use dom_model::{Move, OwnError};
+use dom_traverse::{Filter, IterId, WalkerId};
+use dom_tree::NodeId;
 use std::alloc::{AllocError, Global};
+
+// The number of a node, where one is found.
+fn reply_found(found: Option<NodeId>) -> Reply
+    ensures { reply_view result ≡ Done (MaybeNumber found) }
+{
+    match found {
+        Some(node) => Reply::Done(Answer::MaybeNumber(Some(node.number()))),
+        None => Reply::Done(Answer::MaybeNumber(None)),
+    }
+}
+
+/// Makes a node iterator that stands before its root (`createNodeIterator`).
+pub fn create_iterator(
+    world: &mut World,
+    numbers: u64,
+    root: NodeId,
+    filter: Filter,
+) -> Result<Reply, AllocError>
+    requires numbers { numbers ≤ 4294967295 }
+    requires shown { IsShown world.old }
+    ensures step { IfOk result (IsStep world.old world.new (numbered numbers) (CreateIterator root filter)) }
+    ensures refused { IfOk result (λ reply. is_refusal (reply_view reply) ≡ true → world.new ≡ world.old) }
+{
+    if !world.tree.holds(root) {
+        return Ok(Reply::Own(OwnError::NoSuchObject));
+    }
+    if numbers <= world.iters.made() {
+        return Ok(Reply::Own(OwnError::Limit));
+    }
+    let id = world.iters.make(root, filter)?;
+    Ok(Reply::Done(Answer::Number(id.number())))
+}
+
+/// Makes a tree walker that stands at its root (`createTreeWalker`).
+pub fn create_walker(
+    world: &mut World,
+    numbers: u64,
+    root: NodeId,
+    filter: Filter,
+) -> Result<Reply, AllocError>
+    requires numbers { numbers ≤ 4294967295 }
+    requires shown { IsShown world.old }
+    ensures step { IfOk result (IsStep world.old world.new (numbered numbers) (CreateWalker root filter)) }
+    ensures refused { IfOk result (λ reply. is_refusal (reply_view reply) ≡ true → world.new ≡ world.old) }
+{
+    if !world.tree.holds(root) {
+        return Ok(Reply::Own(OwnError::NoSuchObject));
+    }
+    if numbers <= world.walkers.made() {
+        return Ok(Reply::Own(OwnError::Limit));
+    }
+    let id = world.walkers.make(root, filter)?;
+    Ok(Reply::Done(Answer::Number(id.number())))
+}
+
+/// Tells the root and the reference of an iterator, and whether it stands before the reference.
+pub fn describe_iterator(world: &World, iterator: IterId) -> Reply
+    ensures step { (b : Bounds) → IsStep world.now world.now b (DescribeIterator iterator) result }
+{
+    if !world.iters.holds(iterator) {
+        return Reply::Own(OwnError::NoSuchObject);
+    }
+    let (root, reference, before) = world.iters.state(iterator);
+    Reply::Done(Answer::IteratorAt(root, reference, before))
+}
+
+/// Moves an iterator on (`nextNode`).
+pub fn next_node(world: &mut World, iterator: IterId) -> Reply
+    requires shown { IsShown world.old }
+    ensures step { (b : Bounds) → IsStep world.old world.new b (NextNode iterator) result }
+    ensures refused { is_refusal (reply_view result) ≡ true → world.new ≡ world.old }
+{
+    if !world.iters.holds(iterator) {
+        return Reply::Own(OwnError::NoSuchObject);
+    }
+    let found = world.iters.next(&world.tree, iterator);
+    reply_found(found)
+}
+
+/// Moves an iterator back (`previousNode`).
+pub fn previous_node(world: &mut World, iterator: IterId) -> Reply
+    requires shown { IsShown world.old }
+    ensures step { (b : Bounds) → IsStep world.old world.new b (PreviousNode iterator) result }
+    ensures refused { is_refusal (reply_view result) ≡ true → world.new ≡ world.old }
+{
+    if !world.iters.holds(iterator) {
+        return Reply::Own(OwnError::NoSuchObject);
+    }
+    let found = world.iters.previous(&world.tree, iterator);
+    reply_found(found)
+}
+
+/// Tells the root and the current node of a walker.
+pub fn describe_walker(world: &World, walker: WalkerId) -> Reply
+    ensures step { (b : Bounds) → IsStep world.now world.now b (DescribeWalker walker) result }
+{
+    if !world.walkers.holds(walker) {
+        return Reply::Own(OwnError::NoSuchObject);
+    }
+    let (root, current) = world.walkers.state(walker);
+    Reply::Done(Answer::WalkerAt(root, current))
+}
+
+/// Sets a walker on a node, which may stand outside its root (`currentNode`).
+pub fn set_current(world: &mut World, walker: WalkerId, node: NodeId) -> Reply
+    requires shown { IsShown world.old }
+    ensures step { (b : Bounds) → IsStep world.old world.new b (SetCurrent walker node) result }
+    ensures refused { is_refusal (reply_view result) ≡ true → world.new ≡ world.old }
+{
+    if !world.walkers.holds(walker) || !world.tree.holds(node) {
+        return Reply::Own(OwnError::NoSuchObject);
+    }
+    world.walkers.set_current(walker, node);
+    Reply::Done(Answer::Nothing)
+}
+
+/// Makes one of the seven moves of a walker, where it finds a node.
+pub fn walk(world: &mut World, walker: WalkerId, direction: Move) -> Reply
+    requires shown { IsShown world.old }
+    ensures step { (b : Bounds) → IsStep world.old world.new b (Walk walker direction) result }
+    ensures refused { is_refusal (reply_view result) ≡ true → world.new ≡ world.old }
+{
+    if !world.walkers.holds(walker) {
+        return Reply::Own(OwnError::NoSuchObject);
+    }
+    let found = world.walkers.step(&world.tree, walker, direction);
+    reply_found(found)
+}
 
 /// Answers the commands on iterators and walkers.
 pub fn traverse(
@@ -25,5 +158,15 @@ pub fn traverse(
     ensures step { IfOk result (IsStep world.old world.new (numbered numbers) (command_view command)) }
     ensures refused { IfOk result (λ reply. is_refusal (reply_view reply) ≡ true → world.new ≡ world.old) }
 {
-    watch(world, numbers, alloc, command)
+    match command {
+        Command::CreateIterator(root, filter) => create_iterator(world, numbers, root, filter),
+        Command::CreateWalker(root, filter) => create_walker(world, numbers, root, filter),
+        Command::DescribeIterator(iterator) => Ok(describe_iterator(world, iterator)),
+        Command::NextNode(iterator) => Ok(next_node(world, iterator)),
+        Command::PreviousNode(iterator) => Ok(previous_node(world, iterator)),
+        Command::DescribeWalker(walker) => Ok(describe_walker(world, walker)),
+        Command::SetCurrent(walker, node) => Ok(set_current(world, walker, node)),
+        Command::Walk(walker, direction) => Ok(walk(world, walker, direction)),
+        other => watch(world, numbers, alloc, other),
+    }
 }

@@ -1,0 +1,67 @@
+-- The steps that change the observers and nothing else, from a world that is shown.
+use Rattle.std.proofs.Common.{◌≡◌, ℕ, ◌+◌, ◌<◌, nat_lt, Bool, true, false, not, List, [], ◌∷◌, length, Option, Some, None, Ok, Err, refl, sym, ap, ◌∙◌}
+use Rattle.std.specs.Prelude.{is_some}
+use Rattle.dom_model.specs.declared.DomError.{DomError}
+use Rattle.dom_model.specs.Forests.Forest.{entry_in}
+use Rattle.dom_model.specs.Worlds.World.{Observing, Options}
+use Rattle.dom_model.specs.Worlds.World as model
+use Rattle.dom_model.specs.Commands.Command.{Command, GivenOptions, CreateObserver, Observe, Disconnect, TakeRecords, Notify, Pending}
+use Rattle.dom_model.specs.Commands.Reply as model_reply
+use Rattle.dom_model.specs.Commands.Answer.{Bounds, answer}
+use Rattle.dom_model.specs.Commands.AnswerObserving.{with_observing}
+use Rattle.dom_model.specs.MutationObservers.Records.{options_refusal, options_of, settled, settled_unless, observed, queue_of, pending_of, with_observer, records_taken, disconnected, told, after_notify}
+use Rattle.dom_observe.specs.Watchers.{Watchers, Watches}
+use Rattle.dom_edit.specs.declared.world.World.{World}
+use Rattle.dom_edit.specs.Whole.{IsWhole, Keeps, Shows}
+use Rattle.dom_session.specs.declared.reply.Reply.{Reply}
+use Rattle.dom_session.specs.Views.{reply_view}
+use Rattle.dom_session.specs.Stands.{IsStep}
+use Rattle.dom_session.specs.Limiting.{numbered}
+use Rattle.dom_session.proofs.Stepping.{step-follows, step-stays}
+use Rattle.dom_session.proofs.TreeEdits.{not-none}
+
+module _ (v : World) (whole : IsWhole v) where
+  -- the observers are others, which watch what the step makes of it
+  pub step-observers : (b : Bounds) (c : Command) (reply : Reply) (o : Watchers) (step : Observing → Observing) → ((w : model.World) → Shows v w → answer b w c ≡ record { reply = reply_view reply; world = with_observing (step w.observing) w }) → ((x : Observing) → Watches v.observers x → Watches o (step x)) → IsStep v (record v { observers = o }) b c reply
+  step-observers b c reply o step e watched =
+      let new : World = record v { observers = o } in
+      let whole_next : IsWhole new = record { forest = whole.forest; documents = whole.documents; owners = whole.owners; covered = whole.covered; ranges = whole.ranges; statics = whole.statics; iterators = whole.iterators; walkers = whole.walkers } in
+      step-follows b c reply v new (λ w. with_observing (step w.observing) w) e
+      (record {
+        keeps = λ w k. record { forest = k.forest; made = k.made; ranges = k.ranges; static_ranges = k.static_ranges; iterators = k.iterators; walkers = k.walkers };
+        watches = λ w k h. watched w.observing h;
+      })
+      whole_next
+
+  pub step-observe : (b : Bounds) (i n : ℕ) (given : GivenOptions) (o : Watchers) (reply : Reply) → nat_lt i (length v.observers.queues) ≡ true → is_some (entry_in v.tree.forest n) ≡ true → options_refusal given ≡ None → reply_view reply ≡ model_reply.Done model_reply.Nothing → ((x : Observing) → Watches v.observers x → Watches o (observed i n (options_of given) x)) → IsStep v (record v { observers = o }) b (Observe i n given) reply
+  step-observe b i n given o reply made there allowed said watched =
+      step-observers b (Observe i n given) reply o (observed i n (options_of given))
+      (λ w s. rw (said, s.watched.made, made, s.keeps.forest, not-none (entry_in v.tree.forest n) there, allowed) refl) watched
+
+  pub step-disconnect : (b : Bounds) (i : ℕ) (o : Watchers) (reply : Reply) → nat_lt i (length v.observers.queues) ≡ true → reply_view reply ≡ model_reply.Done model_reply.Nothing → ((x : Observing) → Watches v.observers x → Watches o (disconnected i x)) → IsStep v (record v { observers = o }) b (Disconnect i) reply
+  step-disconnect b i o reply made said watched =
+      step-observers b (Disconnect i) reply o (disconnected i) (λ w s. rw (said, s.watched.made, made) refl) watched
+
+  pub step-notify : (b : Bounds) (all : List model_reply.Told) (o : Watchers) (reply : Reply) → reply_view reply ≡ model_reply.Done (model_reply.Notified all) → ((x : Observing) → Watches v.observers x → all ≡ told x) → ((x : Observing) → Watches v.observers x → Watches o (after_notify x)) → IsStep v (record v { observers = o }) b Notify reply
+  step-notify b all o reply said are watched =
+      step-observers b Notify reply o after_notify (λ w s. rw (said, are w.observing s.watched) refl) watched
+
+  -- options that are refused
+  pub step-not_observed : (b : Bounds) (i n : ℕ) (given : GivenOptions) (error : DomError) (reply : Reply) → nat_lt i (length v.observers.queues) ≡ true → is_some (entry_in v.tree.forest n) ≡ true → options_refusal given ≡ Some error → reply_view reply ≡ model_reply.Dom error → IsStep v v b (Observe i n given) reply
+  step-not_observed b i n given error reply made there not_allowed said =
+      step-stays b (Observe i n given) reply v (λ w s. rw (said, s.watched.made, made, s.keeps.forest, not-none (entry_in v.tree.forest n) there, not_allowed) refl)
+
+-- the options that are settled are those of the definitions, and nothing stands in their way
+pub settled-ok : (given : GivenOptions) (options : Options) → settled given ≡ Ok options → (options_refusal given ≡ None) × (options ≡ options_of given)
+settled-ok given options e = go (options_refusal given) e
+  where
+    go : (refusal : Option DomError) → settled_unless refusal (options_of given) ≡ Ok options → (refusal ≡ None) × (options ≡ options_of given)
+    go None e = (refl, cc e)
+    go (Some error) e = absurd (cc e)
+
+pub settled-err : (given : GivenOptions) (error : DomError) → settled given ≡ Err error → options_refusal given ≡ Some error
+settled-err given error e = go (options_refusal given) e
+  where
+    go : (refusal : Option DomError) → settled_unless refusal (options_of given) ≡ Err error → refusal ≡ Some error
+    go None e = absurd (cc e)
+    go (Some other) e = cc e
