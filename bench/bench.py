@@ -1,11 +1,15 @@
 #!/usr/bin/env python3
 """Commands per second of the built program, beside the same lines through Python's json alone.
 
-Usage: bench/bench.py [--program PATH] [--sizes N N ..]
+Usage: bench/bench.py [--program PATH] [--sizes N N ..] [--nodes N]
 
 For each size N four streams are made: N nodes under the document's element, front to back; N nodes at random places; a
 chain of N elements from above (each new one goes into the one before it) and from below (the chain so far goes into each
 new one). Each tree is printed once at the end.
+Then come scenes in a tree of N nodes at random places (10,000 where --nodes does not say). Texts are removed and inserted
+at random places where no range and no observer is; with 1,000 live ranges in another part of the tree; and with one
+observer of the root and all below it, whose records are taken after each 1,000 commands. An iterator and a walker go over the
+tree. What makes the scene is not counted: its time alone is taken off. A scene of commands that are not served is said to be so.
 The program reads the stream from a file and writes its replies to a file. Python's json reads each line and prints a
 value of the reply's shape, with no tree at all. The ratio is the program's commands per second over Python's.
 """
@@ -61,12 +65,95 @@ def from_below(count):
     yield ["tree", 0]
 
 
+class Page:
+    """A tree at random places, whose Texts move about. `commands` make it."""
+
+    def __init__(self, count):
+        self.chance = random.Random(1)
+        self.commands = [["createElement", 0, "root"], ["appendChild", 0, 1]]
+        self.children = {1: []}
+        self.elements = [1]
+        self.texts = []
+        self.parents = {}
+        for number in range(2, count + 2):
+            is_element = self.chance.random() < 0.5
+            parent = self.chance.choice(self.elements)
+            self.commands.append(["createElement", 0, "item"] if is_element else ["createText", 0, "some text"])
+            self.commands.append(["appendChild", parent, number])
+            self.children[parent].append(number)
+            self.parents[number] = parent
+            if is_element:
+                self.elements.append(number)
+                self.children[number] = []
+            else:
+                self.texts.append(number)
+        self.made = count + 2
+
+    def edit(self):
+        """A Text is removed, and inserted before a node, or at the end, of some element."""
+        text = self.chance.choice(self.texts)
+        self.children[self.parents[text]].remove(text)
+        parent = self.chance.choice(self.elements)
+        siblings = self.children[parent]
+        at = self.chance.randint(0, len(siblings))
+        yield ["remove", text]
+        yield ["insertBefore", parent, text, siblings[at] if at < len(siblings) else None]
+        siblings.insert(at, text)
+        self.parents[text] = parent
+
+
+def edits(count):
+    page = Page(count)
+    return page.commands, [command for _ in range(count) for command in page.edit()]
+
+
+def edits_beside_ranges(count):
+    page = Page(count)
+    aside, text = page.made, page.made + 1
+    page.commands += [["createElement", 0, "aside"], ["appendChild", 1, aside]]
+    page.commands += [["createText", 0, "a" * 2000], ["appendChild", aside, text]]
+    for number in range(1000):
+        page.commands += [["createRange", 0], ["setStart", number, text, number], ["setEnd", number, text, 2 * number]]
+    return page.commands, [command for _ in range(count) for command in page.edit()]
+
+
+def edits_observed(count):
+    page = Page(count)
+    page.commands += [["createObserver"], ["observe", 0, 1, {"childList": True, "subtree": True}]]
+    commands = []
+    for number in range(count):
+        commands += page.edit()
+        if number % 500 == 499:
+            commands.append(["takeRecords", 0])
+    return page.commands, commands
+
+
+def iterator_steps(count):
+    return Page(count).commands + [["createIterator", 1, 4294967295, []]], [["nextNode", 0]] * count
+
+
+def walker_steps(count):
+    return Page(count).commands + [["createWalker", 1, 4294967295, []]], [["walk", 0, "nextNode"]] * count
+
+
 STREAMS = (
     ("front to back", front_to_back),
     ("at random", at_random),
     ("chain from above", from_above),
     ("chain from below", from_below),
 )
+
+SCENES = (
+    ("edits", edits),
+    ("beside 1000 ranges", edits_beside_ranges),
+    ("observed", edits_observed),
+    ("iterator", iterator_steps),
+    ("walker", walker_steps),
+)
+
+
+class Refused(Exception):
+    """A command was not answered."""
 
 
 def served(program, path):
@@ -75,11 +162,13 @@ def served(program, path):
         done = subprocess.run([program], stdin=lines, stdout=replies, check=False)
         seconds = time.perf_counter() - start
         if done.returncode != 0:
-            sys.exit(f"{program} ended with status {done.returncode}")
+            raise Refused(f"{program} ended with status {done.returncode}")
         replies.seek(0)
         data = replies.read()
+    if b'"bad-command"' in data:
+        raise Refused("not served")
     if b'"error"' in data:
-        sys.exit("a command was refused")
+        raise Refused("a command was refused")
     return seconds, data.splitlines()
 
 
@@ -95,25 +184,53 @@ def read_and_printed(path, replies):
         return time.perf_counter() - start
 
 
+def timed(program, commands):
+    """The seconds of the program and of json alone for the commands."""
+    with tempfile.NamedTemporaryFile("w", suffix=".lines") as file:
+        file.writelines(json.dumps(command, separators=(",", ":")) + "\n" for command in commands)
+        file.flush()
+        seconds, replies = served(program, file.name)
+        return seconds, read_and_printed(file.name, replies)
+
+
+def show(name, size, count, seconds, alone):
+    print(f"{name:>18} {size:>8} {count:>9} {count / seconds:>12,.0f} {count / alone:>12,.0f} {alone / seconds:>6.2f}", flush=True)
+
+
+def show_stream(program, name, stream, size):
+    commands = list(stream(size))
+    try:
+        show(name, size, len(commands), *timed(program, commands))
+    except Refused as refused:
+        sys.exit(str(refused))
+
+
+def show_scene(program, name, scene, size):
+    """The commands of a scene, less what makes it."""
+    making, commands = scene(size)
+    try:
+        before = timed(program, making)
+        after = timed(program, making + commands)
+    except Refused as refused:
+        print(f"{name:>18} {size:>8} {refused}")
+        return
+    show(name, size, len(commands), *(max(late - early, 1e-9) for late, early in zip(after, before)))
+
+
 def main():
     parser = argparse.ArgumentParser(description=__doc__, formatter_class=argparse.RawDescriptionHelpFormatter)
     parser.add_argument("--program", default=os.path.join(ROOT, "crates/domserve/out/domserve"))
     parser.add_argument("--sizes", type=int, nargs="+", default=[1000, 10000, 100000])
+    parser.add_argument("--nodes", type=int, default=10000)
     given = parser.parse_args()
     if not os.access(given.program, os.X_OK):
         sys.exit(f"{given.program} is not built: run ./domserve once")
-    print(f"{'stream':>16} {'nodes':>8} {'commands':>9} {'program/s':>12} {'json/s':>12} {'ratio':>6}")
+    print(f"{'stream':>18} {'nodes':>8} {'commands':>9} {'program/s':>12} {'json/s':>12} {'ratio':>6}")
     for name, stream in STREAMS:
         for size in given.sizes:
-            with tempfile.NamedTemporaryFile("w", suffix=".lines") as file:
-                count = 0
-                for command in stream(size):
-                    file.write(json.dumps(command, separators=(",", ":")) + "\n")
-                    count += 1
-                file.flush()
-                seconds, replies = served(given.program, file.name)
-                alone = read_and_printed(file.name, replies)
-            print(f"{name:>16} {size:>8} {count:>9} {count / seconds:>12,.0f} {count / alone:>12,.0f} {alone / seconds:>6.2f}")
+            show_stream(given.program, name, stream, size)
+    for name, scene in SCENES:
+        show_scene(given.program, name, scene, given.nodes)
 
 
 if __name__ == "__main__":

@@ -1,15 +1,27 @@
 #!/usr/bin/env python3
-"""Writes theorems for each dialogue of a folder: the bytes that a session reads give the bytes that it writes, and the edits of the
-token text that its commands make leave the ends, texts and worlds that the commands leave.
+"""Writes the dialogues of tools/dialogues as theorems and as tests.
 
-usage: rows.py tools/dialogues crates/dom_model/proofs/Dialogues
+usage: tools/rows.py
 
-The first folder has a folder for each subject, with NAME.in, NAME.out and, where the session has options, NAME.opts (one line, as
-`--numbers 4`). For each NAME a file Subject/Name.antt is written in the second, and its line in Subject.antt, which must stand there
-and be named in the file beside that folder. The theorems hold by computation.
+tools/dialogues has a folder for each subject, with NAME.in, NAME.out and, where the session has options, NAME.opts (one line, as
+`--numbers 4`).
+
+Theorems: for each NAME a file Subject/Name.antt in crates/dom_model/proofs/Dialogues, and its line in Subject.antt, which must stand
+there and be named in the file beside that folder. The bytes that a session reads give the bytes that it writes, and the edits of the
+token text that its commands make leave the ends, texts and worlds that the commands leave. They hold by computation.
+
+Tests: for each subject a file in crates/dom_cases/src/dialogues, with the dialogues whose commands are all served. Which are served is
+read from `served_table`, and all are where there is no such table.
 """
+import json
 import os
-import sys
+import re
+
+ROOT = os.path.dirname(os.path.dirname(os.path.abspath(__file__)))
+DIALOGUES = os.path.join(ROOT, "tools/dialogues")
+THEOREMS = os.path.join(ROOT, "crates/dom_model/proofs/Dialogues")
+TESTS = os.path.join(ROOT, "crates/dom_cases/src/dialogues")
+TABLE = os.path.join(ROOT, "crates/dom_model/specs/Commands/Table.antt")
 
 DEFAULTS = {"numbers": "4294967295", "line": "1048576"}
 
@@ -81,10 +93,14 @@ def options(path):
     return found
 
 
-def theorem(folder, name):
-    given = open(os.path.join(folder, name + ".in"), "rb").read()
-    wanted = open(os.path.join(folder, name + ".out"), "rb").read()
-    bounds = options(os.path.join(folder, name + ".opts"))
+def dialogue(folder, name):
+    """The bytes that are given, the bytes that are due, and the options."""
+    path = os.path.join(folder, name)
+    with open(path + ".in", "rb") as given, open(path + ".out", "rb") as due:
+        return given.read(), due.read(), options(path + ".opts")
+
+
+def theorem(name, given, wanted, bounds):
     title = name.replace("_", " ")
     laws = "".join(
         f"\npub {name}-{law} : {law}_missed whole_table bounds given ≡ []\n{UNFOLDING}\n{name}-{law} = refl\n"
@@ -109,15 +125,15 @@ def module_of(name):
     return "".join(word.capitalize() for word in name.split("_"))
 
 
-def write_subject(dialogues, proofs):
+def write_theorems(subject, dialogues):
     """The theorems of one subject's dialogues, and their lines in the file beside their folder."""
-    names = sorted(entry[:-3] for entry in os.listdir(dialogues) if entry.endswith(".in"))
+    proofs = os.path.join(THEOREMS, module_of(subject))
     library = proofs + ".antt"
     lines = open(library).read().splitlines()
     os.makedirs(proofs, exist_ok=True)
-    for name in names:
+    for name, parts in dialogues.items():
         with open(os.path.join(proofs, module_of(name) + ".antt"), "w") as out:
-            out.write(theorem(dialogues, name))
+            out.write(theorem(name, *parts))
         line = f"pub mod {module_of(name)}"
         if line not in lines:
             lines.append(line)
@@ -125,10 +141,67 @@ def write_subject(dialogues, proofs):
         out.write("\n".join(lines) + "\n")
 
 
+def names_in(table, title):
+    """The names of the commands in the table of that title, or None where it is not there or names another table."""
+    found = re.search(rf"^{title} =\n?(.*?)(?=^\S|\Z)", table, re.M | re.S)
+    names = re.findall(r'row \(codes "(\w+)"\)', found[1]) if found else []
+    return set(names) or None
+
+
+def refused_names():
+    """The names of the commands that are defined and not served."""
+    table = open(TABLE).read()
+    whole = names_in(table, "whole_table")
+    return whole - (names_in(table, "served_table") or whole)
+
+
+def is_served(given, refused):
+    """Whether no line asks for a command that is not served."""
+    for line in given.split(b"\n"):
+        try:
+            command = json.loads(line.decode())
+        except (ValueError, RecursionError):
+            continue
+        if isinstance(command, list) and command and isinstance(command[0], str) and command[0] in refused:
+            return False
+    return True
+
+
+def byte_string(data):
+    """The bytes as a byte string, raw where no escape is wanted."""
+    if all(map(is_plain, data)) and b'"##' not in data:
+        return 'br##"' + data.decode("ascii") + '"##'
+    marks = {10: "\\n", 34: '\\"', 92: "\\\\"}
+    return 'b"' + "".join(marks.get(byte) or (chr(byte) if is_plain(byte) else f"\\x{byte:02X}") for byte in data) + '"'
+
+
+def test(name, given, wanted, bounds):
+    return (
+        f"\npub const {name.upper()}: Dialogue = Dialogue {{\n"
+        + f'    name: "{name.replace("_", " ")}",\n    numbers: {bounds["numbers"]},\n    line: {bounds["line"]},\n'
+        + f"    input: {byte_string(given)},\n    output: {byte_string(wanted)},\n}};\n"
+    )
+
+
+def write_tests(subject, dialogues):
+    """The tests of one subject's dialogues."""
+    with open(os.path.join(TESTS, subject + ".rt"), "w") as out:
+        out.write(f"//! Written by tools/rows.py from tools/dialogues/{subject}: the dialogues whose commands are all served.\n")
+        out.write("\nuse crate::dialogues::Dialogue;\n")
+        for name, parts in dialogues.items():
+            out.write(test(name, *parts))
+        listed = "".join(f"    &{name.upper()},\n" for name in dialogues)
+        out.write(f"\npub const ALL: [&Dialogue; {len(dialogues)}] = [" + (f"\n{listed}" if listed else "") + "];\n")
+
+
 def main():
-    folder, proofs = sys.argv[1:3]
-    for subject in sorted(os.listdir(folder)):
-        write_subject(os.path.join(folder, subject), os.path.join(proofs, module_of(subject)))
+    refused = refused_names()
+    for subject in sorted(os.listdir(DIALOGUES)):
+        folder = os.path.join(DIALOGUES, subject)
+        names = sorted(entry[:-3] for entry in os.listdir(folder) if entry.endswith(".in"))
+        dialogues = {name: dialogue(folder, name) for name in names}
+        write_theorems(subject, dialogues)
+        write_tests(subject, {name: parts for name, parts in dialogues.items() if is_served(parts[0], refused)})
 
 
 if __name__ == "__main__":

@@ -1,9 +1,10 @@
 //! Reads, writes and flushes that fail, and inputs that do not end within the reads.
 
-use crate::dialogues::DIALOGUES;
+use crate::dialogues::{Dialogue, SUBJECTS};
 use crate::runs::{USUAL, all_taken, first_lines, in_pieces, newlines, serve_all};
 use dom_serve::{Fault, FromRead, Summary, ToWrite, serve, serve_within};
-use std::test::Fail;
+use std::alloc::Global;
+use std::process::Abort;
 
 const TWO_TREES: &[u8] = b"[\"tree\",0]\n[\"tree\",0]";
 
@@ -20,70 +21,95 @@ fn a_read_fails_after_a_whole_line(rt: HostRuntime) {
     }
 }
 
-// What is written then is the replies to the lines whose newline was read.
+// That a failed read, after so many that do not fail, is told, and that written then are the replies to the lines whose newline
+// was read. Answers whether that read was made.
+fn fails_at_read(
+    rt: &impl Abort,
+    alloc: Global,
+    dialogue: &Dialogue,
+    most: usize,
+    reads: usize,
+) -> bool {
+    let name = dialogue.name;
+    let input = dialogue.input;
+    let mut reader = in_pieces(input, most);
+    reader.reads = reads as u64;
+    let served = serve_all(rt, alloc, dialogue.limits(), reader);
+    if reads > 0 && (reads - 1).saturating_mul(most) >= input.len() {
+        assert!(rt; served.ended.is_ok(), "{name} {most} {reads}");
+        assert!(rt;
+            served.written.as_slice() == dialogue.output,
+            "{name} {most} {reads}"
+        );
+        return false;
+    }
+    assert!(rt; served.ended == Err(Fault::Read), "{name} {most} {reads}");
+    let given = input.get(..reads.saturating_mul(most)).unwrap_or(input);
+    let due = first_lines(dialogue.output, newlines(given));
+    assert!(rt; served.written.as_slice() == due, "{name} {most} {reads}");
+    true
+}
+
+// That each read fails in turn as it should.
+fn fails_at_each_read(rt: &impl Abort, alloc: Global, dialogue: &Dialogue, most: usize) {
+    for reads in 0..=dialogue.input.len().saturating_add(1) {
+        if !fails_at_read(rt, alloc, dialogue, most, reads) {
+            break;
+        }
+    }
+}
+
 #[test]
 fn each_read_fails_in_turn(rt: HostRuntime) {
-    let dialogue = &DIALOGUES[2];
-    let input = dialogue.input.as_bytes();
-    let output = dialogue.output.as_bytes();
-    for most in [1, 7, 65536] {
-        for reads in 0..100usize {
-            let mut reader = in_pieces(input, most);
-            reader.reads = reads as u64;
-            let served = serve_all(&rt, rt.alloc(), USUAL, reader);
-            let given = input.get(..reads.saturating_mul(most)).unwrap_or(input);
-            if reads.saturating_sub(1).saturating_mul(most) >= input.len() {
-                assert!(rt; served.ended == Ok(Summary { lines: 3 }), "{most} {reads}");
-                assert!(rt; served.written.as_slice() == output, "{most} {reads}");
-            } else {
-                assert!(rt; served.ended == Err(Fault::Read), "{most} {reads}");
-                let due = first_lines(output, newlines(given));
-                assert!(rt; served.written.as_slice() == due, "{most} {reads}");
-            }
+    for subject in &SUBJECTS {
+        for dialogue in *subject {
+            fails_at_each_read(&rt, rt.alloc(), dialogue, 1);
+            fails_at_each_read(&rt, rt.alloc(), dialogue, 7);
+            fails_at_each_read(&rt, rt.alloc(), dialogue, 65536);
         }
     }
 }
 
-// What was written then is a front of the output that is due.
-#[test]
-fn each_write_fails_in_turn(rt: HostRuntime) {
-    for dialogue in &DIALOGUES[..6] {
-        let output = dialogue.output.as_bytes();
-        let limits = dialogue.limits();
-        assert!(rt; 1 <= limits.numbers && limits.numbers <= 4294967295 && 1 <= limits.line);
-        for writes in 0..output.len() {
-            let mut reader = in_pieces(dialogue.input.as_bytes(), 7);
-            let mut writer = all_taken(rt.alloc());
-            writer.most = 1;
-            writer.writes = writes as u64;
-            let ended = serve(rt.alloc(), limits, &mut reader, &mut writer);
-            let name = dialogue.name;
-            assert!(rt; ended == Err(Fault::Write), "{name}");
-            assert!(rt;
-                Some(writer.taken.as_slice()) == output.get(..writes),
-                "{name}"
-            );
-        }
+// That where each write fails in turn, what was written is a front of the output that is due.
+fn fails_at_each_write(rt: &impl Abort, alloc: Global, dialogue: &Dialogue) {
+    let name = dialogue.name;
+    let limits = dialogue.limits();
+    assert!(rt; 1 <= limits.numbers && limits.numbers <= 4294967295 && 1 <= limits.line);
+    for writes in 0..dialogue.output.len() {
+        let mut reader = in_pieces(dialogue.input, 7);
+        let mut writer = all_taken(alloc);
+        writer.most = 1;
+        writer.writes = writes as u64;
+        let ended = serve(alloc, limits, &mut reader, &mut writer);
+        assert!(rt; ended == Err(Fault::Write), "{name}");
+        let due = dialogue.output.get(..writes);
+        assert!(rt; Some(writer.taken.as_slice()) == due, "{name}");
     }
 }
 
-// A line is passed on as it is written, so what was written then is whole lines.
+// That where each flush fails in turn, what was written is whole lines: a line is passed on as it is written.
+fn fails_at_each_flush(rt: &impl Abort, alloc: Global, dialogue: &Dialogue) {
+    let name = dialogue.name;
+    let limits = dialogue.limits();
+    assert!(rt; 1 <= limits.numbers && limits.numbers <= 4294967295 && 1 <= limits.line);
+    for flushes in 0..newlines(dialogue.output) {
+        let mut reader = in_pieces(dialogue.input, 65536);
+        let mut writer = all_taken(alloc);
+        writer.most = 7;
+        writer.flushes = flushes as u64;
+        let ended = serve(alloc, limits, &mut reader, &mut writer);
+        assert!(rt; ended == Err(Fault::Write), "{name}");
+        let due = first_lines(dialogue.output, flushes.saturating_add(1));
+        assert!(rt; writer.taken.as_slice() == due, "{name}");
+    }
+}
+
 #[test]
-fn each_flush_fails_in_turn(rt: HostRuntime) {
-    for dialogue in &DIALOGUES {
-        let output = dialogue.output.as_bytes();
-        let limits = dialogue.limits();
-        assert!(rt; 1 <= limits.numbers && limits.numbers <= 4294967295 && 1 <= limits.line);
-        for flushes in 0..newlines(output) {
-            let mut reader = in_pieces(dialogue.input.as_bytes(), 65536);
-            let mut writer = all_taken(rt.alloc());
-            writer.most = 7;
-            writer.flushes = flushes as u64;
-            let ended = serve(rt.alloc(), limits, &mut reader, &mut writer);
-            let name = dialogue.name;
-            assert!(rt; ended == Err(Fault::Write), "{name}");
-            let due = first_lines(output, flushes.saturating_add(1));
-            assert!(rt; writer.taken.as_slice() == due, "{name}");
+fn each_write_and_each_flush_fails_in_turn(rt: HostRuntime) {
+    for subject in &SUBJECTS {
+        for dialogue in *subject {
+            fails_at_each_write(&rt, rt.alloc(), dialogue);
+            fails_at_each_flush(&rt, rt.alloc(), dialogue);
         }
     }
 }

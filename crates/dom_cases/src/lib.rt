@@ -1,4 +1,4 @@
-//! The tests that cross crates: dialogues from bytes to bytes, cut anywhere, with bad lines, faults, moves and large inputs;
+//! The tests that cross crates: dialogues from bytes to bytes, cut anywhere, with faults, refused growths and large inputs;
 //! and the reader and the writer of stated pieces that they use.
 #![tactic(auto)]
 
@@ -12,11 +12,7 @@ mod dialogues;
 mod faults;
 mod feeder;
 #[cfg(test)]
-mod memory;
-#[cfg(test)]
 mod refusals;
-#[cfg(test)]
-mod refused_lines;
 #[cfg(test)]
 mod runs;
 mod taker;

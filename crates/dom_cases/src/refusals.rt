@@ -4,7 +4,8 @@
 ghost use Rattle.std.specs.Prelude.{◌≡◌, false, IfOk};
 
 use crate::Taker;
-use crate::dialogues::{DIALOGUES, Dialogue};
+use crate::dialogues::trees_and_data::TREE_PRINTED;
+use crate::dialogues::{Dialogue, SUBJECTS};
 use crate::runs::{USUAL, all_taken, first_lines, in_pieces};
 use dom_serve::{Fault, Summary, serve};
 use std::alloc::{AllocError, Global};
@@ -37,9 +38,9 @@ fn is_answered_or_wants(rt: &impl Abort, alloc: Global, dialogue: &Dialogue) {
     };
     let limits = dialogue.limits();
     assert!(rt; 1 <= limits.numbers && limits.numbers <= 4294967295 && 1 <= limits.line);
-    let mut reader = in_pieces(dialogue.input.as_bytes(), 65536);
+    let mut reader = in_pieces(dialogue.input, 65536);
     let ended = serve(alloc, limits, &mut reader, &mut writer);
-    let output = dialogue.output.as_bytes();
+    let output = dialogue.output;
     let text = writer.taken.as_slice();
     let name = dialogue.name;
     match ended {
@@ -53,27 +54,29 @@ fn is_answered_or_wants(rt: &impl Abort, alloc: Global, dialogue: &Dialogue) {
 
 #[test]
 fn first_dialogue_under_refusals(rt: HostRuntime) {
-    is_answered_or_wants(&rt, rt.alloc(), &DIALOGUES[2]);
+    is_answered_or_wants(&rt, rt.alloc(), &TREE_PRINTED);
 }
 
 #[test]
 fn dialogues_under_refusals(rt: HostRuntime) {
-    for dialogue in &DIALOGUES {
-        is_answered_or_wants(&rt, rt.alloc(), dialogue);
+    for subject in &SUBJECTS {
+        for dialogue in *subject {
+            is_answered_or_wants(&rt, rt.alloc(), dialogue);
+        }
     }
 }
 
 // Each reply is one write, and so is the line that says that memory was wanting.
 #[test]
 fn failing_writers_under_refusals(rt: HostRuntime) {
-    let dialogue = &DIALOGUES[2];
-    let output = dialogue.output.as_bytes();
+    let dialogue = &TREE_PRINTED;
+    let output = dialogue.output;
     for writes in 0..3u8 {
         let Ok(mut writer) = roomy(rt.alloc()) else {
             return;
         };
         writer.writes = u64::from(writes);
-        let mut reader = in_pieces(dialogue.input.as_bytes(), 65536);
+        let mut reader = in_pieces(dialogue.input, 65536);
         let ended = serve(rt.alloc(), USUAL, &mut reader, &mut writer);
         let text = writer.taken.as_slice();
         if ended == Err(Fault::Memory) {
@@ -88,11 +91,11 @@ fn failing_writers_under_refusals(rt: HostRuntime) {
 // The first of these tests, where no growth is refused.
 #[test]
 fn first_dialogue_with_memory(rt: HostRuntime) -> Result<(), Fail> {
-    let dialogue = &DIALOGUES[2];
+    let dialogue = &TREE_PRINTED;
     let mut writer = roomy(rt.alloc())?;
-    let mut reader = in_pieces(dialogue.input.as_bytes(), 65536);
+    let mut reader = in_pieces(dialogue.input, 65536);
     let ended = serve(rt.alloc(), USUAL, &mut reader, &mut writer);
     assert_eq!(rt; ended, Ok(Summary { lines: 3 }));
-    assert!(rt; writer.taken.as_slice() == dialogue.output.as_bytes());
+    assert!(rt; writer.taken.as_slice() == dialogue.output);
     Ok(())
 }

@@ -9,3 +9,7 @@ pub mod NumbersLimited
 pub mod RefusalsSpendNothing
 pub mod RoomAfterDiscarding
 pub mod WatchersLimited
+pub mod NodesLimited
+pub mod RefusedLines
+pub mod ThreeBlankLines
+pub mod TwoBlankLines

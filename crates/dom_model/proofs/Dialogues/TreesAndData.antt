@@ -8,3 +8,7 @@ pub mod DocumentsOfCopies
 pub mod OrderOfInsertRefusals
 pub mod SplitPastTheEnd
 pub mod TreePrinted
+pub mod LoneSurrogate
+pub mod MovesBetweenDocuments
+pub mod MovesRefused
+pub mod OrderOfChildren

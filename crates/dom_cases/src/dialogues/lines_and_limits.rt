@@ -1,0 +1,202 @@
+//! Written by tools/rows.py from tools/dialogues/lines_and_limits: the dialogues whose commands are all served.
+
+use crate::dialogues::Dialogue;
+
+pub const BLANK_LINE: Dialogue = Dialogue {
+    name: "blank line",
+    numbers: 4294967295,
+    line: 1048576,
+    input: br##"
+"##,
+    output: br##"{"error":"bad-json"}
+"##,
+};
+
+pub const LINES_LIMITED: Dialogue = Dialogue {
+    name: "lines limited",
+    numbers: 4294967295,
+    line: 10,
+    input: br##"["tree",0]
+["tree",0] 
+["tree",0]
+"##,
+    output: br##"{"ok":[[0,0,9,"#document"]]}
+{"error":"line-too-long"}
+{"ok":[[0,0,9,"#document"]]}
+"##,
+};
+
+pub const NO_INPUT: Dialogue = Dialogue {
+    name: "no input",
+    numbers: 4294967295,
+    line: 1048576,
+    input: br##""##,
+    output: br##""##,
+};
+
+pub const NODES_LIMITED: Dialogue = Dialogue {
+    name: "nodes limited",
+    numbers: 4,
+    line: 1048576,
+    input: br##"["createText",0,"a"]
+["createText",0,"a"]
+["createText",0,"a"]
+["createText",0,"a"]
+["createElement",0,""]
+["newDocument"]
+["createText",1,"a"]
+["tree",3]
+"##,
+    output: br##"{"ok":1}
+{"ok":2}
+{"ok":3}
+{"error":"limit"}
+{"error":"limit"}
+{"error":"limit"}
+{"error":"TypeError"}
+{"ok":[[0,3,3,"#text","a"]]}
+"##,
+};
+
+pub const REFUSALS_SPEND_NOTHING: Dialogue = Dialogue {
+    name: "refusals spend nothing",
+    numbers: 4294967295,
+    line: 1048576,
+    input: br##"["createElement",0,"a"]
+["createElement",0,"b"]
+["createText",0,"t"]
+["appendChild",1,2]
+["appendChild",2,1]
+["appendChild",0,3]
+["appendChild",2,3]
+["appendChild",1,3]
+["tree",1]
+["newDocument"]
+["appendChild",0,4]
+["createElement",0,"1a"]
+["newDocument"]
+"##,
+    output: br##"{"ok":1}
+{"ok":2}
+{"ok":3}
+{"ok":2}
+{"error":"HierarchyRequestError"}
+{"error":"HierarchyRequestError"}
+{"ok":3}
+{"ok":3}
+{"ok":[[0,1,1,"a",[]],[1,2,1,"b",[]],[1,3,3,"#text","t"]]}
+{"ok":4}
+{"error":"HierarchyRequestError"}
+{"error":"InvalidCharacterError"}
+{"ok":5}
+"##,
+};
+
+pub const REFUSED_LINES: Dialogue = Dialogue {
+    name: "refused lines",
+    numbers: 4294967295,
+    line: 40,
+    input: b"[\"createText\",0,\"t\"]\n\n[\"createText\",0,\"t\"]\n \x09 \n[\"createText\",0,\"t\"]\ntree\n[\"createText\",0,\"t\"]\n[\"tree\",0,]\n[\"createText\",0,\"t\"]\n[\"tree\",0\n[\"createText\",0,\"t\"]\n[\"tree\",0][\"tree\",0]\n[\"createText\",0,\"t\"]\n\xFF\n[\"createText\",0,\"t\"]\n[\"createText\",0,\"\xFF\"]\n[\"createText\",0,\"t\"]\n{}\n[\"createText\",0,\"t\"]\nnull\n[\"createText\",0,\"t\"]\n[]\n[\"createText\",0,\"t\"]\n[[\"tree\",0]]\n[\"createText\",0,\"t\"]\n[\"nosuch\"]\n[\"createText\",0,\"t\"]\n[\"Tree\",0]\n[\"createText\",0,\"t\"]\n[\"tree\"]\n[\"createText\",0,\"t\"]\n[\"tree\",-1]\n[\"createText\",0,\"t\"]\n[\"tree\",0.0]\n[\"createText\",0,\"t\"]\n[\"tree\",4294967296]\n[\"createText\",0,\"t\"]\n[\"tree\",0,0]\n[\"createText\",0,\"t\"]\n[\"newDocument\",0]\n[\"createText\",0,\"t\"]\n[\"createElement\",9,5]\n[\"createText\",0,\"t\"]\n[\"createText\",0,[97,65536]]\n[\"createText\",0,\"t\"]\n[\"tree\",4294967295]\n[\"createText\",0,\"t\"]\n[\"appendChild\",0,9999]\n[\"createText\",0,\"t\"]\n[\"createElement\",9999,\"1a\"]\n[\"createText\",0,\"t\"]\n[\"createElement\",1,\"1a\"]\n[\"createText\",0,\"t\"]\n[\"createText\",1,\"t\"]\n[\"createText\",0,\"t\"]\n[\"createElement\",0,\"1a\"]\n[\"createText\",0,\"t\"]\n[\"createElement\",0,\"\"]\n[\"createText\",0,\"t\"]\n[\"appendChild\",0,1]\n[\"createText\",0,\"t\"]\n[\"createText\",0,\"0123456789012345678901\"]\n[\"createText\",0,\"t\"]\n[\"tree\",0]",
+    output: br##"{"ok":1}
+{"error":"bad-json"}
+{"ok":2}
+{"error":"bad-json"}
+{"ok":3}
+{"error":"bad-json"}
+{"ok":4}
+{"error":"bad-json"}
+{"ok":5}
+{"error":"bad-json"}
+{"ok":6}
+{"error":"bad-json"}
+{"ok":7}
+{"error":"bad-json"}
+{"ok":8}
+{"error":"bad-json"}
+{"ok":9}
+{"error":"bad-command"}
+{"ok":10}
+{"error":"bad-command"}
+{"ok":11}
+{"error":"bad-command"}
+{"ok":12}
+{"error":"bad-command"}
+{"ok":13}
+{"error":"bad-command"}
+{"ok":14}
+{"error":"bad-command"}
+{"ok":15}
+{"error":"bad-arguments"}
+{"ok":16}
+{"error":"bad-arguments"}
+{"ok":17}
+{"error":"bad-arguments"}
+{"ok":18}
+{"error":"bad-arguments"}
+{"ok":19}
+{"error":"bad-arguments"}
+{"ok":20}
+{"error":"bad-arguments"}
+{"ok":21}
+{"error":"bad-arguments"}
+{"ok":22}
+{"error":"bad-arguments"}
+{"ok":23}
+{"error":"no-such-object"}
+{"ok":24}
+{"error":"no-such-object"}
+{"ok":25}
+{"error":"no-such-object"}
+{"ok":26}
+{"error":"TypeError"}
+{"ok":27}
+{"error":"TypeError"}
+{"ok":28}
+{"error":"InvalidCharacterError"}
+{"ok":29}
+{"error":"InvalidCharacterError"}
+{"ok":30}
+{"error":"HierarchyRequestError"}
+{"ok":31}
+{"error":"line-too-long"}
+{"ok":32}
+{"ok":[[0,0,9,"#document"]]}
+"##,
+};
+
+pub const THREE_BLANK_LINES: Dialogue = Dialogue {
+    name: "three blank lines",
+    numbers: 4294967295,
+    line: 1048576,
+    input: br##"
+
+
+"##,
+    output: br##"{"error":"bad-json"}
+{"error":"bad-json"}
+{"error":"bad-json"}
+"##,
+};
+
+pub const TWO_BLANK_LINES: Dialogue = Dialogue {
+    name: "two blank lines",
+    numbers: 4294967295,
+    line: 1048576,
+    input: br##"
+
+"##,
+    output: br##"{"error":"bad-json"}
+{"error":"bad-json"}
+"##,
+};
+
+pub const ALL: [&Dialogue; 8] = [
+    &BLANK_LINE,
+    &LINES_LIMITED,
+    &NO_INPUT,
+    &NODES_LIMITED,
+    &REFUSALS_SPEND_NOTHING,
+    &REFUSED_LINES,
+    &THREE_BLANK_LINES,
+    &TWO_BLANK_LINES,
+];
