@@ -1,4 +1,4 @@
-use Rattle.std.proofs.Common.{refl, sym, true, ◌≡◌, string_bytes, ◌∙◌}
+use Rattle.std.proofs.Common.{sym, true, ◌≡◌, string_bytes, ◌∙◌}
 use Rattle.dom_model.specs.declared.Kind.TheVariants.{Element}
 use Rattle.dom_model.specs.Forests.Names.{is_element_name}
 use Rattle.dom_model.specs.Worlds.World.{no_content}
