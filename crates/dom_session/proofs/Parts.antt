@@ -9,7 +9,7 @@ use Rattle.dom_model.specs.Commands.Answer.{Bounds, Step, answer}
 use Rattle.dom_model.proofs.Soundness.SoundAnswers.{sound-answer}
 use Rattle.dom_ranges.specs.Tables.{RangeTable}
 use Rattle.dom_edit.specs.declared.world.World.{World}
-use Rattle.dom_edit.specs.Whole.{IsWhole, Keeps, Shows, IsShown, Follows, AreHeld}
+use Rattle.dom_edit.specs.Whole.{IsWhole, Shows, IsShown, Follows, AreHeld}
 use Rattle.dom_edit.proofs.Following.{whole-sound}
 use Rattle.dom_session.specs.declared.reply.Reply.{Reply}
 use Rattle.dom_session.specs.Views.{reply_view}

@@ -1,6 +1,6 @@
 -- The answers of the commands on ranges, as the world of the code tells them.
-use Rattle.std.proofs.Common.{◌≡◌, ℕ, ◌+◌, nat_lt, Bool, true, false, List, [], ◌∷◌, ◌++◌, length, Option, Some, None, Ok, Err, refl, sym, ap, ◌∙◌}
-use Rattle.std.specs.Prelude.{is_some, is_none, slice_set, slice_get, option_map}
+use Rattle.std.proofs.Common.{◌≡◌, ℕ, ◌+◌, nat_lt, Bool, true, false, [], ◌∷◌, ◌++◌, length, Option, Some, None, Ok, Err, refl, sym, ap, ◌∙◌}
+use Rattle.std.specs.Prelude.{is_some, is_none, slice_set, option_map}
 use Rattle.dom_model.specs.declared.Kind.TheVariants.{Document}
 use Rattle.dom_model.specs.declared.DomError.{DomError}
 use Rattle.dom_model.specs.declared.DomError.TheVariants.{InvalidNodeTypeError}
@@ -18,7 +18,7 @@ use Rattle.dom_model.specs.RangesAndContents.StaticRanges.{check_static}
 use Rattle.dom_ranges.specs.Tables.{range_in, refused}
 use Rattle.dom_edit.specs.declared.world.World.{World}
 use Rattle.dom_edit.specs.Whole.{Shows}
-use Rattle.dom_session.proofs.RangeFacts.{none-or_some}
+use Rattle.dom_session.proofs.TreeEdits.{not-none}
 
 -- an answer without refusal
 pub passed : (o : Option DomError) (u : Unit {0}) → Ok u ≡ refused o → o ≡ None
@@ -47,7 +47,7 @@ around-there f n h = go (parent_of f n) h
 module _ (v : World) (b : Bounds) (w : model.World) (shown : Shows v w) where
   pub answer-create_range : (d : ℕ) → is_some (entry_in v.tree.forest d) ≡ true → is_of_kind Document v.tree.forest d ≡ true → nat_lt b.numbers (length v.ranges.ranges + 1) ≡ false → answer b w (CreateRange d) ≡ record { reply = model_reply.Done (model_reply.Number (length v.ranges.ranges)); world = record w { ranges = v.ranges.ranges ++ Some (collapsed_at (record { node = d; offset = 0 })) ∷ [] } }
   answer-create_range d there kind room =
-      rw (shown.keeps.forest, shown.keeps.ranges, none-or_some (entry_in v.tree.forest d) there, kind, room) refl
+      rw (shown.keeps.forest, shown.keeps.ranges, not-none (entry_in v.tree.forest d) there, kind, room) refl
 
   pub answer-clone_range : (r : ℕ) (range : Range) → range_in v.ranges r ≡ Some range → nat_lt b.numbers (length v.ranges.ranges + 1) ≡ false → answer b w (CloneRange r) ≡ record { reply = model_reply.Done (model_reply.Number (length v.ranges.ranges)); world = record w { ranges = v.ranges.ranges ++ Some range ∷ [] } }
   answer-clone_range r range held room = rw (shown.keeps.ranges, held, room) refl
@@ -55,44 +55,44 @@ module _ (v : World) (b : Bounds) (w : model.World) (shown : Shows v w) where
   -- what stands for a node and a range that are held
   module _ (r n : ℕ) (live : is_some (range_in v.ranges r) ≡ true) (there : is_some (entry_in v.tree.forest n) ≡ true) where
     pub answer-set_start : (offset : ℕ) (range : Range) → range_in v.ranges r ≡ Some range → check_point unit_count v.tree.forest (record { node = n; offset = offset }) ≡ None → answer b w (SetStart r n offset) ≡ record { reply = model_reply.Done model_reply.Nothing; world = record w { ranges = slice_set v.ranges.ranges r (Some (start_set v.tree.forest (record { node = n; offset = offset }) range)) } }
-    answer-set_start offset range held check = rw (shown.keeps.forest, shown.keeps.ranges, none-or_some (entry_in v.tree.forest n) there, held, check) refl
+    answer-set_start offset range held check = rw (shown.keeps.forest, shown.keeps.ranges, not-none (entry_in v.tree.forest n) there, held, check) refl
 
     pub answer-set_end : (offset : ℕ) (range : Range) → range_in v.ranges r ≡ Some range → check_point unit_count v.tree.forest (record { node = n; offset = offset }) ≡ None → answer b w (SetEnd r n offset) ≡ record { reply = model_reply.Done model_reply.Nothing; world = record w { ranges = slice_set v.ranges.ranges r (Some (end_set v.tree.forest (record { node = n; offset = offset }) range)) } }
-    answer-set_end offset range held check = rw (shown.keeps.forest, shown.keeps.ranges, none-or_some (entry_in v.tree.forest n) there, held, check) refl
+    answer-set_end offset range held check = rw (shown.keeps.forest, shown.keeps.ranges, not-none (entry_in v.tree.forest n) there, held, check) refl
 
     pub refusal-set_start : (offset : ℕ) (e : DomError) → check_point unit_count v.tree.forest (record { node = n; offset = offset }) ≡ Some e → answer b w (SetStart r n offset) ≡ record { reply = model_reply.Dom e; world = w }
-    refusal-set_start offset e check = rw (shown.keeps.forest, shown.keeps.ranges, none-or_some (range_in v.ranges r) live, none-or_some (entry_in v.tree.forest n) there, check) refl
+    refusal-set_start offset e check = rw (shown.keeps.forest, shown.keeps.ranges, not-none (range_in v.ranges r) live, not-none (entry_in v.tree.forest n) there, check) refl
 
     pub refusal-set_end : (offset : ℕ) (e : DomError) → check_point unit_count v.tree.forest (record { node = n; offset = offset }) ≡ Some e → answer b w (SetEnd r n offset) ≡ record { reply = model_reply.Dom e; world = w }
-    refusal-set_end offset e check = rw (shown.keeps.forest, shown.keeps.ranges, none-or_some (range_in v.ranges r) live, none-or_some (entry_in v.tree.forest n) there, check) refl
+    refusal-set_end offset e check = rw (shown.keeps.forest, shown.keeps.ranges, not-none (range_in v.ranges r) live, not-none (entry_in v.tree.forest n) there, check) refl
 
     pub answer-sets_start : (o : Option Point) (p : Point) (range : Range) → o ≡ Some p → range_in v.ranges r ≡ Some range → sets_start r n o w ≡ record { reply = model_reply.Done model_reply.Nothing; world = record w { ranges = slice_set v.ranges.ranges r (Some (start_set v.tree.forest p range)) } }
-    answer-sets_start o p range is held = rw (is, shown.keeps.forest, shown.keeps.ranges, none-or_some (entry_in v.tree.forest n) there, held) refl
+    answer-sets_start o p range is held = rw (is, shown.keeps.forest, shown.keeps.ranges, not-none (entry_in v.tree.forest n) there, held) refl
 
     pub answer-sets_end : (o : Option Point) (p : Point) (range : Range) → o ≡ Some p → range_in v.ranges r ≡ Some range → sets_end r n o w ≡ record { reply = model_reply.Done model_reply.Nothing; world = record w { ranges = slice_set v.ranges.ranges r (Some (end_set v.tree.forest p range)) } }
-    answer-sets_end o p range is held = rw (is, shown.keeps.forest, shown.keeps.ranges, none-or_some (entry_in v.tree.forest n) there, held) refl
+    answer-sets_end o p range is held = rw (is, shown.keeps.forest, shown.keeps.ranges, not-none (entry_in v.tree.forest n) there, held) refl
 
     pub answer-select_node : (ends : Range) → around v.tree.forest n ≡ Some ends → answer b w (SelectNode r n) ≡ record { reply = model_reply.Done model_reply.Nothing; world = record w { ranges = slice_set v.ranges.ranges r (Some ends) } }
-    answer-select_node ends is = rw (shown.keeps.forest, shown.keeps.ranges, none-or_some (range_in v.ranges r) live, none-or_some (entry_in v.tree.forest n) there, is) refl
+    answer-select_node ends is = rw (shown.keeps.forest, shown.keeps.ranges, not-none (range_in v.ranges r) live, not-none (entry_in v.tree.forest n) there, is) refl
 
     pub answer-select_node_contents : check_contents v.tree.forest n ≡ None → answer b w (SelectNodeContents r n) ≡ record { reply = model_reply.Done model_reply.Nothing; world = record w { ranges = slice_set v.ranges.ranges r (Some (contents_of unit_count v.tree.forest n)) } }
-    answer-select_node_contents check = rw (shown.keeps.forest, shown.keeps.ranges, none-or_some (range_in v.ranges r) live, none-or_some (entry_in v.tree.forest n) there, check) refl
+    answer-select_node_contents check = rw (shown.keeps.forest, shown.keeps.ranges, not-none (range_in v.ranges r) live, not-none (entry_in v.tree.forest n) there, check) refl
 
     pub refusal-select_node_contents : (e : DomError) → check_contents v.tree.forest n ≡ Some e → answer b w (SelectNodeContents r n) ≡ record { reply = model_reply.Dom e; world = w }
-    refusal-select_node_contents e check = rw (shown.keeps.forest, shown.keeps.ranges, none-or_some (range_in v.ranges r) live, none-or_some (entry_in v.tree.forest n) there, check) refl
+    refusal-select_node_contents e check = rw (shown.keeps.forest, shown.keeps.ranges, not-none (range_in v.ranges r) live, not-none (entry_in v.tree.forest n) there, check) refl
 
     module _ (offset : ℕ) (range : Range) (held : range_in v.ranges r ≡ Some range) (root : same_root v.tree.forest n range.start.node ≡ true) where
       pub answer-compare_point : check_point unit_count v.tree.forest (record { node = n; offset = offset }) ≡ None → answer b w (ComparePoint r n offset) ≡ record { reply = model_reply.Done (model_reply.Order (place_against v.tree.forest (record { node = n; offset = offset }) range)); world = w }
-      answer-compare_point check = rw (shown.keeps.forest, shown.keeps.ranges, none-or_some (entry_in v.tree.forest n) there, held, root, check) refl
+      answer-compare_point check = rw (shown.keeps.forest, shown.keeps.ranges, not-none (entry_in v.tree.forest n) there, held, root, check) refl
 
       pub refusal-compare_point : (e : DomError) → check_point unit_count v.tree.forest (record { node = n; offset = offset }) ≡ Some e → answer b w (ComparePoint r n offset) ≡ record { reply = model_reply.Dom e; world = w }
-      refusal-compare_point e check = rw (shown.keeps.forest, shown.keeps.ranges, none-or_some (entry_in v.tree.forest n) there, held, root, check) refl
+      refusal-compare_point e check = rw (shown.keeps.forest, shown.keeps.ranges, not-none (entry_in v.tree.forest n) there, held, root, check) refl
 
       pub answer-is_point_in_range : check_point unit_count v.tree.forest (record { node = n; offset = offset }) ≡ None → answer b w (IsPointInRange r n offset) ≡ record { reply = model_reply.Done (model_reply.Flag (is_point_in v.tree.forest (record { node = n; offset = offset }) range)); world = w }
-      answer-is_point_in_range check = rw (shown.keeps.forest, shown.keeps.ranges, none-or_some (entry_in v.tree.forest n) there, held, root, check) refl
+      answer-is_point_in_range check = rw (shown.keeps.forest, shown.keeps.ranges, not-none (entry_in v.tree.forest n) there, held, root, check) refl
 
       pub refusal-is_point_in_range : (e : DomError) → check_point unit_count v.tree.forest (record { node = n; offset = offset }) ≡ Some e → answer b w (IsPointInRange r n offset) ≡ record { reply = model_reply.Dom e; world = w }
-      refusal-is_point_in_range e check = rw (shown.keeps.forest, shown.keeps.ranges, none-or_some (entry_in v.tree.forest n) there, held, root, check) refl
+      refusal-is_point_in_range e check = rw (shown.keeps.forest, shown.keeps.ranges, not-none (entry_in v.tree.forest n) there, held, root, check) refl
 
   pub answer-collapse : (r : ℕ) (to_start : Bool) (range : Range) → range_in v.ranges r ≡ Some range → answer b w (Collapse r to_start) ≡ record { reply = model_reply.Done model_reply.Nothing; world = record w { ranges = slice_set v.ranges.ranges r (Some (collapsed to_start range)) } }
   answer-collapse r to_start range held = rw (shown.keeps.ranges, held) refl
@@ -113,7 +113,7 @@ module _ (v : World) (b : Bounds) (w : model.World) (shown : Shows v w) where
 
   module _ (start end : Point) (first : is_some (entry_in v.tree.forest start.node) ≡ true) (last : is_some (entry_in v.tree.forest end.node) ≡ true) (room : nat_lt b.numbers (length v.statics + 1) ≡ false) where
     pub answer-create_static_range : check_static v.tree.forest start.node end.node ≡ None → answer b w (CreateStaticRange start end) ≡ record { reply = model_reply.Done (model_reply.Number (length v.statics)); world = record w { static_ranges = v.statics ++ record { start = start; end = end } ∷ [] } }
-    answer-create_static_range check = rw (shown.keeps.forest, shown.keeps.static_ranges, none-or_some (entry_in v.tree.forest start.node) first, none-or_some (entry_in v.tree.forest end.node) last, room, check) refl
+    answer-create_static_range check = rw (shown.keeps.forest, shown.keeps.static_ranges, not-none (entry_in v.tree.forest start.node) first, not-none (entry_in v.tree.forest end.node) last, room, check) refl
 
     pub refusal-create_static_range : (e : DomError) → check_static v.tree.forest start.node end.node ≡ Some e → answer b w (CreateStaticRange start end) ≡ record { reply = model_reply.Dom e; world = w }
-    refusal-create_static_range e check = rw (shown.keeps.forest, shown.keeps.static_ranges, none-or_some (entry_in v.tree.forest start.node) first, none-or_some (entry_in v.tree.forest end.node) last, room, check) refl
+    refusal-create_static_range e check = rw (shown.keeps.forest, shown.keeps.static_ranges, not-none (entry_in v.tree.forest start.node) first, not-none (entry_in v.tree.forest end.node) last, room, check) refl

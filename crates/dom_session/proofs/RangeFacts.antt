@@ -1,12 +1,10 @@
 -- What a world that is whole tells of the nodes and live ranges that it holds.
-use Rattle.std.proofs.Common.{◌≡◌, ℕ, ◌<◌, ◌≤◌, Bool, true, false, length, Option, Some, None, IsSome, ◌∷◌, refl, sym, ap, ◌∙◌, subst, arith, ⊎_elim}
-use Rattle.std.specs.Prelude.{IfSome, is_some, is_none}
+use Rattle.std.proofs.Common.{◌≡◌, ℕ, ◌<◌, ◌≤◌, true, length, Option, Some, None, ◌∷◌, refl, sym, ap, ◌∙◌, subst, arith, ⊎_elim}
 use Rattle.std.specs.Option.{ForSome}
 use Rattle.std.proofs.lemmas.Bool.{cases_lt}
 use Rattle.std.proofs.lemmas.List.{get_or_past}
-use Rattle.dom_model.specs.declared.Kind.TheVariants.{Document, DocumentType}
-use Rattle.dom_model.specs.Forests.Kinds.{is_kind}
-use Rattle.dom_model.specs.Forests.Forest.{Forest, Grove, HasNode, IsForest, occurs, entry_in, parent_of, root_of}
+use Rattle.dom_model.specs.declared.Kind.TheVariants.{Document}
+use Rattle.dom_model.specs.Forests.Forest.{Forest, Grove, HasNode, IsForest, parent_of, root_of}
 use Rattle.dom_model.specs.Forests.Lengths.{unit_count}
 use Rattle.dom_model.specs.MutationAlgorithms.Checks.{is_of_kind}
 use Rattle.dom_model.specs.Worlds.World.{Content, Point, Range}
@@ -22,11 +20,6 @@ use Rattle.dom_model.specs.RangesAndContents.Ranges.{collapsed_at}
 use Rattle.dom_ranges.specs.Tables.{range_in, StandsIn, IsBoundaryIn, IsRangeIn}
 use Rattle.dom_edit.specs.declared.world.World.{World}
 use Rattle.dom_edit.specs.Whole.{IsWhole}
-
--- a node that is held, or none
-pub none-or_some : {A : Type 0} (o : Option A) → is_some o ≡ true → is_none o ≡ false
-none-or_some None h = absurd (cc h)
-none-or_some (Some a) h = refl
 
 boundary-in : (f : Forest Content) (p : Point) → IsBoundary f p → IsBoundaryIn unit_count f p
 boundary-in f p b = record { there = b.there; kind = b.kind; within = b.within }

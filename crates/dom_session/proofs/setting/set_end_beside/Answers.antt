@@ -1,4 +1,4 @@
-use Rattle.std.proofs.Common.{◌≡◌, true, Some, subst, ◌∙◌}
+use Rattle.std.proofs.Common.{◌≡◌, true, subst, ◌∙◌}
 use Rattle.std.specs.Prelude.{IfSome, is_some}
 use Rattle.dom_model.specs.Forests.Forest.{entry_in}
 use Rattle.dom_model.specs.Worlds.Sound.{IsBoundary}
