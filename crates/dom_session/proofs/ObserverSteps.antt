@@ -1,22 +1,21 @@
 -- The steps that change the observers and nothing else, from a world that is shown.
-use Rattle.std.proofs.Common.{◌≡◌, ℕ, ◌+◌, ◌<◌, nat_lt, Bool, true, false, not, List, [], ◌∷◌, length, Option, Some, None, Ok, Err, refl, sym, ap, ◌∙◌}
+use Rattle.std.proofs.Common.{◌≡◌, ℕ, nat_lt, true, List, length, Option, Some, None, Ok, Err, refl}
 use Rattle.std.specs.Prelude.{is_some}
 use Rattle.dom_model.specs.declared.DomError.{DomError}
 use Rattle.dom_model.specs.Forests.Forest.{entry_in}
 use Rattle.dom_model.specs.Worlds.World.{Observing, Options}
 use Rattle.dom_model.specs.Worlds.World as model
-use Rattle.dom_model.specs.Commands.Command.{Command, GivenOptions, CreateObserver, Observe, Disconnect, TakeRecords, Notify, Pending}
+use Rattle.dom_model.specs.Commands.Command.{Command, GivenOptions, Observe, Disconnect, Notify}
 use Rattle.dom_model.specs.Commands.Reply as model_reply
 use Rattle.dom_model.specs.Commands.Answer.{Bounds, answer}
 use Rattle.dom_model.specs.Commands.AnswerObserving.{with_observing}
-use Rattle.dom_model.specs.MutationObservers.Records.{options_refusal, options_of, settled, settled_unless, observed, queue_of, pending_of, with_observer, records_taken, disconnected, told, after_notify}
+use Rattle.dom_model.specs.MutationObservers.Records.{options_refusal, options_of, settled, settled_unless, observed, disconnected, told, after_notify}
 use Rattle.dom_observe.specs.Watchers.{Watchers, Watches}
 use Rattle.dom_edit.specs.declared.world.World.{World}
-use Rattle.dom_edit.specs.Whole.{IsWhole, Keeps, Shows}
+use Rattle.dom_edit.specs.Whole.{IsWhole, Shows}
 use Rattle.dom_session.specs.declared.reply.Reply.{Reply}
 use Rattle.dom_session.specs.Views.{reply_view}
 use Rattle.dom_session.specs.Stands.{IsStep}
-use Rattle.dom_session.specs.Limiting.{numbered}
 use Rattle.dom_session.proofs.Stepping.{step-follows, step-stays}
 use Rattle.dom_session.proofs.TreeEdits.{not-none}
 

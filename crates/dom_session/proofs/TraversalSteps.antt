@@ -1,5 +1,5 @@
 -- The steps that change the iterators or the walkers and nothing else, from a world that is shown.
-use Rattle.std.proofs.Common.{◌≡◌, ℕ, ◌+◌, ◌<◌, ◌≤◌, nat_lt, true, false, List, [], ◌∷◌, ◌++◌, ◌⊎◌, inl, inr, length, slice_get, slice_set, slice_index_or, Option, Some, None, refl, sym, ap, ◌∙◌, subst, arith}
+use Rattle.std.proofs.Common.{◌≡◌, ℕ, ◌+◌, ◌<◌, ◌≤◌, nat_lt, true, false, List, [], ◌∷◌, ◌++◌, ◌⊎◌, inl, inr, length, slice_get, slice_set, slice_index_or, Option, Some, None, refl, ap, subst, arith}
 use Rattle.std.specs.Prelude.{IfSome, is_some}
 use Rattle.std.proofs.lemmas.Option.{slice_get_cases}
 use Rattle.dom_model.specs.declared.Move.{Move}
@@ -7,14 +7,14 @@ use Rattle.dom_model.specs.Forests.Forest.{entry_in}
 use Rattle.dom_model.specs.Worlds.World.{Filter, Iterator, Walker}
 use Rattle.dom_model.specs.Worlds.World as model
 use Rattle.dom_model.specs.Worlds.Sound.{IsSound}
-use Rattle.dom_model.specs.Commands.Command.{Command, CreateIterator, CreateWalker, DescribeIterator, NextNode, PreviousNode, DescribeWalker, SetCurrent, Walk}
+use Rattle.dom_model.specs.Commands.Command.{Command, CreateIterator, CreateWalker, NextNode, PreviousNode, SetCurrent, Walk}
 use Rattle.dom_model.specs.Commands.Reply as model_reply
 use Rattle.dom_model.specs.Commands.Answer.{Bounds, Step, answer}
 use Rattle.dom_model.specs.Traversal.Iterators.{new_iterator, next_found, previous_found, moved_to_next, moved_to_previous}
 use Rattle.dom_model.specs.Traversal.Walks.{new_walker, walk_found, walker_moved}
 use Rattle.dom_model.proofs.Soundness.SoundAnswers.{sound-answer}
 use Rattle.dom_edit.specs.declared.world.World.{World}
-use Rattle.dom_edit.specs.Whole.{IsWhole, Keeps, Shows, IsShown, Follows}
+use Rattle.dom_edit.specs.Whole.{IsWhole, Keeps, Shows, IsShown}
 use Rattle.dom_edit.proofs.Following.{whole-sound}
 use Rattle.dom_session.specs.declared.reply.Reply.{Reply}
 use Rattle.dom_session.specs.Views.{reply_view}

@@ -1,4 +1,4 @@
-use Rattle.std.proofs.Common.{◌≡◌, nat_lt, length, true, refl, sym, ◌∙◌, ap, Ok, Err, Result}
+use Rattle.std.proofs.Common.{◌≡◌, nat_lt, length, true, refl, sym, ◌∙◌}
 use Rattle.std.specs.Prelude.{is_some}
 use Rattle.dom_model.specs.Forests.Forest.{entry_in}
 use Rattle.dom_session.specs.declared.reply.Answer.TheVariants.{Nothing}
