@@ -1,5 +1,5 @@
 -- A root goes under a node of its node document, and the world stays whole.
-use Rattle.std.proofs.Common.{◌≡◌, ℕ, ◌<◌, Bool, true, false, if◌then◌else◌, unwrap_or, Option, Some, None, IfSome, is_some, refl, ap, sym, ◌∙◌, subst, arith}
+use Rattle.std.proofs.Common.{◌≡◌, ℕ, ◌<◌, Bool, true, false, if◌then◌else◌, Option, Some, None, IfSome, is_some, refl, ap, sym, ◌∙◌, subst, arith}
 use Rattle.std.proofs.lemmas.Bool.{false≢true}
 use Rattle.std.proofs.lemmas.List.Elements.{All-weaker, All-nil}
 use Rattle.dom_model.specs.PlainLists.Lists.{among, or_else}
@@ -13,7 +13,6 @@ use Rattle.dom_model.specs.Worlds.World.{Content, Range}
 use Rattle.dom_model.specs.Worlds.World as model
 use Rattle.dom_model.specs.Worlds.Sound.{IsSound, IsRegistration}
 use Rattle.dom_model.specs.Commands.Making.{made_node}
-use Rattle.dom_model.specs.DataAndCopies.Clones.{original, with_copies, document_of_clone, clone_node}
 use Rattle.dom_model.specs.MutationAlgorithms.Checks.{is_of_kind}
 use Rattle.dom_model.specs.MutationAlgorithms.Editing.{document_in}
 use Rattle.dom_model.proofs.PlainLists.Numbers.{same_or, same, apart}
@@ -243,27 +242,3 @@ copies_document-kind f owners n held o told x s =
     go : (b : Bool) (d : ℕ) → is_of_kind Document f d ≡ true → o ≡ (if b then None else Some d) → is_of_kind Document f x ≡ true
     go true d i k = absurd (let z : None ≡ Some x = sym k ∙ s in cc z)
     go false d i k = let e : d ≡ x = (let z : Some d ≡ Some x = sym k ∙ s in cc z) in subst (λ m. is_of_kind Document f m ≡ true) e i
-
-pub copies_document : (f : Forest Content) (n made : ℕ) → HasNode f n → (o : Option ℕ) → IfSome (entry_in f n) (λ e. o ≡ (if is_kind Document e.value.label.kind then None else Some e.value.document)) →
-    unwrap_or o made ≡ (if is_of_kind Document f n then made else document_in (entry_in f n))
-copies_document f n made held o told =
-    elim (seen (entry_in f n)) [
-      | nothing a ↦ absurd (let k : is_some (entry_in f n) ≡ true = held in let j = rw a at k in false≢true j)
-      | just e ee ↦ (let k = rw ee at told in rw ee (ap (λ (p : Option ℕ). unwrap_or p made) k ∙ go (is_kind Document e.value.label.kind) e.value.document))
-    ]
-  where
-    go : (b : Bool) (d : ℕ) → unwrap_or (if b then None else Some d) made ≡ (if b then made else d)
-    go true d = refl
-    go false d = refl
-
-pub cloned-follows : (old new : World) (deep : Bool) (n : ℕ) → HasNode old.tree.forest n → (o : Option ℕ) → IfSome (entry_in old.tree.forest n) (λ e. o ≡ (if is_kind Document e.value.label.kind then None else Some e.value.document)) →
-    Follows old new (λ w. with_copies (unwrap_or o old.tree.made) (original deep n w.forest) w) → Follows old new (clone_node deep n)
-cloned-follows old new deep n held o told f =
-    follows-same old new (λ w. with_copies (unwrap_or o old.tree.made) (original deep n w.forest) w) (clone_node deep n)
-    (λ w k.
-    let d : unwrap_or o old.tree.made ≡ document_of_clone w n =
-    copies_document old.tree.forest n old.tree.made held o told
-    ∙ ap (λ (m : ℕ). if is_of_kind Document old.tree.forest n then m else document_in (entry_in old.tree.forest n)) (sym k.made)
-    ∙ ap (λ (g : Forest Content). if is_of_kind Document g n then w.made else document_in (entry_in g n)) (sym k.forest) in
-    ap (λ (c : ℕ). with_copies c (original deep n w.forest) w) d)
-    f

@@ -4,6 +4,8 @@
 mod copying;
 mod equality;
 mod standing;
+#[cfg(test)]
+mod tests;
 
 pub use copying::{clone_node, import};
 pub use equality::is_equal;
