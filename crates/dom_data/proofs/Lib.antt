@@ -1,3 +1,5 @@
+pub mod NewTexts
+pub mod Gathered
 pub mod Outcomes
 pub mod MovedOffsets
 pub mod ChangedBodies
