@@ -1,3 +1,4 @@
+pub mod Parting
 pub mod NewTexts
 pub mod Gathered
 pub mod Outcomes
