@@ -1,3 +1,6 @@
+pub mod Parting
+pub mod NewTexts
+pub mod Gathered
 pub mod Outcomes
 pub mod MovedOffsets
 pub mod ChangedBodies

@@ -1,15 +1,24 @@
 //! Data and attributes changed where a node keeps them.
 
-ghost use Rattle.std.specs.Prelude.{◌≡◌, ◌+◌, ◌^◌, ◌<◌, ◌≤◌, length, is_some, string_bytes, OnOk, OnErr};
+ghost use Rattle.std.specs.Prelude.{◌≡◌, ◌+◌, ◌^◌, ◌<◌, ◌≤◌, length, IfSome, is_some, string_bytes, OnOk, OnErr};
 ghost use Rattle.dom_model.specs.Forests.Attributes.{attribute_value, with_attribute, without_attribute};
 ghost use Rattle.dom_model.specs.Forests.Forest.{HasNode, entry_in, with_node};
 ghost use Rattle.dom_model.specs.Forests.Texts.{spliced};
 ghost use Rattle.dom_model.specs.DataAndCopies.Data.{content_in, with_data, with_attributes};
 
 use dom_edit::Content;
+use dom_kinds::Kind;
 use dom_tree::{NodeId, Tree};
 use dom_units::Units;
 use std::alloc::AllocError;
+
+// The kind of a node.
+pub(crate) fn kind_in(tree: &Tree<Content>, node: NodeId) -> Kind
+    requires held { HasNode tree.now.forest node }
+    ensures { IfSome (entry_in tree.now.forest node) (λ e. result ≡ e.value.label.kind) }
+{
+    tree.label(node).kind
+}
 
 // The data of a node.
 pub(crate) fn data_in(tree: &Tree<Content>, node: NodeId) -> &Units

@@ -1,14 +1,50 @@
 //! The text content of a node (DOM Standard, "Interface Node", textContent).
 
-ghost use Rattle.std.specs.Prelude.{◌≡◌, ◌<◌, IfOk, OnOk};
-ghost use Rattle.dom_model.specs.Forests.Forest.{HasNode};
-ghost use Rattle.dom_model.specs.DataAndCopies.Data.{text_content, set_text_content};
+ghost use Rattle.std.specs.Prelude.{◌≡◌, ◌<◌, true, ◌++◌, drop, IfOk, OnOk};
+ghost use Rattle.dom_model.specs.Forests.Forest.{HasNode, inclusive_descendants};
+ghost use Rattle.dom_model.specs.DataAndCopies.Data.{text_content, string_replace_all, set_text_content};
+ghost use Rattle.dom_model.specs.Forests.Kinds.{may_be_parent};
+ghost use Rattle.dom_model.specs.MutationAlgorithms.Checks.{kind_passes};
+ghost use Rattle.std.specs.Option.{ForSome};
+ghost use Rattle.dom_model.specs.MutationAlgorithms.Editing.{replace_all};
 ghost use Rattle.dom_edit.specs.Whole.{IsWhole, Follows, unwatched};
+ghost use Rattle.dom_data.specs.Gathering.{text_at, gathered};
 
-use dom_edit::World;
-use dom_tree::NodeId;
+use crate::bodies::{data_in, kind_in};
+use crate::making::{document_in, make_text};
+use crate::replacing::set_data;
+use dom_edit::{Content, World};
+use dom_kinds::Kind;
+use dom_tree::{NodeId, Tree};
 use dom_units::Units;
 use std::alloc::{AllocError, Global};
+
+// Puts the data of a node behind a text, where the node is a Text.
+fn append_data(tree: &Tree<Content>, node: NodeId, text: &mut Units) -> Result<(), AllocError>
+    requires held { HasNode tree.now.forest node }
+    ensures { OnOk result (text.new ≡ text.old ++ text_at tree.now.forest node) }
+{
+    if kind_in(tree, node) != Kind::Text {
+        return Ok(());
+    }
+    let end = text.len();
+    text.splice(end, 0, data_in(tree, node).units())
+}
+
+// The data of the Texts below a node, one after another ("descendant text content").
+fn descendant_text(tree: &Tree<Content>, alloc: Global, top: NodeId) -> Result<Units, AllocError>
+    requires held { HasNode tree.now.forest top }
+    ensures { IfOk result (λ text. text ≡ gathered tree.now.forest (drop 1 (inclusive_descendants tree.now.forest top))) }
+{
+    tree.sound();
+    let mut text = Units::new(alloc);
+    let mut here = top;
+    while let Some(next) = tree.next_inside(top, here) {
+        append_data(tree, next, &mut text)?;
+        here = next;
+    }
+    Ok(text)
+}
 
 /// The data of a node, or of the Texts below it, one after another; none for a Document and a doctype ("get text content").
 pub fn text_content(world: &World, alloc: Global, node: NodeId) -> Result<Option<Units>, AllocError>
@@ -16,8 +52,59 @@ pub fn text_content(world: &World, alloc: Global, node: NodeId) -> Result<Option
     requires held { HasNode world.now.tree.forest node }
     ensures { IfOk result (λ text. text ≡ text_content (unwatched world.now) node) }
 {
-    let _ = (alloc, node);
-    Err(AllocError)
+    match kind_in(&world.tree, node) {
+        Kind::Element | Kind::DocumentFragment => {
+            let text = descendant_text(&world.tree, alloc, node)?;
+            Ok(Some(text))
+        }
+        Kind::Text | Kind::ProcessingInstruction | Kind::Comment => {
+            let data = data_in(&world.tree, node).try_clone(alloc)?;
+            Ok(Some(data))
+        }
+        Kind::Document | Kind::DocumentType => Ok(None),
+    }
+}
+
+// Puts a Text, or nothing, in place of all children. An element and a fragment take a Text, so that only memory can be wanting.
+fn replace_children(
+    world: &mut World,
+    alloc: Global,
+    parent: NodeId,
+    child: Option<NodeId>,
+) -> Result<(), AllocError>
+    requires whole { IsWhole world.old }
+    requires parent_held { HasNode world.old.tree.forest parent }
+    requires parent_kind { kind_passes may_be_parent world.old.tree.forest parent ≡ true }
+    requires child_held { ForSome child (λ n. HasNode world.old.tree.forest n) }
+    ensures replaced { OnOk result (Follows world.old world.new (replace_all child parent)) }
+    ensures whole { IsWhole world.new }
+{
+    match world.replace_children(alloc, parent, child) {
+        Ok(()) => Ok(()),
+        Err(_) => Err(AllocError),
+    }
+}
+
+// Puts a new Text, or nothing for the empty text, in place of all children ("string replace all").
+fn string_replace_all(
+    world: &mut World,
+    alloc: Global,
+    parent: NodeId,
+    text: Units,
+) -> Result<(), AllocError>
+    requires whole { IsWhole world.old }
+    requires held { HasNode world.old.tree.forest parent }
+    requires kind { kind_passes may_be_parent world.old.tree.forest parent ≡ true }
+    requires room { world.old.tree.made < 4294967295 }
+    ensures replaced { OnOk result (Follows world.old world.new (string_replace_all text parent)) }
+    ensures whole { IsWhole world.new }
+{
+    if text.is_empty() {
+        return replace_children(world, alloc, parent, None);
+    }
+    let document = document_in(&world.tree, parent);
+    let child = make_text(world, alloc, document, text)?;
+    replace_children(world, alloc, parent, Some(child))
 }
 
 /// Makes a text the data of a node, or the one Text below it; nothing for a Document and a doctype ("set text content").

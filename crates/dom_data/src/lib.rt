@@ -5,6 +5,7 @@
 mod attributes;
 mod bodies;
 mod contents;
+mod making;
 mod normalizing;
 mod records;
 mod replacing;

@@ -1,0 +1,76 @@
+-- A new Text, a root behind all others.
+use Rattle.std.proofs.Common.{◌≡◌, Bool, ℕ, true, List, [], ◌∷◌, Option, Some, None, IsSome, refl, ap, sym, ◌∙◌, subst}
+use Rattle.std.specs.Prelude.{IfSome}
+use Rattle.std.proofs.lemmas.Bool.{false≢true}
+use Rattle.dom_model.specs.declared.Kind.{Kind}
+use Rattle.dom_model.specs.declared.Kind.TheVariants.{Document, Text}
+use Rattle.dom_model.specs.Forests.Arena.{Entry}
+use Rattle.dom_model.specs.Forests.Forest.{Node, Forest, empty, node, HasNode, entry_in, entry_under}
+use Rattle.dom_model.specs.PlainLists.Lists.{or_else}
+use Rattle.dom_model.specs.Forests.EachNode.{EachNode}
+use Rattle.dom_model.specs.Worlds.World as model
+use Rattle.dom_model.specs.Worlds.World.{Content}
+use Rattle.dom_model.specs.MutationAlgorithms.Checks.{kind_passes, is_of_kind}
+use Rattle.dom_model.specs.MutationAlgorithms.Editing.{document_in, node_document, replace_all}
+use Rattle.dom_model.specs.Commands.Making.{made_node, named, with_text}
+use Rattle.dom_model.specs.DataAndCopies.Data.{string_replace_all}
+use Rattle.dom_model.proofs.PlainLists.Numbers.{same_or, same, apart}
+use Rattle.dom_model.proofs.Forests.Entries.{occurs-HasNode, HasNode-occurs}
+use Rattle.dom_model.proofs.Worlds.Owners.{HasOwners, IsOwned}
+use Rattle.dom_model.proofs.Worlds.Measured.{kind-beside}
+use Rattle.dom_model.proofs.Soundness.SoundTextContent.{made-there, made-old}
+use Rattle.dom_edit.specs.declared.world.World.{World}
+use Rattle.dom_edit.specs.Whole.{IsWhole, Follows, unwatched}
+use Rattle.dom_edit.proofs.Following.{follows-then, keeps-unwatched}
+use Rattle.dom_data.proofs.StaysWhole.{sound-unwatched, follows-alike}
+
+either : {X : Type 0} (P : Node X → Type 0) (a b : Option (Entry (Node X))) → IfSome a (λ e. P e.value) → IfSome b (λ e. P e.value) → IfSome (or_else a b) (λ e. P e.value)
+either P None b k l = l
+either P (Some e) b k l = k
+
+-- what holds of each node holds of the one with a number
+pub EachNode-entry : {X : Type 0} (P : Node X → Type 0) (q : Option ℕ) (f : Forest X) → EachNode P f → (n : ℕ) → IfSome (entry_under q n f) (λ e. P e.value)
+EachNode-entry P q empty h n = tt
+EachNode-entry P q (node x kids rest) h n =
+    elim (same_or x.number n) [
+      | same e t ↦ rw t h.0
+      | apart ne t ↦ rw t (either P (entry_under (Some x.number) n kids) (entry_under q n rest) (EachNode-entry P (Some x.number) kids h.1 n) (EachNode-entry P q rest h.2 n))
+    ]
+
+-- a node document is a Document
+pub owner-kind : (f : Forest Content) (n d : ℕ) → HasNode f n → HasOwners f → IfSome (entry_in f n) (λ e. d ≡ e.value.document) → is_of_kind Document f d ≡ true
+owner-kind f n d held owners h = go (entry_in f n) held (EachNode-entry (IsOwned f) None f owners n) h
+  where
+    go : (o : Option (Entry (Node Content))) → IsSome o → IfSome o (λ e. IsOwned f e.value) → IfSome o (λ e. d ≡ e.value.document) → is_of_kind Document f d ≡ true
+    go None s k l = absurd (false≢true s)
+    go (Some e) s k l = subst (λ m. is_of_kind Document f m ≡ true) (sym l) k
+
+-- The world with the new Text.
+module _ (old new : World) (h : IsWhole old) (document : ℕ) (text : List ℕ) (f : Follows old new (made_node document (named Text []) (with_text text))) where
+  pub made_is : (made_node document (named Text []) (with_text text) (unwatched old)).forest ≡ new.tree.forest
+  made_is = (f.keeps (unwatched old) (keeps-unwatched old)).forest
+
+  pub new-there : HasNode new.tree.forest old.tree.made
+  new-there = subst (λ g. HasNode g old.tree.made) made_is (HasNode-occurs (made_node document (named Text []) (with_text text) (unwatched old)).forest old.tree.made (made-there document (named Text []) (with_text text) (unwatched old) (sound-unwatched old h)))
+
+  pub old-there : (n : ℕ) → HasNode old.tree.forest n → HasNode new.tree.forest n
+  old-there n k = subst (λ g. HasNode g n) made_is (HasNode-occurs (made_node document (named Text []) (with_text text) (unwatched old)).forest n (made-old document (named Text []) (with_text text) (unwatched old) (sound-unwatched old h) n (occurs-HasNode old.tree.forest n k)))
+
+  pub old-kind : (test : Kind → Bool) (n : ℕ) → HasNode old.tree.forest n → kind_passes test new.tree.forest n ≡ kind_passes test old.tree.forest n
+  old-kind test n k = ap (λ g. kind_passes test g n) (sym made_is) ∙ kind-beside old.tree.forest (node (record { number = old.tree.made; document = document; label = named Text []; body = with_text text }) empty empty) n (occurs-HasNode old.tree.forest n k) test
+
+-- the text is not empty
+replaced-with : (text : List ℕ) (n d id : ℕ) (w : model.World) → (text ≡ [] → ⊥) → d ≡ node_document w n → id ≡ w.made
+    → replace_all (Some id) n (made_node d (named Text []) (with_text text) w) ≡ string_replace_all text n w
+replaced-with [] n d id w ne e m = absurd (ne refl)
+replaced-with (u ∷ us) n d id w ne e m = λ i. replace_all (Some (m i)) n (made_node (e i) (named Text []) (with_text (u ∷ us)) w)
+
+pub follows-replaced : (old mid new : World) (text : List ℕ) (n d id : ℕ) → (text ≡ [] → ⊥) → d ≡ document_in (entry_in old.tree.forest n) → id ≡ old.tree.made
+    → Follows old mid (made_node d (named Text []) (with_text text)) → Follows mid new (replace_all (Some id) n) → Follows old new (string_replace_all text n)
+follows-replaced old mid new text n d id ne e m f g =
+    follows-alike old new (λ w. replace_all (Some id) n (made_node d (named Text []) (with_text text) w)) (string_replace_all text n)
+    (λ w k. replaced-with text n d id w ne (e ∙ ap (λ h. document_in (entry_in h n)) (sym k.forest)) (m ∙ sym k.made))
+    (follows-then old mid new (made_node d (named Text []) (with_text text)) (replace_all (Some id) n) f g)
+
+pub follows-emptied : (old new : World) (text : List ℕ) (n : ℕ) → text ≡ [] → Follows old new (replace_all None n) → Follows old new (string_replace_all text n)
+follows-emptied old new text n e f = subst (λ units. Follows old new (string_replace_all units n)) (sym e) f

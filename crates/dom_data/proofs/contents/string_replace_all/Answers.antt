@@ -1,0 +1,29 @@
+-- All children give way to the new Text.
+use Rattle.std.proofs.Common.{◌≡◌, sym, ◌∙◌, subst}
+use Rattle.std.proofs.lemmas.Bool.{false≢true}
+use Rattle.std.proofs.lemmas.Result.{on_ok_weaker}
+use Rattle.dom_model.specs.Forests.Kinds.{may_be_parent}
+use Rattle.dom_model.specs.Forests.Forest.{HasNode}
+use Rattle.dom_data.proofs.NewTexts.{new-there, old-there, old-kind, follows-replaced}
+use Rattle.dom_data.proofs.contents.string_replace_all.Goals as goal
+
+pub replace_children-requires-2-clause-parent_held : goal.replace_children-requires-2-clause-parent_held
+replace_children-requires-2-clause-parent_held c =
+    old-there c.args.world.now c.make_text.new.world c.requires.whole c.document_in-document.result c.args.text c.in_ok-child.ensures.made c.args.parent c.requires.held
+
+pub replace_children-requires-2-clause-parent_kind : goal.replace_children-requires-2-clause-parent_kind
+replace_children-requires-2-clause-parent_kind c =
+    old-kind c.args.world.now c.make_text.new.world c.requires.whole c.document_in-document.result c.args.text c.in_ok-child.ensures.made may_be_parent c.args.parent c.requires.held ∙ c.requires.kind
+
+pub replace_children-requires-2-clause-child_held : goal.replace_children-requires-2-clause-child_held
+replace_children-requires-2-clause-child_held c = λ n e.
+    let is : c.in_ok-child.child ≡ n = cc e in
+    subst (λ m. HasNode c.make_text.new.world.tree.forest m) (sym c.in_ok-child.ensures.number ∙ is)
+    (new-there c.args.world.now c.make_text.new.world c.requires.whole c.document_in-document.result c.args.text c.in_ok-child.ensures.made)
+
+pub returns-clause-replaced : goal.returns-clause-replaced
+returns-clause-replaced c =
+    on_ok_weaker c.replace_children-2.result (λ replaced.
+    follows-replaced c.args.world.now c.make_text.new.world c.replace_children-2.new.world c.args.text c.args.parent c.document_in-document.result c.in_ok-child.child
+    (λ e. false≢true (sym c.if-is_empty.false ∙ c.is_empty.ensures.1 e)) c.document_in-document.ensures.document c.in_ok-child.ensures.number c.in_ok-child.ensures.made replaced)
+    c.replace_children-2.ensures.replaced

@@ -1,0 +1,54 @@
+//! New Texts.
+
+ghost use Rattle.std.specs.Prelude.{◌≡◌, ◌<◌, [], true, IfOk, OnOk};
+ghost use Rattle.dom_model.specs.declared.Kind.TheVariants.{Document, Text};
+ghost use Rattle.dom_model.specs.Commands.Making.{made_node, named, with_text};
+ghost use Rattle.dom_model.specs.Forests.Forest.{HasNode, entry_in};
+ghost use Rattle.dom_model.specs.MutationAlgorithms.Checks.{is_of_kind};
+ghost use Rattle.dom_model.specs.MutationAlgorithms.Editing.{document_in};
+ghost use Rattle.dom_model.proofs.Worlds.Owners.{HasOwners};
+ghost use Rattle.dom_edit.specs.Whole.{IsWhole, Follows};
+
+use dom_attrs::Attrs;
+use dom_edit::{Content, World};
+use dom_kinds::{Kind, Label};
+use dom_tree::{NodeId, Tree};
+use dom_units::Units;
+use std::alloc::{AllocError, Global};
+
+// The node document of a node.
+pub(crate) fn document_in(tree: &Tree<Content>, node: NodeId) -> NodeId
+    requires held { HasNode tree.now.forest node }
+    requires owners { HasOwners tree.now.forest }
+    ensures document { result ≡ document_in (entry_in tree.now.forest node) }
+    ensures kind { is_of_kind Document tree.now.forest result ≡ true }
+{
+    tree.document_of(node)
+}
+
+// Makes a Text with these units in a document, a root.
+pub(crate) fn make_text(
+    world: &mut World,
+    alloc: Global,
+    document: NodeId,
+    text: Units,
+) -> Result<NodeId, AllocError>
+    requires whole { IsWhole world.old }
+    requires kind { is_of_kind Document world.old.tree.forest document ≡ true }
+    requires room { world.old.tree.made < 4294967295 }
+    ensures number { IfOk result (λ id. id ≡ world.old.tree.made) }
+    ensures made { OnOk result (Follows world.old world.new (made_node document (named Text []) (with_text text))) }
+    ensures whole { IsWhole world.new }
+{
+    let label = Label {
+        kind: Kind::Text,
+        name: String::new(alloc),
+        public_id: String::new(alloc),
+        system_id: String::new(alloc),
+    };
+    let content = Content {
+        text,
+        attrs: Attrs::new(alloc),
+    };
+    world.make(alloc, label, content, Some(document))
+}
