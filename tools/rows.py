@@ -16,6 +16,7 @@ read from `served_table`, and all are where there is no such table.
 import json
 import os
 import re
+import subprocess
 
 ROOT = os.path.dirname(os.path.dirname(os.path.abspath(__file__)))
 DIALOGUES = os.path.join(ROOT, "tools/dialogues")
@@ -167,19 +168,38 @@ def is_served(given, refused):
     return True
 
 
-def byte_string(data):
-    """The bytes as a byte string, raw where no escape is wanted."""
-    if all(map(is_plain, data)) and b'"##' not in data:
-        return 'br##"' + data.decode("ascii") + '"##'
+def is_raw(text):
+    """Whether a text stands for itself in a raw literal."""
+    return '"##' not in text and all(mark == "\n" or mark.isprintable() for mark in text)
+
+
+def text_literal(text):
+    """The text as a literal, raw where no escape is wanted."""
+    if is_raw(text):
+        return f'r##"{text}"##'
+    marks = {"\n": "\\n", '"': '\\"', "\\": "\\\\"}
+    return '"' + "".join(marks.get(mark) or (mark if mark.isprintable() else f"\\u{{{ord(mark):x}}}") for mark in text) + '"'
+
+
+def bytes_literal(data):
+    """The bytes as a byte string."""
     marks = {10: "\\n", 34: '\\"', 92: "\\\\"}
     return 'b"' + "".join(marks.get(byte) or (chr(byte) if is_plain(byte) else f"\\x{byte:02X}") for byte in data) + '"'
+
+
+def bytes_of(data):
+    """The bytes as a text where they are one, since a byte string costs the check an expression a byte."""
+    try:
+        return f"Bytes::Text({text_literal(data.decode())})"
+    except UnicodeDecodeError:
+        return f"Bytes::Raw({bytes_literal(data)})"
 
 
 def test(name, given, wanted, bounds):
     return (
         f"\npub const {name.upper()}: Dialogue = Dialogue {{\n"
         + f'    name: "{name.replace("_", " ")}",\n    numbers: {bounds["numbers"]},\n    line: {bounds["line"]},\n'
-        + f"    input: {byte_string(given)},\n    output: {byte_string(wanted)},\n}};\n"
+        + f"    given: {bytes_of(given)},\n    due: {text_literal(wanted.decode())},\n}};\n"
     )
 
 
@@ -187,11 +207,11 @@ def write_tests(subject, dialogues):
     """The tests of one subject's dialogues."""
     with open(os.path.join(TESTS, subject + ".rt"), "w") as out:
         out.write(f"//! Written by tools/rows.py from tools/dialogues/{subject}: the dialogues whose commands are all served.\n")
-        out.write("\nuse crate::dialogues::Dialogue;\n")
+        out.write("\nuse crate::dialogues::" + ("{Bytes, Dialogue}" if dialogues else "Dialogue") + ";\n")
         for name, parts in dialogues.items():
             out.write(test(name, *parts))
-        listed = "".join(f"    &{name.upper()},\n" for name in dialogues)
-        out.write(f"\npub const ALL: [&Dialogue; {len(dialogues)}] = [" + (f"\n{listed}" if listed else "") + "];\n")
+        listed = ", ".join(f"&{name.upper()}" for name in dialogues)
+        out.write(f"\npub const ALL: [&Dialogue; {len(dialogues)}] = [{listed}];\n")
 
 
 def main():
@@ -202,6 +222,7 @@ def main():
         dialogues = {name: dialogue(folder, name) for name in names}
         write_theorems(subject, dialogues)
         write_tests(subject, {name: parts for name, parts in dialogues.items() if is_served(parts[0], refused)})
+    subprocess.run(["rt", "fmt"], cwd=os.path.join(ROOT, "crates/dom_cases"), check=True)
 
 
 if __name__ == "__main__":

@@ -11,13 +11,13 @@ fn is_answered(rt: &impl Abort, alloc: Global, dialogue: &Dialogue, reader: Feed
     let served = serve_all(rt, alloc, dialogue.limits(), reader);
     let name = dialogue.name;
     assert!(rt; served.ended.is_ok(), "{name}");
-    assert!(rt; served.written.as_slice() == dialogue.output, "{name}");
+    assert!(rt; served.written.as_slice() == dialogue.output(), "{name}");
 }
 
 // That the dialogue, cut in two at any byte, is answered as is due.
 fn is_answered_in_two(rt: &impl Abort, alloc: Global, dialogue: &Dialogue) {
-    for cut in 0..dialogue.input.len() {
-        let mut reader = in_pieces(dialogue.input, usize::MAX);
+    for cut in 0..dialogue.input().len() {
+        let mut reader = in_pieces(dialogue.input(), usize::MAX);
         reader.cut = cut;
         is_answered(rt, alloc, dialogue, reader);
     }
@@ -37,7 +37,7 @@ fn cut_in_pieces(rt: HostRuntime) {
     for subject in &SUBJECTS {
         for dialogue in *subject {
             for most in [1, 7, 65536] {
-                let reader = in_pieces(dialogue.input, most);
+                let reader = in_pieces(dialogue.input(), most);
                 is_answered(&rt, rt.alloc(), dialogue, reader);
             }
         }

@@ -13,13 +13,21 @@ use std::alloc::Global;
 use std::process::Abort;
 
 /// An input under limits, and the output that is due for it.
+/// Bytes as they are written in a table: a text, or bytes that are none.
+#[derive(Drop)]
+pub enum Bytes {
+    Text(&'static str),
+    Raw(&'static [u8]),
+}
+
+/// An input under limits, and the output that is due for it.
 #[derive(Drop)]
 pub struct Dialogue {
     pub name: &'static str,
     pub numbers: u64,
     pub line: usize,
-    pub input: &'static [u8],
-    pub output: &'static [u8],
+    pub given: Bytes,
+    pub due: &'static str,
 }
 
 impl Dialogue {
@@ -30,6 +38,17 @@ impl Dialogue {
             numbers: self.numbers,
             line: self.line,
         }
+    }
+
+    pub fn input(&self) -> &'static [u8] {
+        match self.given {
+            Bytes::Text(text) => text.as_bytes(),
+            Bytes::Raw(bytes) => bytes,
+        }
+    }
+
+    pub fn output(&self) -> &'static [u8] {
+        self.due.as_bytes()
     }
 }
 
@@ -46,14 +65,14 @@ pub const SUBJECTS: [&[&Dialogue]; 5] = [
 fn is_answered(rt: &impl Abort, alloc: Global, dialogue: &Dialogue) {
     let limits = dialogue.limits();
     assert!(rt; 1 <= limits.numbers && limits.numbers <= 4294967295 && 1 <= limits.line);
-    let mut reader = FromRead::new(dialogue.input);
+    let mut reader = FromRead::new(dialogue.input());
     let mut writer = ToWrite::new(Vec::new(alloc));
     let ended = serve(alloc, limits, &mut reader, &mut writer);
     let written = writer.into_inner();
     let name = dialogue.name;
-    assert!(rt; written.as_slice() == dialogue.output, "{name}");
+    assert!(rt; written.as_slice() == dialogue.output(), "{name}");
     let lines = dialogue
-        .output
+        .output()
         .iter()
         .filter(|byte| **byte == b'\n')
         .count() as u64;

@@ -31,28 +31,28 @@ fn fails_at_read(
     reads: usize,
 ) -> bool {
     let name = dialogue.name;
-    let input = dialogue.input;
+    let input = dialogue.input();
     let mut reader = in_pieces(input, most);
     reader.reads = reads as u64;
     let served = serve_all(rt, alloc, dialogue.limits(), reader);
     if reads > 0 && (reads - 1).saturating_mul(most) >= input.len() {
         assert!(rt; served.ended.is_ok(), "{name} {most} {reads}");
         assert!(rt;
-            served.written.as_slice() == dialogue.output,
+            served.written.as_slice() == dialogue.output(),
             "{name} {most} {reads}"
         );
         return false;
     }
     assert!(rt; served.ended == Err(Fault::Read), "{name} {most} {reads}");
     let given = input.get(..reads.saturating_mul(most)).unwrap_or(input);
-    let due = first_lines(dialogue.output, newlines(given));
+    let due = first_lines(dialogue.output(), newlines(given));
     assert!(rt; served.written.as_slice() == due, "{name} {most} {reads}");
     true
 }
 
 // That each read fails in turn as it should.
 fn fails_at_each_read(rt: &impl Abort, alloc: Global, dialogue: &Dialogue, most: usize) {
-    for reads in 0..=dialogue.input.len().saturating_add(1) {
+    for reads in 0..=dialogue.input().len().saturating_add(1) {
         if !fails_at_read(rt, alloc, dialogue, most, reads) {
             break;
         }
@@ -75,14 +75,14 @@ fn fails_at_each_write(rt: &impl Abort, alloc: Global, dialogue: &Dialogue) {
     let name = dialogue.name;
     let limits = dialogue.limits();
     assert!(rt; 1 <= limits.numbers && limits.numbers <= 4294967295 && 1 <= limits.line);
-    for writes in 0..dialogue.output.len() {
-        let mut reader = in_pieces(dialogue.input, 7);
+    for writes in 0..dialogue.output().len() {
+        let mut reader = in_pieces(dialogue.input(), 7);
         let mut writer = all_taken(alloc);
         writer.most = 1;
         writer.writes = writes as u64;
         let ended = serve(alloc, limits, &mut reader, &mut writer);
         assert!(rt; ended == Err(Fault::Write), "{name}");
-        let due = dialogue.output.get(..writes);
+        let due = dialogue.output().get(..writes);
         assert!(rt; Some(writer.taken.as_slice()) == due, "{name}");
     }
 }
@@ -92,14 +92,14 @@ fn fails_at_each_flush(rt: &impl Abort, alloc: Global, dialogue: &Dialogue) {
     let name = dialogue.name;
     let limits = dialogue.limits();
     assert!(rt; 1 <= limits.numbers && limits.numbers <= 4294967295 && 1 <= limits.line);
-    for flushes in 0..newlines(dialogue.output) {
-        let mut reader = in_pieces(dialogue.input, 65536);
+    for flushes in 0..newlines(dialogue.output()) {
+        let mut reader = in_pieces(dialogue.input(), 65536);
         let mut writer = all_taken(alloc);
         writer.most = 7;
         writer.flushes = flushes as u64;
         let ended = serve(alloc, limits, &mut reader, &mut writer);
         assert!(rt; ended == Err(Fault::Write), "{name}");
-        let due = first_lines(dialogue.output, flushes.saturating_add(1));
+        let due = first_lines(dialogue.output(), flushes.saturating_add(1));
         assert!(rt; writer.taken.as_slice() == due, "{name}");
     }
 }

@@ -38,9 +38,9 @@ fn is_answered_or_wants(rt: &impl Abort, alloc: Global, dialogue: &Dialogue) {
     };
     let limits = dialogue.limits();
     assert!(rt; 1 <= limits.numbers && limits.numbers <= 4294967295 && 1 <= limits.line);
-    let mut reader = in_pieces(dialogue.input, 65536);
+    let mut reader = in_pieces(dialogue.input(), 65536);
     let ended = serve(alloc, limits, &mut reader, &mut writer);
-    let output = dialogue.output;
+    let output = dialogue.output();
     let text = writer.taken.as_slice();
     let name = dialogue.name;
     match ended {
@@ -70,13 +70,13 @@ fn dialogues_under_refusals(rt: HostRuntime) {
 #[test]
 fn failing_writers_under_refusals(rt: HostRuntime) {
     let dialogue = &TREE_PRINTED;
-    let output = dialogue.output;
+    let output = dialogue.output();
     for writes in 0..3u8 {
         let Ok(mut writer) = roomy(rt.alloc()) else {
             return;
         };
         writer.writes = u64::from(writes);
-        let mut reader = in_pieces(dialogue.input, 65536);
+        let mut reader = in_pieces(dialogue.input(), 65536);
         let ended = serve(rt.alloc(), USUAL, &mut reader, &mut writer);
         let text = writer.taken.as_slice();
         if ended == Err(Fault::Memory) {
@@ -93,9 +93,9 @@ fn failing_writers_under_refusals(rt: HostRuntime) {
 fn first_dialogue_with_memory(rt: HostRuntime) -> Result<(), Fail> {
     let dialogue = &TREE_PRINTED;
     let mut writer = roomy(rt.alloc())?;
-    let mut reader = in_pieces(dialogue.input, 65536);
+    let mut reader = in_pieces(dialogue.input(), 65536);
     let ended = serve(rt.alloc(), USUAL, &mut reader, &mut writer);
     assert_eq!(rt; ended, Ok(Summary { lines: 3 }));
-    assert!(rt; writer.taken.as_slice() == dialogue.output);
+    assert!(rt; writer.taken.as_slice() == dialogue.output());
     Ok(())
 }

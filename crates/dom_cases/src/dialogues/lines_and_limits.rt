@@ -1,14 +1,16 @@
 //! Written by tools/rows.py from tools/dialogues/lines_and_limits: the dialogues whose commands are all served.
 
-use crate::dialogues::Dialogue;
+use crate::dialogues::{Bytes, Dialogue};
 
 pub const BLANK_LINE: Dialogue = Dialogue {
     name: "blank line",
     numbers: 4294967295,
     line: 1048576,
-    input: br##"
+    given: Bytes::Text(
+        r##"
 "##,
-    output: br##"{"error":"bad-json"}
+    ),
+    due: r##"{"error":"bad-json"}
 "##,
 };
 
@@ -16,11 +18,13 @@ pub const LINES_LIMITED: Dialogue = Dialogue {
     name: "lines limited",
     numbers: 4294967295,
     line: 10,
-    input: br##"["tree",0]
+    given: Bytes::Text(
+        r##"["tree",0]
 ["tree",0] 
 ["tree",0]
 "##,
-    output: br##"{"ok":[[0,0,9,"#document"]]}
+    ),
+    due: r##"{"ok":[[0,0,9,"#document"]]}
 {"error":"line-too-long"}
 {"ok":[[0,0,9,"#document"]]}
 "##,
@@ -30,15 +34,16 @@ pub const NO_INPUT: Dialogue = Dialogue {
     name: "no input",
     numbers: 4294967295,
     line: 1048576,
-    input: br##""##,
-    output: br##""##,
+    given: Bytes::Text(r##""##),
+    due: r##""##,
 };
 
 pub const NODES_LIMITED: Dialogue = Dialogue {
     name: "nodes limited",
     numbers: 4,
     line: 1048576,
-    input: br##"["createText",0,"a"]
+    given: Bytes::Text(
+        r##"["createText",0,"a"]
 ["createText",0,"a"]
 ["createText",0,"a"]
 ["createText",0,"a"]
@@ -47,7 +52,8 @@ pub const NODES_LIMITED: Dialogue = Dialogue {
 ["createText",1,"a"]
 ["tree",3]
 "##,
-    output: br##"{"ok":1}
+    ),
+    due: r##"{"ok":1}
 {"ok":2}
 {"ok":3}
 {"error":"limit"}
@@ -62,7 +68,8 @@ pub const REFUSALS_SPEND_NOTHING: Dialogue = Dialogue {
     name: "refusals spend nothing",
     numbers: 4294967295,
     line: 1048576,
-    input: br##"["createElement",0,"a"]
+    given: Bytes::Text(
+        r##"["createElement",0,"a"]
 ["createElement",0,"b"]
 ["createText",0,"t"]
 ["appendChild",1,2]
@@ -76,7 +83,8 @@ pub const REFUSALS_SPEND_NOTHING: Dialogue = Dialogue {
 ["createElement",0,"1a"]
 ["newDocument"]
 "##,
-    output: br##"{"ok":1}
+    ),
+    due: r##"{"ok":1}
 {"ok":2}
 {"ok":3}
 {"ok":2}
@@ -96,8 +104,10 @@ pub const REFUSED_LINES: Dialogue = Dialogue {
     name: "refused lines",
     numbers: 4294967295,
     line: 40,
-    input: b"[\"createText\",0,\"t\"]\n\n[\"createText\",0,\"t\"]\n \x09 \n[\"createText\",0,\"t\"]\ntree\n[\"createText\",0,\"t\"]\n[\"tree\",0,]\n[\"createText\",0,\"t\"]\n[\"tree\",0\n[\"createText\",0,\"t\"]\n[\"tree\",0][\"tree\",0]\n[\"createText\",0,\"t\"]\n\xFF\n[\"createText\",0,\"t\"]\n[\"createText\",0,\"\xFF\"]\n[\"createText\",0,\"t\"]\n{}\n[\"createText\",0,\"t\"]\nnull\n[\"createText\",0,\"t\"]\n[]\n[\"createText\",0,\"t\"]\n[[\"tree\",0]]\n[\"createText\",0,\"t\"]\n[\"nosuch\"]\n[\"createText\",0,\"t\"]\n[\"Tree\",0]\n[\"createText\",0,\"t\"]\n[\"tree\"]\n[\"createText\",0,\"t\"]\n[\"tree\",-1]\n[\"createText\",0,\"t\"]\n[\"tree\",0.0]\n[\"createText\",0,\"t\"]\n[\"tree\",4294967296]\n[\"createText\",0,\"t\"]\n[\"tree\",0,0]\n[\"createText\",0,\"t\"]\n[\"newDocument\",0]\n[\"createText\",0,\"t\"]\n[\"createElement\",9,5]\n[\"createText\",0,\"t\"]\n[\"createText\",0,[97,65536]]\n[\"createText\",0,\"t\"]\n[\"tree\",4294967295]\n[\"createText\",0,\"t\"]\n[\"appendChild\",0,9999]\n[\"createText\",0,\"t\"]\n[\"createElement\",9999,\"1a\"]\n[\"createText\",0,\"t\"]\n[\"createElement\",1,\"1a\"]\n[\"createText\",0,\"t\"]\n[\"createText\",1,\"t\"]\n[\"createText\",0,\"t\"]\n[\"createElement\",0,\"1a\"]\n[\"createText\",0,\"t\"]\n[\"createElement\",0,\"\"]\n[\"createText\",0,\"t\"]\n[\"appendChild\",0,1]\n[\"createText\",0,\"t\"]\n[\"createText\",0,\"0123456789012345678901\"]\n[\"createText\",0,\"t\"]\n[\"tree\",0]",
-    output: br##"{"ok":1}
+    given: Bytes::Raw(
+        b"[\"createText\",0,\"t\"]\n\n[\"createText\",0,\"t\"]\n \x09 \n[\"createText\",0,\"t\"]\ntree\n[\"createText\",0,\"t\"]\n[\"tree\",0,]\n[\"createText\",0,\"t\"]\n[\"tree\",0\n[\"createText\",0,\"t\"]\n[\"tree\",0][\"tree\",0]\n[\"createText\",0,\"t\"]\n\xFF\n[\"createText\",0,\"t\"]\n[\"createText\",0,\"\xFF\"]\n[\"createText\",0,\"t\"]\n{}\n[\"createText\",0,\"t\"]\nnull\n[\"createText\",0,\"t\"]\n[]\n[\"createText\",0,\"t\"]\n[[\"tree\",0]]\n[\"createText\",0,\"t\"]\n[\"nosuch\"]\n[\"createText\",0,\"t\"]\n[\"Tree\",0]\n[\"createText\",0,\"t\"]\n[\"tree\"]\n[\"createText\",0,\"t\"]\n[\"tree\",-1]\n[\"createText\",0,\"t\"]\n[\"tree\",0.0]\n[\"createText\",0,\"t\"]\n[\"tree\",4294967296]\n[\"createText\",0,\"t\"]\n[\"tree\",0,0]\n[\"createText\",0,\"t\"]\n[\"newDocument\",0]\n[\"createText\",0,\"t\"]\n[\"createElement\",9,5]\n[\"createText\",0,\"t\"]\n[\"createText\",0,[97,65536]]\n[\"createText\",0,\"t\"]\n[\"tree\",4294967295]\n[\"createText\",0,\"t\"]\n[\"appendChild\",0,9999]\n[\"createText\",0,\"t\"]\n[\"createElement\",9999,\"1a\"]\n[\"createText\",0,\"t\"]\n[\"createElement\",1,\"1a\"]\n[\"createText\",0,\"t\"]\n[\"createText\",1,\"t\"]\n[\"createText\",0,\"t\"]\n[\"createElement\",0,\"1a\"]\n[\"createText\",0,\"t\"]\n[\"createElement\",0,\"\"]\n[\"createText\",0,\"t\"]\n[\"appendChild\",0,1]\n[\"createText\",0,\"t\"]\n[\"createText\",0,\"0123456789012345678901\"]\n[\"createText\",0,\"t\"]\n[\"tree\",0]",
+    ),
+    due: r##"{"ok":1}
 {"error":"bad-json"}
 {"ok":2}
 {"error":"bad-json"}
@@ -168,11 +178,13 @@ pub const THREE_BLANK_LINES: Dialogue = Dialogue {
     name: "three blank lines",
     numbers: 4294967295,
     line: 1048576,
-    input: br##"
+    given: Bytes::Text(
+        r##"
 
 
 "##,
-    output: br##"{"error":"bad-json"}
+    ),
+    due: r##"{"error":"bad-json"}
 {"error":"bad-json"}
 {"error":"bad-json"}
 "##,
@@ -182,10 +194,12 @@ pub const TWO_BLANK_LINES: Dialogue = Dialogue {
     name: "two blank lines",
     numbers: 4294967295,
     line: 1048576,
-    input: br##"
+    given: Bytes::Text(
+        r##"
 
 "##,
-    output: br##"{"error":"bad-json"}
+    ),
+    due: r##"{"error":"bad-json"}
 {"error":"bad-json"}
 "##,
 };

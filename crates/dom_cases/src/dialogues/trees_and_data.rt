@@ -1,34 +1,73 @@
 //! Written by tools/rows.py from tools/dialogues/trees_and_data: the dialogues whose commands are all served.
 
-use crate::dialogues::Dialogue;
+use crate::dialogues::{Bytes, Dialogue};
 
 pub const LONE_SURROGATE: Dialogue = Dialogue {
     name: "lone surrogate",
     numbers: 4294967295,
     line: 1048576,
-    input: br##"["createText",0,[55296]]
+    given: Bytes::Text(
+        r##"["createText",0,[55296]]
 ["createText",0,"a\ud83d\ude00"]
 ["createText",0,[97,55357,56832]]
 ["tree",1]
 ["tree",2]
 ["tree",3]
 "##,
-    output: b"{\"ok\":1}\n{\"ok\":2}\n{\"ok\":3}\n{\"ok\":[[0,1,3,\"#text\",[55296]]]}\n{\"ok\":[[0,2,3,\"#text\",\"a\xF0\x9F\x98\x80\"]]}\n{\"ok\":[[0,3,3,\"#text\",\"a\xF0\x9F\x98\x80\"]]}\n",
+    ),
+    due: r##"{"ok":1}
+{"ok":2}
+{"ok":3}
+{"ok":[[0,1,3,"#text",[55296]]]}
+{"ok":[[0,2,3,"#text","a😀"]]}
+{"ok":[[0,3,3,"#text","a😀"]]}
+"##,
 };
 
 pub const MOVES_BETWEEN_DOCUMENTS: Dialogue = Dialogue {
     name: "moves between documents",
     numbers: 4294967295,
     line: 1048576,
-    input: b"[\"createElement\",0,\"r\"]\n[\"createText\",0,\"\xC3\xA9\"]\n[\"appendChild\",1,2]\n[\"appendChild\",0,1]\n[\"newDocument\"]\n[\"appendChild\",3,1]\n[\"tree\",0]\n[\"tree\",3]\n[\"createElement\",3,\"s\"]\n[\"appendChild\",0,4]\n[\"appendChild\",4,2]\n[\"appendChild\",0,1]\n[\"tree\",0]\n[\"tree\",3]\n",
-    output: b"{\"ok\":1}\n{\"ok\":2}\n{\"ok\":2}\n{\"ok\":1}\n{\"ok\":3}\n{\"ok\":1}\n{\"ok\":[[0,0,9,\"#document\"]]}\n{\"ok\":[[0,3,9,\"#document\"],[1,1,1,\"r\",[]],[2,2,3,\"#text\",\"\xC3\xA9\"]]}\n{\"ok\":4}\n{\"ok\":4}\n{\"ok\":2}\n{\"error\":\"HierarchyRequestError\"}\n{\"ok\":[[0,0,9,\"#document\"],[1,4,1,\"s\",[]],[2,2,3,\"#text\",\"\xC3\xA9\"]]}\n{\"ok\":[[0,3,9,\"#document\"],[1,1,1,\"r\",[]]]}\n",
+    given: Bytes::Text(
+        r##"["createElement",0,"r"]
+["createText",0,"é"]
+["appendChild",1,2]
+["appendChild",0,1]
+["newDocument"]
+["appendChild",3,1]
+["tree",0]
+["tree",3]
+["createElement",3,"s"]
+["appendChild",0,4]
+["appendChild",4,2]
+["appendChild",0,1]
+["tree",0]
+["tree",3]
+"##,
+    ),
+    due: r##"{"ok":1}
+{"ok":2}
+{"ok":2}
+{"ok":1}
+{"ok":3}
+{"ok":1}
+{"ok":[[0,0,9,"#document"]]}
+{"ok":[[0,3,9,"#document"],[1,1,1,"r",[]],[2,2,3,"#text","é"]]}
+{"ok":4}
+{"ok":4}
+{"ok":2}
+{"error":"HierarchyRequestError"}
+{"ok":[[0,0,9,"#document"],[1,4,1,"s",[]],[2,2,3,"#text","é"]]}
+{"ok":[[0,3,9,"#document"],[1,1,1,"r",[]]]}
+"##,
 };
 
 pub const MOVES_REFUSED: Dialogue = Dialogue {
     name: "moves refused",
     numbers: 4294967295,
     line: 1048576,
-    input: br##"["createElement",0,"a"]
+    given: Bytes::Text(
+        r##"["createElement",0,"a"]
 ["createElement",0,"b"]
 ["createText",0,"t"]
 ["appendChild",1,2]
@@ -42,7 +81,8 @@ pub const MOVES_REFUSED: Dialogue = Dialogue {
 ["createElement",0,"1a"]
 ["newDocument"]
 "##,
-    output: br##"{"ok":1}
+    ),
+    due: r##"{"ok":1}
 {"ok":2}
 {"ok":3}
 {"ok":2}
@@ -62,7 +102,8 @@ pub const ORDER_OF_CHILDREN: Dialogue = Dialogue {
     name: "order of children",
     numbers: 4294967295,
     line: 1048576,
-    input: br##"["createElement",0,"r"]
+    given: Bytes::Text(
+        r##"["createElement",0,"r"]
 ["createElement",0,"a"]
 ["createElement",0,"b"]
 ["createText",0,"t"]
@@ -83,7 +124,8 @@ pub const ORDER_OF_CHILDREN: Dialogue = Dialogue {
 ["appendChild",0,4]
 ["tree",0]
 "##,
-    output: br##"{"ok":1}
+    ),
+    due: r##"{"ok":1}
 {"ok":2}
 {"ok":3}
 {"ok":4}
@@ -110,10 +152,12 @@ pub const TREE_PRINTED: Dialogue = Dialogue {
     name: "tree printed",
     numbers: 4294967295,
     line: 1048576,
-    input: br##"["createElement",0,"p"]
+    given: Bytes::Text(
+        r##"["createElement",0,"p"]
 ["appendChild",0,1]
 ["tree",0]"##,
-    output: br##"{"ok":1}
+    ),
+    due: r##"{"ok":1}
 {"ok":1}
 {"ok":[[0,0,9,"#document"],[1,1,1,"p",[]]]}
 "##,
