@@ -14,6 +14,49 @@ pub const BLANK_LINE: Dialogue = Dialogue {
 "##,
 };
 
+pub const COPIES_LIMITED: Dialogue = Dialogue {
+    name: "copies limited",
+    numbers: 20,
+    line: 1048576,
+    given: Bytes::Text(
+        r##"["cloneNode",0,false]
+["cloneNode",0,false]
+["cloneNode",0,false]
+["cloneNode",0,false]
+["cloneNode",0,false]
+["createFragment",0]
+"##,
+    ),
+    due: r##"{"ok":1}
+{"ok":2}
+{"ok":3}
+{"ok":4}
+{"error":"limit"}
+{"ok":5}
+"##,
+};
+
+pub const HOSTILE_LINES: Dialogue = Dialogue {
+    name: "hostile lines",
+    numbers: 4294967295,
+    line: 1048576,
+    given: Bytes::Raw(
+        b"[]\n[[\"tree\",0]]\n[\"tree\",0,0]\n[[[[[[[[[[[[[[[[[[[[[[[[[[[[[[[[[[[[[[[[[[[[[[[[[[[[[[[[[[[[[[[[[[[[[[[[[[[[[[[[[[[[[[[[[[[[[[[[[[[[[[[[[[[[[[[[[[[[[[[[[[[[[[[[[[[[[[[[[[[[[[[[[[[[[[[[[[[[[[[[[[[[[[[[[[[[[[[[[[[[[[[[[[[[[[[[[[[[[[[[]]]]]]]]]]]]]]]]]]]]]]]]]]]]]]]]]]]]]]]]]]]]]]]]]]]]]]]]]]]]]]]]]]]]]]]]]]]]]]]]]]]]]]]]]]]]]]]]]]]]]]]]]]]]]]]]]]]]]]]]]]]]]]]]]]]]]]]]]]]]]]]]]]]]]]]]]]]]]]]]]]]]]]]]]]]]]]]]]]]]]]]]]]]]]]]]]]]]]]]]\n[[[[[[[[[[[[[[[[[[[[[[[[[[[[[[[[[[[[[[[[[[[[[[[[[[[[[[[[[[[[[[[[[[[[[[[[[[[[[[[[[[[[[[[[[[[[[[[[[[[[]]]]]]]]]]]]]]]]]]]]]]]]]]]]]]]]]]]]]]]]]]]]]]]]]]]]]]]]]]]]]]]]]]]]]]]]]]]]]]]]]]]]]]]]]]]]]]]]]]]]\n\xFF\n[\"createText\",0,[97,65536]]\n[\"createText\",0,[55296]]\n[\"data\",1]\n[\"setAttribute\",1,\"a b\",\"\"]\n[\"compareBoundaryPoints\",0,9,9]\n",
+    ),
+    due: r##"{"error":"bad-command"}
+{"error":"bad-command"}
+{"error":"bad-arguments"}
+{"error":"bad-json"}
+{"error":"bad-command"}
+{"error":"bad-json"}
+{"error":"bad-arguments"}
+{"ok":1}
+{"ok":[55296]}
+{"error":"TypeError"}
+{"error":"no-such-object"}
+"##,
+};
+
 pub const LINES_LIMITED: Dialogue = Dialogue {
     name: "lines limited",
     numbers: 4294967295,
@@ -27,6 +70,36 @@ pub const LINES_LIMITED: Dialogue = Dialogue {
     due: r##"{"ok":[[0,0,9,"#document"]]}
 {"error":"line-too-long"}
 {"ok":[[0,0,9,"#document"]]}
+"##,
+};
+
+pub const MALFORMED_LINES: Dialogue = Dialogue {
+    name: "malformed lines",
+    numbers: 4294967295,
+    line: 1048576,
+    given: Bytes::Text(
+        r##"["data",0,]
+{}
+["nosuch"]
+["tree"]
+["tree",-1]
+["tree",4294967296]
+["createElement",7,5]
+["tree",7]
+["data",0]
+["createElement",0,""]
+"##,
+    ),
+    due: r##"{"error":"bad-json"}
+{"error":"bad-command"}
+{"error":"bad-command"}
+{"error":"bad-arguments"}
+{"error":"bad-arguments"}
+{"error":"bad-arguments"}
+{"error":"bad-arguments"}
+{"error":"no-such-object"}
+{"error":"TypeError"}
+{"error":"InvalidCharacterError"}
 "##,
 };
 
@@ -61,6 +134,28 @@ pub const NODES_LIMITED: Dialogue = Dialogue {
 {"error":"limit"}
 {"error":"TypeError"}
 {"ok":[[0,3,3,"#text","a"]]}
+"##,
+};
+
+pub const NUMBERS_LIMITED: Dialogue = Dialogue {
+    name: "numbers limited",
+    numbers: 4,
+    line: 1048576,
+    given: Bytes::Text(
+        r##"["createText",0,"a"]
+["createText",0,"a"]
+["createText",0,"a"]
+["createText",0,"a"]
+["createElement",0,""]
+["createRange",0]
+"##,
+    ),
+    due: r##"{"ok":1}
+{"ok":2}
+{"ok":3}
+{"error":"limit"}
+{"error":"limit"}
+{"ok":0}
 "##,
 };
 
@@ -174,6 +269,24 @@ pub const REFUSED_LINES: Dialogue = Dialogue {
 "##,
 };
 
+pub const ROOM_AFTER_DISCARDING: Dialogue = Dialogue {
+    name: "room after discarding",
+    numbers: 13,
+    line: 1048576,
+    given: Bytes::Text(
+        r##"["createText",0,"a"]
+["cloneNode",0,false]
+["discard",1]
+["cloneNode",0,false]
+"##,
+    ),
+    due: r##"{"ok":1}
+{"error":"limit"}
+{"ok":null}
+{"ok":2}
+"##,
+};
+
 pub const THREE_BLANK_LINES: Dialogue = Dialogue {
     name: "three blank lines",
     numbers: 4294967295,
@@ -204,13 +317,79 @@ pub const TWO_BLANK_LINES: Dialogue = Dialogue {
 "##,
 };
 
-pub const ALL: [&Dialogue; 8] = [
+pub const WATCHERS_LIMITED: Dialogue = Dialogue {
+    name: "watchers limited",
+    numbers: 2,
+    line: 1048576,
+    given: Bytes::Text(
+        r##"["createElement",0,"p"]
+["createElement",0,"p"]
+["createIterator",0,4294967295,[]]
+["createIterator",1,4294967295,[]]
+["createIterator",2,4294967295,[]]
+["createIterator",1,4294967295,[]]
+["nextNode",2]
+["previousNode",2]
+["iterator",2]
+["createWalker",0,4294967295,[]]
+["createWalker",1,4294967295,[]]
+["createWalker",2,4294967295,[]]
+["createWalker",1,4294967295,[]]
+["walk",2,"nextNode"]
+["walker",2]
+["setCurrent",2,1]
+["setCurrent",1,2]
+["walker",1]
+["createObserver"]
+["createObserver"]
+["createObserver"]
+["takeRecords",2]
+["disconnect",2]
+["observe",2,1,{"childList":true}]
+["createRange",0]
+"##,
+    ),
+    due: r##"{"ok":1}
+{"error":"limit"}
+{"ok":0}
+{"ok":1}
+{"error":"no-such-object"}
+{"error":"limit"}
+{"error":"no-such-object"}
+{"error":"no-such-object"}
+{"error":"no-such-object"}
+{"ok":0}
+{"ok":1}
+{"error":"no-such-object"}
+{"error":"limit"}
+{"error":"no-such-object"}
+{"error":"no-such-object"}
+{"error":"no-such-object"}
+{"error":"no-such-object"}
+{"ok":[1,1]}
+{"ok":0}
+{"ok":1}
+{"error":"limit"}
+{"error":"no-such-object"}
+{"error":"no-such-object"}
+{"error":"no-such-object"}
+{"ok":0}
+"##,
+};
+
+pub const ALL: [&Dialogue; 14] = [
     &BLANK_LINE,
+    &COPIES_LIMITED,
+    &HOSTILE_LINES,
     &LINES_LIMITED,
+    &MALFORMED_LINES,
     &NO_INPUT,
     &NODES_LIMITED,
+    &NUMBERS_LIMITED,
     &REFUSALS_SPEND_NOTHING,
     &REFUSED_LINES,
+    &ROOM_AFTER_DISCARDING,
     &THREE_BLANK_LINES,
     &TWO_BLANK_LINES,
+    &WATCHERS_LIMITED,
 ];
