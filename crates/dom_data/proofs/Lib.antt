@@ -6,3 +6,5 @@ pub mod MovedOffsets
 pub mod ChangedBodies
 pub mod Unasked
 pub mod StaysWhole
+pub mod SoundParting
+pub mod Behind

@@ -1,3 +1,4 @@
 pub mod Reading
 pub mod Changes
 pub mod Gathering
+pub mod Tails
