@@ -8,3 +8,5 @@ pub mod Unasked
 pub mod StaysWhole
 pub mod SoundParting
 pub mod Behind
+pub mod TextsBelow
+pub mod TextsInTurn
