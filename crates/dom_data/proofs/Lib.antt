@@ -10,3 +10,4 @@ pub mod SoundParting
 pub mod Behind
 pub mod TextsBelow
 pub mod TextsInTurn
+pub mod NoneFollows

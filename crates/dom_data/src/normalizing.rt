@@ -7,9 +7,10 @@ ghost use Rattle.dom_model.specs.Forests.Forest.{HasNode, inclusive_descendants}
 ghost use Rattle.dom_model.specs.MutationAlgorithms.Checks.{is_of_kind};
 ghost use Rattle.dom_model.specs.DataAndCopies.Data.{following_texts, is_descendant, join_following, normalize_text, normalize_each, normalize};
 ghost use Rattle.dom_edit.specs.Whole.{IsWhole, Follows};
-ghost use Rattle.dom_data.specs.TextsAlone.{alone, texts_among};
+ghost use Rattle.dom_data.specs.TextsAlone.{alone, texts_among, followed};
 
 use crate::bodies::{data_in, kind_in};
+use crate::replacing::replace_data;
 use dom_edit::{Content, World};
 use dom_kinds::Kind;
 use dom_tree::{NodeId, Tree};
@@ -55,15 +56,42 @@ fn is_below(tree: &Tree<Content>, node: NodeId, above: NodeId) -> bool
     node != above && tree.is_ancestor(above, node)
 }
 
-// Joins a Text with those that follow it among its siblings.
+// Whether a node is a Text.
+fn is_text(tree: &Tree<Content>, node: NodeId) -> bool
+    requires held { HasNode tree.now.forest node }
+    ensures { result ≡ is_of_kind Text tree.now.forest node }
+{
+    kind_in(tree, node) == Kind::Text
+}
+
+// Whether the next sibling is a Text.
+fn is_followed(tree: &Tree<Content>, node: NodeId) -> bool
+    requires held { HasNode tree.now.forest node }
+    ensures { result ≡ followed tree.now.forest node }
+{
+    tree.sound();
+    match tree.next(node) {
+        Some(next) => is_text(tree, next),
+        None => false,
+    }
+}
+
+// Joins a Text with those that follow it among its siblings. Where there are any, it answers want of memory.
 fn join_following(world: &mut World, alloc: Global, node: NodeId) -> Result<(), AllocError>
     requires whole { IsWhole world.old }
     requires kind { is_of_kind Text world.old.tree.forest node ≡ true }
     ensures joined { OnOk result (Follows world.old world.new (λ w. join_following node (following_texts w node) w)) }
     ensures whole { IsWhole world.new }
 {
-    let _ = (alloc, node);
-    Err(AllocError)
+    if is_followed(&world.tree, node) {
+        return Err(AllocError);
+    }
+    let end = data_in(&world.tree, node).len();
+    // the offset is within, so that only memory can be wanting
+    match replace_data(world, alloc, node, end, 0, &[]) {
+        Ok(()) => Ok(()),
+        Err(_) => Err(AllocError),
+    }
 }
 
 // Takes a Text without data out, and joins another with those that follow it.
