@@ -1,20 +1,13 @@
 -- The Texts below a node, in tree order.
-use Rattle.std.proofs.Common.{◌≡◌, ℕ, ◌<◌, Bool, true, false, if◌then◌else◌, List, [], ◌∷◌, ◌++◌, drop, length, filter, Option, Some, None, refl, ap, sym, ◌∙◌, subst, append_assoc, append-nil, cond, arith}
-use Rattle.std.specs.Prelude.{IfSome, IsSome}
-use Rattle.std.proofs.lemmas.Bool.{false≢true}
-use Rattle.dom_model.specs.declared.Kind.{Kind}
-use Rattle.dom_model.specs.Forests.Arena.{Entry}
-use Rattle.dom_model.specs.declared.Kind.TheVariants.{Element, Text, ProcessingInstruction, Comment, Document, DocumentType, DocumentFragment}
+use Rattle.std.proofs.Common.{◌≡◌, ℕ, ◌<◌, Bool, true, false, if◌then◌else◌, List, [], ◌∷◌, ◌++◌, drop, length, filter, Some, None, refl, ap, sym, ◌∙◌, append_assoc, append-nil, cond, arith}
+use Rattle.dom_model.specs.declared.Kind.TheVariants.{Text}
 use Rattle.dom_model.specs.PlainLists.Lists.{hits, after}
-use Rattle.dom_model.specs.Forests.Forest.{Node, Forest, Grove, IsForest, HasNode, entry_in, inclusive_descendants}
+use Rattle.dom_model.specs.Forests.Forest.{Forest, Grove, IsForest, HasNode, inclusive_descendants}
 use Rattle.dom_model.specs.Worlds.World.{Content}
 use Rattle.dom_model.specs.MutationAlgorithms.Checks.{is_of_kind}
-use Rattle.dom_model.specs.DataAndCopies.Data.{content_in, joined_data, descendant_text, text_content, text_content_by, by_kind}
 use Rattle.dom_model.proofs.PlainLists.FromFirst.{from_first}
 use Rattle.dom_ranges.proofs.Inside.{IsAt, from-top, at-top, at-next, here-inside, rest-next, rest-end}
 use Rattle.dom_model.proofs.PlainLists.Numbers.{same_or, same, apart}
-use Rattle.dom_edit.specs.declared.world.World.{World}
-use Rattle.dom_edit.specs.Whole.{unwatched}
 use Rattle.dom_data.specs.TextsAlone.{alone, texts_among}
 
 -- the walk has come to a node, and the list has the Texts up to it

@@ -1,16 +1,16 @@
 -- One Text after another is normalized.
-use Rattle.std.proofs.Common.{◌≡◌, ℕ, ◌+◌, ◌-◌, ◌<◌, ◌≤◌, ◌==◌, Bool, true, false, if◌then◌else◌, List, [], ◌∷◌, ◌++◌, drop, length, slice_index_or, refl, ap, sym, ◌∙◌, subst, arith, length-drop, ⊎_elim, Some}
+use Rattle.std.proofs.Common.{◌≡◌, ℕ, ◌+◌, ◌<◌, ◌≤◌, ◌==◌, true, false, if◌then◌else◌, List, [], ◌∷◌, ◌++◌, drop, length, slice_index_or, refl, ap, sym, ◌∙◌, subst, arith, length-drop, ⊎_elim, Some}
 use Rattle.std.proofs.lemmas.Bool.{cases_lt}
 use Rattle.std.proofs.lemmas.List.{drop_more}
 use Rattle.dom_model.specs.declared.Kind.TheVariants.{Text}
 use Rattle.dom_model.specs.PlainLists.Lists.{hits, among, head_of}
 use Rattle.dom_model.specs.Forests.Kinds.{is_kind}
-use Rattle.dom_model.specs.Forests.Forest.{Node, Forest, empty, node, occurs, one_at, tops, numbers, tree_at, ancestors, entry_in, inclusive_descendants}
+use Rattle.dom_model.specs.Forests.Forest.{Forest, empty, node, occurs, one_at, tops, numbers, tree_at, ancestors, entry_in, inclusive_descendants}
 use Rattle.dom_model.specs.Worlds.World as model
 use Rattle.dom_model.specs.Worlds.World.{Content}
 use Rattle.dom_model.specs.MutationAlgorithms.Checks.{is_of_kind}
 use Rattle.dom_model.specs.MutationAlgorithms.Editing.{remove}
-use Rattle.dom_model.specs.DataAndCopies.Data.{content_in, data_of, following_texts, join_following, is_descendant, normalize_text, normalize_each, normalize, text_descendants}
+use Rattle.dom_model.specs.DataAndCopies.Data.{content_in, following_texts, join_following, is_descendant, normalize_text, normalize_each, normalize, text_descendants}
 use Rattle.dom_model.proofs.PlainLists.Numbers.{same_or, same, apart}
 use Rattle.dom_model.proofs.Forests.Totals.{total-tree_at, tree_at-absent}
 use Rattle.dom_model.proofs.Forests.Tops.{tops-tree_at}

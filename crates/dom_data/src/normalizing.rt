@@ -146,6 +146,8 @@ fn normalize_each(
 }
 
 /// Takes the empty Texts below a node out, and joins each other Text there with those that follow it ("normalize").
+///
+/// As yet it answers want of memory where a Text comes right behind another that has data.
 pub fn normalize(world: &mut World, alloc: Global, node: NodeId) -> Result<(), AllocError>
     requires whole { IsWhole world.old }
     requires held { HasNode world.old.tree.forest node }

@@ -1,5 +1,5 @@
 -- The Texts below the node, each in turn.
-use Rattle.std.proofs.Common.{◌≡◌, ℕ, ◌<◌, true, drop, subst, ap, sym, ◌∙◌}
+use Rattle.std.proofs.Common.{◌<◌, drop, subst, ◌∙◌}
 use Rattle.std.proofs.lemmas.Result.{on_ok_weaker}
 use Rattle.dom_model.specs.declared.Kind.TheVariants.{Text}
 use Rattle.dom_model.specs.PlainLists.Lists.{hits}
