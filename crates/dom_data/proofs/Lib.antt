@@ -6,3 +6,8 @@ pub mod MovedOffsets
 pub mod ChangedBodies
 pub mod Unasked
 pub mod StaysWhole
+pub mod SoundParting
+pub mod Behind
+pub mod TextsBelow
+pub mod TextsInTurn
+pub mod NoneFollows

@@ -1,3 +1,5 @@
 pub mod Reading
 pub mod Changes
 pub mod Gathering
+pub mod Tails
+pub mod TextsAlone

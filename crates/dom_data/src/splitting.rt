@@ -1,24 +1,63 @@
 //! A Text split in two (DOM Standard, "Interface Text").
 
-ghost use Rattle.std.specs.Prelude.{◌≡◌, ◌<◌, true, None, IfOk, OnOk};
+ghost use Rattle.std.specs.Prelude.{◌≡◌, ◌<◌, ◌^◌, true, Some, None, length, IfOk, OnOk};
 ghost use Rattle.std.specs.Result.{IfErr};
 ghost use Rattle.dom_model.specs.declared.Kind.TheVariants.{Text};
-ghost use Rattle.dom_model.specs.Forests.Forest.{parent_of};
+ghost use Rattle.dom_model.specs.Forests.Forest.{HasNode, parent_of, children_of};
 ghost use Rattle.dom_model.specs.MutationAlgorithms.Checks.{is_of_kind};
 ghost use Rattle.dom_model.specs.DataAndCopies.Data.{check_offset, split, split_off};
 ghost use Rattle.dom_edit.specs.Whole.{IsWhole, Follows, unwatched};
 ghost use Rattle.dom_edit.specs.Refusals.{IsRefused};
+ghost use Rattle.dom_data.specs.Tails.{IsTail};
 
 use crate::bodies::data_in;
 use crate::making::{document_in, make_text};
 use crate::replacing::replace_data;
-use dom_edit::{Refusal, World};
+use dom_edit::{Content, Refusal, World};
 use dom_kinds::DomError;
-use dom_tree::NodeId;
+use dom_tree::{NodeId, Tree};
 use dom_units::Units;
 use std::alloc::{AllocError, Global};
 
-// Puts the new Text behind the one that is split, where that has a parent, and the ends beyond the offset into it.
+// A law: the count of the children fits a number of the machine.
+fn counted(tree: &Tree<Content>, parent: NodeId)
+    requires { HasNode tree.now.forest parent }
+    ensures { length (children_of tree.now.forest parent) < 2 ^ 64 }
+{
+    let count = tree.count(parent);
+    let _ = count;
+}
+
+// Puts the new Text behind the one that is split, and the ends beyond the offset into it.
+fn put_behind(
+    world: &mut World,
+    alloc: Global,
+    node: NodeId,
+    offset: usize,
+    new: NodeId,
+    parent: NodeId,
+) -> Result<(), AllocError>
+    requires whole { IsWhole world.old }
+    requires tail { IsTail world.old node offset new }
+    requires parent { parent_of world.old.tree.forest node ≡ Some parent }
+    ensures parted { OnOk result (Follows world.old world.new (λ w. split_off node offset new (parent_of w.forest node) w)) }
+    ensures kind { OnOk result (is_of_kind Text world.new.tree.forest node ≡ true) }
+    ensures whole { IsWhole world.new }
+{
+    let next = world.tree.next(node);
+    match world.insert_before(alloc, parent, new, next) {
+        Ok(()) => {
+            counted(&world.tree, parent);
+            let index = world.tree.index(node);
+            world.ranges.was_split(node, offset, new, parent, index);
+            Ok(())
+        }
+        // no check refuses a Text beside another, so that only memory can be wanting
+        Err(_) => Err(AllocError),
+    }
+}
+
+// The same where the Text that is split has a parent; nothing where it has none.
 fn part(
     world: &mut World,
     alloc: Global,
@@ -28,15 +67,13 @@ fn part(
 ) -> Result<(), AllocError>
     requires whole { IsWhole world.old }
     requires kind { is_of_kind Text world.old.tree.forest node ≡ true }
-    requires new_kind { is_of_kind Text world.old.tree.forest new ≡ true }
-    requires new_root { parent_of world.old.tree.forest new ≡ None }
+    requires tail { IsTail world.old node offset new }
     ensures parted { OnOk result (Follows world.old world.new (λ w. split_off node offset new (parent_of w.forest node) w)) }
     ensures kind { OnOk result (is_of_kind Text world.new.tree.forest node ≡ true) }
     ensures whole { IsWhole world.new }
 {
-    let _ = (alloc, offset, new);
     match world.tree.parent(node) {
-        Some(_) => Err(AllocError),
+        Some(parent) => put_behind(world, alloc, node, offset, new, parent),
         None => Ok(()),
     }
 }

@@ -1,27 +1,26 @@
 -- A new Text, its place behind the old one, and the old one without what is beyond.
-use Rattle.std.proofs.Common.{◌-◌, ◌≤◌, drop, length, ap, ◌∙◌, arith}
+use Rattle.std.proofs.Common.{ℕ, ◌-◌, ◌≤◌, List, drop, length, ap, ◌∙◌, subst, arith}
 use Rattle.std.proofs.lemmas.Bool.Decides.{nat_tests}
 use Rattle.dom_model.specs.declared.Kind.TheVariants.{Text}
 use Rattle.dom_model.specs.Forests.Kinds.{is_kind}
-use Rattle.dom_model.specs.Forests.Forest.{parent_of}
-use Rattle.dom_model.specs.MutationAlgorithms.Checks.{is_of_kind}
 use Rattle.dom_data.proofs.NewTexts.{old-kind}
-use Rattle.dom_data.proofs.Parting.{text-held, tail-cut, new-root, new-text, follows-split, length-tail}
+use Rattle.dom_data.proofs.Parting.{text-held, tail-cut, follows-split, length-tail}
+use Rattle.dom_data.proofs.Behind.{is-tail}
 use Rattle.dom_data.proofs.splitting.split.Goals as goal
 
 pub part-requires-clause-kind : goal.part-requires-clause-kind
 part-requires-clause-kind c =
     old-kind c.args.world.now c.make_text.new.world c.requires.whole c.document_in-document.result c.in_ok-tail.tail c.in_ok-new.ensures.made (is_kind Text) c.args.node (text-held c.args.world.now.tree.forest c.args.node c.requires.kind) ∙ c.requires.kind
 
-pub part-requires-clause-new_kind : goal.part-requires-clause-new_kind
-part-requires-clause-new_kind c =
-    ap (λ n. is_of_kind Text c.make_text.new.world.tree.forest n) c.in_ok-new.ensures.number
-    ∙ new-text c.args.world.now c.make_text.new.world c.requires.whole c.document_in-document.result c.in_ok-tail.tail c.in_ok-new.ensures.made
-
-pub part-requires-clause-new_root : goal.part-requires-clause-new_root
-part-requires-clause-new_root c =
-    ap (λ n. parent_of c.make_text.new.world.tree.forest n) c.in_ok-new.ensures.number
-    ∙ new-root c.args.world.now c.make_text.new.world c.requires.whole c.document_in-document.result c.in_ok-tail.tail c.in_ok-new.ensures.made
+pub part-requires-clause-tail : goal.part-requires-clause-tail
+part-requires-clause-tail c =
+    let old = c.args.world.now in
+    let count = c.len-length.result - c.args.offset in
+    let units = c.data_in-data.result.now in
+    let within : c.args.offset ≤ length units = grind (arith, nat_tests, c.if-offset-length.false, c.len-length.ensures) in
+    let tail = c.in_ok-tail.ensures ∙ c.slice.ensures ∙ tail-cut c.args.offset count units within (ap (λ l. l - c.args.offset) c.len-length.ensures) in
+    is-tail old c.make_text.new.world c.args.node c.args.offset c.document_in-document.result c.in_ok-new.new c.in_ok-tail.tail c.requires.whole c.requires.kind
+    (subst (λ (xs : List ℕ). c.args.offset ≤ length xs) c.data_in-data.ensures within) c.document_in-document.ensures.document c.in_ok-new.ensures.number (tail ∙ ap (drop c.args.offset) c.data_in-data.ensures) c.in_ok-new.ensures.made
 
 pub returns-in-Ok-clause-split : goal.returns-in-Ok-clause-split
 returns-in-Ok-clause-split c =

@@ -1,0 +1,24 @@
+-- The Texts below the node, each in turn.
+use Rattle.std.proofs.Common.{◌<◌, drop, subst, ◌∙◌}
+use Rattle.std.proofs.lemmas.Result.{on_ok_weaker}
+use Rattle.dom_model.specs.declared.Kind.TheVariants.{Text}
+use Rattle.dom_model.specs.PlainLists.Lists.{hits}
+use Rattle.dom_model.specs.Forests.Forest.{inclusive_descendants}
+use Rattle.dom_model.specs.MutationAlgorithms.Checks.{is_of_kind}
+use Rattle.dom_model.proofs.Soundness.SoundNormalizing.{filter-passed}
+use Rattle.dom_data.proofs.TextsBelow.{texts-filtered}
+use Rattle.dom_data.proofs.TextsInTurn.{follows-all}
+use Rattle.dom_data.proofs.normalizing.normalize.Goals as goal
+
+pub normalize_each-requires-clause-kinds : goal.normalize_each-requires-clause-kinds
+normalize_each-requires-clause-kinds c = λ n h.
+    let f = c.args.world.now.tree.forest in
+    let below = drop 1 (inclusive_descendants f c.args.node) in
+    let e = c.deref.ensures.value ∙ c.in_ok-texts.ensures ∙ texts-filtered f below in
+    (filter-passed (is_of_kind Text f) below n (subst (λ ns. 0 < hits n ns) e h)).0
+
+pub returns-clause-normalized : goal.returns-clause-normalized
+returns-clause-normalized c =
+    let f = c.args.world.now.tree.forest in
+    let below = drop 1 (inclusive_descendants f c.args.node) in
+    on_ok_weaker c.normalize_each.result (follows-all c.args.world.now c.normalize_each.new.world c.args.node c.deref.result.now (c.deref.ensures.value ∙ c.in_ok-texts.ensures ∙ texts-filtered f below)) c.normalize_each.ensures.normalized
