@@ -1,11 +1,12 @@
 //! The commands on data and text (DOM Standard, "Interface CharacterData", "Interface Text").
 
 ghost use Rattle.std.specs.Prelude.{◌≡◌, ◌≤◌, true, option_map, IfOk};
+ghost use Rattle.dom_model.specs.declared.Kind.TheVariants.{Text};
 ghost use Rattle.dom_model.specs.Forests.Forest.{HasNode, entry_in};
-ghost use Rattle.dom_model.specs.Forests.Kinds.{is_character_data};
+ghost use Rattle.dom_model.specs.Forests.Kinds.{is_kind, is_character_data};
 ghost use Rattle.dom_model.specs.MutationAlgorithms.Checks.{kind_passes};
 ghost use Rattle.dom_model.specs.DataAndCopies.Data.{content_in};
-ghost use Rattle.dom_model.specs.Commands.Command.{GetData, SetData, InsertData, DeleteData, ReplaceData, SubstringData, TextContent, Normalize};
+ghost use Rattle.dom_model.specs.Commands.Command.{GetData, SetData, AppendData, InsertData, DeleteData, ReplaceData, SubstringData, SplitText, TextContent, SetTextContent, Normalize};
 ghost use Rattle.dom_model.specs.Commands.Guards.{Bounds};
 ghost use Rattle.dom_model.specs.Commands.Reply.{is_refusal};
 ghost use Rattle.dom_edit.specs.Whole.{IsShown};
@@ -116,6 +117,54 @@ pub fn replace_data(
     }
 }
 
+/// Puts a text behind the data of a node.
+pub fn append_data(
+    world: &mut World,
+    alloc: Global,
+    node: NodeId,
+    text: &[u16],
+) -> Result<Reply, AllocError>
+    requires shown { IsShown world.old }
+    ensures step { IfOk result (λ reply. (b : Bounds) → IsStep world.old world.new b (AppendData node text.now) reply) }
+    ensures refused { IfOk result (λ reply. is_refusal (reply_view reply) ≡ true → world.new ≡ world.old) }
+{
+    if !world.tree.holds(node) {
+        return Ok(Reply::Own(OwnError::NoSuchObject));
+    }
+    let end = world.tree.length(node);
+    replace_data(world, alloc, node, end, 0, text)
+}
+
+/// Puts a text into the data of a node, at an offset.
+pub fn insert_data(
+    world: &mut World,
+    alloc: Global,
+    node: NodeId,
+    offset: usize,
+    text: &[u16],
+) -> Result<Reply, AllocError>
+    requires shown { IsShown world.old }
+    ensures step { IfOk result (λ reply. (b : Bounds) → IsStep world.old world.new b (InsertData node offset text.now) reply) }
+    ensures refused { IfOk result (λ reply. is_refusal (reply_view reply) ≡ true → world.new ≡ world.old) }
+{
+    replace_data(world, alloc, node, offset, 0, text)
+}
+
+/// Takes so many units out of the data of a node, from an offset on.
+pub fn delete_data(
+    world: &mut World,
+    alloc: Global,
+    node: NodeId,
+    offset: usize,
+    count: usize,
+) -> Result<Reply, AllocError>
+    requires shown { IsShown world.old }
+    ensures step { IfOk result (λ reply. (b : Bounds) → IsStep world.old world.new b (DeleteData node offset count) reply) }
+    ensures refused { IfOk result (λ reply. is_refusal (reply_view reply) ≡ true → world.new ≡ world.old) }
+{
+    replace_data(world, alloc, node, offset, count, &[])
+}
+
 /// So many units of the data of a node, from an offset on.
 pub fn substring_data(
     world: &World,
@@ -147,6 +196,68 @@ pub fn text_content(world: &World, alloc: Global, node: NodeId) -> Result<Reply,
     }
     let text = dom_data::text_content(world, alloc, node)?;
     Ok(Reply::Done(Answer::MaybeUnits(text)))
+}
+
+/// Makes a text the data of a node, or the one Text below it.
+pub fn set_text_content(
+    world: &mut World,
+    numbers: u64,
+    alloc: Global,
+    node: NodeId,
+    text: Units,
+) -> Result<Reply, AllocError>
+    requires numbers { numbers ≤ 4294967295 }
+    requires shown { IsShown world.old }
+    ensures step { IfOk result (IsStep world.old world.new (numbered numbers) (SetTextContent node text)) }
+    ensures refused { IfOk result (λ reply. is_refusal (reply_view reply) ≡ true → world.new ≡ world.old) }
+{
+    if !world.tree.holds(node) {
+        return Ok(Reply::Own(OwnError::NoSuchObject));
+    }
+    if numbers <= world.tree.made() {
+        return Ok(Reply::Own(OwnError::Limit));
+    }
+    dom_data::set_text_content(world, alloc, node, text)?;
+    Ok(Reply::Done(Answer::Nothing))
+}
+
+// Why a node cannot be split.
+fn split_refusal(world: &World, text: NodeId) -> Option<Reply>
+    ensures { option_map reply_view result ≡ kind_refusal (is_kind Text) world.now text }
+{
+    if !world.tree.holds(text) {
+        return Some(Reply::Own(OwnError::NoSuchObject));
+    }
+    if world.tree.label(text).kind != Kind::Text {
+        return Some(Reply::Dom(DomError::TypeError));
+    }
+    None
+}
+
+/// Splits a Text at an offset, and answers the new one.
+pub fn split_text(
+    world: &mut World,
+    numbers: u64,
+    alloc: Global,
+    text: NodeId,
+    offset: usize,
+) -> Result<Reply, AllocError>
+    requires numbers { numbers ≤ 4294967295 }
+    requires shown { IsShown world.old }
+    ensures step { IfOk result (IsStep world.old world.new (numbered numbers) (SplitText text offset)) }
+    ensures refused { IfOk result (λ reply. is_refusal (reply_view reply) ≡ true → world.new ≡ world.old) }
+{
+    if let Some(reply) = split_refusal(world, text) {
+        return Ok(reply);
+    }
+    if numbers <= world.tree.made() {
+        return Ok(Reply::Own(OwnError::Limit));
+    }
+    match dom_data::split(world, alloc, text, offset) {
+        Ok(new) => Ok(Reply::Done(Answer::Number(new.number()))),
+        Err(Refusal::Dom(error)) => Ok(Reply::Dom(error)),
+        Err(Refusal::Memory) => Err(AllocError),
+    }
 }
 
 /// Joins Texts below a node that stand side by side, and takes empty ones out.
@@ -191,6 +302,29 @@ pub fn change_texts(
             node,
             offset as usize,
             count as usize,
+        ),
+        Command::AppendData(node, text) => append_data(world, alloc, node, text.units()),
+        Command::InsertData(node, offset, text) => insert_data(
+            world,
+            alloc,
+            node,
+            offset as usize,
+            text.units(),
+        ),
+        Command::DeleteData(node, offset, count) => delete_data(
+            world,
+            alloc,
+            node,
+            offset as usize,
+            count as usize,
+        ),
+        Command::SetTextContent(node, text) => set_text_content(world, numbers, alloc, node, text),
+        Command::SplitText(text, offset) => split_text(
+            world,
+            numbers,
+            alloc,
+            text,
+            offset as usize,
         ),
         Command::TextContent(node) => text_content(world, alloc, node),
         Command::Normalize(node) => normalize(world, alloc, node),
