@@ -11,3 +11,4 @@ pub mod Applying
 pub mod Parts
 pub mod RangeFacts
 pub mod RangeAnswers
+pub mod NodeData

@@ -26,3 +26,10 @@ making_refusal v numbers document =
     ∷ (not (kind_passes (is_kind Document) v.tree.forest document), model.Dom TypeError)
     ∷ (nat_lt numbers (v.tree.made + 1), model.Own Limit)
     ∷ [])
+
+-- what stands in the way of a command on a node of some kinds: no such node, or one of another kind
+abbrev pub kind_refusal : (Kind → Bool) → World → ℕ → Option model.Reply
+kind_refusal test v n =
+    first_refusal ((lacks_node v n, model.Own NoSuchObject)
+    ∷ (not (kind_passes test v.tree.forest n), model.Dom TypeError)
+    ∷ [])

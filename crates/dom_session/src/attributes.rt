@@ -1,17 +1,199 @@
 //! The commands on attributes (DOM Standard, "Interface Element").
 
-ghost use Rattle.std.specs.Prelude.{◌≡◌, ◌≤◌, true, IfOk};
+ghost use Rattle.std.specs.Prelude.{◌≡◌, ◌<◌, ◌≤◌, true, Some, is_some, length, map, option_map, slice_get, string_bytes, IfOk};
+ghost use Rattle.dom_attrs.specs.Entries.{attribute_at};
+ghost use Rattle.dom_model.specs.declared.Kind.TheVariants.{Element};
+ghost use Rattle.dom_model.specs.Forests.Attributes.{attribute_value, attribute_names};
+ghost use Rattle.dom_model.specs.Forests.Forest.{HasNode, entry_in};
+ghost use Rattle.dom_model.specs.Forests.Kinds.{is_kind};
+ghost use Rattle.dom_model.specs.DataAndCopies.Data.{content_in};
+ghost use Rattle.dom_model.specs.Commands.Command.{SetAttribute, GetAttribute, HasAttribute, RemoveAttribute, ToggleAttribute, AttributeNames};
+ghost use Rattle.dom_model.specs.Commands.Guards.{Bounds};
 ghost use Rattle.dom_model.specs.Commands.Reply.{is_refusal};
 ghost use Rattle.dom_edit.specs.Whole.{IsShown};
 ghost use Rattle.dom_session.specs.Views.{command_view, reply_view};
 ghost use Rattle.dom_session.specs.Stands.{IsStep};
 ghost use Rattle.dom_session.specs.Limiting.{numbered};
+ghost use Rattle.dom_session.specs.Refusing.{kind_refusal};
 
 use crate::command::Command;
 use crate::copies::copy_nodes;
-use crate::reply::Reply;
-use dom_edit::World;
+use crate::reply::{Answer, Reply};
+use dom_attrs::Attrs;
+use dom_edit::{Content, World};
+use dom_kinds::{DomError, Kind, is_attribute_name};
+use dom_model::OwnError;
+use dom_tree::{NodeId, Tree};
+use dom_units::Units;
 use std::alloc::{AllocError, Global};
+
+// Why a node has no attributes.
+fn refusal(world: &World, element: NodeId) -> Option<Reply>
+    ensures { option_map reply_view result ≡ kind_refusal (is_kind Element) world.now element }
+{
+    if !world.tree.holds(element) {
+        return Some(Reply::Own(OwnError::NoSuchObject));
+    }
+    if world.tree.label(element).kind != Kind::Element {
+        return Some(Reply::Dom(DomError::TypeError));
+    }
+    None
+}
+
+/// Sets an attribute of an element.
+pub fn set_attribute(
+    world: &mut World,
+    alloc: Global,
+    element: NodeId,
+    name: String,
+    value: Units,
+) -> Result<Reply, AllocError>
+    requires shown { IsShown world.old }
+    ensures step { IfOk result (λ reply. (b : Bounds) → IsStep world.old world.new b (SetAttribute element (string_bytes name) value) reply) }
+    ensures refused { IfOk result (λ reply. is_refusal (reply_view reply) ≡ true → world.new ≡ world.old) }
+{
+    if let Some(reply) = refusal(world, element) {
+        return Ok(reply);
+    }
+    if !is_attribute_name(name.as_str()) {
+        return Ok(Reply::Dom(DomError::InvalidCharacterError));
+    }
+    dom_data::set_attribute(world, alloc, element, name, value)?;
+    Ok(Reply::Done(Answer::Nothing))
+}
+
+// The attributes of a node.
+fn attributes_in(tree: &Tree<Content>, node: NodeId) -> &Attrs
+    requires { HasNode tree.now.forest node }
+    ensures { result.now ≡ (content_in (entry_in tree.now.forest node)).attributes }
+{
+    &tree.body(node).attrs
+}
+
+// A copy of the value of an attribute, where there is one.
+fn value_in(
+    tree: &Tree<Content>,
+    alloc: Global,
+    element: NodeId,
+    name: &str,
+) -> Result<Option<Units>, AllocError>
+    requires { HasNode tree.now.forest element }
+    ensures { IfOk result (λ value. value ≡ attribute_value name.now (content_in (entry_in tree.now.forest element)).attributes) }
+{
+    match attributes_in(tree, element).get(name) {
+        None => Ok(None),
+        Some(value) => Ok(Some(value.try_clone(alloc)?)),
+    }
+}
+
+/// The value of an attribute of an element, where there is one.
+pub fn get_attribute(
+    world: &World,
+    alloc: Global,
+    element: NodeId,
+    name: &str,
+) -> Result<Reply, AllocError>
+    requires shown { IsShown world.now }
+    ensures { IfOk result (λ reply. (b : Bounds) → IsStep world.now world.now b (GetAttribute element name.now) reply) }
+{
+    if let Some(reply) = refusal(world, element) {
+        return Ok(reply);
+    }
+    let value = value_in(&world.tree, alloc, element, name)?;
+    Ok(Reply::Done(Answer::MaybeUnits(value)))
+}
+
+// Whether there is an attribute of that name.
+fn has_in(tree: &Tree<Content>, element: NodeId, name: &str) -> bool
+    requires { HasNode tree.now.forest element }
+    ensures { result ≡ is_some (attribute_value name.now (content_in (entry_in tree.now.forest element)).attributes) }
+{
+    attributes_in(tree, element).get(name).is_some()
+}
+
+/// Whether an element has an attribute of that name.
+pub fn has_attribute(world: &World, element: NodeId, name: &str) -> Reply
+    requires shown { IsShown world.now }
+    ensures { (b : Bounds) → IsStep world.now world.now b (HasAttribute element name.now) result }
+{
+    if let Some(reply) = refusal(world, element) {
+        return reply;
+    }
+    Reply::Done(Answer::Flag(has_in(&world.tree, element, name)))
+}
+
+/// Removes an attribute of an element, where it is there.
+pub fn remove_attribute(
+    world: &mut World,
+    alloc: Global,
+    element: NodeId,
+    name: &str,
+) -> Result<Reply, AllocError>
+    requires shown { IsShown world.old }
+    ensures step { IfOk result (λ reply. (b : Bounds) → IsStep world.old world.new b (RemoveAttribute element name.now) reply) }
+    ensures refused { IfOk result (λ reply. is_refusal (reply_view reply) ≡ true → world.new ≡ world.old) }
+{
+    if let Some(reply) = refusal(world, element) {
+        return Ok(reply);
+    }
+    dom_data::remove_attribute(world, alloc, element, name)?;
+    Ok(Reply::Done(Answer::Nothing))
+}
+
+/// Adds or removes an attribute of an element, and answers whether it is there afterwards.
+pub fn toggle_attribute(
+    world: &mut World,
+    alloc: Global,
+    element: NodeId,
+    name: String,
+    force: Option<bool>,
+) -> Result<Reply, AllocError>
+    requires shown { IsShown world.old }
+    ensures step { IfOk result (λ reply. (b : Bounds) → IsStep world.old world.new b (ToggleAttribute element (string_bytes name) force) reply) }
+    ensures refused { IfOk result (λ reply. is_refusal (reply_view reply) ≡ true → world.new ≡ world.old) }
+{
+    if let Some(reply) = refusal(world, element) {
+        return Ok(reply);
+    }
+    if !is_attribute_name(name.as_str()) {
+        return Ok(Reply::Dom(DomError::InvalidCharacterError));
+    }
+    let present = dom_data::toggle_attribute(world, alloc, element, name, force)?;
+    Ok(Reply::Done(Answer::Flag(present)))
+}
+
+// The attribute at an index that is below the length.
+fn pair_at(attrs: &Attrs, index: usize) -> (&str, &Units)
+    requires { index < length attrs.now }
+    ensures { slice_get attrs.now index ≡ Some (attribute_at result) }
+{
+    attrs.at(index).unwrap()
+}
+
+// Copies of the names of attributes, in order.
+fn names_in(attrs: &Attrs, alloc: Global) -> Result<Vec<String>, AllocError>
+    ensures { IfOk result (λ names. map string_bytes names.items ≡ attribute_names attrs.now) }
+{
+    let count = attrs.len();
+    let mut names: Vec<String> = Vec::with_capacity(alloc, count)?;
+    for index in 0..count {
+        let (name, _) = pair_at(attrs, index);
+        names.push(String::from_str(alloc, name)?)?;
+    }
+    Ok(names)
+}
+
+/// The names of the attributes of an element, in order.
+pub fn attribute_names(world: &World, alloc: Global, element: NodeId) -> Result<Reply, AllocError>
+    requires shown { IsShown world.now }
+    ensures { IfOk result (λ reply. (b : Bounds) → IsStep world.now world.now b (AttributeNames element) reply) }
+{
+    if let Some(reply) = refusal(world, element) {
+        return Ok(reply);
+    }
+    let names = names_in(attributes_in(&world.tree, element), alloc)?;
+    Ok(Reply::Done(Answer::Names(names)))
+}
 
 /// Answers the commands on attributes.
 pub fn change_attributes(
@@ -25,5 +207,22 @@ pub fn change_attributes(
     ensures step { IfOk result (IsStep world.old world.new (numbered numbers) (command_view command)) }
     ensures refused { IfOk result (λ reply. is_refusal (reply_view reply) ≡ true → world.new ≡ world.old) }
 {
-    copy_nodes(world, numbers, alloc, command)
+    match command {
+        Command::SetAttribute(element, name, value) => set_attribute(
+            world, alloc, element, name, value,
+        ),
+        Command::GetAttribute(element, name) => get_attribute(world, alloc, element, name.as_str()),
+        Command::HasAttribute(element, name) => Ok(has_attribute(world, element, name.as_str())),
+        Command::RemoveAttribute(element, name) => remove_attribute(
+            world,
+            alloc,
+            element,
+            name.as_str(),
+        ),
+        Command::ToggleAttribute(element, name, force) => toggle_attribute(
+            world, alloc, element, name, force,
+        ),
+        Command::AttributeNames(element) => attribute_names(world, alloc, element),
+        other => copy_nodes(world, numbers, alloc, other),
+    }
 }

@@ -4,9 +4,9 @@
 mod answering;
 mod attributes;
 mod command;
+mod comparing;
 mod contents;
 mod copies;
-mod comparing;
 mod editing;
 pub mod laws;
 mod making;

@@ -1,17 +1,277 @@
 //! The commands on data and text (DOM Standard, "Interface CharacterData", "Interface Text").
 
-ghost use Rattle.std.specs.Prelude.{◌≡◌, ◌≤◌, true, IfOk};
+ghost use Rattle.std.specs.Prelude.{◌≡◌, ◌≤◌, true, option_map, IfOk};
+ghost use Rattle.dom_model.specs.declared.Kind.TheVariants.{Text};
+ghost use Rattle.dom_model.specs.Forests.Forest.{HasNode, entry_in};
+ghost use Rattle.dom_model.specs.Forests.Kinds.{is_kind, is_character_data};
+ghost use Rattle.dom_model.specs.MutationAlgorithms.Checks.{kind_passes};
+ghost use Rattle.dom_model.specs.DataAndCopies.Data.{content_in};
+ghost use Rattle.dom_model.specs.Commands.Command.{GetData, SetData, AppendData, InsertData, DeleteData, ReplaceData, SubstringData, SplitText, TextContent, SetTextContent, Normalize};
+ghost use Rattle.dom_model.specs.Commands.Guards.{Bounds};
 ghost use Rattle.dom_model.specs.Commands.Reply.{is_refusal};
 ghost use Rattle.dom_edit.specs.Whole.{IsShown};
 ghost use Rattle.dom_session.specs.Views.{command_view, reply_view};
 ghost use Rattle.dom_session.specs.Stands.{IsStep};
 ghost use Rattle.dom_session.specs.Limiting.{numbered};
+ghost use Rattle.dom_session.specs.Refusing.{kind_refusal};
 
 use crate::attributes::change_attributes;
 use crate::command::Command;
-use crate::reply::Reply;
-use dom_edit::World;
+use crate::reply::{Answer, Reply};
+use dom_edit::{Content, Refusal, World};
+use dom_kinds::{DomError, Kind};
+use dom_model::OwnError;
+use dom_tree::{NodeId, Tree};
+use dom_units::Units;
 use std::alloc::{AllocError, Global};
+
+// Whether a kind has character data.
+fn is_character_data(kind: Kind) -> bool
+    ensures { result ≡ is_character_data kind }
+{
+    matches!(
+        kind,
+        Kind::Text | Kind::ProcessingInstruction | Kind::Comment
+    )
+}
+
+// Whether a node has character data.
+fn has_data(tree: &Tree<Content>, node: NodeId) -> bool
+    requires { HasNode tree.now.forest node }
+    ensures { result ≡ kind_passes is_character_data tree.now.forest node }
+{
+    is_character_data(tree.label(node).kind)
+}
+
+// Why a node has no data.
+fn refusal(world: &World, node: NodeId) -> Option<Reply>
+    ensures { option_map reply_view result ≡ kind_refusal is_character_data world.now node }
+{
+    if !world.tree.holds(node) {
+        return Some(Reply::Own(OwnError::NoSuchObject));
+    }
+    if !has_data(&world.tree, node) {
+        return Some(Reply::Dom(DomError::TypeError));
+    }
+    None
+}
+
+// The data of a node.
+fn data_in(tree: &Tree<Content>, node: NodeId) -> &Units
+    requires { HasNode tree.now.forest node }
+    ensures { result.now ≡ (content_in (entry_in tree.now.forest node)).text }
+{
+    &tree.body(node).text
+}
+
+/// The data of a node.
+pub fn data(world: &World, alloc: Global, node: NodeId) -> Result<Reply, AllocError>
+    requires shown { IsShown world.now }
+    ensures { IfOk result (λ reply. (b : Bounds) → IsStep world.now world.now b (GetData node) reply) }
+{
+    if let Some(reply) = refusal(world, node) {
+        return Ok(reply);
+    }
+    let text = data_in(&world.tree, node).try_clone(alloc)?;
+    Ok(Reply::Done(Answer::Units(text)))
+}
+
+/// Puts a text in place of all data of a node.
+pub fn set_data(
+    world: &mut World,
+    alloc: Global,
+    node: NodeId,
+    text: &[u16],
+) -> Result<Reply, AllocError>
+    requires shown { IsShown world.old }
+    ensures step { IfOk result (λ reply. (b : Bounds) → IsStep world.old world.new b (SetData node text.now) reply) }
+    ensures refused { IfOk result (λ reply. is_refusal (reply_view reply) ≡ true → world.new ≡ world.old) }
+{
+    if let Some(reply) = refusal(world, node) {
+        return Ok(reply);
+    }
+    dom_data::set_data(world, alloc, node, text)?;
+    Ok(Reply::Done(Answer::Nothing))
+}
+
+/// Puts a text in place of so many units from an offset on.
+pub fn replace_data(
+    world: &mut World,
+    alloc: Global,
+    node: NodeId,
+    offset: usize,
+    count: usize,
+    text: &[u16],
+) -> Result<Reply, AllocError>
+    requires shown { IsShown world.old }
+    ensures step { IfOk result (λ reply. (b : Bounds) → IsStep world.old world.new b (ReplaceData node offset count text.now) reply) }
+    ensures refused { IfOk result (λ reply. is_refusal (reply_view reply) ≡ true → world.new ≡ world.old) }
+{
+    if let Some(reply) = refusal(world, node) {
+        return Ok(reply);
+    }
+    match dom_data::replace_data(world, alloc, node, offset, count, text) {
+        Ok(()) => Ok(Reply::Done(Answer::Nothing)),
+        Err(Refusal::Dom(error)) => Ok(Reply::Dom(error)),
+        Err(Refusal::Memory) => Err(AllocError),
+    }
+}
+
+/// Puts a text behind the data of a node.
+pub fn append_data(
+    world: &mut World,
+    alloc: Global,
+    node: NodeId,
+    text: &[u16],
+) -> Result<Reply, AllocError>
+    requires shown { IsShown world.old }
+    ensures step { IfOk result (λ reply. (b : Bounds) → IsStep world.old world.new b (AppendData node text.now) reply) }
+    ensures refused { IfOk result (λ reply. is_refusal (reply_view reply) ≡ true → world.new ≡ world.old) }
+{
+    if !world.tree.holds(node) {
+        return Ok(Reply::Own(OwnError::NoSuchObject));
+    }
+    let end = world.tree.length(node);
+    replace_data(world, alloc, node, end, 0, text)
+}
+
+/// Puts a text into the data of a node, at an offset.
+pub fn insert_data(
+    world: &mut World,
+    alloc: Global,
+    node: NodeId,
+    offset: usize,
+    text: &[u16],
+) -> Result<Reply, AllocError>
+    requires shown { IsShown world.old }
+    ensures step { IfOk result (λ reply. (b : Bounds) → IsStep world.old world.new b (InsertData node offset text.now) reply) }
+    ensures refused { IfOk result (λ reply. is_refusal (reply_view reply) ≡ true → world.new ≡ world.old) }
+{
+    replace_data(world, alloc, node, offset, 0, text)
+}
+
+/// Takes so many units out of the data of a node, from an offset on.
+pub fn delete_data(
+    world: &mut World,
+    alloc: Global,
+    node: NodeId,
+    offset: usize,
+    count: usize,
+) -> Result<Reply, AllocError>
+    requires shown { IsShown world.old }
+    ensures step { IfOk result (λ reply. (b : Bounds) → IsStep world.old world.new b (DeleteData node offset count) reply) }
+    ensures refused { IfOk result (λ reply. is_refusal (reply_view reply) ≡ true → world.new ≡ world.old) }
+{
+    replace_data(world, alloc, node, offset, count, &[])
+}
+
+/// So many units of the data of a node, from an offset on.
+pub fn substring_data(
+    world: &World,
+    alloc: Global,
+    node: NodeId,
+    offset: usize,
+    count: usize,
+) -> Result<Reply, AllocError>
+    requires shown { IsShown world.now }
+    ensures { IfOk result (λ reply. (b : Bounds) → IsStep world.now world.now b (SubstringData node offset count) reply) }
+{
+    if let Some(reply) = refusal(world, node) {
+        return Ok(reply);
+    }
+    match dom_data::substring(world, alloc, node, offset, count) {
+        Ok(units) => Ok(Reply::Done(Answer::Units(units))),
+        Err(Refusal::Dom(error)) => Ok(Reply::Dom(error)),
+        Err(Refusal::Memory) => Err(AllocError),
+    }
+}
+
+/// The text in a node; none in a Document and a doctype.
+pub fn text_content(world: &World, alloc: Global, node: NodeId) -> Result<Reply, AllocError>
+    requires shown { IsShown world.now }
+    ensures { IfOk result (λ reply. (b : Bounds) → IsStep world.now world.now b (TextContent node) reply) }
+{
+    if !world.tree.holds(node) {
+        return Ok(Reply::Own(OwnError::NoSuchObject));
+    }
+    let text = dom_data::text_content(world, alloc, node)?;
+    Ok(Reply::Done(Answer::MaybeUnits(text)))
+}
+
+/// Makes a text the data of a node, or the one Text below it.
+pub fn set_text_content(
+    world: &mut World,
+    numbers: u64,
+    alloc: Global,
+    node: NodeId,
+    text: Units,
+) -> Result<Reply, AllocError>
+    requires numbers { numbers ≤ 4294967295 }
+    requires shown { IsShown world.old }
+    ensures step { IfOk result (IsStep world.old world.new (numbered numbers) (SetTextContent node text)) }
+    ensures refused { IfOk result (λ reply. is_refusal (reply_view reply) ≡ true → world.new ≡ world.old) }
+{
+    if !world.tree.holds(node) {
+        return Ok(Reply::Own(OwnError::NoSuchObject));
+    }
+    if numbers <= world.tree.made() {
+        return Ok(Reply::Own(OwnError::Limit));
+    }
+    dom_data::set_text_content(world, alloc, node, text)?;
+    Ok(Reply::Done(Answer::Nothing))
+}
+
+// Why a node cannot be split.
+fn split_refusal(world: &World, text: NodeId) -> Option<Reply>
+    ensures { option_map reply_view result ≡ kind_refusal (is_kind Text) world.now text }
+{
+    if !world.tree.holds(text) {
+        return Some(Reply::Own(OwnError::NoSuchObject));
+    }
+    if world.tree.label(text).kind != Kind::Text {
+        return Some(Reply::Dom(DomError::TypeError));
+    }
+    None
+}
+
+/// Splits a Text at an offset, and answers the new one.
+pub fn split_text(
+    world: &mut World,
+    numbers: u64,
+    alloc: Global,
+    text: NodeId,
+    offset: usize,
+) -> Result<Reply, AllocError>
+    requires numbers { numbers ≤ 4294967295 }
+    requires shown { IsShown world.old }
+    ensures step { IfOk result (IsStep world.old world.new (numbered numbers) (SplitText text offset)) }
+    ensures refused { IfOk result (λ reply. is_refusal (reply_view reply) ≡ true → world.new ≡ world.old) }
+{
+    if let Some(reply) = split_refusal(world, text) {
+        return Ok(reply);
+    }
+    if numbers <= world.tree.made() {
+        return Ok(Reply::Own(OwnError::Limit));
+    }
+    match dom_data::split(world, alloc, text, offset) {
+        Ok(new) => Ok(Reply::Done(Answer::Number(new.number()))),
+        Err(Refusal::Dom(error)) => Ok(Reply::Dom(error)),
+        Err(Refusal::Memory) => Err(AllocError),
+    }
+}
+
+/// Joins Texts below a node that stand side by side, and takes empty ones out.
+pub fn normalize(world: &mut World, alloc: Global, node: NodeId) -> Result<Reply, AllocError>
+    requires shown { IsShown world.old }
+    ensures step { IfOk result (λ reply. (b : Bounds) → IsStep world.old world.new b (Normalize node) reply) }
+    ensures refused { IfOk result (λ reply. is_refusal (reply_view reply) ≡ true → world.new ≡ world.old) }
+{
+    if !world.tree.holds(node) {
+        return Ok(Reply::Own(OwnError::NoSuchObject));
+    }
+    dom_data::normalize(world, alloc, node)?;
+    Ok(Reply::Done(Answer::Nothing))
+}
 
 /// Answers the commands on data and text.
 pub fn change_texts(
@@ -25,5 +285,49 @@ pub fn change_texts(
     ensures step { IfOk result (IsStep world.old world.new (numbered numbers) (command_view command)) }
     ensures refused { IfOk result (λ reply. is_refusal (reply_view reply) ≡ true → world.new ≡ world.old) }
 {
-    change_attributes(world, numbers, alloc, command)
+    match command {
+        Command::GetData(node) => data(world, alloc, node),
+        Command::SetData(node, text) => set_data(world, alloc, node, text.units()),
+        Command::ReplaceData(node, offset, count, text) => replace_data(
+            world,
+            alloc,
+            node,
+            offset as usize,
+            count as usize,
+            text.units(),
+        ),
+        Command::SubstringData(node, offset, count) => substring_data(
+            world,
+            alloc,
+            node,
+            offset as usize,
+            count as usize,
+        ),
+        Command::AppendData(node, text) => append_data(world, alloc, node, text.units()),
+        Command::InsertData(node, offset, text) => insert_data(
+            world,
+            alloc,
+            node,
+            offset as usize,
+            text.units(),
+        ),
+        Command::DeleteData(node, offset, count) => delete_data(
+            world,
+            alloc,
+            node,
+            offset as usize,
+            count as usize,
+        ),
+        Command::SetTextContent(node, text) => set_text_content(world, numbers, alloc, node, text),
+        Command::SplitText(text, offset) => split_text(
+            world,
+            numbers,
+            alloc,
+            text,
+            offset as usize,
+        ),
+        Command::TextContent(node) => text_content(world, alloc, node),
+        Command::Normalize(node) => normalize(world, alloc, node),
+        other => change_attributes(world, numbers, alloc, other),
+    }
 }
