@@ -10,11 +10,7 @@ use dom_ranges::RangeId;
 use std::alloc::{AllocError, Global};
 
 /// Deletes what lies in a live range; both its ends then stand where that was.
-pub fn delete_contents(
-    world: &mut World,
-    alloc: Global,
-    range: RangeId,
-) -> Result<(), AllocError>
+pub fn delete_contents(world: &mut World, alloc: Global, range: RangeId) -> Result<(), AllocError>
     requires whole { IsWhole world.old }
     requires held { IsSome (range_in world.old.ranges range) }
     ensures deleted { OnOk result (Follows world.old world.new (delete_contents range)) }
