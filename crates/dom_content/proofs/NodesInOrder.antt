@@ -1,16 +1,16 @@
 -- The points at the front of nodes stand in tree order. DOM Standard, "Trees", "Boundary points".
-use Rattle.std.proofs.Common.{◌≡◌, ℕ, zero, suc, ◌+◌, ◌*◌, ◌<◌, ◌≤◌, nat_lt, Bool, true, false, List, [], ◌∷◌, ◌++◌, length, Option, Some, None, refl, ap, sym, ◌∙◌, subst, arith}
+use Rattle.std.proofs.Common.{◌≡◌, ℕ, zero, suc, ◌+◌, ◌<◌, ◌≤◌, nat_lt, true, false, [], ◌∷◌, ◌++◌, length, Some, None, refl, ap, sym, ◌∙◌, subst, arith}
 use Rattle.std.specs.declared.cmp.Ordering.TheVariants.{Less}
 use Rattle.std.proofs.lemmas.Bool.{false≢true, lt-ltb, le-ltb}
 use Rattle.dom_model.specs.PlainLists.Lists.{hits, head_of, after}
-use Rattle.dom_model.specs.Forests.Forest.{Grove, IsForest, HasNode, one_at, occurs, parent_of, children_of, next_of, index_of, ancestors, tree_at, inclusive_descendants}
-use Rattle.dom_model.specs.BoundaryPoints.Points.{order_of, path_places}
+use Rattle.dom_model.specs.Forests.Forest.{Grove, IsForest, one_at, occurs, parent_of, children_of, next_of, index_of, ancestors, tree_at, inclusive_descendants}
+use Rattle.dom_model.specs.BoundaryPoints.Points.{order_of}
 use Rattle.dom_model.proofs.PlainLists.Numbers.{same_or, same, apart}
 use Rattle.dom_model.proofs.Forests.Changes.{seen, nothing, just}
 use Rattle.dom_model.proofs.Forests.Totals.{total-tree_at}
 use Rattle.dom_model.proofs.Forests.PutBack.{hits-head_of}
 use Rattle.dom_model.proofs.Forests.Climbing.{hits-append, hits-self, ancestors-there}
-use Rattle.dom_model.proofs.Forests.Paths.{parent-path, root-path}
+use Rattle.dom_model.proofs.Forests.Paths.{parent-path}
 use Rattle.dom_model.proofs.Forests.Indices.{child-parent, child-once, index-child, path-child, parent-there}
 use Rattle.dom_model.proofs.Forests.Siblings.{next-listed}
 use Rattle.dom_model.proofs.Forests.ToTheRoot.{next-root}

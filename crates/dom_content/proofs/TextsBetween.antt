@@ -7,7 +7,7 @@ use Rattle.std.proofs.lemmas.Bool.{false≢true, cases_lt}
 use Rattle.std.proofs.lemmas.Grind.{flat_map-append}
 use Rattle.dom_model.specs.declared.Kind.TheVariants.{Text}
 use Rattle.dom_model.specs.PlainLists.Lists.{hits, after}
-use Rattle.dom_model.specs.Forests.Forest.{Grove, IsForest, HasNode, occurs, one_at, numbers, root_of, tree_at, without, inclusive_descendants}
+use Rattle.dom_model.specs.Forests.Forest.{Grove, IsForest, HasNode, occurs, one_at, numbers, root_of, tree_at, inclusive_descendants}
 use Rattle.dom_model.specs.Forests.Lengths.{node_length, unit_count}
 use Rattle.dom_model.specs.Worlds.World.{Content, Point, Range}
 use Rattle.dom_model.specs.Worlds.Sound.{IsRange}
@@ -242,7 +242,6 @@ module _ (g : Grove Content) (s : IsForest g) (range : Range) (is : IsRange g.fo
   pub all-told : told (numbers g.forest) ≡ told all
   all-told =
       let p = numbers-without root g.forest root-once in
-      let tw = text_within g.forest range in
       let aside : (x : ℕ) → 0 < hits x p.ahead + hits x p.behind → IsInside x → ⊥ = λ x h c.
       let w = ap (hits x) p.holds ∙ hits-append x p.ahead (all ++ p.behind) in
       let v = hits-append x all p.behind in
@@ -264,7 +263,6 @@ module _ (g : Grove Content) (s : IsForest g) (range : Range) (is : IsRange g.fo
   pub start-told : told all ≡ told (drop 1 (from_first range.start.node all))
   start-told =
       let p = split range.start.node all (listed range.start.node rooted) in
-      let tw = text_within g.forest range in
       let before : (x : ℕ) → 0 < hits x p.pre → IsInside x → ⊥ = λ x h c.
       let e = ap (from_first x) p.whole ∙ from-front x p.pre (range.start.node ∷ p.rest) h in
       let w = ap (hits range.start.node) e ∙ hits-append range.start.node (from_first x p.pre) (range.start.node ∷ p.rest) in

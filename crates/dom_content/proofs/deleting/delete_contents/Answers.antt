@@ -1,5 +1,5 @@
 -- Nothing of a collapsed range, and units of one node.
-use Rattle.std.proofs.Common.{◌≡◌, sym}
+use Rattle.std.proofs.Common.{sym}
 use Rattle.dom_content.proofs.RangeTexts.{range-held, ahead-of}
 use Rattle.dom_content.proofs.deleting.delete_contents.Goals as goal
 

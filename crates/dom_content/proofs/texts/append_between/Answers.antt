@@ -1,7 +1,6 @@
 -- Each step tells one node, up to the first that does not come before the end.
-use Rattle.std.proofs.Common.{◌≡◌, Bool, true, false, not, sym, ap, ◌∙◌, refl}
+use Rattle.std.proofs.Common.{sym, ap, ◌∙◌}
 use Rattle.dom_ranges.proofs.Inside.{smaller}
-use Rattle.dom_model.specs.Worlds.World.{Range}
 use Rattle.dom_content.proofs.TextsBetween.{rooted-by, told-start, told-next, told-stop, told-end, walk-at, next-of}
 use Rattle.dom_content.proofs.texts.append_between.Goals as goal
 

@@ -1,5 +1,5 @@
 -- The pieces are in order, and make the text.
-use Rattle.std.proofs.Common.{◌≡◌, ◌-◌, ◌++◌, length, sym, ap, ◌∙◌, refl, subst}
+use Rattle.std.proofs.Common.{◌≡◌, ◌-◌, ◌++◌, length, sym, ap, ◌∙◌, subst}
 use Rattle.std.specs.Prelude.{IfSome}
 use Rattle.dom_model.specs.RangesAndContents.Contents.{range_text}
 use Rattle.dom_model.specs.Forests.Forest.{entry_in}
