@@ -1,14 +1,137 @@
 //! The text in a live range (DOM Standard, "Interface Range", stringification).
 
-ghost use Rattle.std.specs.Prelude.{◌≡◌, IfOk, IfSome, IsSome};
+ghost use Rattle.std.specs.Prelude.{◌≡◌, ◌-◌, ◌≤◌, ◌++◌, length, true, IfOk, OnOk, IfSome, IsSome};
+ghost use Rattle.dom_model.specs.declared.Kind.TheVariants.{Text};
+ghost use Rattle.dom_model.specs.Forests.Forest.{HasNode, entry_in, root_of};
+ghost use Rattle.dom_model.specs.Worlds.World.{Range};
+ghost use Rattle.dom_model.specs.Worlds.Sound.{IsRange};
+ghost use Rattle.dom_model.specs.MutationAlgorithms.Checks.{is_of_kind};
 ghost use Rattle.dom_model.specs.RangesAndContents.Contents.{range_text};
+ghost use Rattle.dom_model.specs.RangesAndContents.Ranges.{is_before as comes_before};
+ghost use Rattle.dom_model.specs.DataAndCopies.Data.{content_in};
 ghost use Rattle.dom_ranges.specs.Tables.{range_in};
 ghost use Rattle.dom_edit.specs.Whole.{IsWhole, unwatched};
+ghost use Rattle.dom_content.specs.Texts.{part_of, text_within, texts_within};
 
-use dom_edit::World;
+use dom_edit::{Content, World};
+use dom_kinds::Kind;
+use dom_point::{Point, order};
 use dom_ranges::RangeId;
+use dom_tree::{NodeId, Tree};
 use dom_units::Units;
 use std::alloc::{AllocError, Global};
+use std::cmp::Ordering;
+
+// Whether a node is a Text.
+fn is_text(tree: &Tree<Content>, node: NodeId) -> bool
+    requires held { HasNode tree.now.forest node }
+    ensures { result ≡ is_of_kind Text tree.now.forest node }
+{
+    tree.label(node).kind == Kind::Text
+}
+
+// Whether the first of two points of one root comes before the second.
+fn is_before(tree: &Tree<Content>, a: Point, b: Point) -> bool
+    requires a_held { HasNode tree.now.forest a.node }
+    requires b_held { HasNode tree.now.forest b.node }
+    requires one_root { root_of tree.now.forest a.node ≡ root_of tree.now.forest b.node }
+    ensures { result ≡ comes_before tree.now.forest a b }
+{
+    match order(tree, a, b) {
+        Ordering::Less => true,
+        Ordering::Equal | Ordering::Greater => false,
+    }
+}
+
+// Puts a part of the data of a node behind a text, where the node is a Text.
+fn append_part(
+    tree: &Tree<Content>,
+    node: NodeId,
+    from: usize,
+    to: usize,
+    text: &mut Units,
+) -> Result<(), AllocError>
+    requires held { HasNode tree.now.forest node }
+    requires ahead { is_of_kind Text tree.now.forest node ≡ true → from ≤ to }
+    requires within { is_of_kind Text tree.now.forest node ≡ true → to ≤ length (content_in (entry_in tree.now.forest node)).text }
+    ensures { OnOk result (text.new ≡ text.old ++ part_of tree.now.forest node from (to - from)) }
+{
+    if !is_text(tree, node) {
+        return Ok(());
+    }
+    let end = text.len();
+    text.splice(end, 0, tree.body(node).text.slice(from, to - from))
+}
+
+// Puts the data of a node from a point on behind a text, where the node is a Text.
+fn append_tail(tree: &Tree<Content>, from: Point, text: &mut Units) -> Result<(), AllocError>
+    requires held { HasNode tree.now.forest from.node }
+    requires within { is_of_kind Text tree.now.forest from.node ≡ true → from.offset ≤ length (content_in (entry_in tree.now.forest from.node)).text }
+    ensures { OnOk result (text.new ≡ text.old ++ part_of tree.now.forest from.node from.offset (length (content_in (entry_in tree.now.forest from.node)).text - from.offset)) }
+{
+    let Point { node, offset } = from;
+    let length = tree.body(node).text.len();
+    append_part(tree, node, offset, length, text)
+}
+
+// Puts the data of a node behind a text, where the node is a Text that is contained in a range of its root.
+fn append_contained(
+    tree: &Tree<Content>,
+    start: Point,
+    end: Point,
+    node: NodeId,
+    text: &mut Units,
+) -> Result<(), AllocError>
+    requires held { HasNode tree.now.forest node }
+    requires start_held { HasNode tree.now.forest start.node }
+    requires end_held { HasNode tree.now.forest end.node }
+    requires start_root { root_of tree.now.forest node ≡ root_of tree.now.forest start.node }
+    requires end_root { root_of tree.now.forest node ≡ root_of tree.now.forest end.node }
+    ensures { OnOk result (text.new ≡ text.old ++ text_within tree.now.forest (record { start = start; end = end }) node) }
+{
+    if !is_text(tree, node) {
+        return Ok(());
+    }
+    let data = &tree.body(node).text;
+    let front = Point { node, offset: 0 };
+    let back = Point {
+        node,
+        offset: data.len(),
+    };
+    if !is_before(tree, start, front) || !is_before(tree, back, end) {
+        return Ok(());
+    }
+    let length = text.len();
+    text.splice(length, 0, data.units())
+}
+
+// Puts the data of the Texts that are contained in a range behind a text. It walks from the start node on, up to the first node that does
+// not come before the end.
+fn append_between(
+    tree: &Tree<Content>,
+    start: Point,
+    end: Point,
+    text: &mut Units,
+) -> Result<(), AllocError>
+    requires range { IsRange tree.now.forest (record { start = start; end = end }) }
+    ensures { OnOk result (text.new ≡ text.old ++ texts_within tree.now.forest (record { start = start; end = end })) }
+{
+    tree.sound();
+    let root = tree.root(start.node);
+    let mut here = start.node;
+    while let Some(next) = tree.next_inside(root, here) {
+        let front = Point {
+            node: next,
+            offset: 0,
+        };
+        if !is_before(tree, front, end) {
+            return Ok(());
+        }
+        append_contained(tree, start, end, next, text)?;
+        here = next;
+    }
+    Ok(())
+}
 
 /// The data of the Texts that lie in a live range, cut at its two ends.
 pub fn range_text(world: &World, alloc: Global, range: RangeId) -> Result<Units, AllocError>
@@ -16,6 +139,15 @@ pub fn range_text(world: &World, alloc: Global, range: RangeId) -> Result<Units,
     requires held { IsSome (range_in world.now.ranges range) }
     ensures { IfOk result (λ text. IfSome (range_in world.now.ranges range) (λ r. text ≡ range_text (unwatched world.now) r)) }
 {
-    let _ = (world.tree.made(), alloc, range);
-    Err(AllocError)
+    let tree = &world.tree;
+    let (start, end) = world.ranges.ends(range);
+    let mut text = Units::new(alloc);
+    if start.node == end.node && is_text(tree, start.node) {
+        append_part(tree, start.node, start.offset, end.offset, &mut text)?;
+        return Ok(text);
+    }
+    append_tail(tree, start, &mut text)?;
+    append_between(tree, start, end, &mut text)?;
+    append_part(tree, end.node, 0, end.offset, &mut text)?;
+    Ok(text)
 }
