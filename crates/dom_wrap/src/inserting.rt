@@ -1,18 +1,208 @@
 //! A node that is inserted at the start of a live range (DOM Standard, "Interface Range", insertNode).
 
-ghost use Rattle.std.specs.Prelude.{◌≡◌, ◌<◌, None, OnOk, IsSome};
+ghost use Rattle.std.specs.Prelude.{◌≡◌, ◌<◌, ℕ, None, Some, OnOk, IfOk, IsSome, MatchResult};
+ghost use Rattle.std.specs.Option.{ForSome};
 ghost use Rattle.std.specs.Result.{IfErr};
 ghost use Rattle.dom_model.specs.Forests.Forest.{HasNode};
-ghost use Rattle.dom_model.specs.RangesAndContents.Wrapping.{insert_node, refusal_in};
+ghost use Rattle.dom_model.specs.Worlds.World.{World as PlainWorld};
+ghost use Rattle.dom_model.specs.MutationAlgorithms.Checks.{check_insert as insert_refusal, is_of_kind};
+ghost use Rattle.dom_model.specs.MutationAlgorithms.Editing.{reference_child};
+ghost use Rattle.dom_model.specs.RangesAndContents.Wrapping.{insert_node, inserted_at, placed_at, refusal_in, check_start, reference_at, parent_at, reference_after, split_at, offset_past, end_if_collapsed};
 ghost use Rattle.dom_ranges.specs.Tables.{range_in};
-ghost use Rattle.dom_edit.specs.Whole.{IsWhole, Follows, unwatched};
+ghost use Rattle.dom_edit.specs.Whole.{IsWhole, Keeps, Follows, unwatched};
 ghost use Rattle.dom_edit.specs.Refusals.{IsRefused};
-ghost use Rattle.dom_wrap.specs.Outcomes.{left_by};
+ghost use Rattle.dom_wrap.specs.Outcomes.{left_by, IsPlaceable, MayEndAt};
 
-use dom_edit::{Refusal, World};
+use dom_data::split;
+use dom_edit::{Content, Refusal, World, check_insert};
+use dom_kinds::{DomError, Kind};
+use dom_point::Point;
 use dom_ranges::RangeId;
-use dom_tree::NodeId;
-use std::alloc::Global;
+use dom_tree::{NodeId, Tree};
+use std::alloc::{AllocError, Global};
+
+// Whether a node is of that kind.
+fn is_of_kind(tree: &Tree<Content>, node: NodeId, kind: Kind) -> bool
+    requires { HasNode tree.now.forest node }
+    ensures { result ≡ is_of_kind kind tree.now.forest node }
+{
+    tree.label(node).kind == kind
+}
+
+// Whether something may come in at a start: not in an instruction or comment, in no Text without a parent, and not in itself.
+fn check_start(world: &World, start: Point, node: NodeId) -> Result<(), DomError>
+    requires { HasNode world.now.tree.forest start.node }
+    ensures { MatchResult result (λ _. check_start (unwatched world.now) start node ≡ None) (λ e. check_start (unwatched world.now) start node ≡ Some e) }
+{
+    let top = start.node;
+    if is_of_kind(&world.tree, top, Kind::ProcessingInstruction)
+        || is_of_kind(&world.tree, top, Kind::Comment)
+    {
+        return Err(DomError::HierarchyRequestError);
+    }
+    if is_of_kind(&world.tree, top, Kind::Text) && world.tree.parent(top).is_none() {
+        return Err(DomError::HierarchyRequestError);
+    }
+    if top == node {
+        return Err(DomError::HierarchyRequestError);
+    }
+    Ok(())
+}
+
+// What comes after a point: the Text in which it stands, or the child at its offset; none at the end.
+fn reference_at(world: &World, point: Point) -> Option<NodeId>
+    requires { HasNode world.now.tree.forest point.node }
+    ensures { result ≡ reference_at (unwatched world.now) point }
+{
+    let Point { node, offset } = point;
+    if is_of_kind(&world.tree, node, Kind::Text) {
+        return Some(node);
+    }
+    world.tree.child_at(node, offset)
+}
+
+// The parent of what comes in at a point: that of the Text in which it stands, or its node.
+fn parent_at(world: &World, point: Point) -> NodeId
+    requires whole { IsWhole world.now }
+    requires held { HasNode world.now.tree.forest point.node }
+    ensures parent { result ≡ parent_at (unwatched world.now) point }
+    ensures held { HasNode world.now.tree.forest result }
+{
+    let node = point.node;
+    if is_of_kind(&world.tree, node, Kind::Text) {
+        return world.tree.parent(node).unwrap_or(node);
+    }
+    node
+}
+
+// The refusal of a node to come in at a start. Nothing after it is refused.
+fn check(world: &World, start: Point, node: NodeId) -> Result<(), DomError>
+    requires whole { IsWhole world.now }
+    requires start_held { HasNode world.now.tree.forest start.node }
+    requires node_held { HasNode world.now.tree.forest node }
+    ensures start { OnOk result (check_start (unwatched world.now) start node ≡ None) }
+    ensures insert { OnOk result (insert_refusal world.now.tree.forest (parent_at (unwatched world.now) start) node (reference_at (unwatched world.now) start) ≡ None) }
+    ensures refused { IfErr result (λ e. (r : ℕ) → refusal_in (inserted_at r node start (unwatched world.now)) ≡ Some e) }
+{
+    let (first, second, third) = (start, start, start);
+    check_start(world, first, node)?;
+    let parent = parent_at(world, second);
+    let reference = reference_at(world, third);
+    check_insert(&world.tree, parent, node, reference)
+}
+
+// Splits the Text in which a start stands, if it does, and answers what is then to come after.
+fn reference_after(
+    world: &mut World,
+    alloc: Global,
+    start: Point,
+) -> Result<Option<NodeId>, AllocError>
+    requires whole { IsWhole world.old }
+    requires held { HasNode world.old.tree.forest start.node }
+    requires room { world.old.tree.made < 4294967295 }
+    ensures reference { IfOk result (λ reference. reference ≡ reference_after (unwatched world.old) start) }
+    ensures split { OnOk result (Follows world.old world.new (split_at start)) }
+    ensures whole { IsWhole world.new }
+{
+    let Point { node, offset } = start;
+    if !is_of_kind(&world.tree, node, Kind::Text) {
+        return Ok(world.tree.child_at(node, offset));
+    }
+    // a start is within its Text, so that only memory can be wanting
+    match split(world, alloc, node, offset) {
+        Ok(new) => Ok(Some(new)),
+        Err(_) => Err(AllocError),
+    }
+}
+
+// The child that a node comes in before, or what follows the node where it is that child.
+fn reference_child(world: &World, node: NodeId, child: Option<NodeId>) -> Option<NodeId>
+    requires { HasNode world.now.tree.forest node }
+    ensures { result ≡ reference_child (unwatched world.now) node child }
+{
+    let given = child;
+    if let Some(reference) = given {
+        if reference == node {
+            return world.tree.next(node);
+        }
+    }
+    child
+}
+
+// The offset behind what is to come in with a node, before a child of the parent or last.
+fn offset_past(
+    world: &World,
+    parent: NodeId,
+    reference: Option<NodeId>,
+    node: NodeId,
+) -> Result<usize, AllocError>
+    requires parent_held { HasNode world.now.tree.forest parent }
+    requires reference_held { ForSome reference (λ c. HasNode world.now.tree.forest c) }
+    requires node_held { HasNode world.now.tree.forest node }
+    ensures { IfOk result (λ offset. offset ≡ offset_past (unwatched world.now) parent reference node) }
+{
+    let count = if is_of_kind(&world.tree, node, Kind::DocumentFragment) {
+        world.tree.count(node)
+    } else {
+        1
+    };
+    let index = match reference {
+        Some(child) => world.tree.index(child),
+        None => world.tree.length(parent),
+    };
+    index.checked_add(count).ok_or(AllocError)
+}
+
+// Moves the end of a range that is collapsed.
+fn end_if_collapsed(world: &mut World, range: RangeId, end: Point)
+    requires whole { IsWhole world.old }
+    requires sound { MayEndAt world.old range end }
+    ensures ended { Follows world.old world.new (end_if_collapsed range end) }
+    ensures whole { IsWhole world.new }
+{
+    if !world.ranges.holds(range) {
+        return;
+    }
+    let (start, old) = world.ranges.ends(range);
+    if start == old {
+        // the end is no farther ahead than the start, and within its node: it is not refused
+        let _ = world.ranges.set_end(&world.tree, range, end);
+    }
+}
+
+// Takes a node out of its parent and puts it in before a child, and the end of a range that is collapsed behind it.
+fn place(
+    world: &mut World,
+    alloc: Global,
+    range: RangeId,
+    node: NodeId,
+    parent: NodeId,
+    reference: Option<NodeId>,
+) -> Result<(), AllocError>
+    requires whole { IsWhole world.old }
+    requires held { HasNode world.old.tree.forest node }
+    requires placeable { IsPlaceable world.old range node parent reference }
+    ensures allowed { OnOk result ((w : PlainWorld) → Keeps world.old w → refusal_in (placed_at range node parent reference w) ≡ None) }
+    ensures placed { OnOk result (Follows world.old world.new (λ w. left_by (placed_at range node parent reference w) w)) }
+    ensures whole { IsWhole world.new }
+{
+    let (before, behind) = (reference, reference);
+    world.remove(alloc, node)?;
+    let offset = offset_past(world, parent, behind, node)?;
+    // it was asked ahead of the first change whether the node may come in, so that only memory can be wanting
+    if let Err(_) = world.insert_before(alloc, parent, node, before) {
+        return Err(AllocError);
+    }
+    end_if_collapsed(
+        world,
+        range,
+        Point {
+            node: parent,
+            offset,
+        },
+    );
+    Ok(())
+}
 
 /// Inserts a node, or the children of a fragment, at the start of a live range. A Text in which that start stands is split.
 pub fn insert_node(
@@ -30,6 +220,14 @@ pub fn insert_node(
     ensures refused { IfErr result (λ e. IsRefused e (refusal_in (insert_node range node (unwatched world.old))) world.old world.new) }
     ensures whole { IsWhole world.new }
 {
-    let _ = (alloc, range, node);
-    Err(Refusal::Memory)
+    let (start, _) = world.ranges.ends(range);
+    let (first, second, third) = (start, start, start);
+    if let Err(error) = check(world, first, node) {
+        return Err(Refusal::Dom(error));
+    }
+    let parent = parent_at(world, second);
+    let after = reference_after(world, alloc, third)?;
+    let reference = reference_child(world, node, after);
+    place(world, alloc, range, node, parent, reference)?;
+    Ok(())
 }

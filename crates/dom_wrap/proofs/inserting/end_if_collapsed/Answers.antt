@@ -1,0 +1,34 @@
+use Rattle.std.proofs.Common.{sym}
+use Rattle.dom_model.specs.Worlds.World.{Range}
+use Rattle.dom_edit.proofs.Leaving.{held-covered}
+use Rattle.dom_wrap.proofs.InsertedNode.{grown-range, set-done, follows-ended, whole-ended}
+use Rattle.dom_wrap.proofs.inserting.end_if_collapsed.Goals as goal
+
+pub set_end-requires-clause-node : goal.set_end-requires-clause-node
+set_end-requires-clause-node c =
+    let range : Range = record { start = c.ends-start.result.0; end = c.ends-start.result.1 } in
+    (grown-range c.args.world.now c.requires.whole c.args.range c.args.end range c.ends-start.ensures.ends c.requires.sound (sym c.if-eq.ensures)).ends.there
+
+pub set_end-requires-clause-covered : goal.set_end-requires-clause-covered
+set_end-requires-clause-covered c =
+    let range : Range = record { start = c.ends-start.result.0; end = c.ends-start.result.1 } in
+    let there = (grown-range c.args.world.now c.requires.whole c.args.range c.args.end range c.ends-start.ensures.ends c.requires.sound (sym c.if-eq.ensures)).ends.there in
+    held-covered c.args.world.now c.requires.whole c.args.end.node there
+
+pub returns-then-eq-clause-ended : goal.returns-then-eq-clause-ended
+returns-then-eq-clause-ended c =
+    let v = c.args.world.now in
+    let range : Range = record { start = c.ends-start.result.0; end = c.ends-start.result.1 } in
+    let e = c.ends-start.ensures.ends in
+    let collapsed = sym c.if-eq.ensures in
+    let is = set-done v c.requires.whole c.args.range c.args.end range e c.requires.sound collapsed c.set_end.new.self c.set_end.result c.set_end.ensures.refusal c.set_end.ensures.set in
+    follows-ended v c.requires.whole c.args.range c.args.end range e c.set_end.new.self is c.requires.sound collapsed
+
+pub returns-then-eq-clause-whole : goal.returns-then-eq-clause-whole
+returns-then-eq-clause-whole c =
+    let v = c.args.world.now in
+    let range : Range = record { start = c.ends-start.result.0; end = c.ends-start.result.1 } in
+    let e = c.ends-start.ensures.ends in
+    let collapsed = sym c.if-eq.ensures in
+    let is = set-done v c.requires.whole c.args.range c.args.end range e c.requires.sound collapsed c.set_end.new.self c.set_end.result c.set_end.ensures.refusal c.set_end.ensures.set in
+    whole-ended v c.requires.whole c.args.range c.args.end range e c.set_end.new.self is c.requires.sound collapsed
