@@ -165,7 +165,6 @@ served_table =
     ∷ row (codes "replaceChildren") (a_number ∷ a_number_or_null ∷ []) (λ (a : Arguments). ReplaceChildren (number_at a 0) a.number)
     ∷ row (codes "importNode") (a_number ∷ a_number ∷ a_flag ∷ []) (λ (a : Arguments). ImportNode (number_at a 0) (number_at a 1) a.flag)
     ∷ row (codes "cloneNode") (a_number ∷ a_flag ∷ []) (λ (a : Arguments). CloneNode (number_at a 0) a.flag)
-    ∷ row (codes "normalize") (a_number ∷ []) (λ (a : Arguments). Normalize (number_at a 0))
     ∷ row (codes "node") (a_number ∷ []) (λ (a : Arguments). DescribeNode (number_at a 0))
     ∷ row (codes "children") (a_number ∷ []) (λ (a : Arguments). Children (number_at a 0))
     ∷ row (codes "index") (a_number ∷ []) (λ (a : Arguments). Index (number_at a 0))
