@@ -50,7 +50,7 @@ fn any_answers(
         .any(|key| answers_at(table, *key, question, old_value))
 }
 
-// The same of a registration that stands on an inclusive ancestor of the target.
+// The same of a registration that stands on an inclusive ancestor of the target. Where nobody observes none is climbed to.
 pub fn any_standing<X>(
     table: &Slab<Registration>,
     nodes: &IndexMap<u32, Vec<usize>>,
@@ -61,6 +61,9 @@ pub fn any_standing<X>(
     requires { HasNode tree.now.forest question.now.target }
     ensures { result ≡ list_any (answers question.now.what question.now.target (text_of question.now.name) old_value) (found table.now (flat_map (λ n. on n (listed nodes.now.entries)) (ancestors question.now.target tree.now.forest))) }
 {
+    if nodes.is_empty() {
+        return false;
+    }
     tree.sound();
     let mut here = question.target;
     loop {

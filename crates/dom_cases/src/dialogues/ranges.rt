@@ -36,68 +36,6 @@ pub const ENDS_AFTER_INSERTION: Dialogue = Dialogue {
 "##,
 };
 
-pub const ENDS_AFTER_NORMALIZING: Dialogue = Dialogue {
-    name: "ends after normalizing",
-    numbers: 4294967295,
-    line: 1048576,
-    given: Bytes::Text(
-        r##"["createElement",0,"p"]
-["createText",0,""]
-["createText",0,"a"]
-["createText",0,""]
-["createText",0,"b"]
-["createComment",0,"x"]
-["createText",0,"c"]
-["appendChild",1,2]
-["appendChild",1,3]
-["appendChild",1,4]
-["appendChild",1,5]
-["appendChild",1,6]
-["appendChild",1,7]
-["createObserver"]
-["observe",0,1,{"childList":true,"subtree":true,"characterDataOldValue":true}]
-["createRange",0]
-["createRange",0]
-["setStart",0,4,0]
-["setEnd",0,1,3]
-["setStart",1,5,1]
-["setEnd",1,1,5]
-["normalize",1]
-["range",0]
-["range",1]
-["children",1]
-["takeRecords",0]
-"##,
-    ),
-    due: r##"{"ok":1}
-{"ok":2}
-{"ok":3}
-{"ok":4}
-{"ok":5}
-{"ok":6}
-{"ok":7}
-{"ok":2}
-{"ok":3}
-{"ok":4}
-{"ok":5}
-{"ok":6}
-{"ok":7}
-{"ok":0}
-{"ok":null}
-{"ok":0}
-{"ok":1}
-{"ok":null}
-{"ok":null}
-{"ok":null}
-{"ok":null}
-{"ok":null}
-{"ok":[3,1,3,1]}
-{"ok":[3,2,1,2]}
-{"ok":[3,6,7]}
-{"ok":[["childList",1,[],[2],null,3,null,null],["characterData",3,[],[],null,null,null,"a"],["childList",1,[],[4],3,5,null,null],["childList",1,[],[5],3,6,null,null],["characterData",7,[],[],null,null,null,"c"]]}
-"##,
-};
-
 pub const ENDS_AFTER_REPLACED_DATA: Dialogue = Dialogue {
     name: "ends after replaced data",
     numbers: 4294967295,
@@ -171,64 +109,6 @@ pub const ENDS_AFTER_SPLIT: Dialogue = Dialogue {
 {"ok":4}
 {"ok":[2,2,4,1]}
 {"ok":[1,2,1,3]}
-"##,
-};
-
-pub const ENDS_AT_JOINED_TEXTS: Dialogue = Dialogue {
-    name: "ends at joined texts",
-    numbers: 4294967295,
-    line: 1048576,
-    given: Bytes::Text(
-        r##"["createElement",0,"p"]
-["createText",0,"a"]
-["createText",0,"bc"]
-["createText",0,""]
-["createText",0,"d"]
-["appendChild",1,2]
-["appendChild",1,3]
-["appendChild",1,4]
-["appendChild",1,5]
-["createRange",0]
-["createRange",0]
-["createRange",0]
-["setStart",0,1,1]
-["setEnd",0,3,1]
-["setStart",1,1,3]
-["setEnd",1,1,4]
-["setStart",2,2,1]
-["setEnd",2,5,0]
-["normalize",1]
-["children",1]
-["data",2]
-["range",0]
-["range",1]
-["range",2]
-"##,
-    ),
-    due: r##"{"ok":1}
-{"ok":2}
-{"ok":3}
-{"ok":4}
-{"ok":5}
-{"ok":2}
-{"ok":3}
-{"ok":4}
-{"ok":5}
-{"ok":0}
-{"ok":1}
-{"ok":2}
-{"ok":null}
-{"ok":null}
-{"ok":null}
-{"ok":null}
-{"ok":null}
-{"ok":null}
-{"ok":null}
-{"ok":[2]}
-{"ok":"abcd"}
-{"ok":[2,1,2,2]}
-{"ok":[2,3,1,1]}
-{"ok":[2,1,2,3]}
 "##,
 };
 
@@ -362,12 +242,10 @@ pub const STATIC_RANGES_STAY: Dialogue = Dialogue {
 "##,
 };
 
-pub const ALL: [&Dialogue; 8] = [
+pub const ALL: [&Dialogue; 6] = [
     &ENDS_AFTER_INSERTION,
-    &ENDS_AFTER_NORMALIZING,
     &ENDS_AFTER_REPLACED_DATA,
     &ENDS_AFTER_SPLIT,
-    &ENDS_AT_JOINED_TEXTS,
     &ENDS_COMPARED,
     &RANGES_COMPARED,
     &STATIC_RANGES_STAY,
