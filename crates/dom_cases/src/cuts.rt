@@ -1,7 +1,7 @@
 //! However an input is cut, the output is the same.
 
 use crate::Feeder;
-use crate::dialogues::{Dialogue, SUBJECTS};
+use crate::dialogues::{Dialogue, SUBJECTS, lines_and_limits};
 use crate::runs::{in_pieces, serve_all};
 use std::alloc::Global;
 use std::process::Abort;
@@ -25,10 +25,8 @@ fn is_answered_in_two(rt: &impl Abort, alloc: Global, dialogue: &Dialogue) {
 
 #[test]
 fn cut_in_two(rt: HostRuntime) {
-    for subject in &SUBJECTS {
-        for dialogue in *subject {
-            is_answered_in_two(&rt, rt.alloc(), dialogue);
-        }
+    for dialogue in &lines_and_limits::ALL {
+        is_answered_in_two(&rt, rt.alloc(), dialogue);
     }
 }
 

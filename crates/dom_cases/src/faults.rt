@@ -1,6 +1,6 @@
 //! Reads, writes and flushes that fail, and inputs that do not end within the reads.
 
-use crate::dialogues::{Dialogue, SUBJECTS};
+use crate::dialogues::{Dialogue, lines_and_limits};
 use crate::runs::{USUAL, all_taken, first_lines, in_pieces, newlines, serve_all};
 use dom_serve::{Fault, FromRead, Summary, ToWrite, serve, serve_within};
 use std::alloc::Global;
@@ -61,12 +61,10 @@ fn fails_at_each_read(rt: &impl Abort, alloc: Global, dialogue: &Dialogue, most:
 
 #[test]
 fn each_read_fails_in_turn(rt: HostRuntime) {
-    for subject in &SUBJECTS {
-        for dialogue in *subject {
-            fails_at_each_read(&rt, rt.alloc(), dialogue, 1);
-            fails_at_each_read(&rt, rt.alloc(), dialogue, 7);
-            fails_at_each_read(&rt, rt.alloc(), dialogue, 65536);
-        }
+    for dialogue in &lines_and_limits::ALL {
+        fails_at_each_read(&rt, rt.alloc(), dialogue, 1);
+        fails_at_each_read(&rt, rt.alloc(), dialogue, 7);
+        fails_at_each_read(&rt, rt.alloc(), dialogue, 65536);
     }
 }
 
@@ -106,11 +104,9 @@ fn fails_at_each_flush(rt: &impl Abort, alloc: Global, dialogue: &Dialogue) {
 
 #[test]
 fn each_write_and_each_flush_fails_in_turn(rt: HostRuntime) {
-    for subject in &SUBJECTS {
-        for dialogue in *subject {
-            fails_at_each_write(&rt, rt.alloc(), dialogue);
-            fails_at_each_flush(&rt, rt.alloc(), dialogue);
-        }
+    for dialogue in &lines_and_limits::ALL {
+        fails_at_each_write(&rt, rt.alloc(), dialogue);
+        fails_at_each_flush(&rt, rt.alloc(), dialogue);
     }
 }
 

@@ -120,6 +120,14 @@ pub fn set_text_content(
     ensures set { OnOk result (Follows world.old world.new (set_text_content node text)) }
     ensures whole { IsWhole world.new }
 {
-    let _ = (alloc, node, text.len());
-    Err(AllocError)
+    match kind_in(&world.tree, node) {
+        Kind::Element | Kind::DocumentFragment => string_replace_all(world, alloc, node, text),
+        Kind::Text | Kind::ProcessingInstruction | Kind::Comment => set_data(
+            world,
+            alloc,
+            node,
+            text.units(),
+        ),
+        Kind::Document | Kind::DocumentType => Ok(()),
+    }
 }
