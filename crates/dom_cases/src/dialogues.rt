@@ -50,6 +50,11 @@ impl Dialogue {
     pub fn output(&self) -> &'static [u8] {
         self.due.as_bytes()
     }
+
+    /// Short enough to be served anew for each of its bytes.
+    pub fn is_short(&self) -> bool {
+        self.input().len() <= 300
+    }
 }
 
 /// The dialogues of each subject.

@@ -62,9 +62,11 @@ fn fails_at_each_read(rt: &impl Abort, alloc: Global, dialogue: &Dialogue, most:
 #[test]
 fn each_read_fails_in_turn(rt: HostRuntime) {
     for dialogue in &lines_and_limits::ALL {
-        fails_at_each_read(&rt, rt.alloc(), dialogue, 1);
-        fails_at_each_read(&rt, rt.alloc(), dialogue, 7);
-        fails_at_each_read(&rt, rt.alloc(), dialogue, 65536);
+        if dialogue.is_short() {
+            fails_at_each_read(&rt, rt.alloc(), dialogue, 1);
+            fails_at_each_read(&rt, rt.alloc(), dialogue, 7);
+            fails_at_each_read(&rt, rt.alloc(), dialogue, 65536);
+        }
     }
 }
 
@@ -105,8 +107,10 @@ fn fails_at_each_flush(rt: &impl Abort, alloc: Global, dialogue: &Dialogue) {
 #[test]
 fn each_write_and_each_flush_fails_in_turn(rt: HostRuntime) {
     for dialogue in &lines_and_limits::ALL {
-        fails_at_each_write(&rt, rt.alloc(), dialogue);
-        fails_at_each_flush(&rt, rt.alloc(), dialogue);
+        if dialogue.is_short() {
+            fails_at_each_write(&rt, rt.alloc(), dialogue);
+            fails_at_each_flush(&rt, rt.alloc(), dialogue);
+        }
     }
 }
 
