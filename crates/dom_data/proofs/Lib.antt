@@ -10,4 +10,7 @@ pub mod SoundParting
 pub mod Behind
 pub mod TextsBelow
 pub mod TextsInTurn
-pub mod NoneFollows
+pub mod JoinedInTurn
+pub mod FollowingTexts
+pub mod TakenIn
+pub mod JoinedTexts

@@ -3,3 +3,4 @@ pub mod Changes
 pub mod Gathering
 pub mod Tails
 pub mod TextsAlone
+pub mod Joining

@@ -1,19 +1,22 @@
 //! Texts joined to those before them (DOM Standard, "Interface Node", normalize).
 
-ghost use Rattle.std.specs.Prelude.{◌≡◌, ℕ, ◌<◌, ◌++◌, true, drop, if◌then◌else◌, OnOk, IfOk};
+ghost use Rattle.std.specs.Prelude.{◌≡◌, ℕ, ◌<◌, ◌+◌, ◌++◌, true, length, drop, if◌then◌else◌, Some, OnOk, IfOk};
 ghost use Rattle.dom_model.specs.declared.Kind.TheVariants.{Text};
 ghost use Rattle.dom_model.specs.PlainLists.Lists.{hits, among};
-ghost use Rattle.dom_model.specs.Forests.Forest.{HasNode, inclusive_descendants};
+ghost use Rattle.dom_model.specs.Forests.Forest.{HasNode, parent_of, inclusive_descendants};
 ghost use Rattle.dom_model.specs.MutationAlgorithms.Checks.{is_of_kind};
-ghost use Rattle.dom_model.specs.DataAndCopies.Data.{following_texts, is_descendant, join_following, normalize_text, normalize_each, normalize};
-ghost use Rattle.dom_edit.specs.Whole.{IsWhole, Follows};
-ghost use Rattle.dom_data.specs.TextsAlone.{alone, texts_among, followed};
+ghost use Rattle.dom_model.specs.DataAndCopies.Data.{data_of, replace_data, following_texts, is_descendant, join_following, normalize_text, normalize_each, normalize};
+ghost use Rattle.dom_model.proofs.Soundness.SoundJoining.{AreJoinable};
+ghost use Rattle.dom_edit.specs.Whole.{IsWhole, Follows, unwatched};
+ghost use Rattle.dom_data.specs.TextsAlone.{alone, texts_among};
+ghost use Rattle.dom_data.specs.Joining.{next_text, texts_behind, data_among, IsNextTaken, taken_in, each_taken_in};
 
 use crate::bodies::{data_in, kind_in};
-use crate::replacing::replace_data;
+use crate::replacing::replace_units;
 use dom_edit::{Content, World};
 use dom_kinds::Kind;
 use dom_tree::{NodeId, Tree};
+use dom_units::Units;
 use std::alloc::{AllocError, Global};
 
 // Puts a node last in a list, where it is a Text.
@@ -64,33 +67,142 @@ fn is_text(tree: &Tree<Content>, node: NodeId) -> bool
     kind_in(tree, node) == Kind::Text
 }
 
-// Whether the next sibling is a Text.
-fn is_followed(tree: &Tree<Content>, node: NodeId) -> bool
+// The next sibling, where it is a Text.
+fn next_text(tree: &Tree<Content>, node: NodeId) -> Option<NodeId>
     requires held { HasNode tree.now.forest node }
-    ensures { result ≡ followed tree.now.forest node }
+    ensures { result ≡ next_text tree.now.forest node }
 {
     tree.sound();
     match tree.next(node) {
-        Some(next) => is_text(tree, next),
-        None => false,
+        Some(next) if is_text(tree, next) => Some(next),
+        _ => None,
     }
 }
 
-// Joins a Text with those that follow it among its siblings. Where there are any, it answers want of memory.
+// The Texts that follow a node among its siblings, one after another.
+fn texts_behind(
+    tree: &Tree<Content>,
+    alloc: Global,
+    node: NodeId,
+) -> Result<Vec<NodeId>, AllocError>
+    requires held { HasNode tree.now.forest node }
+    ensures { IfOk result (λ texts. texts.items ≡ texts_behind tree.now.forest node) }
+{
+    tree.sound();
+    let mut texts = Vec::new(alloc);
+    let mut here = node;
+    while let Some(next) = next_text(tree, here) {
+        texts.push(next)?;
+        here = next;
+    }
+    Ok(texts)
+}
+
+// The data of these nodes, one after another.
+fn data_among(tree: &Tree<Content>, alloc: Global, nodes: &[NodeId]) -> Result<Units, AllocError>
+    requires held { (n : ℕ) → 0 < hits n nodes.now → HasNode tree.now.forest n }
+    ensures { IfOk result (λ units. units ≡ data_among tree.now.forest nodes.now) }
+{
+    let mut data = Units::new(alloc);
+    for node in nodes {
+        let end = data.len();
+        data.splice(end, 0, data_in(tree, *node).units())?;
+    }
+    Ok(data)
+}
+
+// Moves the ends in the Text that comes next, and those at it, into the one before it, and takes it out. It answers where the data of the
+// one after it begins.
+fn take_in(
+    world: &mut World,
+    alloc: Global,
+    node: NodeId,
+    parent: NodeId,
+    next: NodeId,
+    base: usize,
+) -> Result<usize, AllocError>
+    requires whole { IsWhole world.old }
+    requires next { IsNextTaken world.old node parent base next }
+    ensures taken { OnOk result (Follows world.old world.new (taken_in node base next)) }
+    ensures further { IfOk result (λ further. further ≡ base + length (data_of (unwatched world.old) next)) }
+    ensures whole { IsWhole world.new }
+{
+    let length = data_in(&world.tree, next).len();
+    // a law: the units that the node has by now fit the memory
+    let _ = data_in(&world.tree, node).len();
+    let index = world.tree.index(next);
+    world.ranges.merged(next, node, base, parent, index);
+    world.remove(alloc, next)?;
+    Ok(base + length)
+}
+
+// The same of each Text that follows, where the node has their data already, from `base` on.
+fn take_each_in(
+    world: &mut World,
+    alloc: Global,
+    node: NodeId,
+    parent: NodeId,
+    base: usize,
+    texts: &[NodeId],
+) -> Result<(), AllocError>
+    requires whole { IsWhole world.old }
+    requires joinable { AreJoinable (unwatched world.old) node parent base texts.now }
+    ensures taken { OnOk result (Follows world.old world.new (each_taken_in node base texts.now)) }
+    ensures whole { IsWhole world.new }
+{
+    let mut further = base;
+    for text in texts {
+        further = take_in(world, alloc, node, parent, *text, further)?;
+    }
+    Ok(())
+}
+
+// Puts units behind the data of a Text.
+fn append_units(
+    world: &mut World,
+    alloc: Global,
+    node: NodeId,
+    added: &[u16],
+) -> Result<(), AllocError>
+    requires whole { IsWhole world.old }
+    requires kind { is_of_kind Text world.old.tree.forest node ≡ true }
+    ensures appended { OnOk result (Follows world.old world.new (λ w. replace_data node (length (data_of w node)) 0 added.now w)) }
+    ensures whole { IsWhole world.new }
+{
+    let end = data_in(&world.tree, node).len();
+    replace_units(world, alloc, node, end, 0, added)
+}
+
+// Joins a child that is a Text with those that follow it.
+fn join_siblings(
+    world: &mut World,
+    alloc: Global,
+    node: NodeId,
+    parent: NodeId,
+) -> Result<(), AllocError>
+    requires whole { IsWhole world.old }
+    requires kind { is_of_kind Text world.old.tree.forest node ≡ true }
+    requires child { parent_of world.old.tree.forest node ≡ Some parent }
+    ensures joined { OnOk result (Follows world.old world.new (λ w. join_following node (following_texts w node) w)) }
+    ensures whole { IsWhole world.new }
+{
+    let texts = texts_behind(&world.tree, alloc, node)?;
+    let added = data_among(&world.tree, alloc, &texts)?;
+    let base = data_in(&world.tree, node).len();
+    append_units(world, alloc, node, added.units())?;
+    take_each_in(world, alloc, node, parent, base, &texts)
+}
+
+// Joins a Text with those that follow it among its siblings. The record of its data comes where none follows it, too.
 fn join_following(world: &mut World, alloc: Global, node: NodeId) -> Result<(), AllocError>
     requires whole { IsWhole world.old }
     requires kind { is_of_kind Text world.old.tree.forest node ≡ true }
     ensures joined { OnOk result (Follows world.old world.new (λ w. join_following node (following_texts w node) w)) }
     ensures whole { IsWhole world.new }
 {
-    if is_followed(&world.tree, node) {
-        return Err(AllocError);
-    }
-    let end = data_in(&world.tree, node).len();
-    // the offset is within, so that only memory can be wanting
-    match replace_data(world, alloc, node, end, 0, &[]) {
-        Ok(()) => Ok(()),
-        Err(_) => Err(AllocError),
+    match world.tree.parent(node) {
+        Some(parent) => join_siblings(world, alloc, node, parent),
+        None => append_units(world, alloc, node, &[]),
     }
 }
 
@@ -146,8 +258,6 @@ fn normalize_each(
 }
 
 /// Takes the empty Texts below a node out, and joins each other Text there with those that follow it ("normalize").
-///
-/// As yet it answers want of memory where a Text comes right behind another that has data.
 pub fn normalize(world: &mut World, alloc: Global, node: NodeId) -> Result<(), AllocError>
     requires whole { IsWhole world.old }
     requires held { HasNode world.old.tree.forest node }

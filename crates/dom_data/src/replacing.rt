@@ -18,7 +18,7 @@ use dom_units::Units;
 use std::alloc::{AllocError, Global};
 
 // Puts `added` in place of the `count` units from `offset` on, with a record of the old data.
-fn replace_units(
+pub(crate) fn replace_units(
     world: &mut World,
     alloc: Global,
     node: NodeId,

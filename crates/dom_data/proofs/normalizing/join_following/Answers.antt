@@ -1,8 +1,9 @@
--- Nothing is joined where no Text follows.
-use Rattle.std.proofs.Common.{length, ap, sym, ◌∙◌}
-use Rattle.dom_data.proofs.NoneFollows.{follows-unjoined}
+-- Nothing follows a root.
+use Rattle.std.proofs.Common.{sym, ◌∙◌}
+use Rattle.std.proofs.lemmas.Result.{on_ok_weaker}
+use Rattle.dom_data.proofs.JoinedTexts.{follows-root}
 use Rattle.dom_data.proofs.normalizing.join_following.Goals as goal
 
-pub returns-in-Ok-clause-joined : goal.returns-in-Ok-clause-joined
-returns-in-Ok-clause-joined c =
-    follows-unjoined c.args.world.now c.replace_data.new.world c.args.node c.len-end.result (sym c.is_followed.ensures ∙ c.if-is_followed.false) (c.len-end.ensures ∙ ap length c.data_in.ensures) c.in-Ok.ensures.replaced
+pub returns-in-None-clause-joined : goal.returns-in-None-clause-joined
+returns-in-None-clause-joined c =
+    on_ok_weaker c.append_units.result (follows-root c.args.world.now c.append_units.new.world c.args.node (sym c.parent.ensures ∙ c.in-None.is)) c.append_units.ensures.appended

@@ -1,0 +1,7 @@
+-- The next sibling is there.
+use Rattle.std.proofs.Common.{sym, ◌∙◌}
+use Rattle.dom_tree.proofs.Beside.{forward-step}
+use Rattle.dom_data.proofs.normalizing.next_text.Goals as goal
+
+pub is_text-requires : goal.is_text-requires
+is_text-requires c = record { held = (forward-step c.sound.ensures c.args.node c.in-Some.next c.requires.held (sym c.next.ensures ∙ c.in-Some.is)).1.1 }

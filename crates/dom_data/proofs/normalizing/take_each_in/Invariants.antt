@@ -1,0 +1,6 @@
+-- The Texts that were passed are taken in.
+use Rattle.dom_data.proofs.TakenIn.{IsTaking}
+use Rattle.dom_data.proofs.normalizing.take_each_in.Given as goal
+
+abbrev pub invariant-loop-text : goal.invariant-loop-text
+invariant-loop-text l = IsTaking l.initial.world l.world l.node l.parent l.base l.texts l.text-index l.further

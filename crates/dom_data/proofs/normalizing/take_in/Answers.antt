@@ -1,0 +1,26 @@
+-- The ends move, and the Text leaves.
+use Rattle.std.proofs.Common.{ℕ, ◌^◌, ◌<◌, List, length, subst, arith}
+use Rattle.dom_model.proofs.Forests.Entries.{occurs-HasNode}
+use Rattle.dom_data.proofs.Parting.{text-held}
+use Rattle.dom_data.proofs.Behind.{covered-there}
+use Rattle.dom_data.proofs.TakenIn.{first-fits, whole-merged, follows-taken}
+use Rattle.dom_data.proofs.normalizing.take_in.Goals as goal
+
+pub merged-requires-clause-fit : goal.merged-requires-clause-fit
+merged-requires-clause-fit c =
+    let small : length c.data_in-2.result.now < 2 ^ 64 = let l = c.len.ensures in omega arith in
+    first-fits c.args.world.now c.requires.whole c.args.node c.args.parent c.args.base c.args.next c.requires.next.rest c.requires.next.joinable
+    (subst (λ (units : List ℕ). length units < 2 ^ 64) c.data_in-2.ensures small) c.index-index.result
+
+pub merged-requires-clause-into_covered : goal.merged-requires-clause-into_covered
+merged-requires-clause-into_covered c =
+    let f = c.args.world.now.tree.forest in
+    covered-there c.args.world.now c.requires.whole c.args.node (occurs-HasNode f c.args.node (text-held f c.args.node c.requires.next.joinable.text))
+
+pub remove-requires-clause-whole : goal.remove-requires-clause-whole
+remove-requires-clause-whole c =
+    whole-merged c.args.world.now c.requires.whole c.args.node c.args.parent c.args.base c.args.next c.requires.next.rest c.requires.next.joinable c.merged.new.self c.index-index.result c.index-index.ensures c.merged.ensures
+
+pub returns-clause-taken : goal.returns-clause-taken
+returns-clause-taken c =
+    follows-taken c.args.world.now c.requires.whole c.args.node c.args.parent c.args.base c.args.next c.requires.next.rest c.requires.next.joinable c.merged.new.self c.index-index.result c.index-index.ensures c.merged.ensures c.remove.new.self c.in_ok-remove.ensures.removed
