@@ -3,6 +3,7 @@ use Rattle.std.proofs.Common.{◌≡◌, ℕ, ◌+◌, ◌^◌, ◌<◌, ◌≤�
 use Rattle.std.specs.Prelude.{IfSome}
 use Rattle.std.proofs.lemmas.List.{drop_more}
 use Rattle.dom_model.specs.declared.Kind.TheVariants.{Text}
+use Rattle.dom_model.specs.PlainLists.Lists.{among}
 use Rattle.dom_model.specs.Forests.Kinds.{is_character_data}
 use Rattle.dom_model.specs.Forests.Forest.{Forest, HasNode, entry_in, parent_of, children_of, index_of}
 use Rattle.dom_model.specs.Forests.Lengths.{unit_count, node_length}
@@ -19,7 +20,9 @@ use Rattle.dom_model.proofs.Soundness.SoundWorlds.{Lives}
 use Rattle.dom_model.proofs.Soundness.SoundData.{length-data}
 use Rattle.dom_model.proofs.Soundness.SoundSplitting.{text_has_data}
 use Rattle.dom_model.proofs.Soundness.SoundJoining.{AreUpTo, AreJoinable, is_child, is_there, first_in, text_first, merged_is, moved, sound-merged_ranges, left, joinable_left}
-use Rattle.dom_ranges.specs.Tables.{RangeTable, OffsetsFit}
+use Rattle.dom_ranges.specs.Tables.{RangeTable, OffsetsFit, live_nodes}
+use Rattle.dom_ranges.proofs.Inside.{ranges-alike}
+use Rattle.dom_ranges.proofs.Making.{among-any}
 use Rattle.dom_edit.specs.declared.world.World.{World}
 use Rattle.dom_edit.specs.Whole.{IsWhole, Keeps, Follows, unwatched}
 use Rattle.dom_edit.proofs.Following.{follows-none, follows-then, keeps-unwatched, whole-sound}
@@ -58,6 +61,19 @@ merge-fits f from into base parent index kind small = offsets-fit f (after_merge
         go true = omega arith
         go false = lt
 
+-- where no end stands in the parent, the index matters to none
+merge-apart : (from into base parent i j : ℕ) (q : Point) → (q.node == parent) ≡ false → after_merge from into base parent i q ≡ after_merge from into base parent j q
+merge-apart from into base parent i j q e = rw e refl
+
+merged-alike : (v : RangeTable) (from into base parent i j : ℕ) → (among parent (live_nodes v) ≡ true → i ≡ j) → map_ranges (after_merge from into base parent i) v.ranges ≡ map_ranges (after_merge from into base parent j) v.ranges
+merged-alike v from into base parent i j counted = go (among parent (live_nodes v)) refl
+  where
+    go : (b : Bool) → among parent (live_nodes v) ≡ b → map_ranges (after_merge from into base parent i) v.ranges ≡ map_ranges (after_merge from into base parent j) v.ranges
+    go true e = ap (λ k. map_ranges (after_merge from into base parent k) v.ranges) (counted e)
+    go false e =
+        ranges-alike (after_merge from into base parent i) (after_merge from into base parent j) (λ m. m == parent) (merge-apart from into base parent i j) v.ranges
+        (sym (among-any parent (live_nodes v)) ∙ e)
+
 module _ (old : World) (h : IsWhole old) (t p base first : ℕ) (ts : List ℕ) (j : AreJoinable (unwatched old) t p base (first ∷ ts)) where
   pub first-held : HasNode old.tree.forest first
   first-held = HasNode-occurs old.tree.forest first (is_there (unwatched old) t p base first ts j first (first_in (unwatched old) t p base first ts j))
@@ -73,12 +89,12 @@ module _ (old : World) (h : IsWhole old) (t p base first : ℕ) (ts : List ℕ) 
   first-fits small index =
       merge-fits old.tree.forest first t base p index (text_has_data (unwatched old) first (text_first (unwatched old) t p base first ts j)) (let r = first-room in omega arith) old.ranges.ranges h.ranges
 
-  module _ (ranges : RangeTable) (index : ℕ) (counted : index ≡ index_of old.tree.forest first) (e : ranges ≡ record old.ranges { ranges = map_ranges (after_merge first t base p index) old.ranges.ranges }) where
+  module _ (ranges : RangeTable) (index : ℕ) (counted : among p (live_nodes old.ranges) ≡ true → index ≡ index_of old.tree.forest first) (e : ranges ≡ record old.ranges { ranges = map_ranges (after_merge first t base p index) old.ranges.ranges }) where
     abbrev merged : World
     merged = record old { ranges = ranges }
 
     ranges_are : ranges.ranges ≡ map_ranges (after_merge first t base p (index_of old.tree.forest first)) old.ranges.ranges
-    ranges_are = ap (λ (r : RangeTable). r.ranges) e ∙ ap (λ i. map_ranges (after_merge first t base p i) old.ranges.ranges) counted
+    ranges_are = ap (λ (r : RangeTable). r.ranges) e ∙ merged-alike old.ranges first t base p index (index_of old.tree.forest first) counted
 
     pub whole-merged : IsWhole merged
     whole-merged =

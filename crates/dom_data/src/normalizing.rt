@@ -3,10 +3,11 @@
 ghost use Rattle.std.specs.Prelude.{◌≡◌, ℕ, ◌<◌, ◌+◌, ◌++◌, true, length, drop, if◌then◌else◌, Some, OnOk, IfOk};
 ghost use Rattle.dom_model.specs.declared.Kind.TheVariants.{Text};
 ghost use Rattle.dom_model.specs.PlainLists.Lists.{hits, among};
-ghost use Rattle.dom_model.specs.Forests.Forest.{HasNode, parent_of, inclusive_descendants};
+ghost use Rattle.dom_model.specs.Forests.Forest.{HasNode, parent_of, index_of, inclusive_descendants};
 ghost use Rattle.dom_model.specs.MutationAlgorithms.Checks.{is_of_kind};
 ghost use Rattle.dom_model.specs.DataAndCopies.Data.{data_of, replace_data, following_texts, is_descendant, join_following, normalize_text, normalize_each, normalize};
 ghost use Rattle.dom_model.proofs.Soundness.SoundJoining.{AreJoinable};
+ghost use Rattle.dom_ranges.specs.Tables.{live_nodes};
 ghost use Rattle.dom_edit.specs.Whole.{IsWhole, Follows, unwatched};
 ghost use Rattle.dom_data.specs.TextsAlone.{alone, texts_among};
 ghost use Rattle.dom_data.specs.Joining.{next_text, texts_behind, data_among, IsNextTaken, taken_in, each_taken_in};
@@ -111,6 +112,17 @@ fn data_among(tree: &Tree<Content>, alloc: Global, nodes: &[NodeId]) -> Result<U
     Ok(data)
 }
 
+// The index of a child where an end stands in its parent; where none does, no end asks for it.
+fn index_if_asked(world: &World, parent: NodeId, child: NodeId) -> usize
+    requires held { HasNode world.now.tree.forest child }
+    ensures { among parent (live_nodes world.now.ranges) ≡ true → result ≡ index_of world.now.tree.forest child }
+{
+    if world.ranges.stands_in(parent) {
+        return world.tree.index(child);
+    }
+    0
+}
+
 // Moves the ends in the Text that comes next, and those at it, into the one before it, and takes it out. It answers where the data of the
 // one after it begins.
 fn take_in(
@@ -130,7 +142,7 @@ fn take_in(
     let length = data_in(&world.tree, next).len();
     // a law: the units that the node has by now fit the memory
     let _ = data_in(&world.tree, node).len();
-    let index = world.tree.index(next);
+    let index = index_if_asked(world, parent, next);
     world.ranges.merged(next, node, base, parent, index);
     world.remove(alloc, next)?;
     Ok(base + length)

@@ -10,7 +10,7 @@ pub merged-requires-clause-fit : goal.merged-requires-clause-fit
 merged-requires-clause-fit c =
     let small : length c.data_in-2.result.now < 2 ^ 64 = let l = c.len.ensures in omega arith in
     first-fits c.args.world.now c.requires.whole c.args.node c.args.parent c.args.base c.args.next c.requires.next.rest c.requires.next.joinable
-    (subst (λ (units : List ℕ). length units < 2 ^ 64) c.data_in-2.ensures small) c.index-index.result
+    (subst (λ (units : List ℕ). length units < 2 ^ 64) c.data_in-2.ensures small) c.index_if_asked-index.result
 
 pub merged-requires-clause-into_covered : goal.merged-requires-clause-into_covered
 merged-requires-clause-into_covered c =
@@ -19,8 +19,8 @@ merged-requires-clause-into_covered c =
 
 pub remove-requires-clause-whole : goal.remove-requires-clause-whole
 remove-requires-clause-whole c =
-    whole-merged c.args.world.now c.requires.whole c.args.node c.args.parent c.args.base c.args.next c.requires.next.rest c.requires.next.joinable c.merged.new.self c.index-index.result c.index-index.ensures c.merged.ensures
+    whole-merged c.args.world.now c.requires.whole c.args.node c.args.parent c.args.base c.args.next c.requires.next.rest c.requires.next.joinable c.merged.new.self c.index_if_asked-index.result c.index_if_asked-index.ensures c.merged.ensures
 
 pub returns-clause-taken : goal.returns-clause-taken
 returns-clause-taken c =
-    follows-taken c.args.world.now c.requires.whole c.args.node c.args.parent c.args.base c.args.next c.requires.next.rest c.requires.next.joinable c.merged.new.self c.index-index.result c.index-index.ensures c.merged.ensures c.remove.new.self c.in_ok-remove.ensures.removed
+    follows-taken c.args.world.now c.requires.whole c.args.node c.args.parent c.args.base c.args.next c.requires.next.rest c.requires.next.joinable c.merged.new.self c.index_if_asked-index.result c.index_if_asked-index.ensures c.merged.ensures c.remove.new.self c.in_ok-remove.ensures.removed
