@@ -90,6 +90,7 @@ fn surround_allowed(
     ensures surrounded { OnOk result (Follows world.old world.new (λ w. left_by (surround range node w) w)) }
     ensures whole { IsWhole world.new }
 {
+    // no doctype lies in the range, so that only memory can be wanting
     let Ok(fragment) = extract(world, alloc, range) else {
         return Err(AllocError);
     };
