@@ -46,7 +46,7 @@ use Rattle.dom_edit.proofs.PlacedWorlds.{sound-unwatched}
 use Rattle.dom_edit.proofs.InsertedNodes.{follows-as, forest-after}
 use Rattle.dom_wrap.specs.Outcomes.{left_by, LeavesSound, IsPlaceable, MayEndAt}
 
-if_so : {A : Type 0} (t : Bool) (x y : A) → t ≡ true → (if t then x else y) ≡ x
+pub if_so : {A : Type 0} (t : Bool) (x y : A) → t ≡ true → (if t then x else y) ≡ x
 if_so t x y e = rw e refl
 
 if_not : {A : Type 0} (t : Bool) (x y : A) → t ≡ false → (if t then x else y) ≡ y
@@ -197,7 +197,7 @@ module _ (v : World) (h : IsWhole v) (r : ℕ) (p : Point) (range : Range) (e : 
 
 -- Steps that are not refused.
 
-unless-none : (c : Option DomError) (w : model.World) (step : model.World → Outcome) → c ≡ None → and_then (unless c w) step ≡ step w
+pub unless-none : (c : Option DomError) (w : model.World) (step : model.World → Outcome) → c ≡ None → and_then (unless c w) step ≡ step w
 unless-none None w step i = refl
 unless-none (Some d) w step i = absurd (cc i)
 
@@ -265,13 +265,13 @@ module _ (a : World) (p : Point) (w : model.World) (k : Keeps a w) where
   abbrev with_forest : Forest Content → model.World
   with_forest g = record (unwatched a) { forest = g }
 
-  start-alike : (n : ℕ) → check_start w p n ≡ check_start (unwatched a) p n
+  pub start-alike : (n : ℕ) → check_start w p n ≡ check_start (unwatched a) p n
   start-alike n = ap (λ (g : Forest Content). check_start (with_forest g) p n) k.forest
 
-  parent-alike : parent_at w p ≡ parent_at (unwatched a) p
+  pub parent-alike : parent_at w p ≡ parent_at (unwatched a) p
   parent-alike = ap (λ (g : Forest Content). parent_at (with_forest g) p) k.forest
 
-  reference-alike : reference_at w p ≡ reference_at (unwatched a) p
+  pub reference-alike : reference_at w p ≡ reference_at (unwatched a) p
   reference-alike = ap (λ (g : Forest Content). reference_at (with_forest g) p) k.forest
 
   after-alike : reference_after w p ≡ reference_after (unwatched a) p

@@ -1,13 +1,15 @@
 -- A sequence of steps that may refuse, as a step that leaves the world where it refuses. DOM Standard, "Interface Range" (insertNode, surroundContents).
-use Rattle.std.specs.Prelude.{◌≡◌, ℕ, false, Option, None, Ok, Err}
+use Rattle.std.specs.Prelude.{◌≡◌, ℕ, ◌<◌, true, false, Option, None, Ok, Err}
+use Rattle.std.specs.Option.{ForSome}
 use Rattle.dom_model.specs.Worlds.World as model
-use Rattle.dom_model.specs.Worlds.World.{Point}
+use Rattle.dom_model.specs.Worlds.World.{Point, Range}
 use Rattle.dom_model.specs.Worlds.Sound.{IsSound}
 use Rattle.dom_model.specs.MutationAlgorithms.Checks.{check_insert}
 use Rattle.dom_model.specs.MutationAlgorithms.Editing.{remove}
-use Rattle.dom_model.specs.RangesAndContents.Wrapping.{Outcome, end_if_collapsed, placed_at}
+use Rattle.dom_model.specs.RangesAndContents.Wrapping.{Outcome, and_then, is_text, end_if_collapsed, placed_at, insert_node, try_pre_insert, try_select, refusal_in}
 use Rattle.dom_edit.specs.declared.world.World.{World}
-use Rattle.dom_edit.specs.Whole.{Keeps}
+use Rattle.dom_ranges.specs.Tables.{range_in}
+use Rattle.dom_edit.specs.Whole.{Keeps, Follows, unwatched}
 
 -- the world after the steps; the world as it was where one of them refuses
 abbrev pub left_by : Outcome → model.World → model.World
@@ -31,3 +33,16 @@ pub record MayEndAt (v : World) (r : ℕ) (p : Point) : Type 0 where
   pub stands_for : model.World
   pub keeps : Keeps v stands_for
   pub sound : IsSound (end_if_collapsed r p stands_for)
+
+-- where a range starts in a Text, one more node may be made
+abbrev pub HasRoom : World → ℕ → Type 0
+HasRoom v r = ForSome (range_in v.ranges r) (λ (range : Range). is_text (unwatched v) range.start.node ≡ true → v.tree.made < 4294967295)
+
+-- no world that the old one keeps is refused the steps, and what they leave of it the new one keeps
+pub record Passes (old new : World) (steps : model.World → Outcome) : Type 0 where
+  pub allowed : (w : model.World) → Keeps old w → refusal_in (steps w) ≡ None
+  pub follows : Follows old new (λ w. left_by (steps w) w)
+
+-- a node goes in at the start of a range, takes in what a fragment has, and is selected
+abbrev pub put_around : ℕ → ℕ → ℕ → model.World → Outcome
+put_around r n fragment w = and_then (insert_node r n w) (λ v. and_then (try_pre_insert fragment n None v) (λ v. try_select r n v))

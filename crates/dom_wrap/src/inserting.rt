@@ -1,17 +1,17 @@
 //! A node that is inserted at the start of a live range (DOM Standard, "Interface Range", insertNode).
 
-ghost use Rattle.std.specs.Prelude.{◌≡◌, ◌<◌, ℕ, None, Some, OnOk, IfOk, IsSome, MatchResult};
+ghost use Rattle.std.specs.Prelude.{◌≡◌, ◌<◌, ℕ, true, None, Some, OnOk, IfOk, IsSome, MatchResult};
 ghost use Rattle.std.specs.Option.{ForSome};
 ghost use Rattle.std.specs.Result.{IfErr};
 ghost use Rattle.dom_model.specs.Forests.Forest.{HasNode};
 ghost use Rattle.dom_model.specs.Worlds.World.{World as PlainWorld};
 ghost use Rattle.dom_model.specs.MutationAlgorithms.Checks.{check_insert as insert_refusal, is_of_kind};
 ghost use Rattle.dom_model.specs.MutationAlgorithms.Editing.{reference_child};
-ghost use Rattle.dom_model.specs.RangesAndContents.Wrapping.{insert_node, inserted_at, placed_at, refusal_in, check_start, reference_at, parent_at, reference_after, split_at, offset_past, end_if_collapsed};
+ghost use Rattle.dom_model.specs.RangesAndContents.Wrapping.{insert_node, is_text, inserted_at, placed_at, refusal_in, check_start, reference_at, parent_at, reference_after, split_at, offset_past, end_if_collapsed};
 ghost use Rattle.dom_ranges.specs.Tables.{range_in};
 ghost use Rattle.dom_edit.specs.Whole.{IsWhole, Keeps, Follows, unwatched};
 ghost use Rattle.dom_edit.specs.Refusals.{IsRefused};
-ghost use Rattle.dom_wrap.specs.Outcomes.{left_by, IsPlaceable, MayEndAt};
+ghost use Rattle.dom_wrap.specs.Outcomes.{left_by, HasRoom, IsPlaceable, MayEndAt};
 
 use dom_data::split;
 use dom_edit::{Content, Refusal, World, check_insert};
@@ -99,7 +99,7 @@ fn reference_after(
 ) -> Result<Option<NodeId>, AllocError>
     requires whole { IsWhole world.old }
     requires held { HasNode world.old.tree.forest start.node }
-    requires room { world.old.tree.made < 4294967295 }
+    requires room { is_text (unwatched world.old) start.node ≡ true → world.old.tree.made < 4294967295 }
     ensures reference { IfOk result (λ reference. reference ≡ reference_after (unwatched world.old) start) }
     ensures split { OnOk result (Follows world.old world.new (split_at start)) }
     ensures whole { IsWhole world.new }
@@ -204,6 +204,34 @@ fn place(
     Ok(())
 }
 
+// Inserts a node, or the children of a fragment, at the start of a live range. Only a Text in which that start stands takes a number.
+pub(crate) fn insert_at_start(
+    world: &mut World,
+    alloc: Global,
+    range: RangeId,
+    node: NodeId,
+) -> Result<(), Refusal>
+    requires whole { IsWhole world.old }
+    requires held { IsSome (range_in world.old.ranges range) }
+    requires node_held { HasNode world.old.tree.forest node }
+    requires room { HasRoom world.old range }
+    ensures allowed { OnOk result (refusal_in (insert_node range node (unwatched world.old)) ≡ None) }
+    ensures inserted { OnOk result (Follows world.old world.new (λ w. left_by (insert_node range node w) w)) }
+    ensures refused { IfErr result (λ e. IsRefused e (refusal_in (insert_node range node (unwatched world.old))) world.old world.new) }
+    ensures whole { IsWhole world.new }
+{
+    let (start, _) = world.ranges.ends(range);
+    let (first, second, third) = (start, start, start);
+    if let Err(error) = check(world, first, node) {
+        return Err(Refusal::Dom(error));
+    }
+    let parent = parent_at(world, second);
+    let after = reference_after(world, alloc, third)?;
+    let reference = reference_child(world, node, after);
+    place(world, alloc, range, node, parent, reference)?;
+    Ok(())
+}
+
 /// Inserts a node, or the children of a fragment, at the start of a live range. A Text in which that start stands is split.
 pub fn insert_node(
     world: &mut World,
@@ -220,14 +248,5 @@ pub fn insert_node(
     ensures refused { IfErr result (λ e. IsRefused e (refusal_in (insert_node range node (unwatched world.old))) world.old world.new) }
     ensures whole { IsWhole world.new }
 {
-    let (start, _) = world.ranges.ends(range);
-    let (first, second, third) = (start, start, start);
-    if let Err(error) = check(world, first, node) {
-        return Err(Refusal::Dom(error));
-    }
-    let parent = parent_at(world, second);
-    let after = reference_after(world, alloc, third)?;
-    let reference = reference_child(world, node, after);
-    place(world, alloc, range, node, parent, reference)?;
-    Ok(())
+    insert_at_start(world, alloc, range, node)
 }

@@ -3,16 +3,100 @@
 ghost use Rattle.std.specs.Prelude.{◌≡◌, ◌≤◌, None, OnOk, IsSome};
 ghost use Rattle.std.specs.Result.{IfErr};
 ghost use Rattle.dom_model.specs.Forests.Forest.{HasNode};
-ghost use Rattle.dom_model.specs.RangesAndContents.Wrapping.{surround, check_whole_surround};
+ghost use Rattle.dom_model.specs.MutationAlgorithms.Editing.{replace_all};
+ghost use Rattle.dom_model.specs.RangesAndContents.Wrapping.{surround, try_select, check_whole_surround};
 ghost use Rattle.dom_ranges.specs.Tables.{range_in};
 ghost use Rattle.dom_edit.specs.Whole.{IsWhole, Follows, unwatched};
 ghost use Rattle.dom_edit.specs.Refusals.{IsRefused};
-ghost use Rattle.dom_wrap.specs.Outcomes.{left_by};
+ghost use Rattle.dom_wrap.specs.Outcomes.{left_by, put_around, HasRoom, Passes};
 
+use crate::inserting::insert_at_start;
+use dom_content::extract;
 use dom_edit::{Refusal, World};
 use dom_ranges::RangeId;
 use dom_tree::NodeId;
-use std::alloc::Global;
+use std::alloc::{AllocError, Global};
+
+// Takes all children out of a node.
+fn remove_children(world: &mut World, alloc: Global, parent: NodeId) -> Result<(), AllocError>
+    requires whole { IsWhole world.old }
+    requires held { HasNode world.old.tree.forest parent }
+    ensures removed { OnOk result (Follows world.old world.new (replace_all None parent)) }
+    ensures whole { IsWhole world.new }
+{
+    let Some(_) = world.tree.first(parent) else {
+        return Ok(());
+    };
+    // nothing comes in, so that only memory can be wanting
+    match world.replace_children(alloc, parent, None) {
+        Ok(()) => Ok(()),
+        Err(_) => Err(AllocError),
+    }
+}
+
+// Sets a live range around a node.
+fn select(world: &mut World, range: RangeId, node: NodeId) -> Result<(), AllocError>
+    requires whole { IsWhole world.old }
+    requires held { IsSome (range_in world.old.ranges range) }
+    requires node_held { HasNode world.old.tree.forest node }
+    ensures selected { OnOk result (Passes world.old world.new (try_select range node)) }
+    ensures whole { IsWhole world.new }
+{
+    // a node that has come in has a parent, so that it is not refused
+    match world.ranges.select(&world.tree, range, node) {
+        Ok(()) => Ok(()),
+        Err(_) => Err(AllocError),
+    }
+}
+
+// Puts a node in at the start of a live range, what a fragment has into the node, and the range around it.
+fn put_around(
+    world: &mut World,
+    alloc: Global,
+    range: RangeId,
+    node: NodeId,
+    fragment: NodeId,
+) -> Result<(), AllocError>
+    requires whole { IsWhole world.old }
+    requires held { IsSome (range_in world.old.ranges range) }
+    requires node_held { HasNode world.old.tree.forest node }
+    requires fragment_held { HasNode world.old.tree.forest fragment }
+    requires room { HasRoom world.old range }
+    ensures put { OnOk result (Passes world.old world.new (put_around range node fragment)) }
+    ensures whole { IsWhole world.new }
+{
+    // each step was asked ahead of the first change, so that only memory can be wanting
+    if let Err(_) = insert_at_start(world, alloc, range, node) {
+        return Err(AllocError);
+    }
+    if let Err(_) = world.append(alloc, node, fragment) {
+        return Err(AllocError);
+    }
+    select(world, range, node)
+}
+
+// Surrounds the contents of a live range with a node, where no step of it is refused.
+fn surround_allowed(
+    world: &mut World,
+    alloc: Global,
+    range: RangeId,
+    node: NodeId,
+) -> Result<(), AllocError>
+    requires whole { IsWhole world.old }
+    requires held { IsSome (range_in world.old.ranges range) }
+    requires node_held { HasNode world.old.tree.forest node }
+    requires room { (left_by (surround range node (unwatched world.old)) (unwatched world.old)).made ≤ 4294967295 }
+    requires allowed { check_whole_surround range node (unwatched world.old) ≡ None }
+    ensures surrounded { OnOk result (Follows world.old world.new (λ w. left_by (surround range node w) w)) }
+    ensures whole { IsWhole world.new }
+{
+    // no doctype lies in the range, so that only memory can be wanting
+    let Ok(fragment) = extract(world, alloc, range) else {
+        return Err(AllocError);
+    };
+    remove_children(world, alloc, node)?;
+    put_around(world, alloc, range, node, fragment)
+}
 
 /// Takes what lies in a live range into a node, puts that node in its place, and selects it.
 ///

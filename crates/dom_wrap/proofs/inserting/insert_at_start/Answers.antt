@@ -1,7 +1,12 @@
 use Rattle.std.proofs.Common.{refl}
 use Rattle.dom_model.specs.Worlds.World.{Range}
 use Rattle.dom_wrap.proofs.InsertedNode.{held-split, placeable, insert-allowed-so, follows-inserted}
-use Rattle.dom_wrap.proofs.inserting.insert_node.Goals as goal
+use Rattle.dom_wrap.proofs.inserting.insert_at_start.Goals as goal
+
+pub reference_after-requires-clause-room : goal.reference_after-requires-clause-room
+reference_after-requires-clause-room c =
+    let range : Range = record { start = c.ends-start.result.0; end = c.ends-start.result.1 } in
+    c.requires.room range c.ends-start.ensures.ends
 
 pub reference_child-reference-requires : goal.reference_child-reference-requires
 reference_child-reference-requires c =
