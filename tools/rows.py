@@ -10,7 +10,8 @@ Theorems: for each NAME a file Subject/Name.antt in crates/dom_model/proofs/Dial
 there and be named in the file beside that folder. The bytes that a session reads give the bytes that it writes, and the edits of the
 token text that its commands make leave the ends, texts and worlds that the commands leave. They hold by computation.
 
-Tests: for each subject a file in crates/dom_cases/src/dialogues, with the dialogues whose commands are all served. Which are served is
+Tests: for each subject a file in crates/dom_cases/src/dialogues, with the dialogues whose commands are all served, each of them
+served cut in two at each of its bytes; other tests serve them whole, in pieces and with faults. Which are served is
 read from `served_table`, and all are where there is no such table.
 """
 import json
@@ -203,15 +204,27 @@ def test(name, given, wanted, bounds):
     )
 
 
+def cut_test(name):
+    """The test that a dialogue is answered as is due wherever it is cut in two."""
+    return (
+        f"\n#[test]\nfn {name}_cut_in_two(rt: HostRuntime) {{\n"
+        + f"    is_answered_in_two(&rt, rt.alloc(), &{name.upper()});\n}}\n"
+    )
+
+
 def write_tests(subject, dialogues):
     """The tests of one subject's dialogues."""
     with open(os.path.join(TESTS, subject + ".rt"), "w") as out:
         out.write(f"//! Written by tools/rows.py from tools/dialogues/{subject}: the dialogues whose commands are all served.\n")
+        if dialogues:
+            out.write("\nuse crate::cuts::is_answered_in_two;")
         out.write("\nuse crate::dialogues::" + ("{Bytes, Dialogue}" if dialogues else "Dialogue") + ";\n")
         for name, parts in dialogues.items():
             out.write(test(name, *parts))
         listed = ", ".join(f"&{name.upper()}" for name in dialogues)
         out.write(f"\npub const ALL: [&Dialogue; {len(dialogues)}] = [{listed}];\n")
+        for name in dialogues:
+            out.write(cut_test(name))
 
 
 def main():

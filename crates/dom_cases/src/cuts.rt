@@ -1,7 +1,7 @@
 //! However an input is cut, the output is the same.
 
 use crate::Feeder;
-use crate::dialogues::{Dialogue, SUBJECTS, lines_and_limits};
+use crate::dialogues::{Dialogue, SUBJECTS};
 use crate::runs::{in_pieces, serve_all};
 use std::alloc::Global;
 use std::process::Abort;
@@ -14,21 +14,12 @@ fn is_answered(rt: &impl Abort, alloc: Global, dialogue: &Dialogue, reader: Feed
     assert!(rt; served.written.as_slice() == dialogue.output(), "{name}");
 }
 
-// That the dialogue, cut in two at any byte, is answered as is due.
-fn is_answered_in_two(rt: &impl Abort, alloc: Global, dialogue: &Dialogue) {
+/// That the dialogue, cut in two at any byte, is answered as is due. Each dialogue has a test that asks it, beside its text.
+pub fn is_answered_in_two(rt: &impl Abort, alloc: Global, dialogue: &Dialogue) {
     for cut in 0..dialogue.input().len() {
         let mut reader = in_pieces(dialogue.input(), usize::MAX);
         reader.cut = cut;
         is_answered(rt, alloc, dialogue, reader);
-    }
-}
-
-#[test]
-fn cut_in_two(rt: HostRuntime) {
-    for dialogue in &lines_and_limits::ALL {
-        if dialogue.is_short() {
-            is_answered_in_two(&rt, rt.alloc(), dialogue);
-        }
     }
 }
 

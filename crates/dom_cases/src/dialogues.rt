@@ -2,6 +2,7 @@
 
 ghost use Rattle.std.specs.Prelude.{◌≡◌};
 
+pub mod bad_input;
 pub mod lines_and_limits;
 pub mod observers;
 pub mod ranges;
@@ -58,12 +59,13 @@ impl Dialogue {
 }
 
 /// The dialogues of each subject.
-pub const SUBJECTS: [&[&Dialogue]; 5] = [
+pub const SUBJECTS: [&[&Dialogue]; 6] = [
     &lines_and_limits::ALL,
     &trees_and_data::ALL,
     &ranges::ALL,
     &traversal::ALL,
     &observers::ALL,
+    &bad_input::ALL,
 ];
 
 // That the dialogue is answered as is due, in as many lines as have a reply, over readers and writers of the library.

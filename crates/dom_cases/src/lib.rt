@@ -1,4 +1,4 @@
-//! The tests that cross crates: dialogues from bytes to bytes, cut anywhere, with faults, refused growths and large inputs;
+//! The tests that cross crates: dialogues from bytes to bytes, cut anywhere, with faults, refused growths and large inputs; the token text drawn;
 //! and the reader and the writer of stated pieces that they use.
 #![tactic(auto)]
 
@@ -9,8 +9,12 @@ mod cuts;
 #[cfg(test)]
 mod dialogues;
 #[cfg(test)]
+mod drawing;
+#[cfg(test)]
 mod faults;
 mod feeder;
+#[cfg(test)]
+mod large;
 #[cfg(test)]
 mod refusals;
 #[cfg(test)]

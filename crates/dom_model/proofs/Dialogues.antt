@@ -5,3 +5,4 @@ pub mod Ranges
 pub mod Traversal
 pub mod Observers
 pub mod LinesAndLimits
+pub mod BadInput

@@ -1,5 +1,6 @@
 //! Written by tools/rows.py from tools/dialogues/lines_and_limits: the dialogues whose commands are all served.
 
+use crate::cuts::is_answered_in_two;
 use crate::dialogues::{Bytes, Dialogue};
 
 pub const BLANK_LINE: Dialogue = Dialogue {
@@ -393,3 +394,73 @@ pub const ALL: [&Dialogue; 14] = [
     &TWO_BLANK_LINES,
     &WATCHERS_LIMITED,
 ];
+
+#[test]
+fn blank_line_cut_in_two(rt: HostRuntime) {
+    is_answered_in_two(&rt, rt.alloc(), &BLANK_LINE);
+}
+
+#[test]
+fn copies_limited_cut_in_two(rt: HostRuntime) {
+    is_answered_in_two(&rt, rt.alloc(), &COPIES_LIMITED);
+}
+
+#[test]
+fn hostile_lines_cut_in_two(rt: HostRuntime) {
+    is_answered_in_two(&rt, rt.alloc(), &HOSTILE_LINES);
+}
+
+#[test]
+fn lines_limited_cut_in_two(rt: HostRuntime) {
+    is_answered_in_two(&rt, rt.alloc(), &LINES_LIMITED);
+}
+
+#[test]
+fn malformed_lines_cut_in_two(rt: HostRuntime) {
+    is_answered_in_two(&rt, rt.alloc(), &MALFORMED_LINES);
+}
+
+#[test]
+fn no_input_cut_in_two(rt: HostRuntime) {
+    is_answered_in_two(&rt, rt.alloc(), &NO_INPUT);
+}
+
+#[test]
+fn nodes_limited_cut_in_two(rt: HostRuntime) {
+    is_answered_in_two(&rt, rt.alloc(), &NODES_LIMITED);
+}
+
+#[test]
+fn numbers_limited_cut_in_two(rt: HostRuntime) {
+    is_answered_in_two(&rt, rt.alloc(), &NUMBERS_LIMITED);
+}
+
+#[test]
+fn refusals_spend_nothing_cut_in_two(rt: HostRuntime) {
+    is_answered_in_two(&rt, rt.alloc(), &REFUSALS_SPEND_NOTHING);
+}
+
+#[test]
+fn refused_lines_cut_in_two(rt: HostRuntime) {
+    is_answered_in_two(&rt, rt.alloc(), &REFUSED_LINES);
+}
+
+#[test]
+fn room_after_discarding_cut_in_two(rt: HostRuntime) {
+    is_answered_in_two(&rt, rt.alloc(), &ROOM_AFTER_DISCARDING);
+}
+
+#[test]
+fn three_blank_lines_cut_in_two(rt: HostRuntime) {
+    is_answered_in_two(&rt, rt.alloc(), &THREE_BLANK_LINES);
+}
+
+#[test]
+fn two_blank_lines_cut_in_two(rt: HostRuntime) {
+    is_answered_in_two(&rt, rt.alloc(), &TWO_BLANK_LINES);
+}
+
+#[test]
+fn watchers_limited_cut_in_two(rt: HostRuntime) {
+    is_answered_in_two(&rt, rt.alloc(), &WATCHERS_LIMITED);
+}

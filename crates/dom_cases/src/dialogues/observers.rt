@@ -1,5 +1,6 @@
 //! Written by tools/rows.py from tools/dialogues/observers: the dialogues whose commands are all served.
 
+use crate::cuts::is_answered_in_two;
 use crate::dialogues::{Bytes, Dialogue};
 
 pub const FRAGMENT_OBSERVED: Dialogue = Dialogue {
@@ -515,3 +516,48 @@ pub const ALL: [&Dialogue; 9] = [
     &TRANSIENTS_OF_TRANSIENTS,
     &TWO_TOLD,
 ];
+
+#[test]
+fn fragment_observed_cut_in_two(rt: HostRuntime) {
+    is_answered_in_two(&rt, rt.alloc(), &FRAGMENT_OBSERVED);
+}
+
+#[test]
+fn node_before_itself_cut_in_two(rt: HostRuntime) {
+    is_answered_in_two(&rt, rt.alloc(), &NODE_BEFORE_ITSELF);
+}
+
+#[test]
+fn observer_options_cut_in_two(rt: HostRuntime) {
+    is_answered_in_two(&rt, rt.alloc(), &OBSERVER_OPTIONS);
+}
+
+#[test]
+fn observers_apart_cut_in_two(rt: HostRuntime) {
+    is_answered_in_two(&rt, rt.alloc(), &OBSERVERS_APART);
+}
+
+#[test]
+fn one_record_each_cut_in_two(rt: HostRuntime) {
+    is_answered_in_two(&rt, rt.alloc(), &ONE_RECORD_EACH);
+}
+
+#[test]
+fn order_of_registrations_cut_in_two(rt: HostRuntime) {
+    is_answered_in_two(&rt, rt.alloc(), &ORDER_OF_REGISTRATIONS);
+}
+
+#[test]
+fn transient_registrations_cut_in_two(rt: HostRuntime) {
+    is_answered_in_two(&rt, rt.alloc(), &TRANSIENT_REGISTRATIONS);
+}
+
+#[test]
+fn transients_of_transients_cut_in_two(rt: HostRuntime) {
+    is_answered_in_two(&rt, rt.alloc(), &TRANSIENTS_OF_TRANSIENTS);
+}
+
+#[test]
+fn two_told_cut_in_two(rt: HostRuntime) {
+    is_answered_in_two(&rt, rt.alloc(), &TWO_TOLD);
+}

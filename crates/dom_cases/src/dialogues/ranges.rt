@@ -1,5 +1,6 @@
 //! Written by tools/rows.py from tools/dialogues/ranges: the dialogues whose commands are all served.
 
+use crate::cuts::is_answered_in_two;
 use crate::dialogues::{Bytes, Dialogue};
 
 pub const ENDS_AFTER_INSERTION: Dialogue = Dialogue {
@@ -250,3 +251,33 @@ pub const ALL: [&Dialogue; 6] = [
     &RANGES_COMPARED,
     &STATIC_RANGES_STAY,
 ];
+
+#[test]
+fn ends_after_insertion_cut_in_two(rt: HostRuntime) {
+    is_answered_in_two(&rt, rt.alloc(), &ENDS_AFTER_INSERTION);
+}
+
+#[test]
+fn ends_after_replaced_data_cut_in_two(rt: HostRuntime) {
+    is_answered_in_two(&rt, rt.alloc(), &ENDS_AFTER_REPLACED_DATA);
+}
+
+#[test]
+fn ends_after_split_cut_in_two(rt: HostRuntime) {
+    is_answered_in_two(&rt, rt.alloc(), &ENDS_AFTER_SPLIT);
+}
+
+#[test]
+fn ends_compared_cut_in_two(rt: HostRuntime) {
+    is_answered_in_two(&rt, rt.alloc(), &ENDS_COMPARED);
+}
+
+#[test]
+fn ranges_compared_cut_in_two(rt: HostRuntime) {
+    is_answered_in_two(&rt, rt.alloc(), &RANGES_COMPARED);
+}
+
+#[test]
+fn static_ranges_stay_cut_in_two(rt: HostRuntime) {
+    is_answered_in_two(&rt, rt.alloc(), &STATIC_RANGES_STAY);
+}

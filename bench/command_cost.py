@@ -1,0 +1,176 @@
+#!/usr/bin/env python3
+"""Counts the instructions of commands of the built program, in pairs that should be equal but for a tenth.
+
+usage, at the top of the repository, once ./domserve has been built: bench/command_cost.py [WORD ..]
+
+A word leaves only the pairs whose name has it. For each pair two streams that make a scene are run under callgrind, and the same streams
+with the commands behind them; what they differ by, for one command (or one node copied or taken), is told, and the run fails where the
+larger is more than a tenth above the smaller. Counts are those of the whole program: reading the line, the edit and the reply.
+The tree has groups of a hundred leaves below element 1.
+"""
+import json
+import os
+import subprocess
+import sys
+import tempfile
+
+PROGRAM = "crates/domserve/out/domserve"
+COMMANDS = 1000
+GROUP = 101
+
+
+def tree(nodes):
+    """The lines that make an element 1, groups under it, and a hundred leaves under each group."""
+    yield ["createElement", 0, "r"]
+    group = None
+    for number in range(2, nodes):
+        yield ["createElement", 0, "e"]
+        if number % GROUP == 2:
+            group = number
+            yield ["appendChild", 1, number]
+        else:
+            yield ["appendChild", group, number]
+
+
+def groups(nodes):
+    return [number for number in range(2, nodes) if number % GROUP == 2 and number + GROUP - 1 < nodes]
+
+
+def made_leaves(nodes):
+    return [["createElement", 0, "n"] for _ in range(COMMANDS)]
+
+
+def appended(nodes):
+    at = groups(nodes)
+    return [["appendChild", at[k % len(at)], nodes + k] for k in range(COMMANDS)]
+
+
+def inserted(nodes):
+    at = groups(nodes)
+    return [["insertBefore", at[k % len(at)], nodes + k, at[k % len(at)] + 50] for k in range(COMMANDS)]
+
+
+def removed(nodes):
+    return [["remove", nodes + k] for k in range(COMMANDS)]
+
+
+def append_scene(nodes):
+    """New nodes go last under one group after another."""
+    return list(tree(nodes)) + made_leaves(nodes), appended(nodes), COMMANDS
+
+
+def insert_scene(nodes):
+    """New nodes go in before a leaf in the middle of a group."""
+    return list(tree(nodes)) + made_leaves(nodes), inserted(nodes), COMMANDS
+
+
+def remove_scene(nodes):
+    """Leaves that were put in last go again."""
+    return list(tree(nodes)) + made_leaves(nodes) + appended(nodes), removed(nodes), COMMANDS
+
+
+def ranges_elsewhere(ranges, text):
+    """Live ranges in a Text of its own, under element 1; the Text is the node of that number."""
+    lines = [["createText", 0, "a" * 1000], ["appendChild", 1, text]]
+    for number in range(ranges):
+        lines += [["createRange", 0], ["setStart", number, text, number % 500], ["setEnd", number, text, 500 + number % 500]]
+    return lines
+
+
+def inserts_beside(ranges):
+    nodes = 1000
+    making, commands, count = insert_scene(nodes)
+    return making + ranges_elsewhere(ranges, nodes + COMMANDS), commands, count
+
+
+def removes_beside(ranges):
+    nodes = 1000
+    making, commands, count = remove_scene(nodes)
+    return making + ranges_elsewhere(ranges, nodes + COMMANDS), commands, count
+
+
+def data_beside(ranges):
+    """Units go one by one into Texts of a hundred units."""
+    return [["createElement", 0, "r"]] + [["createText", 0, "b" * 100] for _ in range(COMMANDS)] + ranges_elsewhere(
+        ranges, COMMANDS + 2), [["insertData", 2 + k, 50, "c"] for k in range(COMMANDS)], COMMANDS
+
+
+def watched(nodes, observers):
+    """Attributes of an element at depth 10 are set, with observers of element 1 and all below it."""
+    deep = [["createElement", 0, "d"] for _ in range(8)]
+    deep += [["appendChild", groups(nodes)[0] if k == 0 else nodes + k - 1, nodes + k] for k in range(8)]
+    for number in range(observers):
+        deep += [["createObserver"], ["observe", number, 1, {"attributes": True, "subtree": True}]]
+    return list(tree(nodes)) + deep, [["setAttribute", nodes + 7, "a", "v"] for _ in range(COMMANDS)], COMMANDS
+
+
+def cloned(nodes):
+    """The whole tree is copied; counted for each node."""
+    return list(tree(nodes)), [["cloneNode", 1, True]], nodes - 1
+
+
+def paragraphs(count):
+    """A body with paragraphs, each with a Text."""
+    lines = [["createElement", 0, "body"], ["appendChild", 0, 1]]
+    for k in range(count):
+        lines += [["createElement", 0, "p"], ["appendChild", 1, 2 * k + 2], ["createText", 0, "some text"], ["appendChild", 2 * k + 2, 2 * k + 3]]
+    return lines
+
+
+def contents_deleted(count):
+    """Ten paragraphs in the middle are deleted, from within a Text to within a Text; counted for each node taken."""
+    first = 2 * (count // 2) + 3
+    last = first + 22
+    return paragraphs(count) + [["createRange", 0], ["setStart", 0, first, 4], ["setEnd", 0, last, 4]], [["deleteContents", 0]], 20
+
+
+SIZES = ("among 1,000 nodes", "among 100,000")
+RANGES = ("with no range elsewhere", "with 10,000 ends")
+
+PAIRS = (
+    ("append", SIZES, append_scene, (1000, 100000)),
+    ("insert before", SIZES, insert_scene, (1000, 100000)),
+    ("remove", SIZES, remove_scene, (1000, 100000)),
+    ("insert before", RANGES, inserts_beside, (0, 5000)),
+    ("remove", RANGES, removes_beside, (0, 5000)),
+    ("insertData", ("with no range elsewhere", "with 10,000"), data_beside, (0, 10000)),
+    ("a change that nobody watches", SIZES, lambda nodes: watched(nodes, 0), (1000, 100000)),
+    ("a change that one observer watches", SIZES, lambda nodes: watched(nodes, 1), (1000, 100000)),
+    ("cloneNode, for each node", SIZES, cloned, (1000, 100000)),
+    ("deleteContents, for each node", ("in 100 paragraphs", "in 100,000"), contents_deleted, (100, 100000)),
+)
+
+
+def instructions(lines, work):
+    text = "".join(json.dumps(line, separators=(",", ":")) + "\n" for line in lines)
+    out = os.path.join(work, "out")
+    run = subprocess.run(
+        ["valgrind", "-q", "--tool=callgrind", "--callgrind-out-file=" + out, PROGRAM],
+        input=text.encode(), stdout=subprocess.PIPE, stderr=subprocess.PIPE, check=True)
+    if b"error" in run.stdout:
+        sys.exit("a command was refused: " + run.stdout[run.stdout.index(b"error") - 20:][:80].decode())
+    with open(out) as profile:
+        for line in profile:
+            if line.startswith("summary:") or line.startswith("totals:"):
+                return int(line.split()[1])
+    sys.exit("no count")
+
+
+def main():
+    apart = False
+    with tempfile.TemporaryDirectory() as work:
+        for name, sides, scene, sizes in PAIRS:
+            if not all(word in name for word in sys.argv[1:]):
+                continue
+            counts = []
+            for size in sizes:
+                making, commands, count = scene(size)
+                counts.append((instructions(making + commands, work) - instructions(making, work)) / count)
+            is_apart = max(counts) > 1.1 * min(counts)
+            apart = apart or is_apart
+            print(f"{name}: {counts[0]:.0f} {sides[0]}, {counts[1]:.0f} {sides[1]}{': more than a tenth apart' if is_apart else ''}", flush=True)
+    sys.exit(apart)
+
+
+if __name__ == "__main__":
+    main()
