@@ -19,7 +19,7 @@ use Rattle.dom_model.proofs.Soundness.SoundNormalizing.{each_kinds, filter-passe
 use Rattle.dom_model.proofs.RangesAndContents.LiveRangesKept.{KeepsLive, remove_each-live, replace_data-live}
 use Rattle.dom_edit.specs.declared.world.World.{World}
 use Rattle.dom_edit.specs.Whole.{IsWhole, Keeps, Follows, unwatched}
-use Rattle.dom_edit.proofs.Following.{follows-none, follows-then, keeps-unwatched}
+use Rattle.dom_edit.proofs.Following.{follows-then, keeps-unwatched}
 use Rattle.dom_data.proofs.StaysWhole.{sound-unwatched}
 use Rattle.dom_ranges.specs.Tables.{range_in}
 use Rattle.dom_content.specs.Contained.{is_top, tops_in}
@@ -128,23 +128,11 @@ module _ (v0 : World) (h : IsWhole v0) (r : ℕ) (range : Range) (is : IsRange v
               (follows-then v0 v2 v3 (λ x. remove_each ns (cut_from range.start.node range.start.offset x)) (cut_up_to range.end.node range.end.offset)
               (follows-then v0 v1 v2 (cut_from range.start.node range.start.offset) (remove_each ns) f1 f2) f3) f4)
 
--- The cases of the definition.
+-- The case of the definition in which the ends stand apart.
 
 module _ (v : World) (r : ℕ) (range : Range) (e : range_in v.ranges r ≡ Some range) where
   abbrev in_one : Forest Content → Bool
   in_one g = (range.start.node == range.end.node) && kind_passes is_character_data g range.start.node
-
-  pub follows-collapsed : is_collapsed range ≡ true → Follows v v (delete_contents r)
-  follows-collapsed c = follows-alike v v (λ w. w) (delete_contents r) (λ w k. range-deleted v r range e w k ∙ (rw c refl)) (follows-none v)
-
-  pub follows-in_data : (new : World) → is_collapsed range ≡ false → in_one v.tree.forest ≡ true → Follows v new (replace_data range.start.node range.start.offset (range.end.offset - range.start.offset) []) → Follows v new (delete_contents r)
-  follows-in_data new c d f =
-      follows-alike v new (replace_data range.start.node range.start.offset (range.end.offset - range.start.offset) []) (delete_contents r)
-      (λ w k.
-      let d2 : is_in_one_data w range ≡ true = ap in_one k.forest ∙ d in
-      range-deleted v r range e w k
-      ∙ ap (λ b. if b then w else if is_in_one_data w range then replace_data range.start.node range.start.offset (range.end.offset - range.start.offset) [] w else deleted_between r range w) c
-      ∙ ap (λ b. if b then replace_data range.start.node range.start.offset (range.end.offset - range.start.offset) [] w else deleted_between r range w) d2) f
 
   pub follows-between : (new : World) → is_collapsed range ≡ false → in_one v.tree.forest ≡ false → Follows v new (deleted_between r range) → Follows v new (delete_contents r)
   follows-between new c d f =

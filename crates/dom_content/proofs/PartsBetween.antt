@@ -37,10 +37,10 @@ less-false i j h =
     (λ (le : i ≤ j). let e : i ≡ j = omega arith in rw (e, nat_cmp-same j) refl)
     (cases_lt j i)
 
-less-true : (i j : ℕ) → i < j → is_less (nat_cmp i j) ≡ true
+pub less-true : (i j : ℕ) → i < j → is_less (nat_cmp i j) ≡ true
 less-true i j h = rw (nat_cmp-less i j h) refl
 
-from-less : (i j : ℕ) → is_less (nat_cmp i j) ≡ true → i < j
+pub from-less : (i j : ℕ) → is_less (nat_cmp i j) ≡ true → i < j
 from-less i j h = ⊎_elim (λ (lt : i < j). lt) (λ (le : j ≤ i). absurd (false≢true (sym (less-false i j le) ∙ h))) (cases_lt i j)
 
 from-not_less : (i j : ℕ) → is_less (nat_cmp i j) ≡ false → j ≤ i
@@ -75,13 +75,13 @@ few-hits n [] = omega arith
 few-hits n (m ∷ ns) = elim (same_or m n) [ same e t ↦ rw t (let i = few-hits n ns in omega arith) | apart ne t ↦ rw t (let i = few-hits n ns in omega arith) ]
 
 -- a list up to a number, and from it on
-record IsSplit (n : ℕ) (ns : List ℕ) : Type 0 where
-  pre : List ℕ
-  rest : List ℕ
-  whole : ns ≡ pre ++ n ∷ rest
-  from : from_first n ns ≡ n ∷ rest
+pub record IsSplit (n : ℕ) (ns : List ℕ) : Type 0 where
+  pub pre : List ℕ
+  pub rest : List ℕ
+  pub whole : ns ≡ pre ++ n ∷ rest
+  pub from : from_first n ns ≡ n ∷ rest
 
-split : (n : ℕ) (ns : List ℕ) → 0 < hits n ns → IsSplit n ns
+pub split : (n : ℕ) (ns : List ℕ) → 0 < hits n ns → IsSplit n ns
 split n [] h = absurd (omega arith)
 split n (x ∷ xs) h =
     elim (same_or x n) [
@@ -128,10 +128,10 @@ module _ (g : Grove Content) (s : IsForest g) (range : Range) (is : IsRange g.fo
   end-rooted : root_of g.forest range.end.node ≡ Some root
   end-rooted = sym is.one_root ∙ rooted
 
-  place : (p : Point) → root_of g.forest p.node ≡ Some root → p.offset ≤ node_length unit_count g.forest p.node → (k : ℕ) × (ahead p ≡ Some k)
+  pub place : (p : Point) → root_of g.forest p.node ≡ Some root → p.offset ≤ node_length unit_count g.forest p.node → (k : ℕ) × (ahead p ≡ Some k)
   place p r l = gap-found g.forest s.once s.kinds root p r l
 
-  order-is : (p q : Point) (i j : ℕ) → root_of g.forest p.node ≡ Some root → root_of g.forest q.node ≡ Some root → p.offset ≤ node_length unit_count g.forest p.node → q.offset ≤ node_length unit_count g.forest q.node → ahead p ≡ Some i → ahead q ≡ Some j → order_of g.forest p q ≡ nat_cmp i j
+  pub order-is : (p q : Point) (i j : ℕ) → root_of g.forest p.node ≡ Some root → root_of g.forest q.node ≡ Some root → p.offset ≤ node_length unit_count g.forest p.node → q.offset ≤ node_length unit_count g.forest q.node → ahead p ≡ Some i → ahead q ≡ Some j → order_of g.forest p q ≡ nat_cmp i j
   order-is p q i j rp rq lp lq hp hq =
       let o = gaps-in_order g.forest s.once s.kinds root p q rp rq lp lq in
       let e : gap_order p q (root_text g.forest root) ≡ Some (nat_cmp i j) = rw (hp, hq) refl in
@@ -175,12 +175,12 @@ module _ (g : Grove Content) (s : IsForest g) (range : Range) (is : IsRange g.fo
       ]
 
   -- what is contained is of the root, behind the start and ahead of the end
-  record IsInside (x : ℕ) : Type 0 where
-    of_root : root_of g.forest x ≡ Some root
-    starts : is_before g.forest range.start (front x) ≡ true
-    ends : is_before g.forest (record { node = x; offset = node_length unit_count g.forest x }) range.end ≡ true
+  pub record IsInside (x : ℕ) : Type 0 where
+    pub of_root : root_of g.forest x ≡ Some root
+    pub starts : is_before g.forest range.start (front x) ≡ true
+    pub ends : is_before g.forest (record { node = x; offset = node_length unit_count g.forest x }) range.end ≡ true
 
-  inside-of : (x : ℕ) → is_contained unit_count g.forest range x ≡ true → IsInside x
+  pub inside-of : (x : ℕ) → is_contained unit_count g.forest range x ≡ true → IsInside x
   inside-of x h =
       let a = and-both (is_same (root_of g.forest x) (root_of g.forest range.start.node)) _ h in
       let b = and-both (is_before g.forest range.start (front x)) _ a.1 in

@@ -1,6 +1,7 @@
 -- The nodes that a range contains, and those of them that no other contained node holds. DOM Standard, "Interface Range".
-use Rattle.std.specs.Prelude.{ℕ, Bool, not, ◌&&◌, if◌then◌else◌, List, [], ◌∷◌, filter}
-use Rattle.dom_model.specs.Forests.Forest.{Forest, parent_of, numbers}
+use Rattle.std.specs.Prelude.{ℕ, Bool, not, ◌&&◌, if◌then◌else◌, List, [], ◌∷◌, filter, Option, Some}
+use Rattle.dom_model.specs.PlainLists.Lists.{last_of}
+use Rattle.dom_model.specs.Forests.Forest.{Forest, parent_of, numbers, inclusive_descendants}
 use Rattle.dom_model.specs.Forests.Lengths.{unit_count}
 use Rattle.dom_model.specs.Worlds.World.{Content, Range}
 use Rattle.dom_model.specs.MutationAlgorithms.Checks.{if_given}
@@ -13,6 +14,10 @@ is_top f r n = is_contained unit_count f r n && not (if_given (is_contained unit
 -- such a node; nothing of another
 abbrev pub if_top : Forest Content → Range → ℕ → List ℕ
 if_top f r n = if is_top f r n then n ∷ [] else []
+
+-- the last node inside such a node; of another the node itself
+abbrev pub last_passed : Forest Content → Range → ℕ → Option ℕ
+last_passed f r n = if is_top f r n then last_of (inclusive_descendants f n) else Some n
 
 -- all of them, in tree order
 abbrev pub tops_in : Forest Content → Range → List ℕ

@@ -1,11 +1,11 @@
 //! The nodes that a range contains (DOM Standard, "Interface Range", "contained").
 
-ghost use Rattle.std.specs.Prelude.{◌≡◌, ◌++◌, false, IfOk, OnOk};
+ghost use Rattle.std.specs.Prelude.{◌≡◌, ◌++◌, false, Some, IfOk, OnOk};
 ghost use Rattle.dom_model.specs.Forests.Forest.{HasNode, root_of};
 ghost use Rattle.dom_model.specs.Forests.Lengths.{unit_count};
 ghost use Rattle.dom_model.specs.Worlds.Sound.{IsRange};
 ghost use Rattle.dom_model.specs.RangesAndContents.Ranges.{is_before as comes_before, is_contained as has_contained};
-ghost use Rattle.dom_content.specs.Contained.{is_top as stands_on_top, if_top, tops_in};
+ghost use Rattle.dom_content.specs.Contained.{is_top as stands_on_top, if_top, last_passed, tops_in};
 
 use dom_edit::Content;
 use dom_point::{Point, order};
@@ -58,24 +58,26 @@ fn is_top(tree: &Tree<Content>, start: Point, end: Point, node: NodeId) -> bool
     }
 }
 
-// Puts a node last in a list, where it is contained in a range of its root and its parent is not.
+// Puts a node last in a list, where it is contained in a range of its root and its parent is not. It answers the node behind which the next one is
+// to be looked for: what is inside a contained node need not be.
 fn append_top(
     tree: &Tree<Content>,
     start: Point,
     end: Point,
     node: NodeId,
     tops: &mut Vec<NodeId>,
-) -> Result<(), AllocError>
+) -> Result<NodeId, AllocError>
     requires held { HasNode tree.now.forest node }
     requires range { IsRange tree.now.forest (record { start = start; end = end }) }
     requires one_root { root_of tree.now.forest node ≡ root_of tree.now.forest start.node }
-    ensures { OnOk result (tops.new.items ≡ tops.old.items ++ if_top tree.now.forest (record { start = start; end = end }) node) }
+    ensures tops { OnOk result (tops.new.items ≡ tops.old.items ++ if_top tree.now.forest (record { start = start; end = end }) node) }
+    ensures last { IfOk result (λ last. last_passed tree.now.forest (record { start = start; end = end }) node ≡ Some last) }
 {
     if !is_top(tree, start, end, node) {
-        return Ok(());
+        return Ok(node);
     }
     tops.push(node)?;
-    Ok(())
+    Ok(tree.last_inside(node))
 }
 
 // The last node in tree order whose front does not come after a point: the point's node, or the last node inside the child ahead of the point.
@@ -96,8 +98,8 @@ pub(crate) fn last_ahead(tree: &Tree<Content>, point: Point) -> NodeId
     }
 }
 
-// The nodes that a range contains without containing their parents, in tree order. It walks from the start on, up to the first node that does
-// not come before the end.
+// The nodes that a range contains without containing their parents, in tree order. It walks from the start on, past what is inside such a node,
+// up to the first node that does not come before the end.
 pub(crate) fn contained_tops(
     tree: &Tree<Content>,
     alloc: Global,
@@ -119,8 +121,7 @@ pub(crate) fn contained_tops(
         if !is_before(tree, front, end) {
             return Ok(tops);
         }
-        append_top(tree, start, end, next, &mut tops)?;
-        here = next;
+        here = append_top(tree, start, end, next, &mut tops)?;
     }
     Ok(tops)
 }

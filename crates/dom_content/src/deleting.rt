@@ -89,7 +89,7 @@ pub(crate) fn new_place(tree: &Tree<Content>, start: Point, end: Point) -> Point
     }
 }
 
-// Sets both ends of a range to one point. A point within its node is not refused, so that no memory is wanting there.
+// Sets both ends of a range to one point. A point past the end of its node would be refused, as want of memory; no caller gives one.
 pub(crate) fn stand_at(world: &mut World, range: RangeId, place: Point) -> Result<(), AllocError>
     requires whole { IsWhole world.old }
     requires live { IsSome (range_in world.old.ranges range) }

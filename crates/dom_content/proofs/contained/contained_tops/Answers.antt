@@ -2,9 +2,9 @@
 use Rattle.std.proofs.Common.{sym, ap, ◌∙◌, subst, []}
 use Rattle.dom_model.specs.Forests.Forest.{root_of, numbers}
 use Rattle.dom_model.specs.Worlds.World.{Point, Range}
-use Rattle.dom_ranges.proofs.Inside.{smaller}
 use Rattle.dom_content.specs.Contained.{if_top}
-use Rattle.dom_content.proofs.PartsBetween.{IsTold, told-start, told-next, told-stop, told-end, walk-at, next-of}
+use Rattle.dom_content.proofs.PartsBetween.{IsTold, told-start, told-stop, told-end, walk-at, next-of}
+use Rattle.dom_content.proofs.ContainedInside.{passed-fewer, told-passed}
 use Rattle.dom_content.proofs.ContainedTops.{tops-contained, tops-filtered}
 use Rattle.dom_content.proofs.contained.contained_tops.Goals as goal
 
@@ -65,14 +65,20 @@ append_top-requires-clause-one_root c =
     ∙ sym t.rooted
 
 pub loop-next-smaller : goal.loop-next-smaller
-loop-next-smaller c = smaller c.args.tree.now c.sound.ensures c.root-root.result c.loop-next.here c.in-Some.next (sym c.next_inside.ensures ∙ c.in-Some.is)
+loop-next-smaller c =
+    let g = c.args.tree.now in
+    let r : Range = record { start = c.args.start; end = c.args.end } in
+    let t = c.loop-next.invariant in
+    passed-fewer g c.sound.ensures r c.requires.range c.root-root.result t.rooted [] c.loop-next.here c.in-Some.next c.in_ok-here.here c.loop-next.tops.items c.append_top.new.tops.items t (sym c.next_inside.ensures ∙ c.in-Some.is)
+    c.in_ok-here.ensures.last
 
 pub loop-next-preserved : goal.loop-next-preserved
 loop-next-preserved c =
     let g = c.args.tree.now in
     let r : Range = record { start = c.args.start; end = c.args.end } in
     let t = c.loop-next.invariant in
-    told-next g c.sound.ensures r c.requires.range c.root-root.result t.rooted (if_top g.forest r) (tops-contained g r) [] c.loop-next.here c.in-Some.next c.loop-next.tops.items c.append_top.new.tops.items t (sym c.next_inside.ensures ∙ c.in-Some.is) c.in_ok-append_top.ensures
+    told-passed g c.sound.ensures r c.requires.range c.root-root.result t.rooted [] c.loop-next.here c.in-Some.next c.in_ok-here.here c.loop-next.tops.items c.append_top.new.tops.items t (sym c.next_inside.ensures ∙ c.in-Some.is)
+    c.in_ok-here.ensures.last c.in_ok-here.ensures.tops
 
 pub returns : goal.returns
 returns c =
