@@ -3,6 +3,8 @@
 
 mod deleting;
 mod drawing;
+mod paths;
+mod pieces;
 mod texts;
 
 pub use deleting::delete_contents;
