@@ -57,7 +57,7 @@ if-grows true w u v g h = g
 if-grows false w u v g h = h
 
 -- the tail takes at least what its first node takes
-tail-grows : (moves : Bool) (into offset : ℕ) (path : List ℕ) (w : model.World) → w.made ≤ (tail_into moves into offset path w).made
+pub tail-grows : (moves : Bool) (into offset : ℕ) (path : List ℕ) (w : model.World) → w.made ≤ (tail_into moves into offset path w).made
 tail-grows moves into offset [] w = omega arith
 tail-grows moves into offset (n ∷ []) w =
     if-grows (kind_passes is_character_data w.forest n) w _ _

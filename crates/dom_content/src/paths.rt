@@ -285,6 +285,31 @@ fn copy_into(
     Ok(())
 }
 
+// Opens a node on the path; the children behind the next one are left for later.
+fn open_tail(
+    world: &mut World,
+    alloc: Global,
+    into: NodeId,
+    node: NodeId,
+    next: NodeId,
+) -> Result<Partial, AllocError>
+    requires whole { IsWhole world.old }
+    requires into_held { HasNode world.old.tree.forest into }
+    requires held { HasNode world.old.tree.forest node }
+    requires room { HasRoom world.old (opened into node) }
+    ensures copy { IfOk result (λ p. p.copy ≡ world.old.tree.made) }
+    ensures inner { IfOk result (λ p. (w : model.World) → Keeps world.old w → p.inner ≡ inner_of into node w) }
+    ensures children { IfOk result (λ p. p.children.items ≡ past next (children_of world.old.tree.forest node)) }
+    ensures opened { OnOk result (Follows world.old world.new (opened into node)) }
+    ensures unfinished { IfOk result (λ p. IsUnfinished world.new.tree.forest p) }
+    ensures still_held { OnOk result (StillHeld world.old world.new) }
+    ensures whole { IsWhole world.new }
+{
+    let behind = children_past(&world.tree, alloc, node, next)?;
+    let partial = open_partial(world, alloc, into, node, behind)?;
+    Ok(partial)
+}
+
 // Puts what lies behind an offset of a node into a fragment.
 fn tail_of_last(
     world: &mut World,
@@ -343,31 +368,6 @@ fn tail_along(
     tail_of_last(world, alloc, moves, here, offset, node)?;
     close_all(world, alloc, moves, partials)?;
     Ok(())
-}
-
-// Opens a node on the path; the children behind the next one are left for later.
-fn open_tail(
-    world: &mut World,
-    alloc: Global,
-    into: NodeId,
-    node: NodeId,
-    next: NodeId,
-) -> Result<Partial, AllocError>
-    requires whole { IsWhole world.old }
-    requires into_held { HasNode world.old.tree.forest into }
-    requires held { HasNode world.old.tree.forest node }
-    requires room { HasRoom world.old (opened into node) }
-    ensures copy { IfOk result (λ p. p.copy ≡ world.old.tree.made) }
-    ensures inner { IfOk result (λ p. (w : model.World) → Keeps world.old w → p.inner ≡ inner_of into node w) }
-    ensures children { IfOk result (λ p. p.children.items ≡ past next (children_of world.old.tree.forest node)) }
-    ensures opened { OnOk result (Follows world.old world.new (opened into node)) }
-    ensures unfinished { IfOk result (λ p. IsUnfinished world.new.tree.forest p) }
-    ensures still_held { OnOk result (StillHeld world.old world.new) }
-    ensures whole { IsWhole world.new }
-{
-    let behind = children_past(&world.tree, alloc, node, next)?;
-    let partial = open_partial(world, alloc, into, node, behind)?;
-    Ok(partial)
 }
 
 // Puts what lies from an offset of the path's last node to the end of its first into a fragment.
