@@ -4,6 +4,8 @@
 mod contained;
 mod deleting;
 mod drawing;
+mod paths;
+mod pieces;
 mod texts;
 
 pub use deleting::delete_contents;
