@@ -1,18 +1,66 @@
 //! The pieces of contents that go into a fragment: units of a node, and children, moved or copied (DOM Standard, "Interface Range").
 
-ghost use Rattle.std.specs.Prelude.{◌≡◌, true, IfOk, OnOk};
-ghost use Rattle.dom_model.specs.declared.Kind.TheVariants.{Document};
-ghost use Rattle.dom_model.specs.Forests.Forest.{HasNode};
+ghost use Rattle.std.specs.Prelude.{◌≡◌, ◌<◌, [], true, IfSome, IfOk, OnOk};
+ghost use Rattle.dom_model.specs.declared.Kind.TheVariants.{Document, DocumentFragment};
+ghost use Rattle.dom_model.specs.Worlds.World.{no_content};
+ghost use Rattle.dom_model.specs.Commands.Making.{made_node, named};
+ghost use Rattle.dom_model.proofs.Worlds.Owners.{HasOwners};
+ghost use Rattle.dom_model.specs.Forests.Forest.{HasNode, entry_in};
 ghost use Rattle.dom_model.specs.Forests.Kinds.{is_character_data};
+ghost use Rattle.dom_model.specs.Forests.Texts.{substring};
 ghost use Rattle.dom_model.specs.MutationAlgorithms.Checks.{is_of_kind, kind_passes};
-ghost use Rattle.dom_model.specs.RangesAndContents.Contents.{new_fragment, units_into, child_into, children_into};
+ghost use Rattle.dom_model.specs.MutationAlgorithms.Editing.{append};
+ghost use Rattle.dom_model.specs.DataAndCopies.Data.{content_in};
+ghost use Rattle.dom_model.specs.DataAndCopies.Clones.{clone_node};
+ghost use Rattle.dom_model.specs.RangesAndContents.Contents.{new_fragment, clone_with, cut_if, units_into, child_into, children_into};
 ghost use Rattle.dom_edit.specs.Inserting.{AreThere};
 ghost use Rattle.dom_edit.specs.Whole.{IsWhole, Follows};
-ghost use Rattle.dom_content.specs.Paths.{HasRoom, StillHeld};
+ghost use Rattle.dom_content.specs.Paths.{HasRoom, StillHeld, KindsStay};
 
-use dom_edit::World;
-use dom_tree::NodeId;
+use dom_attrs::Attrs;
+use dom_clone::clone_node;
+use dom_data::replace_data;
+use dom_edit::{Content, World};
+use dom_kinds::{Kind, Label};
+use dom_tree::{NodeId, Tree};
+use dom_units::Units;
 use std::alloc::{AllocError, Global};
+
+// The node document of a node.
+pub(crate) fn document_in(tree: &Tree<Content>, node: NodeId) -> NodeId
+    requires held { HasNode tree.now.forest node }
+    requires owners { HasOwners tree.now.forest }
+    ensures document { IfSome (entry_in tree.now.forest node) (λ e. result ≡ e.value.document) }
+    ensures kind { is_of_kind Document tree.now.forest result ≡ true }
+{
+    tree.document_of(node)
+}
+
+// Makes a node of the kind of fragments.
+fn make_fragment(
+    world: &mut World,
+    alloc: Global,
+    document: NodeId,
+) -> Result<NodeId, AllocError>
+    requires whole { IsWhole world.old }
+    requires document_kind { is_of_kind Document world.old.tree.forest document ≡ true }
+    requires room { world.old.tree.made < 4294967295 }
+    ensures number { IfOk result (λ id. id ≡ world.old.tree.made) }
+    ensures made { OnOk result (Follows world.old world.new (made_node document (named DocumentFragment []) no_content)) }
+    ensures whole { IsWhole world.new }
+{
+    let label = Label {
+        kind: Kind::DocumentFragment,
+        name: String::new(alloc),
+        public_id: String::new(alloc),
+        system_id: String::new(alloc),
+    };
+    let content = Content {
+        text: Units::new(alloc),
+        attrs: Attrs::new(alloc),
+    };
+    world.make(alloc, label, content, Some(document))
+}
 
 // Makes a fragment without children in a document. Its number is the next one.
 pub(crate) fn new_fragment(
@@ -29,8 +77,134 @@ pub(crate) fn new_fragment(
     ensures still_held { OnOk result (StillHeld world.old world.new) }
     ensures whole { IsWhole world.new }
 {
-    let _ = (alloc, document);
-    Err(AllocError)
+    let fragment = make_fragment(world, alloc, document)?;
+    Ok(fragment)
+}
+
+// Puts a node last under a parent. Here the parent is a fragment or a copy that may have it, so that only memory can be wanting.
+pub(crate) fn put_last(
+    world: &mut World,
+    alloc: Global,
+    parent: NodeId,
+    node: NodeId,
+) -> Result<(), AllocError>
+    requires whole { IsWhole world.old }
+    requires parent_held { HasNode world.old.tree.forest parent }
+    requires held { HasNode world.old.tree.forest node }
+    ensures appended { OnOk result (Follows world.old world.new (append node parent)) }
+    ensures still_held { OnOk result (StillHeld world.old world.new) }
+    ensures kinds { OnOk result (KindsStay world.old world.new) }
+    ensures whole { IsWhole world.new }
+{
+    match world.append(alloc, parent, node) {
+        Ok(()) => Ok(()),
+        Err(_) => Err(AllocError),
+    }
+}
+
+// Copies a node, with its descendants where the copy is deep. Its number is the next one.
+pub(crate) fn copy_of(
+    world: &mut World,
+    alloc: Global,
+    node: NodeId,
+    deep: bool,
+) -> Result<NodeId, AllocError>
+    requires whole { IsWhole world.old }
+    requires held { HasNode world.old.tree.forest node }
+    requires room { HasRoom world.old (clone_node deep node) }
+    ensures number { IfOk result (λ id. id ≡ world.old.tree.made) }
+    ensures copied { OnOk result (Follows world.old world.new (clone_node deep node)) }
+    ensures copy_held { OnOk result (HasNode world.new.tree.forest world.old.tree.made) }
+    ensures still_held { OnOk result (StillHeld world.old world.new) }
+    ensures whole { IsWhole world.new }
+{
+    let copy = clone_node(world, alloc, node, deep)?;
+    Ok(copy)
+}
+
+// A part of a node's data. It lies within the data, so that only memory can be wanting.
+fn part_of(
+    tree: &Tree<Content>,
+    alloc: Global,
+    node: NodeId,
+    offset: usize,
+    count: usize,
+) -> Result<Units, AllocError>
+    requires held { HasNode tree.now.forest node }
+    ensures { IfOk result (λ units. units ≡ substring offset count (content_in (entry_in tree.now.forest node)).text) }
+{
+    let data = &tree.body(node).text;
+    let length = data.len();
+    if offset > length || count > length - offset {
+        return Err(AllocError);
+    }
+    Units::from_units(alloc, data.slice(offset, count))
+}
+
+// Makes a node of the label and the attributes of another, with data of its own.
+fn make_copy(
+    world: &mut World,
+    alloc: Global,
+    node: NodeId,
+    units: Units,
+) -> Result<NodeId, AllocError>
+    requires whole { IsWhole world.old }
+    requires held { HasNode world.old.tree.forest node }
+    requires room { world.old.tree.made < 4294967295 }
+    ensures number { IfOk result (λ id. id ≡ world.old.tree.made) }
+    ensures copied { IfSome (entry_in world.old.tree.forest node) (λ e. OnOk result (Follows world.old world.new (made_node e.value.document e.value.label (record { text = units; attributes = e.value.body.attributes })))) }
+    ensures whole { IsWhole world.new }
+{
+    let label = world.tree.label(node).try_clone(alloc)?;
+    let attrs = world.tree.body(node).attrs.try_clone(alloc)?;
+    let document = document_in(&world.tree, node);
+    let content = Content { text: units, attrs };
+    world.make(alloc, label, content, Some(document))
+}
+
+// Copies a node with other data. Its number is the next one.
+fn copy_with(
+    world: &mut World,
+    alloc: Global,
+    node: NodeId,
+    units: Units,
+) -> Result<NodeId, AllocError>
+    requires whole { IsWhole world.old }
+    requires held { HasNode world.old.tree.forest node }
+    requires room { HasRoom world.old (clone_with units node) }
+    ensures number { IfOk result (λ id. id ≡ world.old.tree.made) }
+    ensures copied { OnOk result (Follows world.old world.new (clone_with units node)) }
+    ensures copy_held { OnOk result (HasNode world.new.tree.forest world.old.tree.made) }
+    ensures still_held { OnOk result (StillHeld world.old world.new) }
+    ensures kinds { OnOk result (KindsStay world.old world.new) }
+    ensures whole { IsWhole world.new }
+{
+    let copy = make_copy(world, alloc, node, units)?;
+    Ok(copy)
+}
+
+// Takes units of a node's data out, where the contents move. The offset is within, so that only memory can be wanting.
+fn cut_if(
+    world: &mut World,
+    alloc: Global,
+    moves: bool,
+    node: NodeId,
+    offset: usize,
+    count: usize,
+) -> Result<(), AllocError>
+    requires whole { IsWhole world.old }
+    requires kind { kind_passes is_character_data world.old.tree.forest node ≡ true }
+    ensures cut { OnOk result (Follows world.old world.new (cut_if moves node offset count)) }
+    ensures still_held { OnOk result (StillHeld world.old world.new) }
+    ensures whole { IsWhole world.new }
+{
+    if !moves {
+        return Ok(());
+    }
+    match replace_data(world, alloc, node, offset, count, &[]) {
+        Ok(()) => Ok(()),
+        Err(_) => Err(AllocError),
+    }
 }
 
 // Puts a copy of a node with data into a fragment, with `count` of its units from `offset` on; where the contents move, they are cut.
@@ -51,8 +225,11 @@ pub(crate) fn units_into(
     ensures still_held { OnOk result (StillHeld world.old world.new) }
     ensures whole { IsWhole world.new }
 {
-    let _ = (alloc, moves, into, node, offset, count);
-    Err(AllocError)
+    let units = part_of(&world.tree, alloc, node, offset, count)?;
+    let copy = copy_with(world, alloc, node, units)?;
+    put_last(world, alloc, into, copy)?;
+    cut_if(world, alloc, moves, node, offset, count)?;
+    Ok(())
 }
 
 // Puts a node last into a fragment or, where the contents do not move, a copy of it with its descendants.
@@ -71,8 +248,12 @@ pub(crate) fn child_into(
     ensures still_held { OnOk result (StillHeld world.old world.new) }
     ensures whole { IsWhole world.new }
 {
-    let _ = (alloc, moves, into, node);
-    Err(AllocError)
+    if moves {
+        return put_last(world, alloc, into, node);
+    }
+    let copy = copy_of(world, alloc, node, true)?;
+    put_last(world, alloc, into, copy)?;
+    Ok(())
 }
 
 // The same of each of these nodes in turn.
@@ -91,6 +272,8 @@ pub(crate) fn children_into(
     ensures still_held { OnOk result (StillHeld world.old world.new) }
     ensures whole { IsWhole world.new }
 {
-    let _ = (alloc, moves, into, nodes.len());
-    Err(AllocError)
+    for node in nodes {
+        child_into(world, alloc, moves, into, *node)?;
+    }
+    Ok(())
 }

@@ -1,0 +1,6 @@
+-- A cut keeps all nodes.
+use Rattle.dom_content.proofs.PieceSteps.{still-cut}
+use Rattle.dom_content.proofs.pieces.cut_if.Goals as goal
+
+pub returns-in-Ok-clause-still_held : goal.returns-in-Ok-clause-still_held
+returns-in-Ok-clause-still_held c = still-cut c.args.world.now c.replace_data.new.world c.args.node c.args.offset c.args.count c.in-Ok.ensures.replaced
