@@ -98,10 +98,6 @@ pub place-as : (f : Forest Content) (p q a b : Point) → a ≡ p → b ≡ q �
 place-as f p q a b i j = ap (λ (x : Point). new_place f (record { start = x; end = b })) i ∙ ap (λ (y : Point). new_place f (record { start = p; end = y })) j
 
 module _ (g : Grove Content) (s : IsForest g) (r : Range) (is : IsRange g.forest r) where
-  -- at the start
-  pub place-at_start : among r.start.node (ancestors r.end.node g.forest) ≡ true → new_place g.forest r ≡ r.start
-  place-at_start e = rw e refl
-
   module _ (out : among r.start.node (ancestors r.end.node g.forest) ≡ false) where
     abbrev other : List ℕ
     other = ancestors r.end.node g.forest

@@ -3,7 +3,7 @@ use Rattle.std.proofs.Common.{◌≡◌, ℕ, ◌-◌, ◌<◌, ◌≤◌, ◌==
 use Rattle.std.proofs.lemmas.Bool.{false≢true, cases_lt}
 use Rattle.dom_model.specs.declared.Kind.TheVariants.{Text}
 use Rattle.dom_model.specs.Forests.Arena.{Entry}
-use Rattle.dom_model.specs.Forests.Forest.{Node, Forest, numbers, entry_in}
+use Rattle.dom_model.specs.Forests.Forest.{Node, Forest, Grove, numbers, entry_in}
 use Rattle.dom_model.specs.Forests.Lengths.{node_length, unit_count}
 use Rattle.dom_model.specs.Worlds.World.{Content, Point, Range}
 use Rattle.dom_model.specs.Worlds.Sound.{IsRange, IsBoundary}
@@ -22,6 +22,15 @@ use Rattle.dom_edit.specs.declared.world.World.{World}
 use Rattle.dom_edit.specs.Whole.{IsWhole, unwatched}
 use Rattle.dom_data.proofs.StaysWhole.{sound-unwatched}
 use Rattle.dom_content.specs.Texts.{part_of, text_within, texts_within}
+use Rattle.dom_content.proofs.PartsBetween.{TellsContained}
+
+and-last : (a : Bool) → (a && false) ≡ false
+and-last true = refl
+and-last false = refl
+
+-- no text is told of a node that is not contained
+pub texts-contained : (g : Grove Content) (r : Range) → TellsContained g r (text_within g.forest r)
+texts-contained g r = λ n e. rw (e, and-last (is_of_kind Text g.forest n)) refl
 
 pub range-held : (v : World) → IsWhole v → (r : ℕ) (range : Range) → range_in v.ranges r ≡ Some range → IsRange v.tree.forest range
 range-held v h r range e = sound-range (unwatched v) r range (sound-unwatched v h) e

@@ -1,17 +1,18 @@
 //! Contents that are deleted (DOM Standard, "Interface Range", deleteContents).
 
-ghost use Rattle.std.specs.Prelude.{◌≡◌, ◌==◌, [], true, false, Some, OnOk, IsSome};
-ghost use Rattle.dom_model.specs.PlainLists.Lists.{among};
+ghost use Rattle.std.specs.Prelude.{◌≡◌, ℕ, ◌<◌, ◌≤◌, ◌==◌, ◌&&◌, [], length, true, false, Some, OnOk, IsSome};
+ghost use Rattle.dom_model.specs.PlainLists.Lists.{hits, among};
 ghost use Rattle.dom_model.specs.Forests.Forest.{HasNode, parent_of, ancestors};
 ghost use Rattle.dom_model.specs.Worlds.Sound.{IsRange};
 ghost use Rattle.dom_model.specs.Forests.Kinds.{is_character_data};
 ghost use Rattle.dom_model.specs.MutationAlgorithms.Checks.{kind_passes};
-ghost use Rattle.dom_model.specs.DataAndCopies.Data.{replace_data};
+ghost use Rattle.dom_model.specs.DataAndCopies.Data.{data_of, replace_data, remove_each};
 ghost use Rattle.dom_model.specs.RangesAndContents.Ranges.{collapsed_at, with_range};
-ghost use Rattle.dom_model.specs.RangesAndContents.Contents.{new_place as place_left, delete_contents};
+ghost use Rattle.dom_model.specs.RangesAndContents.Contents.{is_in_one_data, cut_from, cut_up_to, new_place as place_left, deleted_between, delete_contents};
 ghost use Rattle.dom_ranges.specs.Tables.{range_in};
-ghost use Rattle.dom_edit.specs.Whole.{IsWhole, Follows};
+ghost use Rattle.dom_edit.specs.Whole.{IsWhole, Follows, unwatched};
 
+use crate::contained::contained_tops;
 use dom_data::replace_data;
 use dom_edit::{Content, World};
 use dom_kinds::Kind;
@@ -88,7 +89,7 @@ pub(crate) fn new_place(tree: &Tree<Content>, start: Point, end: Point) -> Point
     }
 }
 
-// Sets both ends of a range to one point. A point within its node is not refused, so that no memory is wanting there.
+// Sets both ends of a range to one point. A point past the end of its node would be refused, as want of memory; no caller gives one.
 pub(crate) fn stand_at(world: &mut World, range: RangeId, place: Point) -> Result<(), AllocError>
     requires whole { IsWhole world.old }
     requires live { IsSome (range_in world.old.ranges range) }
@@ -105,6 +106,79 @@ pub(crate) fn stand_at(world: &mut World, range: RangeId, place: Point) -> Resul
     }
 }
 
+// Takes the units of a node's data from a point on out, where the node has data.
+fn cut_from(world: &mut World, alloc: Global, start: Point) -> Result<(), AllocError>
+    requires whole { IsWhole world.old }
+    requires held { HasNode world.old.tree.forest start.node }
+    requires within { kind_passes is_character_data world.old.tree.forest start.node ≡ true → start.offset ≤ length (data_of (unwatched world.old) start.node) }
+    ensures cut { OnOk result (Follows world.old world.new (cut_from start.node start.offset)) }
+    ensures whole { IsWhole world.new }
+{
+    let Point { node, offset } = start;
+    if !has_data(&world.tree, node) {
+        return Ok(());
+    }
+    let length = world.tree.body(node).text.len();
+    cut_units(world, alloc, node, offset, length - offset)
+}
+
+// Takes the units of a node's data up to a point out, where the node has data.
+fn cut_up_to(world: &mut World, alloc: Global, end: Point) -> Result<(), AllocError>
+    requires whole { IsWhole world.old }
+    requires held { HasNode world.old.tree.forest end.node }
+    ensures cut { OnOk result (Follows world.old world.new (cut_up_to end.node end.offset)) }
+    ensures whole { IsWhole world.new }
+{
+    let Point { node, offset } = end;
+    if !has_data(&world.tree, node) {
+        return Ok(());
+    }
+    cut_units(world, alloc, node, 0, offset)
+}
+
+// Takes each of these nodes out of its parent in turn.
+fn remove_each(world: &mut World, alloc: Global, nodes: &[NodeId]) -> Result<(), AllocError>
+    requires whole { IsWhole world.old }
+    requires held { (n : ℕ) → 0 < hits n nodes.now → HasNode world.old.tree.forest n }
+    ensures removed { OnOk result (Follows world.old world.new (remove_each nodes.now)) }
+    ensures whole { IsWhole world.new }
+{
+    for node in nodes {
+        world.remove(alloc, *node)?;
+    }
+    Ok(())
+}
+
+// Deletes what lies in a range that is not within the data of one node.
+fn delete_between(
+    world: &mut World,
+    alloc: Global,
+    range: RangeId,
+    start: Point,
+    end: Point,
+) -> Result<(), AllocError>
+    requires whole { IsWhole world.old }
+    requires ends { range_in world.old.ranges range ≡ Some (record { start = start; end = end }) }
+    requires apart { is_in_one_data (unwatched world.old) (record { start = start; end = end }) ≡ false }
+    ensures deleted { OnOk result (Follows world.old world.new (deleted_between range (record { start = start; end = end }))) }
+    ensures whole { IsWhole world.new }
+{
+    let place = new_place(&world.tree, start, end);
+    let tops = contained_tops(&world.tree, alloc, start, end)?;
+    cut_from(world, alloc, start)?;
+    remove_each(world, alloc, &tops)?;
+    cut_up_to(world, alloc, end)?;
+    stand_at(world, range, place)
+}
+
+// Whether both points stand in one node that has data.
+fn is_in_one_data(tree: &Tree<Content>, start: Point, end: Point) -> bool
+    requires held { HasNode tree.now.forest start.node }
+    ensures { result ≡ ((start.node == end.node) && kind_passes is_character_data tree.now.forest start.node) }
+{
+    start.node == end.node && has_data(tree, start.node)
+}
+
 /// Deletes what lies in a live range; both its ends then stand where that was.
 pub fn delete_contents(world: &mut World, alloc: Global, range: RangeId) -> Result<(), AllocError>
     requires whole { IsWhole world.old }
@@ -113,12 +187,12 @@ pub fn delete_contents(world: &mut World, alloc: Global, range: RangeId) -> Resu
     ensures whole { IsWhole world.new }
 {
     let (start, end) = world.ranges.ends(range);
-    if start.node == end.node && start.offset == end.offset {
+    if start == end {
         return Ok(());
     }
-    if start.node == end.node && has_data(&world.tree, start.node) {
+    if is_in_one_data(&world.tree, start, end) {
         let count = end.offset - start.offset;
         return cut_units(world, alloc, start.node, start.offset, count);
     }
-    Err(AllocError)
+    delete_between(world, alloc, range, start, end)
 }

@@ -2,6 +2,7 @@
 #![tactic(auto)]
 
 mod children;
+mod contained;
 mod deleting;
 mod drawing;
 mod paths;

@@ -7,20 +7,19 @@ ghost use Rattle.dom_model.specs.Worlds.World.{Range};
 ghost use Rattle.dom_model.specs.Worlds.Sound.{IsRange};
 ghost use Rattle.dom_model.specs.MutationAlgorithms.Checks.{is_of_kind};
 ghost use Rattle.dom_model.specs.RangesAndContents.Contents.{range_text};
-ghost use Rattle.dom_model.specs.RangesAndContents.Ranges.{is_before as comes_before};
 ghost use Rattle.dom_model.specs.DataAndCopies.Data.{content_in};
 ghost use Rattle.dom_ranges.specs.Tables.{range_in};
 ghost use Rattle.dom_edit.specs.Whole.{IsWhole, unwatched};
 ghost use Rattle.dom_content.specs.Texts.{part_of, text_within, texts_within};
 
+use crate::contained::{is_before, is_contained, last_ahead};
 use dom_edit::{Content, World};
 use dom_kinds::Kind;
-use dom_point::{Point, order};
+use dom_point::Point;
 use dom_ranges::RangeId;
 use dom_tree::{NodeId, Tree};
 use dom_units::Units;
 use std::alloc::{AllocError, Global};
-use std::cmp::Ordering;
 
 // Whether a node is a Text.
 fn is_text(tree: &Tree<Content>, node: NodeId) -> bool
@@ -28,19 +27,6 @@ fn is_text(tree: &Tree<Content>, node: NodeId) -> bool
     ensures { result ≡ is_of_kind Text tree.now.forest node }
 {
     tree.label(node).kind == Kind::Text
-}
-
-// Whether the first of two points of one root comes before the second.
-fn is_before(tree: &Tree<Content>, a: Point, b: Point) -> bool
-    requires a_held { HasNode tree.now.forest a.node }
-    requires b_held { HasNode tree.now.forest b.node }
-    requires one_root { root_of tree.now.forest a.node ≡ root_of tree.now.forest b.node }
-    ensures { result ≡ comes_before tree.now.forest a b }
-{
-    match order(tree, a, b) {
-        Ordering::Less => true,
-        Ordering::Equal | Ordering::Greater => false,
-    }
 }
 
 // Puts a part of the data of a node behind a text, where the node is a Text.
@@ -83,30 +69,19 @@ fn append_contained(
     text: &mut Units,
 ) -> Result<(), AllocError>
     requires held { HasNode tree.now.forest node }
-    requires start_held { HasNode tree.now.forest start.node }
-    requires end_held { HasNode tree.now.forest end.node }
-    requires start_root { root_of tree.now.forest node ≡ root_of tree.now.forest start.node }
-    requires end_root { root_of tree.now.forest node ≡ root_of tree.now.forest end.node }
+    requires range { IsRange tree.now.forest (record { start = start; end = end }) }
+    requires one_root { root_of tree.now.forest node ≡ root_of tree.now.forest start.node }
     ensures { OnOk result (text.new ≡ text.old ++ text_within tree.now.forest (record { start = start; end = end }) node) }
 {
-    if !is_text(tree, node) {
-        return Ok(());
-    }
-    let data = &tree.body(node).text;
-    let front = Point { node, offset: 0 };
-    let back = Point {
-        node,
-        offset: data.len(),
-    };
-    if !is_before(tree, start, front) || !is_before(tree, back, end) {
+    if !is_text(tree, node) || !is_contained(tree, start, end, node) {
         return Ok(());
     }
     let length = text.len();
-    text.splice(length, 0, data.units())
+    text.splice(length, 0, tree.body(node).text.units())
 }
 
-// Puts the data of the Texts that are contained in a range behind a text. It walks from the start node on, up to the first node that does
-// not come before the end.
+// Puts the data of the Texts that are contained in a range behind a text. It walks from the start on, up to the first node that does not come
+// before the end.
 fn append_between(
     tree: &Tree<Content>,
     start: Point,
@@ -118,7 +93,7 @@ fn append_between(
 {
     tree.sound();
     let root = tree.root(start.node);
-    let mut here = start.node;
+    let mut here = last_ahead(tree, start);
     while let Some(next) = tree.next_inside(root, here) {
         let front = Point {
             node: next,

@@ -1,18 +1,17 @@
--- The Texts that are contained in a range lie behind its start node, up to the first node that does not come before its end.
--- DOM Standard, "Interface Range", stringification.
+-- The nodes that are contained in a range lie behind each node whose front does not come after its start, up to the first node that does
+-- not come before its end. So whatever is told of contained nodes alone is told by a walk between the two. DOM Standard, "Interface Range".
 use Rattle.std.proofs.Common.{◌≡◌, ℕ, zero, suc, ◌+◌, ◌<◌, ◌≤◌, Bool, true, false, ◌&&◌, List, [], ◌∷◌, ◌++◌, length, drop, flat_map, Option, Some, None, refl, ap, sym, ◌∙◌, subst, arith, append_assoc, append-nil, ⊎_elim}
 use Rattle.std.specs.Ordering.{nat_cmp}
 use Rattle.std.specs.declared.cmp.Ordering.TheVariants.{Equal, Greater}
 use Rattle.std.proofs.lemmas.Bool.{false≢true, cases_lt}
 use Rattle.std.proofs.lemmas.Grind.{flat_map-append}
-use Rattle.dom_model.specs.declared.Kind.TheVariants.{Text}
 use Rattle.dom_model.specs.PlainLists.Lists.{hits, after}
 use Rattle.dom_model.specs.Forests.Forest.{Grove, IsForest, HasNode, occurs, one_at, numbers, root_of, tree_at, inclusive_descendants}
 use Rattle.dom_model.specs.Forests.Lengths.{node_length, unit_count}
 use Rattle.dom_model.specs.Worlds.World.{Content, Point, Range}
 use Rattle.dom_model.specs.Worlds.Sound.{IsRange}
 use Rattle.dom_model.specs.BoundaryPoints.Points.{order_of}
-use Rattle.dom_model.specs.MutationAlgorithms.Checks.{is_same, is_of_kind}
+use Rattle.dom_model.specs.MutationAlgorithms.Checks.{is_same}
 use Rattle.dom_model.specs.RangesAndContents.Ranges.{is_less, is_before, is_contained}
 use Rattle.dom_model.specs.TokenText.Gaps.{root_text, tokens_ahead, gap_order}
 use Rattle.dom_model.proofs.PlainLists.Numbers.{same_or, same, apart}
@@ -29,20 +28,19 @@ use Rattle.dom_model.proofs.Forests.TreeOrder.Preceding.{order-step}
 use Rattle.dom_model.proofs.BoundaryPoints.PointOrder.{nat_cmp-same, nat_cmp-less, nat_cmp-greater, order-one_node}
 use Rattle.dom_model.proofs.TokenText.PointGaps.GapsInOrder.{gap-found, gaps-in_order}
 use Rattle.dom_ranges.proofs.Inside.{IsAt, rest-next, rest-end}
-use Rattle.dom_content.specs.Texts.{text_within, texts_within}
 use Rattle.dom_content.proofs.NodesInOrder.{ahead-after}
 
-less-false : (i j : ℕ) → j ≤ i → is_less (nat_cmp i j) ≡ false
+pub less-false : (i j : ℕ) → j ≤ i → is_less (nat_cmp i j) ≡ false
 less-false i j h =
     ⊎_elim
     (λ (lt : j < i). rw (nat_cmp-greater i j lt) refl)
     (λ (le : i ≤ j). let e : i ≡ j = omega arith in rw (e, nat_cmp-same j) refl)
     (cases_lt j i)
 
-less-true : (i j : ℕ) → i < j → is_less (nat_cmp i j) ≡ true
+pub less-true : (i j : ℕ) → i < j → is_less (nat_cmp i j) ≡ true
 less-true i j h = rw (nat_cmp-less i j h) refl
 
-from-less : (i j : ℕ) → is_less (nat_cmp i j) ≡ true → i < j
+pub from-less : (i j : ℕ) → is_less (nat_cmp i j) ≡ true → i < j
 from-less i j h = ⊎_elim (λ (lt : i < j). lt) (λ (le : j ≤ i). absurd (false≢true (sym (less-false i j le) ∙ h))) (cases_lt i j)
 
 from-not_less : (i j : ℕ) → is_less (nat_cmp i j) ≡ false → j ≤ i
@@ -63,14 +61,10 @@ from-offsets i j a b h e =
     (λ (le : i ≤ j). le)
     (cases_lt j i)
 
-and-both : (a b : Bool) → (a && b) ≡ true → (a ≡ true) × (b ≡ true)
+pub and-both : (a b : Bool) → (a && b) ≡ true → (a ≡ true) × (b ≡ true)
 and-both true true h = (refl, refl)
 and-both true false h = absurd (false≢true h)
 and-both false b h = absurd (false≢true h)
-
-and-last : (a : Bool) → (a && false) ≡ false
-and-last true = refl
-and-last false = refl
 
 same-some : (o : Option ℕ) (c : ℕ) → is_same o (Some c) ≡ true → o ≡ Some c
 same-some None c h = absurd (false≢true h)
@@ -81,13 +75,13 @@ few-hits n [] = omega arith
 few-hits n (m ∷ ns) = elim (same_or m n) [ same e t ↦ rw t (let i = few-hits n ns in omega arith) | apart ne t ↦ rw t (let i = few-hits n ns in omega arith) ]
 
 -- a list up to a number, and from it on
-record IsSplit (n : ℕ) (ns : List ℕ) : Type 0 where
-  pre : List ℕ
-  rest : List ℕ
-  whole : ns ≡ pre ++ n ∷ rest
-  from : from_first n ns ≡ n ∷ rest
+pub record IsSplit (n : ℕ) (ns : List ℕ) : Type 0 where
+  pub pre : List ℕ
+  pub rest : List ℕ
+  pub whole : ns ≡ pre ++ n ∷ rest
+  pub from : from_first n ns ≡ n ∷ rest
 
-split : (n : ℕ) (ns : List ℕ) → 0 < hits n ns → IsSplit n ns
+pub split : (n : ℕ) (ns : List ℕ) → 0 < hits n ns → IsSplit n ns
 split n [] h = absurd (omega arith)
 split n (x ∷ xs) h =
     elim (same_or x n) [
@@ -107,16 +101,18 @@ from-front x (y ∷ ys) rest h =
       | apart ne t ↦ (let k = rw t at h in rw t (from-front x ys rest (omega arith)))
     ]
 
--- the walk has come to a node, and the text has grown by what was contained up to it
-pub record IsTold (g : Grove Content) (range : Range) (root : ℕ) (before : List ℕ) (here : ℕ) (text : List ℕ) : Type 0 where
+-- the walk has come to a node, and the list has grown by what is told of the nodes up to it
+pub record IsTold (g : Grove Content) (range : Range) (part : ℕ → List ℕ) (root : ℕ) (before : List ℕ) (here : ℕ) (text : List ℕ) : Type 0 where
+  pub rooted : root_of g.forest range.start.node ≡ Some root
   pub there : HasNode g.forest here
   pub of_root : root_of g.forest here ≡ Some root
-  pub grown : before ++ texts_within g.forest range ≡ text ++ flat_map (text_within g.forest range) (drop 1 (from_first here (inclusive_descendants g.forest root)))
+  pub grown : before ++ flat_map part (numbers g.forest) ≡ text ++ flat_map part (drop 1 (from_first here (inclusive_descendants g.forest root)))
 
-pub rooted-by : (g : Grove Content) (n m root : ℕ) → n ≡ m → Some root ≡ root_of g.forest n → root_of g.forest m ≡ Some root
-rooted-by g n m root e h = ap (root_of g.forest) (sym e) ∙ sym h
+-- nothing is told of a node that is not contained
+abbrev pub TellsContained : Grove Content → Range → (ℕ → List ℕ) → Type 0
+TellsContained g range part = (n : ℕ) → is_contained unit_count g.forest range n ≡ false → part n ≡ []
 
-module _ (g : Grove Content) (s : IsForest g) (range : Range) (is : IsRange g.forest range) (root : ℕ) (rooted : root_of g.forest range.start.node ≡ Some root) where
+module _ (g : Grove Content) (s : IsForest g) (range : Range) (is : IsRange g.forest range) (root : ℕ) (rooted : root_of g.forest range.start.node ≡ Some root) (part : ℕ → List ℕ) (blank : TellsContained g range part) where
   abbrev pub all : List ℕ
   all = inclusive_descendants g.forest root
 
@@ -127,15 +123,15 @@ module _ (g : Grove Content) (s : IsForest g) (range : Range) (is : IsRange g.fo
   ahead p = tokens_ahead p [] (root_text g.forest root)
 
   abbrev pub told : List ℕ → List ℕ
-  told ns = flat_map (text_within g.forest range) ns
+  told ns = flat_map part ns
 
   end-rooted : root_of g.forest range.end.node ≡ Some root
   end-rooted = sym is.one_root ∙ rooted
 
-  place : (p : Point) → root_of g.forest p.node ≡ Some root → p.offset ≤ node_length unit_count g.forest p.node → (k : ℕ) × (ahead p ≡ Some k)
+  pub place : (p : Point) → root_of g.forest p.node ≡ Some root → p.offset ≤ node_length unit_count g.forest p.node → (k : ℕ) × (ahead p ≡ Some k)
   place p r l = gap-found g.forest s.once s.kinds root p r l
 
-  order-is : (p q : Point) (i j : ℕ) → root_of g.forest p.node ≡ Some root → root_of g.forest q.node ≡ Some root → p.offset ≤ node_length unit_count g.forest p.node → q.offset ≤ node_length unit_count g.forest q.node → ahead p ≡ Some i → ahead q ≡ Some j → order_of g.forest p q ≡ nat_cmp i j
+  pub order-is : (p q : Point) (i j : ℕ) → root_of g.forest p.node ≡ Some root → root_of g.forest q.node ≡ Some root → p.offset ≤ node_length unit_count g.forest p.node → q.offset ≤ node_length unit_count g.forest q.node → ahead p ≡ Some i → ahead q ≡ Some j → order_of g.forest p q ≡ nat_cmp i j
   order-is p q i j rp rq lp lq hp hq =
       let o = gaps-in_order g.forest s.once s.kinds root p q rp rq lp lq in
       let e : gap_order p q (root_text g.forest root) ≡ Some (nat_cmp i j) = rw (hp, hq) refl in
@@ -179,12 +175,12 @@ module _ (g : Grove Content) (s : IsForest g) (range : Range) (is : IsRange g.fo
       ]
 
   -- what is contained is of the root, behind the start and ahead of the end
-  record IsInside (x : ℕ) : Type 0 where
-    of_root : root_of g.forest x ≡ Some root
-    starts : is_before g.forest range.start (front x) ≡ true
-    ends : is_before g.forest (record { node = x; offset = node_length unit_count g.forest x }) range.end ≡ true
+  pub record IsInside (x : ℕ) : Type 0 where
+    pub of_root : root_of g.forest x ≡ Some root
+    pub starts : is_before g.forest range.start (front x) ≡ true
+    pub ends : is_before g.forest (record { node = x; offset = node_length unit_count g.forest x }) range.end ≡ true
 
-  inside-of : (x : ℕ) → is_contained unit_count g.forest range x ≡ true → IsInside x
+  pub inside-of : (x : ℕ) → is_contained unit_count g.forest range x ≡ true → IsInside x
   inside-of x h =
       let a = and-both (is_same (root_of g.forest x) (root_of g.forest range.start.node)) _ h in
       let b = and-both (is_before g.forest range.start (front x)) _ a.1 in
@@ -197,14 +193,14 @@ module _ (g : Grove Content) (s : IsForest g) (range : Range) (is : IsRange g.fo
       go true e = absurd (never (inside-of x e))
       go false e = e
 
-  none-ahead : (x : ℕ) → HasNode g.forest x → 0 < hits range.start.node (from_first x all) → IsInside x → ⊥
-  none-ahead x h o c =
+  -- nothing up to a node whose front does not come after the start
+  none-ahead : (here x : ℕ) → root_of g.forest here ≡ Some root → is_before g.forest range.start (front here) ≡ false → HasNode g.forest x → 0 < hits here (from_first x all) → IsInside x → ⊥
+  none-ahead here x r early h o c =
       let i = place (front x) c.of_root (omega arith) in
-      let j = place (front range.start.node) rooted (omega arith) in
+      let j = place (front here) r (omega arith) in
       let a = place range.start rooted is.starts.within in
-      let l = later (length (from_first x all)) x range.start.node i.0 j.0 (omega arith) h c.of_root o i.1 j.1 in
-      let e = sym (order-is (front range.start.node) range.start j.0 a.0 rooted rooted (omega arith) is.starts.within j.1 a.1) ∙ order-one_node g.forest range.start.node 0 range.start.offset in
-      let m = from-offsets j.0 a.0 0 range.start.offset (omega arith) e in
+      let l = later (length (from_first x all)) x here i.0 j.0 (omega arith) h c.of_root o i.1 j.1 in
+      let m = from-not_less a.0 j.0 (ap is_less (sym (order-is range.start (front here) a.0 j.0 rooted r is.starts.within (omega arith) a.1 j.1)) ∙ early) in
       let b = from-less a.0 i.0 (ap is_less (sym (order-is range.start (front x) a.0 i.0 rooted c.of_root is.starts.within (omega arith) a.1 i.1)) ∙ c.starts) in
       omega arith
 
@@ -225,9 +221,9 @@ module _ (g : Grove Content) (s : IsForest g) (range : Range) (is : IsRange g.fo
   none-told : (ns : List ℕ) → ((m : ℕ) → 0 < hits m ns → IsInside m → ⊥) → told ns ≡ []
   none-told [] h = refl
   none-told (n ∷ ns) h =
-      let a = not-contained n (h n (hits-first n ns)) in
+      let a = blank n (not-contained n (h n (hits-first n ns))) in
       let rest = none-told ns (λ m k. h m (omega arith)) in
-      rw (a, and-last (is_of_kind Text g.forest n)) rest
+      ap (λ us. us ++ told ns) a ∙ rest
 
   -- the root stands once
   root-once : occurs root g.forest ≡ 1
@@ -250,67 +246,69 @@ module _ (g : Grove Content) (s : IsForest g) (range : Range) (is : IsRange g.fo
       let z = listed x c.of_root in
       omega arith in
       ap told p.holds
-      ∙ flat_map-append (text_within g.forest range) p.ahead (all ++ p.behind)
+      ∙ flat_map-append part p.ahead (all ++ p.behind)
       ∙ ap (λ us. us ++ told (all ++ p.behind)) (none-told p.ahead (λ x h. aside x (omega arith)))
-      ∙ flat_map-append (text_within g.forest range) all p.behind
+      ∙ flat_map-append part all p.behind
       ∙ ap (λ us. told all ++ us) (none-told p.behind (λ x h. aside x (omega arith)))
       ∙ append-nil (told all)
 
   held-of : (x : ℕ) → root_of g.forest x ≡ Some root → HasNode g.forest x
   held-of x r = HasNode-occurs g.forest x (omega (arith, total-tree_at (one_at x) root g.forest, there x r))
 
-  -- nothing is contained up to the start node
-  pub start-told : told all ≡ told (drop 1 (from_first range.start.node all))
-  start-told =
-      let p = split range.start.node all (listed range.start.node rooted) in
+  -- nothing is told up to a node whose front does not come after the start
+  pub start-told : (here : ℕ) → HasNode g.forest here → root_of g.forest here ≡ Some root → is_before g.forest range.start (front here) ≡ false → told all ≡ told (drop 1 (from_first here all))
+  start-told here hh r early =
+      let p = split here all (listed here r) in
       let before : (x : ℕ) → 0 < hits x p.pre → IsInside x → ⊥ = λ x h c.
-      let e = ap (from_first x) p.whole ∙ from-front x p.pre (range.start.node ∷ p.rest) h in
-      let w = ap (hits range.start.node) e ∙ hits-append range.start.node (from_first x p.pre) (range.start.node ∷ p.rest) in
-      let v = hits-first range.start.node p.rest in
-      none-ahead x (held-of x c.of_root) (omega arith) c in
-      let here : IsInside range.start.node → ⊥ = λ c.
-      let w = ap (hits range.start.node) p.from in
-      let v = hits-first range.start.node p.rest in
-      none-ahead range.start.node is.starts.there (omega arith) c in
-      let one : told (range.start.node ∷ []) ≡ [] = none-told (range.start.node ∷ []) (λ x h c. elim (same_or range.start.node x) [ same d t ↦ here (subst IsInside (sym d) c) | apart ne t ↦ (let k = rw t at h in omega arith) ]) in
+      let e = ap (from_first x) p.whole ∙ from-front x p.pre (here ∷ p.rest) h in
+      let w = ap (hits here) e ∙ hits-append here (from_first x p.pre) (here ∷ p.rest) in
+      let v = hits-first here p.rest in
+      none-ahead here x r early (held-of x c.of_root) (omega arith) c in
+      let itself : IsInside here → ⊥ = λ c.
+      let w = ap (hits here) p.from in
+      let v = hits-first here p.rest in
+      none-ahead here here r early hh (omega arith) c in
+      let one : told (here ∷ []) ≡ [] = none-told (here ∷ []) (λ x h c. elim (same_or here x) [ same d t ↦ itself (subst IsInside (sym d) c) | apart ne t ↦ (let k = rw t at h in omega arith) ]) in
       ap told p.whole
-      ∙ flat_map-append (text_within g.forest range) p.pre (range.start.node ∷ p.rest)
-      ∙ ap (λ us. us ++ told (range.start.node ∷ p.rest)) (none-told p.pre before)
-      ∙ flat_map-append (text_within g.forest range) (range.start.node ∷ []) p.rest
+      ∙ flat_map-append part p.pre (here ∷ p.rest)
+      ∙ ap (λ us. us ++ told (here ∷ p.rest)) (none-told p.pre before)
+      ∙ flat_map-append part (here ∷ []) p.rest
       ∙ ap (λ us. us ++ told p.rest) one
       ∙ ap (λ ns. told (drop 1 ns)) (sym p.from)
 
-  pub told-start : (n : ℕ) (text : List ℕ) → n ≡ range.start.node → IsTold g range root text n text
-  told-start n text e = record {
-    there = subst (HasNode g.forest) (sym e) is.starts.there;
-    of_root = ap (root_of g.forest) e ∙ rooted;
-    grown = ap (λ us. text ++ us) (all-told ∙ start-told) ∙ ap (λ m. text ++ told (drop 1 (from_first m all))) (sym e);
+  pub told-start : (here : ℕ) (text : List ℕ) → HasNode g.forest here → root_of g.forest here ≡ Some root → is_before g.forest range.start (front here) ≡ false → IsTold g range part root text here text
+  told-start here text h r early = record {
+    rooted = rooted;
+    there = h;
+    of_root = r;
+    grown = ap (λ us. text ++ us) (all-told ∙ start-told here h r early);
   }
 
   pub next-of : (n m : ℕ) → HasNode g.forest n → root_of g.forest n ≡ Some root → after n all ≡ Some m → (root_of g.forest m ≡ Some root) × HasNode g.forest m
   next-of n m h r e = step n m h r e
 
-  begins : (m : ℕ) → 0 < hits m all → told (from_first m all) ≡ text_within g.forest range m ++ told (drop 1 (from_first m all))
+  begins : (m : ℕ) → 0 < hits m all → told (from_first m all) ≡ part m ++ told (drop 1 (from_first m all))
   begins m h =
       let p = split m all h in
-      ap told p.from ∙ ap (λ ns. text_within g.forest range m ++ told (drop 1 ns)) (sym p.from)
+      ap told p.from ∙ ap (λ ns. part m ++ told (drop 1 ns)) (sym p.from)
 
-  pub told-next : (before : List ℕ) (n m : ℕ) (text text2 : List ℕ) → IsTold g range root before n text → after n all ≡ Some m → text2 ≡ text ++ text_within g.forest range m → IsTold g range root before m text2
+  pub told-next : (before : List ℕ) (n m : ℕ) (text text2 : List ℕ) → IsTold g range part root before n text → after n all ≡ Some m → text2 ≡ text ++ part m → IsTold g range part root before m text2
   told-next before n m text text2 i e grown =
       let q = step n m i.there i.of_root e in
       let rest = told (drop 1 (from_first m all)) in
       record {
+        rooted = rooted;
         there = q.1;
         of_root = q.0;
         grown =
             i.grown
             ∙ ap (λ ns. text ++ told (drop 1 ns)) (rest-next g s root n m e)
             ∙ ap (λ us. text ++ us) (begins m (listed m q.0))
-            ∙ sym (append_assoc text (text_within g.forest range m) (told (drop 1 (from_first m all))))
+            ∙ sym (append_assoc text (part m) (told (drop 1 (from_first m all))))
             ∙ ap (λ us. us ++ told (drop 1 (from_first m all))) (sym grown);
       }
 
-  pub told-stop : (before : List ℕ) (n m : ℕ) (text : List ℕ) → IsTold g range root before n text → after n all ≡ Some m → is_before g.forest (front m) range.end ≡ false → text ≡ before ++ texts_within g.forest range
+  pub told-stop : (before : List ℕ) (n m : ℕ) (text : List ℕ) → IsTold g range part root before n text → after n all ≡ Some m → is_before g.forest (front m) range.end ≡ false → text ≡ before ++ flat_map part (numbers g.forest)
   told-stop before n m text i e late =
       let q = step n m i.there i.of_root e in
       sym (i.grown
@@ -318,6 +316,6 @@ module _ (g : Grove Content) (s : IsForest g) (range : Range) (is : IsRange g.fo
       ∙ ap (λ us. text ++ us) (none-told (from_first m all) (λ x h c. none-behind m x q.1 q.0 late h c))
       ∙ append-nil text)
 
-  pub told-end : (before : List ℕ) (n : ℕ) (text : List ℕ) → IsTold g range root before n text → after n all ≡ None → text ≡ before ++ texts_within g.forest range
+  pub told-end : (before : List ℕ) (n : ℕ) (text : List ℕ) → IsTold g range part root before n text → after n all ≡ None → text ≡ before ++ flat_map part (numbers g.forest)
   told-end before n text i e =
       sym (i.grown ∙ ap (λ ns. text ++ told (drop 1 ns)) (rest-end g s root n (walk-at n i.there i.of_root) e) ∙ append-nil text)

@@ -1,0 +1,39 @@
+-- The point's node itself, or the last node inside the child ahead of the point.
+use Rattle.std.proofs.Common.{◌-◌, sym, subst, ◌∙◌, arith}
+use Rattle.dom_model.specs.Forests.Forest.{HasNode}
+use Rattle.dom_model.specs.Worlds.World.{Point}
+use Rattle.dom_content.proofs.NodesAhead.{ahead-itself, ahead-inside, child-held, ahead-as}
+use Rattle.dom_content.proofs.contained.last_ahead.Goals as goal
+
+pub returns-then-offset-eq0-clause-ahead : goal.returns-then-offset-eq0-clause-ahead
+returns-then-offset-eq0-clause-ahead c =
+    let q : Point = record { node = c.point.inside.node; offset = c.point.inside.offset } in
+    let held = subst (λ (p : Point). HasNode c.args.tree.now.forest p.node) (sym c.point.view_is) c.requires.held in
+    (ahead-as c.args.tree.now c.args.point q c.point.inside.node c.point.view_is (ahead-itself c.args.tree.now q held)).ahead
+
+pub last_inside-requires : goal.last_inside-requires
+last_inside-requires c =
+    child-held c.args.tree.now c.sound.ensures c.point.inside.node (c.point.inside.offset - 1) c.in-Some.child (sym c.child_at.ensures ∙ c.in-Some.is)
+
+pub returns-in-Some-clause-held : goal.returns-in-Some-clause-held
+returns-in-Some-clause-held c =
+    let q : Point = record { node = c.point.inside.node; offset = c.point.inside.offset } in
+    (ahead-inside c.args.tree.now c.sound.ensures q (c.point.inside.offset - 1) c.in-Some.child c.last_inside.result (omega arith) (sym c.child_at.ensures ∙ c.in-Some.is) (sym c.last_inside.ensures)).held
+
+pub returns-in-Some-clause-one_root : goal.returns-in-Some-clause-one_root
+returns-in-Some-clause-one_root c =
+    let q : Point = record { node = c.point.inside.node; offset = c.point.inside.offset } in
+    (ahead-as c.args.tree.now c.args.point q c.last_inside.result c.point.view_is
+    (ahead-inside c.args.tree.now c.sound.ensures q (c.point.inside.offset - 1) c.in-Some.child c.last_inside.result (omega arith) (sym c.child_at.ensures ∙ c.in-Some.is) (sym c.last_inside.ensures))).one_root
+
+pub returns-in-Some-clause-ahead : goal.returns-in-Some-clause-ahead
+returns-in-Some-clause-ahead c =
+    let q : Point = record { node = c.point.inside.node; offset = c.point.inside.offset } in
+    (ahead-as c.args.tree.now c.args.point q c.last_inside.result c.point.view_is
+    (ahead-inside c.args.tree.now c.sound.ensures q (c.point.inside.offset - 1) c.in-Some.child c.last_inside.result (omega arith) (sym c.child_at.ensures ∙ c.in-Some.is) (sym c.last_inside.ensures))).ahead
+
+pub returns-in-None-clause-ahead : goal.returns-in-None-clause-ahead
+returns-in-None-clause-ahead c =
+    let q : Point = record { node = c.point.inside.node; offset = c.point.inside.offset } in
+    let held = subst (λ (p : Point). HasNode c.args.tree.now.forest p.node) (sym c.point.view_is) c.requires.held in
+    (ahead-as c.args.tree.now c.args.point q c.point.inside.node c.point.view_is (ahead-itself c.args.tree.now q held)).ahead

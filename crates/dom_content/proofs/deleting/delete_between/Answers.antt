@@ -1,0 +1,50 @@
+-- The steps of the definition, one after another.
+use Rattle.std.proofs.Common.{ap, ◌∙◌, is_some}
+use Rattle.std.specs.Prelude.{Option}
+use Rattle.std.proofs.lemmas.Result.{on_ok_weaker}
+use Rattle.dom_model.specs.Worlds.World.{Point, Range}
+use Rattle.dom_content.proofs.RangeTexts.{range-held}
+use Rattle.dom_content.proofs.DeletedBetween.{tops-there, end-there, still-there, live-still, follows-deleted_between}
+use Rattle.dom_content.proofs.deleting.delete_between.Goals as goal
+
+pub remove_each-requires-clause-held : goal.remove_each-requires-clause-held
+remove_each-requires-clause-held c =
+    let v = c.args.world.now in
+    let range : Range = record { start = c.args.start; end = c.args.end } in
+    let is = range-held v c.requires.whole c.args.range range c.requires.ends in
+    tops-there v c.requires.whole c.args.range range is c.requires.apart c.cut_from.new.world c.in_ok-cut_from.ensures.cut c.deref.result.now (c.deref.ensures.value ∙ c.in_ok-tops.ensures)
+
+pub cut_up_to-requires-clause-held : goal.cut_up_to-requires-clause-held
+cut_up_to-requires-clause-held c =
+    let v = c.args.world.now in
+    let range : Range = record { start = c.args.start; end = c.args.end } in
+    let is = range-held v c.requires.whole c.args.range range c.requires.ends in
+    end-there v c.requires.whole c.args.range range is c.requires.apart c.cut_from.new.world c.in_ok-cut_from.ensures.cut c.deref.result.now (c.deref.ensures.value ∙ c.in_ok-tops.ensures) c.remove_each.new.world
+    c.in_ok-remove_each.ensures.removed
+
+pub stand_at-requires-clause-live : goal.stand_at-requires-clause-live
+stand_at-requires-clause-live c =
+    let v = c.args.world.now in
+    let range : Range = record { start = c.args.start; end = c.args.end } in
+    let is = range-held v c.requires.whole c.args.range range c.requires.ends in
+    live-still v c.requires.whole c.args.range range is c.requires.apart c.cut_from.new.world c.in_ok-cut_from.ensures.cut c.deref.result.now (c.deref.ensures.value ∙ c.in_ok-tops.ensures) c.remove_each.new.world
+    c.in_ok-remove_each.ensures.removed c.cut_up_to.new.world c.in_ok-cut_up_to.ensures.cut (ap (λ (o : Option Range). is_some o) c.requires.ends)
+
+pub stand_at-requires-clause-held : goal.stand_at-requires-clause-held
+stand_at-requires-clause-held c =
+    let v = c.args.world.now in
+    let range : Range = record { start = c.args.start; end = c.args.end } in
+    let is = range-held v c.requires.whole c.args.range range c.requires.ends in
+    still-there v c.requires.whole c.args.range range is c.requires.apart c.cut_from.new.world c.in_ok-cut_from.ensures.cut c.deref.result.now (c.deref.ensures.value ∙ c.in_ok-tops.ensures) c.remove_each.new.world
+    c.in_ok-remove_each.ensures.removed c.cut_up_to.new.world c.in_ok-cut_up_to.ensures.cut c.new_place-place.result.node c.new_place-place.ensures.held
+
+pub returns-clause-deleted : goal.returns-clause-deleted
+returns-clause-deleted c =
+    let v = c.args.world.now in
+    let range : Range = record { start = c.args.start; end = c.args.end } in
+    let is = range-held v c.requires.whole c.args.range range c.requires.ends in
+    let place : Point = record { node = c.new_place-place.result.node; offset = c.new_place-place.result.offset } in
+    on_ok_weaker c.stand_at.result
+    (follows-deleted_between v c.requires.whole c.args.range range is c.requires.apart c.cut_from.new.world c.in_ok-cut_from.ensures.cut c.deref.result.now (c.deref.ensures.value ∙ c.in_ok-tops.ensures) c.remove_each.new.world
+    c.in_ok-remove_each.ensures.removed c.cut_up_to.new.world c.in_ok-cut_up_to.ensures.cut c.stand_at.new.world place c.new_place-place.ensures.place)
+    c.stand_at.ensures.stands

@@ -1,0 +1,127 @@
+//! The nodes that a range contains (DOM Standard, "Interface Range", "contained").
+
+ghost use Rattle.std.specs.Prelude.{◌≡◌, ◌++◌, false, Some, IfOk, OnOk};
+ghost use Rattle.dom_model.specs.Forests.Forest.{HasNode, root_of};
+ghost use Rattle.dom_model.specs.Forests.Lengths.{unit_count};
+ghost use Rattle.dom_model.specs.Worlds.Sound.{IsRange};
+ghost use Rattle.dom_model.specs.RangesAndContents.Ranges.{is_before as comes_before, is_contained as has_contained};
+ghost use Rattle.dom_content.specs.Contained.{is_top as stands_on_top, if_top, last_passed, tops_in};
+
+use dom_edit::Content;
+use dom_point::{Point, order};
+use dom_tree::{NodeId, Tree};
+use std::alloc::{AllocError, Global};
+use std::cmp::Ordering;
+
+// Whether the first of two points of one root comes before the second.
+pub(crate) fn is_before(tree: &Tree<Content>, a: Point, b: Point) -> bool
+    requires a_held { HasNode tree.now.forest a.node }
+    requires b_held { HasNode tree.now.forest b.node }
+    requires one_root { root_of tree.now.forest a.node ≡ root_of tree.now.forest b.node }
+    ensures { result ≡ comes_before tree.now.forest a b }
+{
+    match order(tree, a, b) {
+        Ordering::Less => true,
+        Ordering::Equal | Ordering::Greater => false,
+    }
+}
+
+// Whether a node is contained in a range of its root.
+pub(crate) fn is_contained(tree: &Tree<Content>, start: Point, end: Point, node: NodeId) -> bool
+    requires held { HasNode tree.now.forest node }
+    requires range { IsRange tree.now.forest (record { start = start; end = end }) }
+    requires one_root { root_of tree.now.forest node ≡ root_of tree.now.forest start.node }
+    ensures { result ≡ has_contained unit_count tree.now.forest (record { start = start; end = end }) node }
+{
+    let front = Point { node, offset: 0 };
+    let back = Point {
+        node,
+        offset: tree.length(node),
+    };
+    is_before(tree, start, front) && is_before(tree, back, end)
+}
+
+// Whether a node is contained in a range of its root, and its parent is not.
+fn is_top(tree: &Tree<Content>, start: Point, end: Point, node: NodeId) -> bool
+    requires held { HasNode tree.now.forest node }
+    requires range { IsRange tree.now.forest (record { start = start; end = end }) }
+    requires one_root { root_of tree.now.forest node ≡ root_of tree.now.forest start.node }
+    ensures { result ≡ stands_on_top tree.now.forest (record { start = start; end = end }) node }
+{
+    tree.sound();
+    if !is_contained(tree, start, end, node) {
+        return false;
+    }
+    match tree.parent(node) {
+        Some(parent) => !is_contained(tree, start, end, parent),
+        None => true,
+    }
+}
+
+// Puts a node last in a list, where it is contained in a range of its root and its parent is not. It answers the node behind which the next one is
+// to be looked for: what is inside a contained node need not be.
+fn append_top(
+    tree: &Tree<Content>,
+    start: Point,
+    end: Point,
+    node: NodeId,
+    tops: &mut Vec<NodeId>,
+) -> Result<NodeId, AllocError>
+    requires held { HasNode tree.now.forest node }
+    requires range { IsRange tree.now.forest (record { start = start; end = end }) }
+    requires one_root { root_of tree.now.forest node ≡ root_of tree.now.forest start.node }
+    ensures tops { OnOk result (tops.new.items ≡ tops.old.items ++ if_top tree.now.forest (record { start = start; end = end }) node) }
+    ensures last { IfOk result (λ last. last_passed tree.now.forest (record { start = start; end = end }) node ≡ Some last) }
+{
+    if !is_top(tree, start, end, node) {
+        return Ok(node);
+    }
+    tops.push(node)?;
+    Ok(tree.last_inside(node))
+}
+
+// The last node in tree order whose front does not come after a point: the point's node, or the last node inside the child ahead of the point.
+pub(crate) fn last_ahead(tree: &Tree<Content>, point: Point) -> NodeId
+    requires held { HasNode tree.now.forest point.node }
+    ensures held { HasNode tree.now.forest result }
+    ensures one_root { root_of tree.now.forest result ≡ root_of tree.now.forest point.node }
+    ensures ahead { comes_before tree.now.forest point (record { node = result; offset = 0 }) ≡ false }
+{
+    tree.sound();
+    let Point { node, offset } = point;
+    if offset == 0 {
+        return node;
+    }
+    match tree.child_at(node, offset - 1) {
+        Some(child) => tree.last_inside(child),
+        None => node,
+    }
+}
+
+// The nodes that a range contains without containing their parents, in tree order. It walks from the start on, past what is inside such a node,
+// up to the first node that does not come before the end.
+pub(crate) fn contained_tops(
+    tree: &Tree<Content>,
+    alloc: Global,
+    start: Point,
+    end: Point,
+) -> Result<Vec<NodeId>, AllocError>
+    requires range { IsRange tree.now.forest (record { start = start; end = end }) }
+    ensures { IfOk result (λ tops. tops.items ≡ tops_in tree.now.forest (record { start = start; end = end })) }
+{
+    tree.sound();
+    let mut tops = Vec::new(alloc);
+    let root = tree.root(start.node);
+    let mut here = last_ahead(tree, start);
+    while let Some(next) = tree.next_inside(root, here) {
+        let front = Point {
+            node: next,
+            offset: 0,
+        };
+        if !is_before(tree, front, end) {
+            return Ok(tops);
+        }
+        here = append_top(tree, start, end, next, &mut tops)?;
+    }
+    Ok(tops)
+}
