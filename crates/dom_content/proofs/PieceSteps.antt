@@ -1,22 +1,19 @@
 -- Pieces that go into a fragment: what is still held, and room for the numbers. DOM Standard, "Interface Range" (extract, clone the contents).
-use Rattle.std.proofs.Common.{◌≡◌, ℕ, ◌+◌, ◌<◌, ◌≤◌, ◌==◌, Bool, true, false, if◌then◌else◌, List, [], ◌∷◌, ◌++◌, drop, length, slice_index_or, refl, ap, sym, ◌∙◌, subst, arith, length-drop, Some, None, IsSome, Option}
+use Rattle.std.proofs.Common.{◌≡◌, ℕ, ◌+◌, ◌<◌, ◌≤◌, Bool, true, false, List, [], ◌∷◌, drop, length, slice_index_or, refl, ap, sym, ◌∙◌, subst, arith, length-drop, Some, None, IsSome, Option}
 use Rattle.std.specs.Prelude.{IfSome}
 use Rattle.dom_model.specs.Forests.Arena.{Entry}
 use Rattle.std.proofs.lemmas.List.{drop_more}
-use Rattle.dom_model.specs.declared.Kind.{Kind}
-use Rattle.dom_model.specs.PlainLists.Lists.{hits}
 use Rattle.dom_model.specs.Forests.Kinds.{is_character_data}
-use Rattle.dom_model.specs.Forests.Forest.{Node, Forest, empty, node, occurs, beside, size, tree_at, map_nodes, entry_in, HasNode}
+use Rattle.dom_model.specs.Forests.Forest.{Node, Forest, empty, node, occurs, size, tree_at, map_nodes, entry_in, HasNode}
 use Rattle.dom_model.specs.Forests.Texts.{substring, spliced}
 use Rattle.dom_model.specs.Worlds.World as model
 use Rattle.dom_model.specs.Worlds.World.{Content, no_content}
-use Rattle.dom_model.specs.Commands.Making.{made_node, named}
+use Rattle.dom_model.specs.Commands.Making.{made_node}
 use Rattle.dom_model.specs.MutationAlgorithms.Checks.{kind_passes, entry_has, check_insert}
 use Rattle.dom_model.specs.MutationAlgorithms.Editing.{append, nodes_of, document_in, node_document}
 use Rattle.dom_model.specs.DataAndCopies.Data.{content_in, cut_count, data_of, with_data, replace_data}
 use Rattle.dom_model.specs.DataAndCopies.Clones.{alone_of, original, with_copies, clone_node}
 use Rattle.dom_model.specs.RangesAndContents.Contents.{new_fragment, clone_with, cut_if, units_into, child_into, children_into}
-use Rattle.dom_model.proofs.Forests.Climbing.{hits-append, hits-first}
 use Rattle.dom_model.proofs.Forests.Entries.{occurs-HasNode, HasNode-occurs}
 use Rattle.dom_model.proofs.Forests.Standing.{Tree, tree_of}
 use Rattle.dom_model.proofs.Worlds.SameShape.{IsAlike, with_node-alike, occurs-alike}
@@ -28,7 +25,7 @@ use Rattle.dom_model.proofs.Counting.CountsOfData.{replace_data-kept}
 use Rattle.dom_edit.specs.declared.world.World.{World}
 use Rattle.dom_edit.specs.Inserting.{AreThere}
 use Rattle.dom_edit.specs.Whole.{IsWhole, Keeps, Follows, unwatched}
-use Rattle.dom_edit.proofs.Following.{follows-none, follows-then, keeps-unwatched}
+use Rattle.dom_edit.proofs.Following.{follows-none, follows-then}
 use Rattle.dom_edit.proofs.InsertedNodes.{follows-as, forest-after, item-hit}
 use Rattle.dom_edit.proofs.PlacedWorlds.{sound-unwatched}
 use Rattle.dom_content.specs.Paths.{HasRoom, StillHeld, KindsStay}
@@ -90,6 +87,9 @@ fragment-held a b d h f = held-new a b (new_fragment d) a.tree.made f (fragment_
 
 pub still-clone : (a b : World) (deep : Bool) (n : ℕ) → Follows a b (clone_node deep n) → StillHeld a b
 still-clone a b deep n f = still-extended a b (clone_node deep n) [] f (extends-beside a.tree.forest _)
+
+pub kinds-clone : (a b : World) (deep : Bool) (n : ℕ) → Follows a b (clone_node deep n) → KindsStay a b
+kinds-clone a b deep n f = kinds-extended a b (clone_node deep n) [] f (extends-beside a.tree.forest _)
 
 pub clone-held : (a b : World) (deep : Bool) (n : ℕ) → IsWhole a → HasNode a.tree.forest n → Follows a b (clone_node deep n) → HasNode b.tree.forest a.tree.made
 clone-held a b deep n h held f =

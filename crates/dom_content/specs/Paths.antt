@@ -1,11 +1,18 @@
--- Room for the numbers that a step gives out, and nodes that are still held after it. DOM Standard, "Interface Range" (extract, clone the contents).
-use Rattle.std.specs.Prelude.{◌≡◌, ℕ, ◌<◌, ◌≤◌, Bool}
+-- Room for the numbers that a step gives out, nodes that are still held after it, and nodes on a path that are not finished yet.
+-- DOM Standard, "Interface Range" (extract, clone the contents).
+use Rattle.std.specs.Prelude.{◌≡◌, ℕ, ◌<◌, ◌≤◌, Bool, false, List, [], ◌∷◌}
 use Rattle.dom_model.specs.declared.Kind.{Kind}
-use Rattle.dom_model.specs.Forests.Forest.{occurs}
+use Rattle.dom_model.specs.Forests.Forest.{Forest, HasNode, occurs, children_of}
 use Rattle.dom_model.specs.Worlds.World as model
-use Rattle.dom_model.specs.MutationAlgorithms.Checks.{kind_passes}
+use Rattle.dom_model.specs.Worlds.World.{Content}
+use Rattle.dom_model.specs.MutationAlgorithms.Checks.{kind_passes, up_to}
+use Rattle.dom_model.specs.MutationAlgorithms.Editing.{append, node_document}
+use Rattle.dom_model.specs.DataAndCopies.Clones.{clone_node}
+use Rattle.dom_model.specs.RangesAndContents.Contents.{new_fragment, children_into}
 use Rattle.dom_edit.specs.declared.world.World.{World}
+use Rattle.dom_edit.specs.Inserting.{AreThere}
 use Rattle.dom_edit.specs.Whole.{Keeps}
+use Rattle.dom_content.specs.declared.paths.Partial.{Partial}
 
 -- in a world that it keeps, no number is left beyond the last one when the step is done
 pub record HasRoom (v : World) (step : model.World → model.World) : Type 0 where
@@ -20,3 +27,34 @@ StillHeld old new = (m : ℕ) → 0 < occurs m old.tree.forest → 0 < occurs m 
 -- and are of the kinds that they were of
 abbrev pub KindsStay : World → World → Type 0
 KindsStay old new = (test : Kind → Bool) (m : ℕ) → 0 < occurs m old.tree.forest → kind_passes test new.tree.forest m ≡ kind_passes test old.tree.forest m
+
+-- a copy of a node goes into a fragment, and a further fragment is made
+abbrev pub opened : ℕ → ℕ → model.World → model.World
+opened into n w = new_fragment (node_document w n) (append w.made into (clone_node false n w))
+
+-- the number of the further fragment
+abbrev pub inner_of : ℕ → ℕ → model.World → ℕ
+inner_of into n w = (append w.made into (clone_node false n w)).made
+
+-- the same, and the children ahead of one go into the further fragment
+abbrev pub entered : Bool → ℕ → ℕ → ℕ → model.World → model.World
+entered moves into n next w = children_into moves (inner_of into n w) (up_to next (children_of w.forest n)) (opened into n w)
+
+-- the children that are left go into the further fragment, and that goes into the copy
+abbrev pub closed_one : Bool → Partial → model.World → model.World
+closed_one moves p w = append p.inner p.copy (children_into moves p.inner p.children.items w)
+
+-- several, the last one first
+abbrev pub closed : Bool → List Partial → model.World → model.World
+closed moves [] w = w
+closed moves (p ∷ ps) w = closed_one moves p (closed moves ps w)
+
+-- what a copy that is not finished names is there
+pub record IsUnfinished (f : Forest Content) (p : Partial) : Type 0 where
+  pub copy : HasNode f p.copy
+  pub inner : HasNode f p.inner
+  pub children : AreThere f p.children.items
+
+abbrev pub AreUnfinished : Forest Content → List Partial → Type 0
+AreUnfinished f [] = Unit {0}
+AreUnfinished f (p ∷ ps) = IsUnfinished f p × AreUnfinished f ps

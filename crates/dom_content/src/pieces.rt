@@ -37,11 +37,7 @@ pub(crate) fn document_in(tree: &Tree<Content>, node: NodeId) -> NodeId
 }
 
 // Makes a node of the kind of fragments.
-fn make_fragment(
-    world: &mut World,
-    alloc: Global,
-    document: NodeId,
-) -> Result<NodeId, AllocError>
+fn make_fragment(world: &mut World, alloc: Global, document: NodeId) -> Result<NodeId, AllocError>
     requires whole { IsWhole world.old }
     requires document_kind { is_of_kind Document world.old.tree.forest document ≡ true }
     requires room { world.old.tree.made < 4294967295 }
@@ -116,6 +112,7 @@ pub(crate) fn copy_of(
     ensures copied { OnOk result (Follows world.old world.new (clone_node deep node)) }
     ensures copy_held { OnOk result (HasNode world.new.tree.forest world.old.tree.made) }
     ensures still_held { OnOk result (StillHeld world.old world.new) }
+    ensures kinds { OnOk result (KindsStay world.old world.new) }
     ensures whole { IsWhole world.new }
 {
     let copy = clone_node(world, alloc, node, deep)?;

@@ -1,0 +1,135 @@
+-- Parts of lists of nodes: what comes after or before one of them, and the way up from a node.
+use Rattle.std.specs.Prelude.{◌==◌}
+use Rattle.std.proofs.Common.{◌≡◌, ℕ, zero, suc, ◌+◌, ◌-◌, ◌<◌, ◌≤◌, true, false, List, [], ◌∷◌, ◌++◌, take, drop, length, slice_index_or, Option, Some, None, refl, ap, sym, ◌∙◌, arith, length-drop, append-nil}
+use Rattle.std.proofs.lemmas.List.{append_assoc}
+use Rattle.std.proofs.lemmas.List.{drop_more, take_more}
+use Rattle.dom_model.specs.PlainLists.Lists.{hits}
+use Rattle.dom_model.specs.Forests.Forest.{Forest, HasNode, occurs, parent_of, children_of, ancestors}
+use Rattle.dom_model.specs.MutationAlgorithms.PreRemoval.{past}
+use Rattle.dom_model.specs.MutationAlgorithms.Checks.{up_to}
+use Rattle.dom_model.proofs.Forests.Entries.{occurs-HasNode, HasNode-occurs}
+use Rattle.dom_model.proofs.Forests.Indices.{child-there}
+use Rattle.dom_model.proofs.Forests.Paths.{parent-path, root-path}
+use Rattle.dom_model.proofs.Traversal.IteratorsStay.{hits-past}
+use Rattle.dom_model.proofs.BoundaryPoints.RootsKept.{hits-up_to}
+
+pub listed : (nodes : List ℕ) (i x : ℕ) → x ≡ slice_index_or nodes i x → i < length nodes → drop i nodes ≡ x ∷ drop (i + 1) nodes
+listed nodes i x is lt = drop_more nodes i x lt ∙ ap (λ y. y ∷ drop (i + 1) nodes) (sym is)
+
+pub no_more : (xs : List ℕ) → length xs ≡ 0 → xs ≡ []
+no_more [] e = refl
+no_more (x ∷ xs) e = absurd (omega arith)
+
+pub none-left : (nodes : List ℕ) (i : ℕ) → length nodes ≤ i → drop i nodes ≡ []
+none-left nodes i le = no_more (drop i nodes) (let l = length-drop i nodes in omega arith)
+
+-- Looking for the one.
+
+past-other : (n x : ℕ) (xs : List ℕ) → (x == n) ≡ false → past n (x ∷ xs) ≡ past n xs
+past-other n x xs e = rw e refl
+
+past-same : (n x : ℕ) (xs : List ℕ) → (x == n) ≡ true → past n (x ∷ xs) ≡ xs
+past-same n x xs e = rw e refl
+
+pub past-on : (nodes : List ℕ) (n i x : ℕ) → past n (drop i nodes) ≡ past n nodes → x ≡ slice_index_or nodes i x → i < length nodes → (x == n) ≡ false → past n (drop (i + 1) nodes) ≡ past n nodes
+past-on nodes n i x h is lt e = sym (past-other n x (drop (i + 1) nodes) e) ∙ sym (ap (past n) (listed nodes i x is lt)) ∙ h
+
+pub past-found : (nodes : List ℕ) (n i x : ℕ) → past n (drop i nodes) ≡ past n nodes → x ≡ slice_index_or nodes i x → i < length nodes → (x == n) ≡ true → drop (i + 1) nodes ≡ past n nodes
+past-found nodes n i x h is lt e = sym (past-same n x (drop (i + 1) nodes) e) ∙ sym (ap (past n) (listed nodes i x is lt)) ∙ h
+
+take-whole : (k : ℕ) (xs : List ℕ) → length xs ≤ k → take k xs ≡ xs
+take-whole zero [] h = refl
+take-whole zero (x ∷ xs) h = absurd (omega arith)
+take-whole (suc k) [] h = refl
+take-whole (suc k) (x ∷ xs) h = ap (λ ys. x ∷ ys) (take-whole k xs (omega arith))
+
+pub past-slice : (nodes : List ℕ) (n i x : ℕ) → past n (drop i nodes) ≡ past n nodes → x ≡ slice_index_or nodes i x → i < length nodes → (x == n) ≡ true → take (length nodes - (i + 1)) (drop (i + 1) nodes) ≡ past n nodes
+past-slice nodes n i x h is lt e =
+    take-whole (length nodes - (i + 1)) (drop (i + 1) nodes) (let l = length-drop (i + 1) nodes in omega (arith, l)) ∙ past-found nodes n i x h is lt e
+
+pub past-none : (nodes : List ℕ) (n i : ℕ) → past n (drop i nodes) ≡ past n nodes → length nodes ≤ i → [] ≡ past n nodes
+past-none nodes n i h le = sym (ap (past n) (none-left nodes i le)) ∙ h
+
+-- Children that are there.
+
+module _ {X : Type 0} (f : Forest X) (o : (m : ℕ) → occurs m f ≤ 1) (p : ℕ) where
+  pub past-there : (n m : ℕ) → 0 < hits m (past n (children_of f p)) → 0 < occurs m f
+  past-there n m h = child-there f o m p (let i = hits-past m n (children_of f p) in omega arith)
+
+  pub up_to-there : (n m : ℕ) → 0 < hits m (up_to n (children_of f p)) → 0 < occurs m f
+  up_to-there n m h = child-there f o m p (let i = hits-up_to m n (children_of f p) in omega arith)
+
+  hits-dropped : (x k : ℕ) (ns : List ℕ) → hits x (drop k ns) ≤ hits x ns
+  hits-dropped x zero ns = omega arith
+  hits-dropped x (suc k) [] = omega arith
+  hits-dropped x (suc k) (n ∷ ns) = let i = hits-dropped x k ns in omega arith
+
+  hits-taken : (x k : ℕ) (ns : List ℕ) → hits x (take k ns) ≤ hits x ns
+  hits-taken x zero ns = omega arith
+  hits-taken x (suc k) [] = omega arith
+  hits-taken x (suc k) (n ∷ ns) = let i = hits-taken x k ns in omega arith
+
+  pub drop-there : (k m : ℕ) → 0 < hits m (drop k (children_of f p)) → 0 < occurs m f
+  drop-there k m h = child-there f o m p (let i = hits-dropped m k (children_of f p) in omega arith)
+
+  pub take-there : (k m : ℕ) → 0 < hits m (take k (children_of f p)) → 0 < occurs m f
+  take-there k m h = child-there f o m p (let i = hits-taken m k (children_of f p) in omega arith)
+
+-- The way up.
+
+module _ {X : Type 0} (f : Forest X) where
+  -- the inclusive ancestors of a node, where there is one
+  abbrev pub way_up : Option ℕ → List ℕ
+  way_up None = []
+  way_up (Some n) = ancestors n f
+
+  abbrev pub IsHeldAt : Option ℕ → Type 0
+  IsHeldAt None = Unit {0}
+  IsHeldAt (Some n) = HasNode f n
+
+  module _ (o : (m : ℕ) → occurs m f ≤ 1) (n : ℕ) (held : HasNode f n) where
+    pub way-on : (q : Option ℕ) → parent_of f n ≡ q → (ancestors n f ≡ n ∷ way_up q) × IsHeldAt q
+    way-on None e = (root-path f o n (occurs-HasNode f n held) e, tt)
+    way-on (Some q) e = let i = parent-path f o n q (occurs-HasNode f n held) e in (i.1, HasNode-occurs f q i.0)
+
+up_to-other : (n x : ℕ) (xs : List ℕ) → (x == n) ≡ false → up_to n (x ∷ xs) ≡ x ∷ up_to n xs
+up_to-other n x xs e = rw e refl
+
+up_to-same : (n x : ℕ) (xs : List ℕ) → (x == n) ≡ true → up_to n (x ∷ xs) ≡ []
+up_to-same n x xs e = rw e refl
+
+-- The list of the way up, as far as it has come.
+
+module _ {X : Type 0} (f : Forest X) (o : (m : ℕ) → occurs m f ≤ 1) (a n : ℕ) (held : HasNode f n) (q : Option ℕ) (e : parent_of f n ≡ q) (passed all : List ℕ) where
+  pub way-passed : (n == a) ≡ false → passed ++ up_to a (ancestors n f) ≡ all → (passed ++ n ∷ []) ++ up_to a (way_up f q) ≡ all
+  way-passed ne h =
+      append_assoc passed (n ∷ []) (up_to a (way_up f q))
+      ∙ ap (λ xs. passed ++ xs) (sym (up_to-other a n (way_up f q) ne) ∙ sym (ap (up_to a) (way-on f o n held q e).0))
+      ∙ h
+
+  pub way-ended : (n == a) ≡ true → passed ++ up_to a (ancestors n f) ≡ all → passed ≡ all
+  way-ended same h =
+      sym (append-nil passed)
+      ∙ ap (λ xs. passed ++ xs) (sym (up_to-same a n (way_up f q) same) ∙ sym (ap (up_to a) (way-on f o n held q e).0))
+      ∙ h
+
+-- What comes before the one.
+
+pub ahead-on : (nodes : List ℕ) (n i x : ℕ) → take i nodes ++ up_to n (drop i nodes) ≡ up_to n nodes → x ≡ slice_index_or nodes i x → i < length nodes → (x == n) ≡ false → take (i + 1) nodes ++ up_to n (drop (i + 1) nodes) ≡ up_to n nodes
+ahead-on nodes n i x h is lt e =
+    ap (λ ys. ys ++ up_to n (drop (i + 1) nodes)) (take_more nodes i x lt ∙ ap (λ y. take i nodes ++ y ∷ []) (sym is))
+    ∙ append_assoc (take i nodes) (x ∷ []) (up_to n (drop (i + 1) nodes))
+    ∙ ap (λ ys. take i nodes ++ ys) (sym (up_to-other n x (drop (i + 1) nodes) e) ∙ sym (ap (up_to n) (listed nodes i x is lt)))
+    ∙ h
+
+pub ahead-found : (nodes : List ℕ) (n i x : ℕ) → take i nodes ++ up_to n (drop i nodes) ≡ up_to n nodes → x ≡ slice_index_or nodes i x → i < length nodes → (x == n) ≡ true → take i nodes ≡ up_to n nodes
+ahead-found nodes n i x h is lt e =
+    sym (append-nil (take i nodes)) ∙ ap (λ ys. take i nodes ++ ys) (sym (up_to-same n x (drop (i + 1) nodes) e) ∙ sym (ap (up_to n) (listed nodes i x is lt))) ∙ h
+
+pub ahead-none : (nodes : List ℕ) (n i : ℕ) → take i nodes ++ up_to n (drop i nodes) ≡ up_to n nodes → length nodes ≤ i → take (length nodes) nodes ≡ up_to n nodes
+ahead-none nodes n i h le =
+    take-whole (length nodes) nodes (omega arith)
+    ∙ sym (append-nil nodes)
+    ∙ ap (λ ys. ys ++ []) (sym (take-whole i nodes le))
+    ∙ ap (λ ys. take i nodes ++ up_to n ys) (sym (none-left nodes i le))
+    ∙ h

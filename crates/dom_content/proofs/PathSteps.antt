@@ -1,0 +1,345 @@
+-- Going down a path with copies that are finished on the way back. DOM Standard, "Interface Range" (extract, clone the contents).
+use Rattle.std.proofs.Common.{◌≡◌, ℕ, ◌+◌, ◌-◌, ◌<◌, ◌≤◌, Bool, true, false, if◌then◌else◌, List, [], ◌∷◌, ◌++◌, drop, length, slice_index_or, refl, ap, sym, ◌∙◌, subst, arith, Some, None, Option, is_some, length-append}
+use Rattle.std.specs.Prelude.{IfSome}
+use Rattle.std.proofs.lemmas.Bool.{false≢true}
+use Rattle.dom_model.specs.declared.Kind.TheVariants.{Document}
+use Rattle.dom_model.specs.Forests.Kinds.{is_kind, is_character_data}
+use Rattle.dom_model.specs.Forests.Arena.{Entry}
+use Rattle.dom_model.specs.Forests.Forest.{Node, Forest, occurs, children_of, entry_in, HasNode}
+use Rattle.dom_model.specs.Worlds.World as model
+use Rattle.dom_model.specs.Worlds.World.{Content}
+use Rattle.dom_model.specs.MutationAlgorithms.PreRemoval.{past}
+use Rattle.dom_model.specs.MutationAlgorithms.Checks.{kind_passes, is_of_kind, entry_has}
+use Rattle.dom_model.specs.MutationAlgorithms.Editing.{append, document_in, node_document}
+use Rattle.dom_model.specs.DataAndCopies.Data.{content_in, data_of}
+use Rattle.dom_model.specs.DataAndCopies.Clones.{clone_node}
+use Rattle.dom_model.specs.RangesAndContents.Contents.{new_fragment, units_into, children_into, copy_into, tail_into}
+use Rattle.dom_model.proofs.Forests.Changes.{seen, nothing, just}
+use Rattle.dom_model.proofs.Forests.Climbing.{hits-append, hits-first}
+use Rattle.dom_model.proofs.Forests.Entries.{occurs-HasNode, HasNode-occurs}
+use Rattle.dom_model.proofs.Counting.CountsKept.{append-kept}
+use Rattle.dom_model.proofs.Counting.CountsOfContents.{units_into-grown}
+use Rattle.dom_edit.specs.declared.world.World.{World}
+use Rattle.dom_edit.specs.Inserting.{AreThere}
+use Rattle.dom_edit.specs.Whole.{IsWhole, Keeps, Follows}
+use Rattle.dom_edit.proofs.Following.{follows-none, follows-then}
+use Rattle.dom_edit.proofs.InsertedNodes.{follows-as}
+use Rattle.dom_content.specs.declared.paths.Partial.{Partial}
+use Rattle.dom_content.specs.Paths.{HasRoom, StillHeld, KindsStay, opened, inner_of, closed_one, closed, IsUnfinished, AreUnfinished}
+use Rattle.dom_content.proofs.PathLists.{listed, none-left}
+use Rattle.dom_content.proofs.PieceSteps.{room-before, room-after, room-as, held-still, children-grow}
+
+-- What a test picks.
+
+pub if_so : {A : Type 0} (t : Bool) (x y : A) → t ≡ true → (if t then x else y) ≡ x
+if_so t x y e = rw e refl
+
+pub if_not : {A : Type 0} (t : Bool) (x y : A) → t ≡ false → (if t then x else y) ≡ y
+if_not t x y e = rw e refl
+
+-- Numbers are never taken back.
+
+pub append-grows : (n into : ℕ) (w : model.World) → w.made ≤ (append n into w).made
+append-grows n into w = (append-kept n into w).least
+
+pub opened-grows : (into n : ℕ) (w : model.World) → w.made ≤ (opened into n w).made
+opened-grows into n w = let a = append-grows w.made into (clone_node false n w) in omega (arith, a)
+
+pub copy-grows : (into n : ℕ) (fill : ℕ → model.World → model.World) (w : model.World) → ((inner : ℕ) (v : model.World) → v.made ≤ (fill inner v).made) → (opened into n w).made ≤ (copy_into into n fill w).made
+copy-grows into n fill w h =
+    let inner = inner_of into n w in
+    let a = h inner (opened into n w) in
+    let b = append-grows inner w.made (fill inner (opened into n w)) in
+    omega (arith, a, b)
+
+pub if-grows : (b : Bool) (w u v : model.World) → w.made ≤ u.made → w.made ≤ v.made → w.made ≤ (if b then u else v).made
+if-grows true w u v g h = g
+if-grows false w u v g h = h
+
+-- the tail takes at least what its first node takes
+pub tail-grows : (moves : Bool) (into offset : ℕ) (path : List ℕ) (w : model.World) → w.made ≤ (tail_into moves into offset path w).made
+tail-grows moves into offset [] w = omega arith
+tail-grows moves into offset (n ∷ []) w =
+    if-grows (kind_passes is_character_data w.forest n) w _ _
+    (units_into-grown moves into n offset (length (data_of w n) - offset) w).least
+    (let a = opened-grows into n w in
+    let b = copy-grows into n (λ inner v. children_into moves inner (drop offset (children_of w.forest n)) v) w (λ inner v. children-grow moves inner (drop offset (children_of w.forest n)) v) in
+    omega (arith, a, b))
+tail-grows moves into offset (n ∷ m ∷ path) w =
+    let a = opened-grows into n w in
+    let b = copy-grows into n (λ inner v. children_into moves inner (past m (children_of w.forest n)) (tail_into moves inner offset (m ∷ path) v)) w
+    (λ inner v.
+    let c = tail-grows moves inner offset (m ∷ path) v in
+    let d = children-grow moves inner (past m (children_of w.forest n)) (tail_into moves inner offset (m ∷ path) v) in
+    omega (arith, c, d)) in
+    omega (arith, a, b)
+
+pub tail-opens : (moves : Bool) (into offset n m : ℕ) (path : List ℕ) (w : model.World) → (opened into n w).made ≤ (tail_into moves into offset (n ∷ m ∷ path) w).made
+tail-opens moves into offset n m path w =
+    copy-grows into n (λ inner v. children_into moves inner (past m (children_of w.forest n)) (tail_into moves inner offset (m ∷ path) v)) w
+    (λ inner v.
+    let c = tail-grows moves inner offset (m ∷ path) v in
+    let d = children-grow moves inner (past m (children_of w.forest n)) (tail_into moves inner offset (m ∷ path) v) in
+    omega (arith, c, d))
+
+pub closed-grows : (moves : Bool) (ps : List Partial) (w : model.World) → w.made ≤ (closed moves ps w).made
+closed-grows moves [] w = omega arith
+closed-grows moves (p ∷ ps) w =
+    let a = closed-grows moves ps w in
+    let b = children-grow moves p.inner p.children.items (closed moves ps w) in
+    let c = append-grows p.inner p.copy (children_into moves p.inner p.children.items (closed moves ps w)) in
+    omega (arith, a, b, c)
+
+-- room for what takes less
+pub room-within : (v : World) (whole step : model.World → model.World) → ((w : model.World) → Keeps v w → (step w).made ≤ (whole w).made) → HasRoom v whole → HasRoom v step
+room-within v whole step less r =
+    record { stands_for = r.stands_for; keeps = r.keeps; within = (let l = less r.stands_for r.keeps in let i = r.within in omega (arith, l, i)) }
+
+-- A copy with a further fragment.
+
+document-there : (f : Forest Content) (d : ℕ) → is_of_kind Document f d ≡ true → 0 < occurs d f
+document-there f d k = occurs-HasNode f d (go (entry_in f d) k)
+  where
+    go : (o : Option (Entry (Node Content))) → entry_has (is_kind Document) o ≡ true → is_some o ≡ true
+    go None e = e
+    go (Some x) e = refl
+
+pub document-stays : (a b c : World) (d : ℕ) → StillHeld a b → KindsStay a b → KindsStay b c → is_of_kind Document a.tree.forest d ≡ true → is_of_kind Document c.tree.forest d ≡ true
+document-stays a b c d s i j k =
+    let h = document-there a.tree.forest d k in
+    j (is_kind Document) d (s d h) ∙ i (is_kind Document) d h ∙ k
+
+module _ (v : World) (into n d copy : ℕ) (ec : copy ≡ v.tree.made) (held : HasNode v.tree.forest n) (ed : IfSome (entry_in v.tree.forest n) (λ e. d ≡ e.value.document)) where
+  document-is : d ≡ document_in (entry_in v.tree.forest n)
+  document-is =
+      elim (seen (entry_in v.tree.forest n)) [
+        | nothing e ↦ absurd (let k : is_some (entry_in v.tree.forest n) ≡ true = held in let j = rw e at k in false≢true j)
+        | just x e ↦ (let k = rw e at ed in rw e k)
+      ]
+
+  abbrev copy_put : model.World → model.World
+  copy_put w = append copy into (clone_node false n w)
+
+  opened-as : (w : model.World) → Keeps v w → opened into n w ≡ new_fragment d (copy_put w)
+  opened-as w k =
+      ap (λ (m : ℕ). new_fragment (node_document w n) (append m into (clone_node false n w))) (k.made ∙ sym ec)
+      ∙ ap (λ (x : ℕ). new_fragment x (copy_put w)) (ap (λ (g : Forest Content). document_in (entry_in g n)) k.forest ∙ sym document-is)
+
+  module _ (mid put : World) (f : Follows v mid (clone_node false n)) (g : Follows mid put (append copy into)) where
+    follows-put : Follows v put copy_put
+    follows-put = follows-then v mid put (clone_node false n) (append copy into) f g
+
+    pub room-inner : HasRoom v (opened into n) → HasRoom put (new_fragment d)
+    room-inner r = room-after v put (opened into n) copy_put (new_fragment d) opened-as follows-put r
+
+    pub inner-is : (inner : ℕ) → inner ≡ put.tree.made → (w : model.World) → Keeps v w → inner ≡ inner_of into n w
+    inner-is inner e w k =
+        e ∙ sym (follows-put.keeps w k).made ∙ ap (λ (m : ℕ). (append m into (clone_node false n w)).made) (ec ∙ sym k.made)
+
+    pub follows-opened : (new : World) → Follows put new (new_fragment d) → Follows v new (opened into n)
+    follows-opened new h = follows-as v new (λ w. new_fragment d (copy_put w)) (opened into n) opened-as (follows-then v put new copy_put (new_fragment d) follows-put h)
+
+pub room-copy : (v : World) (into n : ℕ) → HasRoom v (opened into n) → HasRoom v (clone_node false n)
+room-copy v into n r = room-within v (opened into n) (clone_node false n) (λ w k. let a = append-grows w.made into (clone_node false n w) in omega (arith, a)) r
+
+pub there-still : (a b : World) (ns : List ℕ) → StillHeld a b → AreThere a.tree.forest ns → AreThere b.tree.forest ns
+there-still a b ns s h m k = s m (h m k)
+
+pub unfinished-still : (a b : World) (p : Partial) → StillHeld a b → IsUnfinished a.tree.forest p → IsUnfinished b.tree.forest p
+unfinished-still a b p s i = record { copy = held-still a b s p.copy i.copy; inner = held-still a b s p.inner i.inner; children = there-still a b p.children.items s i.children }
+
+pub all_unfinished-still : (a b : World) (ps : List Partial) → StillHeld a b → AreUnfinished a.tree.forest ps → AreUnfinished b.tree.forest ps
+all_unfinished-still a b [] s h = tt
+all_unfinished-still a b (p ∷ ps) s h = (unfinished-still a b p s h.0, all_unfinished-still a b ps s h.1)
+
+-- One is finished.
+
+pub room-children : (v : World) (moves : Bool) (p : Partial) → HasRoom v (closed_one moves p) → HasRoom v (children_into moves p.inner p.children.items)
+room-children v moves p r = room-within v (closed_one moves p) (children_into moves p.inner p.children.items) (λ w k. append-grows p.inner p.copy (children_into moves p.inner p.children.items w)) r
+
+pub follows-closed : (v mid new : World) (moves : Bool) (p : Partial) → Follows v mid (children_into moves p.inner p.children.items) → Follows mid new (append p.inner p.copy) → Follows v new (closed_one moves p)
+follows-closed v mid new moves p f g = follows-then v mid new (children_into moves p.inner p.children.items) (append p.inner p.copy) f g
+
+-- All are finished, the last one first.
+
+pub closed-push : (moves : Bool) (ps : List Partial) (p : Partial) (w : model.World) → closed moves (ps ++ p ∷ []) w ≡ closed moves ps (closed_one moves p w)
+closed-push moves [] p w = refl
+closed-push moves (q ∷ ps) p w = ap (closed_one moves q) (closed-push moves ps p w)
+
+pub unfinished-push : (f : Forest Content) (ps : List Partial) (p : Partial) → AreUnfinished f ps → IsUnfinished f p → AreUnfinished f (ps ++ p ∷ [])
+unfinished-push f [] p h i = (i, tt)
+unfinished-push f (q ∷ ps) p h i = (h.0, unfinished-push f ps p h.1 i)
+
+pub unfinished-last : (f : Forest Content) (ps : List Partial) (p : Partial) → AreUnfinished f (ps ++ p ∷ []) → IsUnfinished f p
+unfinished-last f [] p h = h.0
+unfinished-last f (q ∷ ps) p h = unfinished-last f ps p h.1
+
+pub unfinished-front : (f : Forest Content) (ps : List Partial) (p : Partial) → AreUnfinished f (ps ++ p ∷ []) → AreUnfinished f ps
+unfinished-front f [] p h = tt
+unfinished-front f (q ∷ ps) p h = (h.0, unfinished-front f ps p h.1)
+
+pub record IsClosing (initial now : World) (moves : Bool) (all parts : List Partial) : Type 0 where
+  pub whole : IsWhole now
+  pub still : StillHeld initial now
+  pub unfinished : AreUnfinished now.tree.forest parts
+  pub room : HasRoom now (closed moves parts)
+  pub rest : (final : World) → Follows now final (closed moves parts) → Follows initial final (closed moves all)
+
+pub closing-first : (v : World) (moves : Bool) (all : List Partial) → IsWhole v → AreUnfinished v.tree.forest all → HasRoom v (closed moves all) → IsClosing v v moves all all
+closing-first v moves all h u r = record { whole = h; still = λ m x. x; unfinished = u; room = r; rest = λ final f. f }
+
+module _ (initial now : World) (moves : Bool) (all parts : List Partial) (p : Partial) (t : IsClosing initial now moves all (parts ++ p ∷ [])) where
+  pub closing-last : IsUnfinished now.tree.forest p
+  closing-last = unfinished-last now.tree.forest parts p t.unfinished
+
+  pub closing-room : HasRoom now (closed_one moves p)
+  closing-room = room-before now (closed moves (parts ++ p ∷ [])) (closed_one moves p) (closed moves parts) (λ w k. closed-push moves parts p w) (closed-grows moves parts) t.room
+
+  pub closing-next : (next : World) → Follows now next (closed_one moves p) → StillHeld now next → IsWhole next → IsClosing initial next moves all parts
+  closing-next next f s h = record {
+    whole = h;
+    still = λ m x. s m (t.still m x);
+    unfinished = all_unfinished-still now next parts s (unfinished-front now.tree.forest parts p t.unfinished);
+    room = room-after now next (closed moves (parts ++ p ∷ [])) (closed_one moves p) (closed moves parts) (λ w k. closed-push moves parts p w) f t.room;
+    rest = λ final g.
+        t.rest final (follows-as now final (λ w. closed moves parts (closed_one moves p w)) (closed moves (parts ++ p ∷ [])) (λ w k. closed-push moves parts p w)
+        (follows-then now next final (closed_one moves p) (closed moves parts) f g));
+  }
+
+pub closing-end : (initial now : World) (moves : Bool) (all : List Partial) → IsClosing initial now moves all [] → Follows initial now (closed moves all)
+closing-end initial now moves all t = t.rest now (follows-none now)
+
+-- A copy with some of the children.
+
+module _ (v mid : World) (moves : Bool) (into n : ℕ) (kids : List ℕ) (p : Partial) (ec : p.copy ≡ v.tree.made) (ei : (w : model.World) → Keeps v w → p.inner ≡ inner_of into n w) (ek : p.children.items ≡ kids) (f : Follows v mid (opened into n)) where
+  abbrev copied : model.World → model.World
+  copied = copy_into into n (λ inner u. children_into moves inner kids u)
+
+  copied-as : (w : model.World) → Keeps v w → copied w ≡ closed_one moves p (opened into n w)
+  copied-as w k =
+      sym (ap (λ (c : ℕ). append p.inner c (children_into moves p.inner p.children.items (opened into n w))) (ec ∙ sym k.made)
+      ∙ ap (λ (i : ℕ). append i w.made (children_into moves i p.children.items (opened into n w))) (ei w k)
+      ∙ ap (λ (ks : List ℕ). append (inner_of into n w) w.made (children_into moves (inner_of into n w) ks (opened into n w))) ek)
+
+  pub room-closing : HasRoom v copied → HasRoom mid (closed_one moves p)
+  room-closing r = room-after v mid copied (opened into n) (closed_one moves p) copied-as f r
+
+  pub follows-copy : (new : World) → Follows mid new (closed_one moves p) → Follows v new copied
+  follows-copy new g = follows-as v new (λ w. closed_one moves p (opened into n w)) copied copied-as (follows-then v mid new (opened into n) (closed_one moves p) f g)
+
+pub room-open : (v : World) (moves : Bool) (into n : ℕ) (kids : List ℕ) → HasRoom v (copy_into into n (λ inner u. children_into moves inner kids u)) → HasRoom v (opened into n)
+room-open v moves into n kids r =
+    room-within v (copy_into into n (λ inner u. children_into moves inner kids u)) (opened into n)
+    (λ w k. copy-grows into n (λ inner u. children_into moves inner kids u) w (λ inner u. children-grow moves inner kids u)) r
+
+-- The last node of a path.
+
+module _ (v : World) (moves : Bool) (into offset n : ℕ) where
+  module _ (is_data : kind_passes is_character_data v.tree.forest n ≡ true) (count : ℕ) (ec : count ≡ length (content_in (entry_in v.tree.forest n)).text - offset) where
+    tail-units : (w : model.World) → Keeps v w → tail_into moves into offset (n ∷ []) w ≡ units_into moves into n offset count w
+    tail-units w k =
+        if_so (kind_passes is_character_data w.forest n) _ _ (ap (λ (g : Forest Content). kind_passes is_character_data g n) k.forest ∙ is_data)
+        ∙ ap (λ (c : ℕ). units_into moves into n offset c w) (ap (λ (g : Forest Content). length (content_in (entry_in g n)).text - offset) k.forest ∙ sym ec)
+
+    pub room-tail_units : HasRoom v (tail_into moves into offset (n ∷ [])) → HasRoom v (units_into moves into n offset count)
+    room-tail_units r = room-as v (tail_into moves into offset (n ∷ [])) (units_into moves into n offset count) tail-units r
+
+    pub follows-tail_units : (new : World) → Follows v new (units_into moves into n offset count) → Follows v new (tail_into moves into offset (n ∷ []))
+    follows-tail_units new f = follows-as v new (units_into moves into n offset count) (tail_into moves into offset (n ∷ [])) tail-units f
+
+  module _ (other : kind_passes is_character_data v.tree.forest n ≡ false) (kids : List ℕ) (ek : kids ≡ drop offset (children_of v.tree.forest n)) where
+    abbrev tail_copied : model.World → model.World
+    tail_copied = copy_into into n (λ inner u. children_into moves inner kids u)
+
+    tail-copy : (w : model.World) → Keeps v w → tail_into moves into offset (n ∷ []) w ≡ tail_copied w
+    tail-copy w k =
+        if_not (kind_passes is_character_data w.forest n) _ _ (ap (λ (g : Forest Content). kind_passes is_character_data g n) k.forest ∙ other)
+        ∙ ap (λ (ks : List ℕ). copy_into into n (λ inner u. children_into moves inner ks u) w) (ap (λ (g : Forest Content). drop offset (children_of g n)) k.forest ∙ sym ek)
+
+    pub room-tail_copy : HasRoom v (tail_into moves into offset (n ∷ [])) → HasRoom v tail_copied
+    room-tail_copy r = room-as v (tail_into moves into offset (n ∷ [])) tail_copied tail-copy r
+
+    pub follows-tail_copy : (new : World) → Follows v new tail_copied → Follows v new (tail_into moves into offset (n ∷ []))
+    follows-tail_copy new f = follows-as v new tail_copied (tail_into moves into offset (n ∷ [])) tail-copy f
+
+-- Down the path.
+
+pub record IsGoingDown (initial now : World) (moves : Bool) (whole : model.World → model.World) (walk : ℕ → List ℕ → model.World → model.World) (parts : List Partial) (here : ℕ) (path : List ℕ) : Type 0 where
+  pub stays_whole : IsWhole now
+  pub still : StillHeld initial now
+  pub into : HasNode now.tree.forest here
+  pub there : AreThere initial.tree.forest path
+  pub unfinished : AreUnfinished now.tree.forest parts
+  pub room : HasRoom now (λ w. closed moves parts (walk here path w))
+  pub rest : (final : World) → Follows now final (λ w. closed moves parts (walk here path w)) → Follows initial final whole
+
+pub down-first : (v : World) (moves : Bool) (walk : ℕ → List ℕ → model.World → model.World) (into : ℕ) (path : List ℕ) → IsWhole v → HasNode v.tree.forest into → AreThere v.tree.forest path → HasRoom v (walk into path) → IsGoingDown v v moves (walk into path) walk [] into path
+down-first v moves walk into path h i t r = record { stays_whole = h; still = λ m x. x; into = i; there = t; unfinished = tt; room = r; rest = λ final f. f }
+
+module _ (initial now : World) (moves : Bool) (whole : model.World → model.World) (walk : ℕ → List ℕ → model.World → model.World) (parts : List Partial) (here n : ℕ) (path : List ℕ) (t : IsGoingDown initial now moves whole walk parts here (n ∷ path)) where
+  pub down-held : HasNode now.tree.forest n
+  down-held = HasNode-occurs now.tree.forest n (t.still n (t.there n (hits-first n path)))
+
+  pub down-room : (step : model.World → model.World) → ((w : model.World) → Keeps now w → (step w).made ≤ (walk here (n ∷ path) w).made) → HasRoom now step
+  down-room step less =
+      room-within now (λ w. closed moves parts (walk here (n ∷ path) w)) step
+      (λ w k. let a = less w k in let b = closed-grows moves parts (walk here (n ∷ path) w) in omega (arith, a, b)) t.room
+
+  pub down-next : (next : World) (step : model.World → model.World) (p : Partial) → ((w : model.World) → Keeps now w → walk here (n ∷ path) w ≡ closed_one moves p (walk p.inner path (step w))) → Follows now next step → StillHeld now next → IsWhole next → IsUnfinished next.tree.forest p →
+      IsGoingDown initial next moves whole walk (parts ++ p ∷ []) p.inner path
+  down-next next step p same f s h u = record {
+    stays_whole = h;
+    still = λ m x. s m (t.still m x);
+    into = u.inner;
+    there = λ m x. t.there m (let i = hits-append m (n ∷ []) path in omega arith);
+    unfinished = unfinished-push next.tree.forest parts p (all_unfinished-still now next parts s t.unfinished) u;
+    room = room-after now next (λ w. closed moves parts (walk here (n ∷ path) w)) step (λ w. closed moves (parts ++ p ∷ []) (walk p.inner path w)) same_closed f t.room;
+    rest = λ final g.
+        t.rest final (follows-as now final (λ w. closed moves (parts ++ p ∷ []) (walk p.inner path (step w))) (λ w. closed moves parts (walk here (n ∷ path) w)) same_closed
+        (follows-then now next final step (λ w. closed moves (parts ++ p ∷ []) (walk p.inner path w)) f g));
+  }
+    where
+      same_closed : (w : model.World) → Keeps now w → closed moves parts (walk here (n ∷ path) w) ≡ closed moves (parts ++ p ∷ []) (walk p.inner path (step w))
+      same_closed w k = ap (closed moves parts) (same w k) ∙ sym (closed-push moves parts p (walk p.inner path (step w)))
+
+  module _ (last : World) (f : Follows now last (walk here (n ∷ path))) where
+    pub down-close_room : HasRoom last (closed moves parts)
+    down-close_room = room-after now last (λ w. closed moves parts (walk here (n ∷ path) w)) (walk here (n ∷ path)) (closed moves parts) (λ w k. refl) f t.room
+
+    pub down-end : (final : World) → Follows last final (closed moves parts) → Follows initial final whole
+    down-end final g = t.rest final (follows-then now last final (walk here (n ∷ path)) (closed moves parts) f g)
+
+-- the first node of a tail is opened
+pub tail-down : (v : World) (moves : Bool) (into offset n m : ℕ) (path : List ℕ) (p : Partial) → p.copy ≡ v.tree.made → ((w : model.World) → Keeps v w → p.inner ≡ inner_of into n w) → p.children.items ≡ past m (children_of v.tree.forest n) →
+    (w : model.World) → Keeps v w → tail_into moves into offset (n ∷ m ∷ path) w ≡ closed_one moves p (tail_into moves p.inner offset (m ∷ path) (opened into n w))
+tail-down v moves into offset n m path p ec ei ek w k =
+    sym (ap (λ (c : ℕ). append p.inner c (children_into moves p.inner p.children.items (tail_into moves p.inner offset (m ∷ path) (opened into n w)))) (ec ∙ sym k.made)
+    ∙ ap (λ (i : ℕ). append i w.made (children_into moves i p.children.items (tail_into moves i offset (m ∷ path) (opened into n w)))) (ei w k)
+    ∙ ap (λ (ks : List ℕ). append (inner_of into n w) w.made (children_into moves (inner_of into n w) ks (tail_into moves (inner_of into n w) offset (m ∷ path) (opened into n w))))
+    (ek ∙ ap (λ (g : Forest Content). past m (children_of g n)) (sym k.forest)))
+
+-- What a copy names once it is opened.
+pub opened-unfinished : (v mid put new : World) (p : Partial) → StillHeld v mid → StillHeld mid put → StillHeld put new → p.copy ≡ v.tree.made → HasNode mid.tree.forest v.tree.made → p.inner ≡ put.tree.made → HasNode new.tree.forest put.tree.made → AreThere v.tree.forest p.children.items → IsUnfinished new.tree.forest p
+opened-unfinished v mid put new p s t u ec hc ei hi hk = record {
+  copy = held-still put new u p.copy (held-still mid put t p.copy (subst (HasNode mid.tree.forest) (sym ec) hc));
+  inner = subst (HasNode new.tree.forest) (sym ei) hi;
+  children = λ m h. u m (t m (s m (hk m h)));
+}
+
+pub still-twice : (a b c : World) → StillHeld a b → StillHeld b c → StillHeld a c
+still-twice a b c s t m h = t m (s m h)
+
+-- The list of the nodes below, from an index on.
+module _ (initial now : World) (moves : Bool) (whole : model.World → model.World) (walk : ℕ → List ℕ → model.World → model.World) (parts : List Partial) (here n : ℕ) (below : List ℕ) (i : ℕ) (t : IsGoingDown initial now moves whole walk parts here (n ∷ drop i below)) where
+  pub down-more : (x : ℕ) → x ≡ slice_index_or below i x → i < length below → IsGoingDown initial now moves whole walk parts here (n ∷ x ∷ drop (i + 1) below)
+  down-more x is lt = subst (λ (ns : List ℕ). IsGoingDown initial now moves whole walk parts here (n ∷ ns)) (listed below i x is lt) t
+
+  pub down-last : length below ≤ i → IsGoingDown initial now moves whole walk parts here (n ∷ [])
+  down-last le = subst (λ (ns : List ℕ). IsGoingDown initial now moves whole walk parts here (n ∷ ns)) (none-left below i le) t
+
+pub no_partials : (ps : List Partial) → length ps ≡ 0 → ps ≡ []
+no_partials [] e = refl
+no_partials (p ∷ ps) e = absurd (omega arith)
+
+pub fewer : (ps : List Partial) (p : Partial) → length ps < length (ps ++ p ∷ [])
+fewer ps p = let l = length-append ps (p ∷ []) in omega (arith, l)
