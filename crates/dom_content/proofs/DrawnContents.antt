@@ -1,9 +1,8 @@
 -- A range's contents that go into a new fragment by their parts, on every world that a world of the code keeps. DOM Standard, "Interface Range".
-use Rattle.std.proofs.Common.{◌≡◌, ℕ, ◌+◌, ◌-◌, ◌<◌, ◌≤◌, ◌==◌, Bool, true, false, ◌&&◌, ◌||◌, if◌then◌else◌, List, [], ◌∷◌, drop, length, filter, reverse, slice_index_or, Option, Some, None, refl, ap, sym, ◌∙◌, subst, arith, length-drop}
+use Rattle.std.proofs.Common.{◌≡◌, ℕ, ◌+◌, ◌<◌, ◌≤◌, ◌==◌, Bool, true, false, ◌&&◌, ◌||◌, if◌then◌else◌, List, [], ◌∷◌, drop, length, filter, reverse, slice_index_or, Option, Some, None, refl, ap, sym, ◌∙◌, subst, arith, length-drop}
 use Rattle.std.specs.Prelude.{IsSome, IfSome, is_some}
 use Rattle.std.proofs.lemmas.Bool.{false≢true}
 use Rattle.std.proofs.lemmas.List.{drop_more}
-use Rattle.dom_model.specs.declared.DomError.TheVariants.{HierarchyRequestError}
 use Rattle.dom_model.specs.declared.Kind.{Kind}
 use Rattle.dom_model.specs.declared.Kind.TheVariants.{Document, DocumentType, DocumentFragment}
 use Rattle.dom_model.specs.PlainLists.Lists.{hits}
@@ -16,10 +15,10 @@ use Rattle.dom_model.specs.Worlds.World.{Content, Point, Range, no_content}
 use Rattle.dom_model.specs.Worlds.Sound.{IsRange, IsSound}
 use Rattle.dom_model.specs.BoundaryPoints.Points.{order_of}
 use Rattle.dom_model.specs.Commands.Making.{named}
-use Rattle.dom_model.specs.MutationAlgorithms.Checks.{kind_passes, is_of_kind, is_same, has_kind, up_to, first_refusal}
+use Rattle.dom_model.specs.MutationAlgorithms.Checks.{kind_passes, is_of_kind, is_same, has_kind, up_to}
 use Rattle.dom_model.specs.MutationAlgorithms.Editing.{document_in, node_document}
 use Rattle.dom_model.specs.RangesAndContents.Ranges.{is_collapsed, collapsed_at, is_contained, is_less, common_ancestor, range_at, with_range}
-use Rattle.dom_model.specs.RangesAndContents.Contents.{for_range, is_in_one_data, new_place, new_fragment, units_into, children_into, tail_into, head_into, path_below, contents_drawn, check_draw, check_extract, extracted, extract, clone_contents}
+use Rattle.dom_model.specs.RangesAndContents.Contents.{for_range, is_in_one_data, new_place, new_fragment, children_into, tail_into, head_into, path_below, contents_drawn, check_draw, extracted, extract, clone_contents}
 use Rattle.dom_model.proofs.PlainLists.Numbers.{same_or, same, apart}
 use Rattle.dom_model.proofs.Forests.Climbing.{hits-reverse}
 use Rattle.dom_model.proofs.Forests.Entries.{occurs-HasNode, HasNode-occurs}
@@ -35,87 +34,26 @@ use Rattle.dom_ranges.specs.Tables.{range_in}
 use Rattle.dom_edit.specs.declared.world.World.{World}
 use Rattle.dom_edit.specs.Inserting.{AreThere}
 use Rattle.dom_edit.specs.Whole.{IsWhole, Keeps, Follows, unwatched}
-use Rattle.dom_edit.proofs.Following.{follows-none, follows-then, keeps-unwatched}
+use Rattle.dom_edit.proofs.Following.{follows-then, keeps-unwatched}
 use Rattle.dom_edit.proofs.InsertedNodes.{item-hit}
 use Rattle.dom_data.proofs.NewTexts.{owner-kind}
 use Rattle.dom_data.proofs.StaysWhole.{sound-unwatched}
 use Rattle.dom_content.specs.Paths.{HasRoom, StillHeld}
 use Rattle.dom_content.specs.Drawing.{AreParts, in_one_data, parts_drawn, filled}
 use Rattle.dom_content.proofs.Deleted.{follows-alike}
+use Rattle.dom_content.proofs.PieceSteps.{room-before, room-after}
 use Rattle.dom_content.proofs.DrawnNumbers.{head-rises, rest-rises, filled-rises}
-
--- Room, and what is held.
-
-at-most : (a b c : ℕ) → a ≤ b → b ≤ c → a ≤ c
-at-most a b c h k = omega arith
-
-pub room-before : (v : World) (whole step after : model.World → model.World) → ((w : model.World) → Keeps v w → whole w ≡ after (step w)) → ((w : model.World) → w.made ≤ (after w).made) → HasRoom v whole → HasRoom v step
-room-before v whole step after alike rises r =
-    let w = r.stands_for in
-    record {
-      stands_for = w;
-      keeps = r.keeps;
-      within = at-most (step w).made (after (step w)).made 4294967295 (rises (step w)) (subst (λ (x : model.World). x.made ≤ 4294967295) (alike w r.keeps) r.within);
-    }
-
-pub room-after : (a b : World) (whole step after : model.World → model.World) → ((w : model.World) → Keeps a w → whole w ≡ after (step w)) → Follows a b step → HasRoom a whole → HasRoom b after
-room-after a b whole step after alike f r =
-    let w = r.stands_for in
-    record {
-      stands_for = step w;
-      keeps = f.keeps w r.keeps;
-      within = subst (λ (x : model.World). x.made ≤ 4294967295) (alike w r.keeps) r.within;
-    }
-
-pub room-as : (v : World) (whole step : model.World → model.World) → ((w : model.World) → Keeps v w → whole w ≡ step w) → HasRoom v whole → HasRoom v step
-room-as v whole step alike r = record { stands_for = r.stands_for; keeps = r.keeps; within = subst (λ (x : model.World). x.made ≤ 4294967295) (alike r.stands_for r.keeps) r.within }
-
-pub held-after : (a b : World) → StillHeld a b → (n : ℕ) → HasNode a.tree.forest n → HasNode b.tree.forest n
-held-after a b h n k = HasNode-occurs b.tree.forest n (h n (occurs-HasNode a.tree.forest n k))
 
 pub list-after : (a b : World) → StillHeld a b → (ns : List ℕ) → AreThere a.tree.forest ns → AreThere b.tree.forest ns
 list-after a b h ns k m l = h m (k m l)
 
-pub held-then : (a b c : World) → StillHeld a b → StillHeld b c → StillHeld a c
-held-then a b c h k m l = k m (h m l)
+-- The parts that go into a fragment in turn.
 
--- Filling a fragment.
-
-module _ (moves one_data : Bool) (into : ℕ) (r : Range) (first contained last : List ℕ) where
-  abbrev step : model.World → model.World
-  step = filled moves one_data into r first contained last
-
-  abbrev units : model.World → model.World
-  units = units_into moves into r.start.node r.start.offset (r.end.offset - r.start.offset)
-
+module _ (moves : Bool) (into : ℕ) (r : Range) (first contained last : List ℕ) where
   abbrev parts : model.World → model.World
   parts = parts_drawn moves into r first contained last
 
-  none-is : is_collapsed r ≡ true → (w : model.World) → step w ≡ w
-  none-is e w = ap (λ b. if b then w else if one_data then units w else parts w) e
-
-  units-are : is_collapsed r ≡ false → one_data ≡ true → (w : model.World) → step w ≡ units w
-  units-are e d w = ap (λ b. if b then w else if one_data then units w else parts w) e ∙ ap (λ b. if b then units w else parts w) d
-
-  parts-are : is_collapsed r ≡ false → one_data ≡ false → (w : model.World) → step w ≡ parts w
-  parts-are e d w = ap (λ b. if b then w else if one_data then units w else parts w) e ∙ ap (λ b. if b then units w else parts w) d
-
-  pub fill-none : (a : World) → is_collapsed r ≡ true → Follows a a (filled moves one_data into r first contained last)
-  fill-none a e = follows-alike a a (λ w. w) step (λ w k. none-is e w) (follows-none a)
-
-  pub fill-units : (a b : World) → is_collapsed r ≡ false → one_data ≡ true → Follows a b (units_into moves into r.start.node r.start.offset (r.end.offset - r.start.offset)) → Follows a b (filled moves one_data into r first contained last)
-  fill-units a b e d f = follows-alike a b units step (λ w k. units-are e d w) f
-
-  pub fill-parts : (a b : World) → is_collapsed r ≡ false → one_data ≡ false → Follows a b (parts_drawn moves into r first contained last) → Follows a b (filled moves one_data into r first contained last)
-  fill-parts a b e d f = follows-alike a b parts step (λ w k. parts-are e d w) f
-
-  pub room-units : (a : World) → is_collapsed r ≡ false → one_data ≡ true → HasRoom a (filled moves one_data into r first contained last) → HasRoom a (units_into moves into r.start.node r.start.offset (r.end.offset - r.start.offset))
-  room-units a e d h = room-as a step units (λ w k. units-are e d w) h
-
-  pub room-parts : (a : World) → is_collapsed r ≡ false → one_data ≡ false → HasRoom a (filled moves one_data into r first contained last) → HasRoom a (parts_drawn moves into r first contained last)
-  room-parts a e d h = room-as a step parts (λ w k. parts-are e d w) h
-
-  -- the three parts in turn, as the lists were lent
+  -- the offset and the lists as the calls are given them
   pub room-tail : (a : World) (o : ℕ) (p : List ℕ) → o ≡ r.start.offset → p ≡ first → HasRoom a (parts_drawn moves into r first contained last) → HasRoom a (tail_into moves into o p)
   room-tail a o p d dp h =
       subst (λ x. HasRoom a (tail_into moves into x p)) (sym d)
@@ -275,34 +213,11 @@ module _ (v : World) (n : ℕ) (r : Range) (e : range_in v.ranges n ≡ Some r) 
   range-here : (w : model.World) → Keeps v w → range_at w n ≡ Some r
   range-here w k = ap (λ rs. range_in (record { ranges = rs; covered = v.ranges.covered }) n) k.ranges ∙ e
 
-  pub range-extracted : (w : model.World) → Keeps v w → extract n w ≡ extracted n r w
+  range-extracted : (w : model.World) → Keeps v w → extract n w ≡ extracted n r w
   range-extracted w k = ap (λ (o : Option Range). for_range o w (λ x. extracted n x w)) (range-here w k)
 
-  pub range-cloned : (w : model.World) → Keeps v w → clone_contents n w ≡ contents_drawn false r w
+  range-cloned : (w : model.World) → Keeps v w → clone_contents n w ≡ contents_drawn false r w
   range-cloned w k = ap (λ (o : Option Range). for_range o w (λ x. contents_drawn false x w)) (range-here w k)
-
-  check-is : check_extract n (unwatched v) ≡ check_draw (unwatched v) r
-  check-is = ap (λ (o : Option Range). for_range o None (λ x. check_draw (unwatched v) x)) (range-here (unwatched v) (keeps-unwatched v))
-
-  -- the check by the contained children
-  module _ (first contained last : List ℕ) (are : AreParts v.tree.forest r first contained last) (found : Bool) (is : found ≡ has_kind DocumentType v.tree.forest contained) where
-    check : check_draw (unwatched v) r ≡ first_refusal ((found, HierarchyRequestError) ∷ [])
-    check = ap (λ b. first_refusal ((b, HierarchyRequestError) ∷ [])) (ap (has_kind DocumentType v.tree.forest) (sym are.contained) ∙ sym is)
-
-    pub draw-allowed : found ≡ false → check_draw (unwatched v) r ≡ None
-    draw-allowed z = check ∙ ap (λ b. first_refusal ((b, HierarchyRequestError) ∷ [])) z
-
-    pub extract-allowed : found ≡ false → check_extract n (unwatched v) ≡ None
-    extract-allowed z = check-is ∙ draw-allowed z
-
-    pub extract-refused : found ≡ true → check_extract n (unwatched v) ≡ Some HierarchyRequestError
-    extract-refused z = check-is ∙ check ∙ ap (λ b. first_refusal ((b, HierarchyRequestError) ∷ [])) z
-
-  pub follows-extract : (y : World) → Follows v y (extracted n r) → Follows v y (extract n)
-  follows-extract y f = follows-alike v y (extracted n r) (extract n) range-extracted f
-
-  pub follows-cloned : (y : World) → Follows v y (contents_drawn false r) → Follows v y (clone_contents n)
-  follows-cloned y f = follows-alike v y (contents_drawn false r) (clone_contents n) range-cloned f
 
   made-extracted : (w : model.World) → (extracted n r w).made ≡ (contents_drawn true r w).made
   made-extracted w = go (is_collapsed r || is_in_one_data w r)

@@ -73,9 +73,6 @@ filled-grows moves one_data into r first contained last w =
 least : (w v : World) → Grows w v → w.made ≤ v.made
 least w v g = g.1.least
 
-pub children-rise : (moves : Bool) (into : ℕ) (ns : List ℕ) (w : World) → w.made ≤ (children_into moves into ns w).made
-children-rise moves into ns w = least w (children_into moves into ns w) (children-grow moves into ns w)
-
 pub head-rises : (moves : Bool) (into offset : ℕ) (path : List ℕ) (w : World) → w.made ≤ (head_into moves into offset path w).made
 head-rises moves into offset path w = least w (head_into moves into offset path w) (head-grows moves into offset path w)
 

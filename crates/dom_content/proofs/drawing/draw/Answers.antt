@@ -2,7 +2,8 @@
 use Rattle.std.proofs.Common.{refl, ap}
 use Rattle.dom_content.specs.Drawing.{in_one_data}
 use Rattle.dom_content.proofs.RangeTexts.{ahead-of}
-use Rattle.dom_content.proofs.DrawnContents.{held-after, list-after, document-is, document-kind, one-same, first-held, contained-held, last-held, follows-drawn, room-fragment, room-filled}
+use Rattle.dom_content.proofs.PieceSteps.{held-still}
+use Rattle.dom_content.proofs.DrawnContents.{list-after, document-is, document-kind, one-same, first-held, contained-held, last-held, follows-drawn, room-fragment, room-filled}
 use Rattle.dom_content.proofs.drawing.draw.Goals as goal
 
 pub new_fragment-requires-clause-document_kind : goal.new_fragment-requires-clause-document_kind
@@ -18,7 +19,7 @@ new_fragment-requires-clause-room c =
     refl c.requires.room
 
 pub fill-requires-clause-start_held : goal.fill-requires-clause-start_held
-fill-requires-clause-start_held c = held-after c.args.world.now c.new_fragment.new.world c.in_ok-fragment.ensures.still_held c.args.start.node c.requires.range.starts.there
+fill-requires-clause-start_held c = held-still c.args.world.now c.new_fragment.new.world c.in_ok-fragment.ensures.still_held c.args.start.node c.requires.range.starts.there
 
 pub fill-requires-clause-ahead : goal.fill-requires-clause-ahead
 fill-requires-clause-ahead c = λ h. ahead-of c.args.world.now.tree.forest (record { start = c.args.start; end = c.args.end }) c.args.start c.args.end c.requires.range refl refl h
