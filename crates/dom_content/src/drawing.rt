@@ -1,16 +1,247 @@
 //! Contents that go into a fragment, moved or copied (DOM Standard, "Interface Range", extractContents, cloneContents).
 
-ghost use Rattle.std.specs.Prelude.{◌≡◌, ◌≤◌, None, IfOk, OnOk, IsSome};
+ghost use Rattle.std.specs.Prelude.{◌≡◌, ◌-◌, ◌==◌, ◌≤◌, ◌||◌, true, None, IfOk, OnOk, IsSome};
 ghost use Rattle.std.specs.Result.{IfErr};
-ghost use Rattle.dom_model.specs.RangesAndContents.Contents.{check_extract, extract, clone_contents};
+ghost use Rattle.dom_model.specs.declared.Kind.TheVariants.{DocumentType};
+ghost use Rattle.dom_model.specs.Forests.Forest.{HasNode};
+ghost use Rattle.dom_model.specs.Forests.Kinds.{is_character_data};
+ghost use Rattle.dom_model.specs.Worlds.Sound.{IsRange};
+ghost use Rattle.dom_model.specs.MutationAlgorithms.Checks.{kind_passes, is_of_kind, has_kind};
+ghost use Rattle.dom_model.specs.RangesAndContents.Ranges.{is_collapsed as ends_meet};
+ghost use Rattle.dom_model.specs.RangesAndContents.Contents.{units_into, contents_drawn, check_draw, check_extract, extracted, extract, clone_contents};
 ghost use Rattle.dom_ranges.specs.Tables.{range_in};
+ghost use Rattle.dom_edit.specs.Inserting.{AreThere};
 ghost use Rattle.dom_edit.specs.Whole.{IsWhole, Follows, unwatched};
 ghost use Rattle.dom_edit.specs.Refusals.{IsRefused};
+ghost use Rattle.dom_content.specs.Paths.{HasRoom, StillHeld};
+ghost use Rattle.dom_content.specs.Drawing.{AreParts, in_one_data, parts_drawn, filled};
 
-use dom_edit::{Refusal, World};
+use crate::children::contained_children;
+use crate::deleting::{new_place, stand_at};
+use crate::paths::{head_into, path_below, tail_into};
+use crate::pieces::{children_into, new_fragment, units_into};
+use dom_edit::{Content, Refusal, World};
+use dom_kinds::{DomError, Kind};
+use dom_point::{Point, common};
 use dom_ranges::RangeId;
-use dom_tree::NodeId;
-use std::alloc::Global;
+use dom_tree::{NodeId, Tree};
+use std::alloc::{AllocError, Global};
+
+/// What of a range is drawn in part and what whole: the paths from the common ancestor of its two nodes down to them, and the children
+/// of that ancestor that are contained.
+#[derive(Drop)]
+struct Parts {
+    first: Vec<NodeId>,
+    contained: Vec<NodeId>,
+    last: Vec<NodeId>,
+}
+
+// The parts of a range.
+fn parts_of(
+    tree: &Tree<Content>,
+    alloc: Global,
+    start: Point,
+    end: Point,
+) -> Result<Parts, AllocError>
+    requires range { IsRange tree.now.forest (record { start = start; end = end }) }
+    ensures { IfOk result (λ parts. AreParts tree.now.forest (record { start = start; end = end }) parts.first.items parts.contained.items parts.last.items) }
+{
+    let parent = common(tree, start.node, end.node);
+    let first = path_below(tree, alloc, parent, start.node)?;
+    let last = path_below(tree, alloc, parent, end.node)?;
+    let contained = contained_children(tree, alloc, start, end, &first, &last)?;
+    Ok(Parts {
+        first,
+        contained,
+        last,
+    })
+}
+
+// Whether a node is a doctype.
+fn is_doctype(tree: &Tree<Content>, node: NodeId) -> bool
+    requires held { HasNode tree.now.forest node }
+    ensures { result ≡ is_of_kind DocumentType tree.now.forest node }
+{
+    tree.label(node).kind == Kind::DocumentType
+}
+
+// Whether one of these nodes is a doctype.
+fn has_doctype(tree: &Tree<Content>, nodes: &[NodeId]) -> bool
+    requires held { AreThere tree.now.forest nodes.now }
+    ensures { result ≡ has_kind DocumentType tree.now.forest nodes.now }
+{
+    for node in nodes {
+        if is_doctype(tree, *node) {
+            return true;
+        }
+    }
+    false
+}
+
+// Whether two points are one.
+fn is_collapsed(start: Point, end: Point) -> bool
+    ensures { result ≡ ends_meet (record { start = start; end = end }) }
+{
+    start.node == end.node && start.offset == end.offset
+}
+
+// Whether a node has data.
+fn has_data(tree: &Tree<Content>, node: NodeId) -> bool
+    requires held { HasNode tree.now.forest node }
+    ensures { result ≡ kind_passes is_character_data tree.now.forest node }
+{
+    match tree.label(node).kind {
+        Kind::Text | Kind::ProcessingInstruction | Kind::Comment => true,
+        Kind::Element | Kind::Document | Kind::DocumentType | Kind::DocumentFragment => false,
+    }
+}
+
+// Whether two points stand in one node with data.
+fn is_in_one_data(tree: &Tree<Content>, start: Point, end: Point) -> bool
+    requires held { HasNode tree.now.forest start.node }
+    ensures { result ≡ in_one_data tree.now.forest (record { start = start; end = end }) }
+{
+    start.node == end.node && has_data(tree, start.node)
+}
+
+// Whether the ends of a range follow the cut, once its contents are gone.
+fn follows_cut(tree: &Tree<Content>, start: Point, end: Point) -> bool
+    requires held { HasNode tree.now.forest start.node }
+    ensures { result ≡ (ends_meet (record { start = start; end = end }) || in_one_data tree.now.forest (record { start = start; end = end })) }
+{
+    is_collapsed(start, end) || is_in_one_data(tree, start, end)
+}
+
+// The units between two points of one node go into a fragment.
+fn draw_units(
+    world: &mut World,
+    alloc: Global,
+    moves: bool,
+    into: NodeId,
+    start: Point,
+    end: Point,
+) -> Result<(), AllocError>
+    requires whole { IsWhole world.old }
+    requires into_held { HasNode world.old.tree.forest into }
+    requires kind { kind_passes is_character_data world.old.tree.forest start.node ≡ true }
+    requires ahead { start.offset ≤ end.offset }
+    requires room { HasRoom world.old (units_into moves into start.node start.offset (end.offset - start.offset)) }
+    ensures drawn { OnOk result (Follows world.old world.new (units_into moves into start.node start.offset (end.offset - start.offset))) }
+    ensures still_held { OnOk result (StillHeld world.old world.new) }
+    ensures whole { IsWhole world.new }
+{
+    let count = end.offset - start.offset;
+    units_into(world, alloc, moves, into, start.node, start.offset, count)
+}
+
+// The parts of a range go into a fragment, in their order.
+fn draw_parts(
+    world: &mut World,
+    alloc: Global,
+    moves: bool,
+    into: NodeId,
+    start: Point,
+    end: Point,
+    parts: &Parts,
+) -> Result<(), AllocError>
+    requires whole { IsWhole world.old }
+    requires into_held { HasNode world.old.tree.forest into }
+    requires first_held { AreThere world.old.tree.forest parts.now.first.items }
+    requires contained_held { AreThere world.old.tree.forest parts.now.contained.items }
+    requires last_held { AreThere world.old.tree.forest parts.now.last.items }
+    requires room { HasRoom world.old (parts_drawn moves into (record { start = start; end = end }) parts.now.first.items parts.now.contained.items parts.now.last.items) }
+    ensures drawn { OnOk result (Follows world.old world.new (parts_drawn moves into (record { start = start; end = end }) parts.now.first.items parts.now.contained.items parts.now.last.items)) }
+    ensures still_held { OnOk result (StillHeld world.old world.new) }
+    ensures whole { IsWhole world.new }
+{
+    tail_into(world, alloc, moves, into, start.offset, &parts.first)?;
+    children_into(world, alloc, moves, into, &parts.contained)?;
+    head_into(world, alloc, moves, into, end.offset, &parts.last)
+}
+
+// The contents of a range go into a fragment: nothing, units of one node, or the parts.
+fn fill(
+    world: &mut World,
+    alloc: Global,
+    moves: bool,
+    into: NodeId,
+    start: Point,
+    end: Point,
+    parts: &Parts,
+) -> Result<(), AllocError>
+    requires whole { IsWhole world.old }
+    requires into_held { HasNode world.old.tree.forest into }
+    requires start_held { HasNode world.old.tree.forest start.node }
+    requires ahead { (start.node == end.node) ≡ true → start.offset ≤ end.offset }
+    requires first_held { AreThere world.old.tree.forest parts.now.first.items }
+    requires contained_held { AreThere world.old.tree.forest parts.now.contained.items }
+    requires last_held { AreThere world.old.tree.forest parts.now.last.items }
+    requires room { HasRoom world.old (filled moves (in_one_data world.old.tree.forest (record { start = start; end = end })) into (record { start = start; end = end }) parts.now.first.items parts.now.contained.items parts.now.last.items) }
+    ensures drawn { OnOk result (Follows world.old world.new (filled moves (in_one_data world.old.tree.forest (record { start = start; end = end })) into (record { start = start; end = end }) parts.now.first.items parts.now.contained.items parts.now.last.items)) }
+    ensures still_held { OnOk result (StillHeld world.old world.new) }
+    ensures whole { IsWhole world.new }
+{
+    if is_collapsed(start, end) {
+        return Ok(());
+    }
+    if is_in_one_data(&world.tree, start, end) {
+        return draw_units(world, alloc, moves, into, start, end);
+    }
+    draw_parts(world, alloc, moves, into, start, end, parts)
+}
+
+// Makes a fragment with the contents of a range, by its parts.
+fn draw(
+    world: &mut World,
+    alloc: Global,
+    moves: bool,
+    start: Point,
+    end: Point,
+    parts: &Parts,
+) -> Result<NodeId, AllocError>
+    requires whole { IsWhole world.old }
+    requires range { IsRange world.old.tree.forest (record { start = start; end = end }) }
+    requires parts { AreParts world.old.tree.forest (record { start = start; end = end }) parts.now.first.items parts.now.contained.items parts.now.last.items }
+    requires room { HasRoom world.old (contents_drawn moves (record { start = start; end = end })) }
+    ensures number { IfOk result (λ id. id ≡ world.old.tree.made) }
+    ensures drawn { OnOk result (Follows world.old world.new (contents_drawn moves (record { start = start; end = end }))) }
+    ensures still_held { OnOk result (StillHeld world.old world.new) }
+    ensures whole { IsWhole world.new }
+{
+    let document = world.tree.document_of(start.node);
+    let fragment = new_fragment(world, alloc, document)?;
+    fill(world, alloc, moves, fragment, start, end, parts)?;
+    Ok(fragment)
+}
+
+// Takes the contents of a live range into a new fragment, by its parts; both ends then stand where they were.
+fn extract_parts(
+    world: &mut World,
+    alloc: Global,
+    range: RangeId,
+    start: Point,
+    end: Point,
+    parts: &Parts,
+) -> Result<NodeId, AllocError>
+    requires whole { IsWhole world.old }
+    requires live { IsSome (range_in world.old.ranges range) }
+    requires range { IsRange world.old.tree.forest (record { start = start; end = end }) }
+    requires allowed { check_draw (unwatched world.old) (record { start = start; end = end }) ≡ None }
+    requires parts { AreParts world.old.tree.forest (record { start = start; end = end }) parts.now.first.items parts.now.contained.items parts.now.last.items }
+    requires room { HasRoom world.old (contents_drawn true (record { start = start; end = end })) }
+    ensures number { IfOk result (λ id. id ≡ world.old.tree.made) }
+    ensures extracted { OnOk result (Follows world.old world.new (extracted range (record { start = start; end = end }))) }
+    ensures whole { IsWhole world.new }
+{
+    let place = new_place(&world.tree, start, end);
+    let stays = follows_cut(&world.tree, start, end);
+    let fragment = draw(world, alloc, true, start, end, parts)?;
+    if stays {
+        return Ok(fragment);
+    }
+    stand_at(world, range, place)?;
+    Ok(fragment)
+}
 
 /// Takes what lies in a live range into a new fragment, which it answers; both ends then stand where that was.
 ///
@@ -25,8 +256,13 @@ pub fn extract(world: &mut World, alloc: Global, range: RangeId) -> Result<NodeI
     ensures refused { IfErr result (λ e. IsRefused e (check_extract range (unwatched world.old)) world.old world.new) }
     ensures whole { IsWhole world.new }
 {
-    let _ = (alloc, range);
-    Err(Refusal::Memory)
+    let (start, end) = world.ranges.ends(range);
+    let parts = parts_of(&world.tree, alloc, start, end)?;
+    if has_doctype(&world.tree, &parts.contained) {
+        return Err(Refusal::Dom(DomError::HierarchyRequestError));
+    }
+    let fragment = extract_parts(world, alloc, range, start, end, &parts)?;
+    Ok(fragment)
 }
 
 /// Copies what lies in a live range into a new fragment, which it answers.
@@ -42,6 +278,11 @@ pub fn clone_contents(world: &mut World, alloc: Global, range: RangeId) -> Resul
     ensures refused { IfErr result (λ e. IsRefused e (check_extract range (unwatched world.old)) world.old world.new) }
     ensures whole { IsWhole world.new }
 {
-    let _ = (alloc, range);
-    Err(Refusal::Memory)
+    let (start, end) = world.ranges.ends(range);
+    let parts = parts_of(&world.tree, alloc, start, end)?;
+    if has_doctype(&world.tree, &parts.contained) {
+        return Err(Refusal::Dom(DomError::HierarchyRequestError));
+    }
+    let fragment = draw(world, alloc, false, start, end, &parts)?;
+    Ok(fragment)
 }

@@ -1,6 +1,7 @@
 //! The contents of live ranges: their text, and how they are deleted, extracted and copied (DOM Standard, "Interface Range").
 #![tactic(auto)]
 
+mod children;
 mod contained;
 mod deleting;
 mod drawing;

@@ -1,0 +1,60 @@
+-- A fragment beside the trees, and what goes into it.
+use Rattle.std.proofs.Common.{refl, ap}
+use Rattle.dom_content.specs.Drawing.{in_one_data}
+use Rattle.dom_content.proofs.RangeTexts.{ahead-of}
+use Rattle.dom_content.proofs.PieceSteps.{held-still}
+use Rattle.dom_content.proofs.DrawnContents.{list-after, document-is, document-kind, one-same, first-held, contained-held, last-held, follows-drawn, room-fragment, room-filled}
+use Rattle.dom_content.proofs.drawing.draw.Goals as goal
+
+pub new_fragment-requires-clause-document_kind : goal.new_fragment-requires-clause-document_kind
+new_fragment-requires-clause-document_kind c =
+    document-kind c.args.world.now c.requires.whole c.start.inside.node c.args.start.node c.document_of-document.result (ap (λ p. p.node) c.start.view_is) c.requires.range.starts.there c.document_of-document.ensures
+
+pub new_fragment-requires-clause-room : goal.new_fragment-requires-clause-room
+new_fragment-requires-clause-room c =
+    let v = c.args.world.now in
+    room-fragment v c.requires.whole (record { start = c.args.start; end = c.args.end }) c.requires.range c.args.parts.now.first.items c.args.parts.now.contained.items c.args.parts.now.last.items c.requires.parts
+    c.args.moves (in_one_data v.tree.forest (record { start = c.args.start; end = c.args.end })) v.tree.made c.document_of-document.result refl
+    (document-is v.tree.forest c.start.inside.node c.args.start.node c.document_of-document.result (ap (λ p. p.node) c.start.view_is) c.requires.range.starts.there c.document_of-document.ensures)
+    refl c.requires.room
+
+pub fill-requires-clause-start_held : goal.fill-requires-clause-start_held
+fill-requires-clause-start_held c = held-still c.args.world.now c.new_fragment.new.world c.in_ok-fragment.ensures.still_held c.args.start.node c.requires.range.starts.there
+
+pub fill-requires-clause-ahead : goal.fill-requires-clause-ahead
+fill-requires-clause-ahead c = λ h. ahead-of c.args.world.now.tree.forest (record { start = c.args.start; end = c.args.end }) c.args.start c.args.end c.requires.range refl refl h
+
+pub fill-requires-clause-first_held : goal.fill-requires-clause-first_held
+fill-requires-clause-first_held c =
+    list-after c.args.world.now c.new_fragment.new.world c.in_ok-fragment.ensures.still_held c.args.parts.now.first.items
+    (first-held c.args.world.now c.requires.whole (record { start = c.args.start; end = c.args.end }) c.requires.range c.args.parts.now.first.items c.args.parts.now.contained.items c.args.parts.now.last.items c.requires.parts)
+
+pub fill-requires-clause-contained_held : goal.fill-requires-clause-contained_held
+fill-requires-clause-contained_held c =
+    list-after c.args.world.now c.new_fragment.new.world c.in_ok-fragment.ensures.still_held c.args.parts.now.contained.items
+    (contained-held c.args.world.now c.requires.whole (record { start = c.args.start; end = c.args.end }) c.requires.range c.args.parts.now.first.items c.args.parts.now.contained.items c.args.parts.now.last.items c.requires.parts)
+
+pub fill-requires-clause-last_held : goal.fill-requires-clause-last_held
+fill-requires-clause-last_held c =
+    list-after c.args.world.now c.new_fragment.new.world c.in_ok-fragment.ensures.still_held c.args.parts.now.last.items
+    (last-held c.args.world.now c.requires.whole (record { start = c.args.start; end = c.args.end }) c.requires.range c.args.parts.now.first.items c.args.parts.now.contained.items c.args.parts.now.last.items c.requires.parts)
+
+pub fill-requires-clause-room : goal.fill-requires-clause-room
+fill-requires-clause-room c =
+    let v = c.args.world.now in
+    let x = c.new_fragment.new.world in
+    room-filled v c.requires.whole (record { start = c.args.start; end = c.args.end }) c.requires.range c.args.parts.now.first.items c.args.parts.now.contained.items c.args.parts.now.last.items c.requires.parts
+    c.args.moves (in_one_data x.tree.forest (record { start = c.args.start; end = c.args.end })) c.in_ok-fragment.fragment c.document_of-document.result c.in_ok-fragment.ensures.number
+    (document-is v.tree.forest c.start.inside.node c.args.start.node c.document_of-document.result (ap (λ p. p.node) c.start.view_is) c.requires.range.starts.there c.document_of-document.ensures)
+    (one-same v c.requires.whole (record { start = c.args.start; end = c.args.end }) c.requires.range x c.document_of-document.result c.in_ok-fragment.ensures.made)
+    x c.in_ok-fragment.ensures.made c.requires.room
+
+pub returns-clause-drawn : goal.returns-clause-drawn
+returns-clause-drawn c =
+    let v = c.args.world.now in
+    let x = c.new_fragment.new.world in
+    follows-drawn v c.requires.whole (record { start = c.args.start; end = c.args.end }) c.requires.range c.args.parts.now.first.items c.args.parts.now.contained.items c.args.parts.now.last.items c.requires.parts
+    c.args.moves (in_one_data x.tree.forest (record { start = c.args.start; end = c.args.end })) c.in_ok-fragment.fragment c.document_of-document.result c.in_ok-fragment.ensures.number
+    (document-is v.tree.forest c.start.inside.node c.args.start.node c.document_of-document.result (ap (λ p. p.node) c.start.view_is) c.requires.range.starts.there c.document_of-document.ensures)
+    (one-same v c.requires.whole (record { start = c.args.start; end = c.args.end }) c.requires.range x c.document_of-document.result c.in_ok-fragment.ensures.made)
+    x c.fill.new.world c.in_ok-fragment.ensures.made c.in_ok-fill.ensures.drawn
