@@ -10,20 +10,16 @@ Theorems: for each NAME a file Subject/Name.antt in crates/dom_model/proofs/Dial
 there and be named in the file beside that folder. The bytes that a session reads give the bytes that it writes, and the edits of the
 token text that its commands make leave the ends, texts and worlds that the commands leave. They hold by computation.
 
-Tests: for each subject a file in crates/dom_cases/src/dialogues, with the dialogues whose commands are all served, each of them
-served cut in two at each of its bytes; other tests serve them whole, in pieces and with faults. Which are served is
-read from `served_table`, and all are where there is no such table.
+Tests: for each subject a file in crates/dom_cases/src/dialogues, with its dialogues, each of them served cut in two at each of its
+bytes; other tests serve them whole, in pieces and with faults.
 """
-import json
 import os
-import re
 import subprocess
 
 ROOT = os.path.dirname(os.path.dirname(os.path.abspath(__file__)))
 DIALOGUES = os.path.join(ROOT, "tools/dialogues")
 THEOREMS = os.path.join(ROOT, "crates/dom_model/proofs/Dialogues")
 TESTS = os.path.join(ROOT, "crates/dom_cases/src/dialogues")
-TABLE = os.path.join(ROOT, "crates/dom_model/specs/Commands/Table.antt")
 
 DEFAULTS = {"numbers": "4294967295", "line": "1048576"}
 
@@ -143,32 +139,6 @@ def write_theorems(subject, dialogues):
         out.write("\n".join(lines) + "\n")
 
 
-def names_in(table, title):
-    """The names of the commands in the table of that title, or None where it is not there or names another table."""
-    found = re.search(rf"^{title} =\n?(.*?)(?=^\S|\Z)", table, re.M | re.S)
-    names = re.findall(r'row \(codes "(\w+)"\)', found[1]) if found else []
-    return set(names) or None
-
-
-def refused_names():
-    """The names of the commands that are defined and not served."""
-    table = open(TABLE).read()
-    whole = names_in(table, "whole_table")
-    return whole - (names_in(table, "served_table") or whole)
-
-
-def is_served(given, refused):
-    """Whether no line asks for a command that is not served."""
-    for line in given.split(b"\n"):
-        try:
-            command = json.loads(line.decode())
-        except (ValueError, RecursionError):
-            continue
-        if isinstance(command, list) and command and isinstance(command[0], str) and command[0] in refused:
-            return False
-    return True
-
-
 def is_raw(text):
     """Whether a text stands for itself in a raw literal."""
     return '"##' not in text and all(mark == "\n" or mark.isprintable() for mark in text)
@@ -215,10 +185,8 @@ def cut_test(name):
 def write_tests(subject, dialogues):
     """The tests of one subject's dialogues."""
     with open(os.path.join(TESTS, subject + ".rt"), "w") as out:
-        out.write(f"//! Written by tools/rows.py from tools/dialogues/{subject}: the dialogues whose commands are all served.\n")
-        if dialogues:
-            out.write("\nuse crate::cuts::is_answered_in_two;")
-        out.write("\nuse crate::dialogues::" + ("{Bytes, Dialogue}" if dialogues else "Dialogue") + ";\n")
+        out.write(f"//! Written by tools/rows.py from tools/dialogues/{subject}.\n")
+        out.write("\nuse crate::cuts::is_answered_in_two;\nuse crate::dialogues::{Bytes, Dialogue};\n")
         for name, parts in dialogues.items():
             out.write(test(name, *parts))
         listed = ", ".join(f"&{name.upper()}" for name in dialogues)
@@ -228,13 +196,12 @@ def write_tests(subject, dialogues):
 
 
 def main():
-    refused = refused_names()
     for subject in sorted(os.listdir(DIALOGUES)):
         folder = os.path.join(DIALOGUES, subject)
         names = sorted(entry[:-3] for entry in os.listdir(folder) if entry.endswith(".in"))
         dialogues = {name: dialogue(folder, name) for name in names}
         write_theorems(subject, dialogues)
-        write_tests(subject, {name: parts for name, parts in dialogues.items() if is_served(parts[0], refused)})
+        write_tests(subject, dialogues)
     subprocess.run(["rt", "fmt"], cwd=os.path.join(ROOT, "crates/dom_cases"), check=True)
 
 

@@ -5,7 +5,7 @@ use Rattle.std.proofs.lemmas.Bool.{le-leb, lt-leb, ne_eqb, eqb-false}
 use Rattle.std.proofs.lemmas.List.{take_more}
 use Rattle.std.specs.Io.KnownBytes.{Appends}
 use Rattle.dom_model.specs.declared.OwnError.TheVariants.{LineTooLong}
-use Rattle.dom_model.specs.Commands.Table.{served_table}
+use Rattle.dom_model.specs.Commands.Table.{whole_table}
 use Rattle.dom_model.specs.Commands.Line.{command_of, command_within}
 use Rattle.dom_model.specs.Commands.Answer.{Bounds, Step}
 use Rattle.dom_model.specs.Worlds.World.{World, first_world}
@@ -24,23 +24,23 @@ use Rattle.dom_serve.proofs.Growth.{Grows-same, Grows-one, Grows-trans, Breaks-m
 
 -- the command of a held line is that of the line
 command-held : (limit : ℕ) (kept : List ℕ) (too_long : Bool) (piece : List ℕ) → HoldsPiece limit kept too_long piece
-    → held_command kept too_long ≡ command_within served_table limit piece
+    → held_command kept too_long ≡ command_within whole_table limit piece
 unfolding command_within
 command-held limit kept true piece p =
     let long : nat_le (length piece) limit ≡ false = lt-leb (length piece) limit p in
-    sym (ap (λ t. if t then command_of served_table piece else Err LineTooLong) long)
+    sym (ap (λ t. if t then command_of whole_table piece else Err LineTooLong) long)
 command-held limit kept false piece p =
     let e : kept ≡ piece = sym p.0 in
     let short : nat_le (length piece) limit ≡ true = le-leb (length piece) limit (subst (λ l. length l ≤ limit) e p.1) in
-    ap (command_of served_table) e ∙ sym (ap (λ t. if t then command_of served_table piece else Err LineTooLong) short)
+    ap (command_of whole_table) e ∙ sym (ap (λ t. if t then command_of whole_table piece else Err LineTooLong) short)
 
 -- the world of the lines that were whole
 abbrev pub world_at : Bounds → List ℕ → World
-world_at b bytes = world_after served_table b first_world (whole_lines bytes)
+world_at b bytes = world_after whole_table b first_world (whole_lines bytes)
 
 -- the step of the line that is held
 abbrev pub last_step : Bounds → List ℕ → Step
-last_step b bytes = line_step served_table b (world_at b bytes) (last_piece bytes)
+last_step b bytes = line_step whole_table b (world_at b bytes) (last_piece bytes)
 
 step-held : (b : Bounds) (bytes : List ℕ) (s : Server) (kept : List ℕ) → Stands b bytes s → kept ≡ s.kept.items
     → held_step s.session.bounds kept s.too_long (world_at b bytes) ≡ last_step b bytes
@@ -51,29 +51,29 @@ step-held b bytes s kept h e =
 
 -- the reply to the last line was not written whole
 Breaks-newline : (b : Bounds) (bytes : List ℕ) (taken taken' : Option (List ℕ)) (fault : Fault) → Fails (last_step b bytes) taken taken' fault
-    → Breaks (due served_table b bytes false) (due served_table b (bytes ++ 10 ∷ []) false) taken taken' fault
+    → Breaks (due whole_table b bytes false) (due whole_table b (bytes ++ 10 ∷ []) false) taken taken' fault
 Breaks-newline b bytes taken taken' Read a = absurd a
 Breaks-newline b bytes taken taken' Write a =
     elim a [
-      | inl h ↦ Breaks-front (due served_table b bytes false) (due served_table b (bytes ++ 10 ∷ []) false) (reply_line (last_step b bytes).reply) taken taken' (due-newline b bytes) h
-      | inr h ↦ Breaks-want (due served_table b bytes false) (due served_table b (bytes ++ 10 ∷ []) false) taken taken' Write (due-append b bytes (10 ∷ []) false) h
+      | inl h ↦ Breaks-front (due whole_table b bytes false) (due whole_table b (bytes ++ 10 ∷ []) false) (reply_line (last_step b bytes).reply) taken taken' (due-newline b bytes) h
+      | inr h ↦ Breaks-want (due whole_table b bytes false) (due whole_table b (bytes ++ 10 ∷ []) false) taken taken' Write (due-append b bytes (10 ∷ []) false) h
     ]
 Breaks-newline b bytes taken taken' Memory a =
-    Breaks-want (due served_table b bytes false) (due served_table b (bytes ++ 10 ∷ []) false) taken taken' Memory (due-append b bytes (10 ∷ []) false) a
+    Breaks-want (due whole_table b bytes false) (due whole_table b (bytes ++ 10 ∷ []) false) taken taken' Memory (due-append b bytes (10 ∷ []) false) a
 Breaks-newline b bytes taken taken' InputTooLong a = absurd a
 
 -- the held line was not answered whole
 pub Breaks-answered : (b : Bounds) (bytes : List ℕ) (s : Server) (kept : List ℕ) (taken taken' : Option (List ℕ)) (fault : Fault) → Stands b bytes s
     → kept ≡ s.kept.items → ((w : World) → StandsFor s.session w → Fails (held_step s.session.bounds kept s.too_long w) taken taken' fault)
-    → Breaks (due served_table b bytes false) (due served_table b (bytes ++ 10 ∷ []) false) taken taken' fault
+    → Breaks (due whole_table b bytes false) (due whole_table b (bytes ++ 10 ∷ []) false) taken taken' fault
 Breaks-answered b bytes s kept taken taken' fault h e answers =
     Breaks-newline b bytes taken taken' fault (subst (λ t. Fails t taken taken' fault) (step-held b bytes s kept h e) (answers (world_at b bytes) h.world))
 
 -- the reply was written whole
 Grows-newline : (b : Bounds) (bytes : List ℕ) (taken taken' : Option (List ℕ)) → Appends taken taken' (reply_line (last_step b bytes).reply)
-    → Grows (due served_table b bytes false) (due served_table b (bytes ++ 10 ∷ []) false) taken taken'
+    → Grows (due whole_table b bytes false) (due whole_table b (bytes ++ 10 ∷ []) false) taken taken'
 Grows-newline b bytes taken taken' p =
-    Grows-one (due served_table b bytes false) (due served_table b (bytes ++ 10 ∷ []) false) (reply_line (last_step b bytes).reply) taken taken' (due-newline b bytes) p
+    Grows-one (due whole_table b bytes false) (due whole_table b (bytes ++ 10 ∷ []) false) (reply_line (last_step b bytes).reply) taken taken' (due-newline b bytes) p
 
 holds-nothing : (limit : ℕ) (kept : List ℕ) (too_long : Bool) (piece : List ℕ) → too_long ≡ false → kept ≡ [] → piece ≡ [] → HoldsPiece limit kept too_long piece
 holds-nothing limit kept true piece e f h = absurd (cc)
@@ -94,7 +94,7 @@ Stands-newline b bytes s s' h w bounds line lines kept short = record {
 pub Stands-answered : (b : Bounds) (bytes : List ℕ) (s s' : Server) (kept : List ℕ) (taken taken' : Option (List ℕ)) → Stands b bytes s → kept ≡ s.kept.items
     → ((w : World) → StandsFor s.session w → let t = held_step s.session.bounds kept s.too_long w in StandsFor s'.session t.world × Appends taken taken' (reply_line t.reply))
     → s'.session.bounds ≡ s.session.bounds → s'.line ≡ s.line → s'.lines ≡ s.lines + 1 → s'.kept.items ≡ [] → s'.too_long ≡ false
-    → Stands b (bytes ++ 10 ∷ []) s' × Grows (due served_table b bytes false) (due served_table b (bytes ++ 10 ∷ []) false) taken taken'
+    → Stands b (bytes ++ 10 ∷ []) s' × Grows (due whole_table b bytes false) (due whole_table b (bytes ++ 10 ∷ []) false) taken taken'
 Stands-answered b bytes s s' kept taken taken' h e answers bounds line lines none short =
     let a = subst (λ t. StandsFor s'.session t.world × Appends taken taken' (reply_line t.reply)) (step-held b bytes s kept h e) (answers (world_at b bytes) h.world) in
     (Stands-newline b bytes s s' h a.0 bounds line lines none short, Grows-newline b bytes taken taken' a.1)
@@ -107,7 +107,7 @@ Stands-other : (b : Bounds) (bytes : List ℕ) (byte : ℕ) (s s' : Server) → 
 Stands-other b bytes byte s s' other h session line lines piece =
     let same = whole_lines-append_other bytes byte other in
     record {
-      world = subst (λ v. StandsFor s'.session (world_after served_table b first_world v)) (sym same) (subst (λ v. StandsFor v (world_at b bytes)) (sym session) h.world);
+      world = subst (λ v. StandsFor s'.session (world_after whole_table b first_world v)) (sym same) (subst (λ v. StandsFor v (world_at b bytes)) (sym session) h.world);
       bounds = ap (λ v. v.bounds) session ∙ h.bounds;
       line = line ∙ h.line;
       lines = lines ∙ h.lines ∙ ap length (sym same);
@@ -117,11 +117,11 @@ Stands-other b bytes byte s s' other h session line lines piece =
 -- a byte that ends no line was taken
 pub Stands-byte : (b : Bounds) (bytes : List ℕ) (byte : ℕ) (s s' : Server) (taken : Option (List ℕ)) → (byte ≡ 10 → ⊥) → Stands b bytes s → s'.session ≡ s.session
     → s'.line ≡ s.line → s'.lines ≡ s.lines → HoldsPiece b.line s'.kept.items s'.too_long (last_piece bytes ++ byte ∷ [])
-    → Stands b (bytes ++ byte ∷ []) s' × Grows (due served_table b bytes false) (due served_table b (bytes ++ byte ∷ []) false) taken taken
+    → Stands b (bytes ++ byte ∷ []) s' × Grows (due whole_table b bytes false) (due whole_table b (bytes ++ byte ∷ []) false) taken taken
 Stands-byte b bytes byte s s' taken differs h session line lines piece =
     let other : (byte == 10) ≡ false = ne_eqb byte 10 differs in (
       Stands-other b bytes byte s s' other h session line lines piece,
-      Grows-same (due served_table b bytes false) (due served_table b (bytes ++ byte ∷ []) false) taken (due-other b bytes byte other),
+      Grows-same (due whole_table b bytes false) (due whole_table b (bytes ++ byte ∷ []) false) taken (due-other b bytes byte other),
     )
 
 -- the line stays too long
@@ -145,40 +145,40 @@ holds-more limit kept kept' false piece byte e f k p =
 
 -- the byte could not be kept
 pub Breaks-byte : (b : Bounds) (bytes : List ℕ) (byte : ℕ) (taken taken' : Option (List ℕ)) (fault : Fault) → SaysWant taken taken' fault
-    → Breaks (due served_table b bytes false) (due served_table b (bytes ++ byte ∷ []) false) taken taken' fault
+    → Breaks (due whole_table b bytes false) (due whole_table b (bytes ++ byte ∷ []) false) taken taken' fault
 Breaks-byte b bytes byte taken taken' fault w =
-    Breaks-want (due served_table b bytes false) (due served_table b (bytes ++ byte ∷ []) false) taken taken' fault (due-append b bytes (byte ∷ []) false) w
+    Breaks-want (due whole_table b bytes false) (due whole_table b (bytes ++ byte ∷ []) false) taken taken' fault (due-append b bytes (byte ∷ []) false) w
 
 -- ---- many bytes
 
 -- a fault at one of many bytes
 pub Breaks-within : (b : Bounds) (bytes piece : List ℕ) (i byte : ℕ) (taken taken' taken'' : Option (List ℕ)) (fault : Fault) → i < length piece → get_or piece i 0 ≡ byte
-    → Grows (due served_table b bytes false) (due served_table b (bytes ++ take i piece) false) taken taken'
-    → Breaks (due served_table b (bytes ++ take i piece) false) (due served_table b ((bytes ++ take i piece) ++ byte ∷ []) false) taken' taken'' fault
-    → Breaks (due served_table b bytes false) (due served_table b (bytes ++ piece) false) taken taken'' fault
+    → Grows (due whole_table b bytes false) (due whole_table b (bytes ++ take i piece) false) taken taken'
+    → Breaks (due whole_table b (bytes ++ take i piece) false) (due whole_table b ((bytes ++ take i piece) ++ byte ∷ []) false) taken' taken'' fault
+    → Breaks (due whole_table b bytes false) (due whole_table b (bytes ++ piece) false) taken taken'' fault
 Breaks-within b bytes piece i byte taken taken' taken'' fault inside e p q =
     let front : take (i + 1) piece ≡ take i piece ++ byte ∷ [] = take_more piece i 0 inside ∙ ap (λ x. take i piece ++ x ∷ []) e in
     let same : (bytes ++ take i piece) ++ byte ∷ [] ≡ bytes ++ take (i + 1) piece = append_assoc bytes (take i piece) (byte ∷ []) ∙ ap (λ l. bytes ++ l) (sym front) in
     let whole : ((bytes ++ take i piece) ++ byte ∷ []) ++ drop (i + 1) piece ≡ bytes ++ piece =
     ap (λ l. l ++ drop (i + 1) piece) same ∙ append_assoc bytes (take (i + 1) piece) (drop (i + 1) piece) ∙ ap (λ l. bytes ++ l) (take-append-drop (i + 1) piece) in
-    let more = subst (λ l. IsPrefix (due served_table b ((bytes ++ take i piece) ++ byte ∷ []) false) (due served_table b l false)) whole
+    let more = subst (λ l. IsPrefix (due whole_table b ((bytes ++ take i piece) ++ byte ∷ []) false) (due whole_table b l false)) whole
     (due-append b ((bytes ++ take i piece) ++ byte ∷ []) (drop (i + 1) piece) false) in
-    Breaks-after (due served_table b bytes false) (due served_table b (bytes ++ take i piece) false) (due served_table b (bytes ++ piece) false) taken taken' taken'' fault p
-    (Breaks-more (due served_table b (bytes ++ take i piece) false) (due served_table b ((bytes ++ take i piece) ++ byte ∷ []) false) (due served_table b (bytes ++ piece) false)
+    Breaks-after (due whole_table b bytes false) (due whole_table b (bytes ++ take i piece) false) (due whole_table b (bytes ++ piece) false) taken taken' taken'' fault p
+    (Breaks-more (due whole_table b (bytes ++ take i piece) false) (due whole_table b ((bytes ++ take i piece) ++ byte ∷ []) false) (due whole_table b (bytes ++ piece) false)
     taken' taken'' fault more q)
 
 -- one byte more of many
 pub Fed-more : (b : Bounds) (bytes piece : List ℕ) (i byte : ℕ) (s' : Server) (taken taken' taken'' : Option (List ℕ)) → i < length piece → get_or piece i 0 ≡ byte
-    → Grows (due served_table b bytes false) (due served_table b (bytes ++ take i piece) false) taken taken'
+    → Grows (due whole_table b bytes false) (due whole_table b (bytes ++ take i piece) false) taken taken'
     → Stands b ((bytes ++ take i piece) ++ byte ∷ []) s'
-    × Grows (due served_table b (bytes ++ take i piece) false) (due served_table b ((bytes ++ take i piece) ++ byte ∷ []) false) taken' taken''
-    → Stands b (bytes ++ take (i + 1) piece) s' × Grows (due served_table b bytes false) (due served_table b (bytes ++ take (i + 1) piece) false) taken taken''
+    × Grows (due whole_table b (bytes ++ take i piece) false) (due whole_table b ((bytes ++ take i piece) ++ byte ∷ []) false) taken' taken''
+    → Stands b (bytes ++ take (i + 1) piece) s' × Grows (due whole_table b bytes false) (due whole_table b (bytes ++ take (i + 1) piece) false) taken taken''
 Fed-more b bytes piece i byte s' taken taken' taken'' inside e p q =
     let front : take (i + 1) piece ≡ take i piece ++ byte ∷ [] = take_more piece i 0 inside ∙ ap (λ x. take i piece ++ x ∷ []) e in
     let same : (bytes ++ take i piece) ++ byte ∷ [] ≡ bytes ++ take (i + 1) piece = append_assoc bytes (take i piece) (byte ∷ []) ∙ ap (λ l. bytes ++ l) (sym front) in (
       subst (λ l. Stands b l s') same q.0,
-      subst (λ l. Grows (due served_table b bytes false) (due served_table b l false) taken taken'') same
-          (Grows-trans (due served_table b bytes false) (due served_table b (bytes ++ take i piece) false) (due served_table b ((bytes ++ take i piece) ++ byte ∷ []) false)
+      subst (λ l. Grows (due whole_table b bytes false) (due whole_table b l false) taken taken'') same
+          (Grows-trans (due whole_table b bytes false) (due whole_table b (bytes ++ take i piece) false) (due whole_table b ((bytes ++ take i piece) ++ byte ∷ []) false)
           taken taken' taken'' p q.1),
     )
 
@@ -196,18 +196,18 @@ lines-ended bytes x xs e =
     ap (λ l. whole_lines bytes ++ line_if_any l) e ∙ sym (whole_lines-append_newline bytes ∙ ap (λ l. whole_lines bytes ++ l ∷ []) e)
 
 -- a last piece that is not empty is answered as at its newline
-due-ended : (b : Bounds) (bytes : List ℕ) (x : ℕ) (xs : List ℕ) → last_piece bytes ≡ x ∷ xs → due served_table b (bytes ++ 10 ∷ []) false ≡ due served_table b bytes true
+due-ended : (b : Bounds) (bytes : List ℕ) (x : ℕ) (xs : List ℕ) → last_piece bytes ≡ x ∷ xs → due whole_table b (bytes ++ 10 ∷ []) false ≡ due whole_table b bytes true
 unfolding due
-due-ended b bytes x xs e = ap (replies_from served_table b first_world) (sym (lines-ended bytes x xs e))
+due-ended b bytes x xs e = ap (replies_from whole_table b first_world) (sym (lines-ended bytes x xs e))
 
 -- the last piece was answered, or that failed
 Finishes-piece : {T : Type 0} (b : Bounds) (bytes : List ℕ) (s : Server) (taken taken' : Option (List ℕ)) (result : Result T Fault) (piece : List ℕ) → last_piece bytes ≡ piece
     → 0 < length piece → Fed b bytes (bytes ++ 10 ∷ []) s taken taken' result → Finishes b bytes s taken taken' result
 Finishes-piece b bytes s taken taken' result [] e some f = absurd (omega arith)
 Finishes-piece b bytes s taken taken' (Ok x) (y ∷ ys) e some f =
-    (f.0.lines ∙ ap length (sym (lines-ended bytes y ys e)), subst (λ l. Grows (due served_table b bytes false) l taken taken') (due-ended b bytes y ys e) f.1)
+    (f.0.lines ∙ ap length (sym (lines-ended bytes y ys e)), subst (λ l. Grows (due whole_table b bytes false) l taken taken') (due-ended b bytes y ys e) f.1)
 Finishes-piece b bytes s taken taken' (Err fault) (y ∷ ys) e some f =
-    subst (λ l. Breaks (due served_table b bytes false) l taken taken' fault) (due-ended b bytes y ys e) f
+    subst (λ l. Breaks (due whole_table b bytes false) l taken taken' fault) (due-ended b bytes y ys e) f
 
 piece-some : (limit : ℕ) (kept : List ℕ) (too_long : Bool) (piece : List ℕ) → (too_long ≡ true) ⊎ (0 < length kept) → HoldsPiece limit kept too_long piece → 0 < length piece
 piece-some limit kept true piece e p = omega arith
@@ -222,17 +222,17 @@ piece-none : (limit : ℕ) (kept : List ℕ) (too_long : Bool) (piece : List ℕ
 piece-none limit kept true piece e f p = absurd (cc)
 piece-none limit kept false piece e f p = p.0 ∙ f
 
-due-none : (b : Bounds) (bytes : List ℕ) → last_piece bytes ≡ [] → due served_table b bytes true ≡ due served_table b bytes false
+due-none : (b : Bounds) (bytes : List ℕ) → last_piece bytes ≡ [] → due whole_table b bytes true ≡ due whole_table b bytes false
 unfolding due
-due-none b bytes e = ap (replies_from served_table b first_world) (ap (λ l. whole_lines bytes ++ line_if_any l) e ∙ append-nil (whole_lines bytes))
+due-none b bytes e = ap (replies_from whole_table b first_world) (ap (λ l. whole_lines bytes ++ line_if_any l) e ∙ append-nil (whole_lines bytes))
 
 -- no line was left
 pub Finishes-none : (b : Bounds) (bytes : List ℕ) (s : Server) (taken : Option (List ℕ)) → Stands b bytes s → s.too_long ≡ false → s.kept.items ≡ []
-    → (s.lines ≡ length (lines_of bytes)) × Grows (due served_table b bytes false) (due served_table b bytes true) taken taken
+    → (s.lines ≡ length (lines_of bytes)) × Grows (due whole_table b bytes false) (due whole_table b bytes true) taken taken
 Finishes-none b bytes s taken h short none =
     let last : last_piece bytes ≡ [] = piece-none b.line s.kept.items s.too_long (last_piece bytes) short none h.piece in (
       h.lines ∙ ap length (sym (ap (λ l. whole_lines bytes ++ line_if_any l) last ∙ append-nil (whole_lines bytes))),
-      Grows-same (due served_table b bytes false) (due served_table b bytes true) taken (due-none b bytes last),
+      Grows-same (due whole_table b bytes false) (due whole_table b bytes true) taken (due-none b bytes last),
     )
 
 -- ---- the start

@@ -2,7 +2,7 @@
 use Rattle.std.proofs.Common.{◌≡◌, ℕ, Bool, true, false, List, [], ◌∷◌, ◌++◌, refl, sym, ap, ◌∙◌, append_assoc, append-nil}
 use Rattle.std.specs.Prelude.{◌==◌, if◌then◌else◌}
 use Rattle.std.proofs.lemmas.Grind.{flat_map-append}
-use Rattle.dom_model.specs.Commands.Table.{Row, served_table}
+use Rattle.dom_model.specs.Commands.Table.{Row, whole_table}
 use Rattle.dom_model.specs.Commands.Answer.{Bounds}
 use Rattle.dom_model.specs.Worlds.World.{World, first_world}
 use Rattle.dom_model.specs.Commands.Printed.{reply_line}
@@ -107,26 +107,26 @@ due_lines-prefix xs false = IsPrefix-refl (whole_lines xs)
 due_lines-prefix xs true = (line_if_any (last_piece xs), refl)
 
 -- what was due stays due
-pub due-append : (b : Bounds) (xs ys : List ℕ) (ended : Bool) → IsPrefix (due served_table b xs false) (due served_table b (xs ++ ys) ended)
+pub due-append : (b : Bounds) (xs ys : List ℕ) (ended : Bool) → IsPrefix (due whole_table b xs false) (due whole_table b (xs ++ ys) ended)
 unfolding due
 due-append b xs ys ended =
-    replies_from-prefix served_table b first_world (whole_lines xs) (due_lines (xs ++ ys) ended)
+    replies_from-prefix whole_table b first_world (whole_lines xs) (due_lines (xs ++ ys) ended)
     (IsPrefix-trans (whole_lines xs) (whole_lines (xs ++ ys)) (due_lines (xs ++ ys) ended) (whole_lines-append xs ys) (due_lines-prefix (xs ++ ys) ended))
 
-pub due-other : (b : Bounds) (xs : List ℕ) (c : ℕ) → (c == 10) ≡ false → due served_table b (xs ++ c ∷ []) false ≡ due served_table b xs false
+pub due-other : (b : Bounds) (xs : List ℕ) (c : ℕ) → (c == 10) ≡ false → due whole_table b (xs ++ c ∷ []) false ≡ due whole_table b xs false
 unfolding due
-due-other b xs c h = ap (replies_from served_table b first_world) (whole_lines-append_other xs c h)
+due-other b xs c h = ap (replies_from whole_table b first_world) (whole_lines-append_other xs c h)
 
 -- the reply to the last line is due once its newline is there
 pub due-newline : (b : Bounds) (xs : List ℕ)
-    → due served_table b (xs ++ 10 ∷ []) false
-    ≡ due served_table b xs false ++ reply_line (line_step served_table b (world_after served_table b first_world (whole_lines xs)) (last_piece xs)).reply ∷ []
+    → due whole_table b (xs ++ 10 ∷ []) false
+    ≡ due whole_table b xs false ++ reply_line (line_step whole_table b (world_after whole_table b first_world (whole_lines xs)) (last_piece xs)).reply ∷ []
 unfolding due
 due-newline b xs =
-    ap (replies_from served_table b first_world) (whole_lines-append_newline xs) ∙ replies_from-append served_table b first_world (whole_lines xs) (last_piece xs ∷ [])
+    ap (replies_from whole_table b first_world) (whole_lines-append_newline xs) ∙ replies_from-append whole_table b first_world (whole_lines xs) (last_piece xs ∷ [])
 
 pub world-newline : (b : Bounds) (xs : List ℕ)
-    → world_after served_table b first_world (whole_lines (xs ++ 10 ∷ []))
-    ≡ (line_step served_table b (world_after served_table b first_world (whole_lines xs)) (last_piece xs)).world
+    → world_after whole_table b first_world (whole_lines (xs ++ 10 ∷ []))
+    ≡ (line_step whole_table b (world_after whole_table b first_world (whole_lines xs)) (last_piece xs)).world
 world-newline b xs =
-    ap (world_after served_table b first_world) (whole_lines-append_newline xs) ∙ world_after-append served_table b first_world (whole_lines xs) (last_piece xs ∷ [])
+    ap (world_after whole_table b first_world) (whole_lines-append_newline xs) ∙ world_after-append whole_table b first_world (whole_lines xs) (last_piece xs ∷ [])

@@ -5,7 +5,7 @@ use Rattle.std.proofs.lemmas.List.Elements.{All-push}
 use Rattle.std.specs.Io.KnownBytes.{Appends, Consumes, Keeps}
 use Rattle.std.proofs.KnownBytes.{Appends-trans, Appends-nil, Consumes-nil, Consumes-trans, Consumes-kept}
 use Rattle.dom_model.specs.Commands.Answer.{Bounds}
-use Rattle.dom_model.specs.Commands.Table.{served_table}
+use Rattle.dom_model.specs.Commands.Table.{whole_table}
 use Rattle.dom_model.specs.Commands.Printed.{out_of_memory_line}
 use Rattle.dom_model.specs.Commands.Output.{joined, due, whole_lines, last_piece, lines_of, output_of}
 use Rattle.dom_model.proofs.Commands.ReplyLines.{length-whole_lines-output_of, last_piece-output_of}
@@ -59,7 +59,7 @@ AreWithin-more turns turn pieces piece e h p q = (omega (arith, length-append pi
 
 -- ---- so far
 
-due-nothing : (b : Bounds) → joined (due served_table b [] false) ≡ []
+due-nothing : (b : Bounds) → joined (due whole_table b [] false) ≡ []
 unfolding due whole_lines
 due-nothing b = refl
 
@@ -79,7 +79,7 @@ so_far-none gives left b old s taken h = record {
 pub so_far-more : {R : Type 0} (gives : R → List ℕ → R → Type 0) (left : R → Option (List ℕ)) (b : Bounds) (turn : ℕ) (old mid new : R) (s s' : Server)
     (taken taken' taken'' : Option (List ℕ)) (piece : List ℕ) (p : IsSoFar gives left b turn old mid s taken taken') → gives mid piece new → Consumes (left mid) (left new) piece
     → 0 < length piece → length piece ≤ 65536
-    → Stands b (joined p.pieces ++ piece) s' × Grows (due served_table b (joined p.pieces) false) (due served_table b (joined p.pieces ++ piece) false) taken' taken''
+    → Stands b (joined p.pieces ++ piece) s' × Grows (due whole_table b (joined p.pieces) false) (due whole_table b (joined p.pieces ++ piece) false) taken' taken''
     → IsSoFar gives left b (turn + 1) old new s' taken taken''
 so_far-more gives left b turn old mid new s s' taken taken' taken'' piece p given consumed some size fed =
     let e : joined p.pieces ++ piece ≡ joined (p.pieces ++ piece ∷ []) = sym (joined-single p.pieces piece) in
@@ -91,8 +91,8 @@ so_far-more gives left b turn old mid new s s' taken taken' taken'' piece p give
       open_ended = has_end-last p.pieces piece ∙ is_nothing-some piece some;
       consumed = Consumes-more left old mid new p.pieces piece p.consumed consumed;
       stands = subst (λ l. Stands b l s') e fed.0;
-      written = subst (λ l. Appends taken taken'' (joined (due served_table b l false))) e
-          (Grows-written (due served_table b (joined p.pieces) false) (due served_table b (joined p.pieces ++ piece) false) taken taken' taken'' p.written fed.1);
+      written = subst (λ l. Appends taken taken'' (joined (due whole_table b l false))) e
+          (Grows-written (due whole_table b (joined p.pieces) false) (due whole_table b (joined p.pieces ++ piece) false) taken taken' taken'' p.written fed.1);
     }
 
 -- ---- at the end
@@ -102,7 +102,7 @@ pub told-read : {R : Type 0} (gives : R → List ℕ → R → Type 0) (left : R
     (taken taken' : Option (List ℕ)) → IsSoFar gives left b turn old mid s taken taken' → turn < turns → Keeps (left mid) (left new) → IsTold gives left b turns old new taken taken' (Err Read)
 told-read gives left b turns turn old mid new s taken taken' p room kept = record {
   pieces = p.pieces;
-  text = joined (due served_table b (joined p.pieces) false);
+  text = joined (due whole_table b (joined p.pieces) false);
   last = mid;
   reads = p.reads;
   within = (omega (arith, p.count), p.sizes);
@@ -116,7 +116,7 @@ pub told-too_long : {R : Type 0} (gives : R → List ℕ → R → Type 0) (left
     → IsSoFar gives left b turns old new s taken taken' → IsTold gives left b turns old new taken taken' (Err InputTooLong)
 told-too_long gives left b turns old new s taken taken' p = record {
   pieces = p.pieces;
-  text = joined (due served_table b (joined p.pieces) false);
+  text = joined (due whole_table b (joined p.pieces) false);
   last = new;
   reads = p.reads;
   within = (omega (arith, p.count), p.sizes);
@@ -126,20 +126,20 @@ told-too_long gives left b turns old new s taken taken' p = record {
 }
 
 Tells-broken : (b : Bounds) (turns : ℕ) (pieces : List (List ℕ)) (piece text : List ℕ) (fault : Fault)
-    → IsBroken (due served_table b (joined pieces ++ piece) (is_nothing piece)) fault (joined (due served_table b (joined pieces) false) ++ text)
-    → Tells b turns (pieces ++ piece ∷ []) (joined (due served_table b (joined pieces) false) ++ text) (Err fault)
+    → IsBroken (due whole_table b (joined pieces ++ piece) (is_nothing piece)) fault (joined (due whole_table b (joined pieces) false) ++ text)
+    → Tells b turns (pieces ++ piece ∷ []) (joined (due whole_table b (joined pieces) false) ++ text) (Err fault)
 Tells-broken b turns pieces piece text Read h = absurd h
 Tells-broken b turns pieces piece text Write h =
-    let whole = joined (due served_table b (joined pieces) false) ++ text in (
-      subst (λ l. IsCutShort (due served_table b l (has_end (pieces ++ piece ∷ []))) whole) (sym (joined-single pieces piece))
-          (subst (λ t. IsCutShort (due served_table b (joined pieces ++ piece) t) whole) (sym (has_end-last pieces piece)) h),
-      subst (λ ls. IsPrefix (joined (due served_table b (joined ls) false)) whole) (sym (before_last-last pieces piece)) (text, refl),
+    let whole = joined (due whole_table b (joined pieces) false) ++ text in (
+      subst (λ l. IsCutShort (due whole_table b l (has_end (pieces ++ piece ∷ []))) whole) (sym (joined-single pieces piece))
+          (subst (λ t. IsCutShort (due whole_table b (joined pieces ++ piece) t) whole) (sym (has_end-last pieces piece)) h),
+      subst (λ ls. IsPrefix (joined (due whole_table b (joined ls) false)) whole) (sym (before_last-last pieces piece)) (text, refl),
     )
 Tells-broken b turns pieces piece text Memory h =
-    let whole = joined (due served_table b (joined pieces) false) ++ text in (
-      subst (λ l. SaysOutOfMemory (due served_table b l (has_end (pieces ++ piece ∷ []))) whole) (sym (joined-single pieces piece))
-          (subst (λ t. SaysOutOfMemory (due served_table b (joined pieces ++ piece) t) whole) (sym (has_end-last pieces piece)) h),
-      subst (λ ls. IsPrefix (joined (due served_table b (joined ls) false)) whole) (sym (before_last-last pieces piece)) (text, refl),
+    let whole = joined (due whole_table b (joined pieces) false) ++ text in (
+      subst (λ l. SaysOutOfMemory (due whole_table b l (has_end (pieces ++ piece ∷ []))) whole) (sym (joined-single pieces piece))
+          (subst (λ t. SaysOutOfMemory (due whole_table b (joined pieces ++ piece) t) whole) (sym (has_end-last pieces piece)) h),
+      subst (λ ls. IsPrefix (joined (due whole_table b (joined ls) false)) whole) (sym (before_last-last pieces piece)) (text, refl),
     )
 Tells-broken b turns pieces piece text InputTooLong h = absurd h
 
@@ -147,16 +147,16 @@ Tells-broken b turns pieces piece text InputTooLong h = absurd h
 pub told-broken : {R : Type 0} (gives : R → List ℕ → R → Type 0) (left : R → Option (List ℕ)) (b : Bounds) (turns turn : ℕ) (old mid new : R) (s : Server)
     (taken taken' taken'' : Option (List ℕ)) (piece : List ℕ) (fault : Fault) (p : IsSoFar gives left b turn old mid s taken taken') → turn < turns → length piece ≤ 65536
     → gives mid piece new → Consumes (left mid) (left new) piece
-    → Breaks (due served_table b (joined p.pieces) false) (due served_table b (joined p.pieces ++ piece) (is_nothing piece)) taken' taken'' fault
+    → Breaks (due whole_table b (joined p.pieces) false) (due whole_table b (joined p.pieces ++ piece) (is_nothing piece)) taken' taken'' fault
     → IsTold gives left b turns old new taken taken'' (Err fault)
 told-broken gives left b turns turn old mid new s taken taken' taken'' piece fault p room size given consumed q = record {
   within = AreWithin-more turns turn p.pieces piece p.count room p.sizes size;
   pieces = p.pieces ++ piece ∷ [];
-  text = joined (due served_table b (joined p.pieces) false) ++ q.text;
+  text = joined (due whole_table b (joined p.pieces) false) ++ q.text;
   last = new;
   reads = Reads-more gives old mid new p.pieces piece p.reads given;
   consumed = Consumes-more left old mid new p.pieces piece p.consumed consumed;
-  written = Appends-trans taken taken' taken'' (joined (due served_table b (joined p.pieces) false)) q.text p.written q.written;
+  written = Appends-trans taken taken' taken'' (joined (due whole_table b (joined p.pieces) false)) q.text p.written q.written;
   tells = Tells-broken b turns p.pieces piece q.text fault q.broken;
 }
 
@@ -164,29 +164,29 @@ told-broken gives left b turns turn old mid new s taken taken' taken'' piece fau
 pub told-end-broken : {R : Type 0} (gives : R → List ℕ → R → Type 0) (left : R → Option (List ℕ)) (b : Bounds) (turns turn : ℕ) (old mid new : R) (s : Server)
     (taken taken' taken'' : Option (List ℕ)) (fault : Fault) (p : IsSoFar gives left b turn old mid s taken taken') → turn < turns → gives mid [] new
     → Consumes (left mid) (left new) []
-    → Breaks (due served_table b (joined p.pieces) false) (due served_table b (joined p.pieces) true) taken' taken'' fault
+    → Breaks (due whole_table b (joined p.pieces) false) (due whole_table b (joined p.pieces) true) taken' taken'' fault
     → IsTold gives left b turns old new taken taken'' (Err fault)
 told-end-broken gives left b turns turn old mid new s taken taken' taken'' fault p room given consumed q =
     told-broken gives left b turns turn old mid new s taken taken' taken'' [] fault p room (omega arith) given consumed
-    (subst (λ l. Breaks (due served_table b (joined p.pieces) false) (due served_table b l true) taken' taken'' fault) (sym (append-nil (joined p.pieces))) q)
+    (subst (λ l. Breaks (due whole_table b (joined p.pieces) false) (due whole_table b l true) taken' taken'' fault) (sym (append-nil (joined p.pieces))) q)
 
 -- the input ended, and all is answered
 pub told-ok : {R : Type 0} (gives : R → List ℕ → R → Type 0) (left : R → Option (List ℕ)) (b : Bounds) (turns turn : ℕ) (old mid new : R) (s : Server)
     (taken taken' taken'' : Option (List ℕ)) (summary : Summary) (p : IsSoFar gives left b turn old mid s taken taken') → turn < turns → gives mid [] new
     → Consumes (left mid) (left new) [] → summary.lines ≡ length (lines_of (joined p.pieces))
-    → Grows (due served_table b (joined p.pieces) false) (due served_table b (joined p.pieces) true) taken' taken''
+    → Grows (due whole_table b (joined p.pieces) false) (due whole_table b (joined p.pieces) true) taken' taken''
     → IsTold gives left b turns old new taken taken'' (Ok summary)
 told-ok gives left b turns turn old mid new s taken taken' taken'' summary p room given consumed lines q =
     let e : joined p.pieces ≡ joined (p.pieces ++ [] ∷ []) = sym (joined-single p.pieces [] ∙ append-nil (joined p.pieces)) in
     record {
       within = AreWithin-more turns turn p.pieces [] p.count room p.sizes (omega arith);
       pieces = p.pieces ++ [] ∷ [];
-      text = joined (due served_table b (joined p.pieces) true);
+      text = joined (due whole_table b (joined p.pieces) true);
       last = new;
       reads = Reads-more gives old mid new p.pieces [] p.reads given;
       consumed = Consumes-more left old mid new p.pieces [] p.consumed consumed;
-      written = Grows-written (due served_table b (joined p.pieces) false) (due served_table b (joined p.pieces) true) taken taken' taken'' p.written q;
-      tells = (has_end-last p.pieces [], ap (λ l. joined (due served_table b l true)) e, lines ∙ ap (λ l. length (lines_of l)) e);
+      written = Grows-written (due whole_table b (joined p.pieces) false) (due whole_table b (joined p.pieces) true) taken taken' taken'' p.written q;
+      tells = (has_end-last p.pieces [], ap (λ l. joined (due whole_table b l true)) e, lines ∙ ap (λ l. length (lines_of l)) e);
     }
 
 -- ---- by what was read
@@ -214,11 +214,11 @@ Breaks-read before after taken taken' InputTooLong q = absurd q.broken
 pub Concludes-read : (b : Bounds) (bytes : List ℕ) (taken taken' : Option (List ℕ)) (result : Result Summary Fault) → Concludes b bytes taken taken' result
     → false ≡ is_read_fault result
 Concludes-read b bytes taken taken' (Ok summary) q = refl
-Concludes-read b bytes taken taken' (Err fault) q = Breaks-read (due served_table b bytes false) (due served_table b bytes true) taken taken' fault q
+Concludes-read b bytes taken taken' (Err fault) q = Breaks-read (due whole_table b bytes false) (due whole_table b bytes true) taken taken' fault q
 
 pub Fed-read : (b : Bounds) (bytes bytes' : List ℕ) (taken taken' : Option (List ℕ)) (fault : Fault)
-    → Breaks (due served_table b bytes false) (due served_table b bytes' false) taken taken' fault → false ≡ is_read_fault {T = Summary} (Err fault)
-Fed-read b bytes bytes' taken taken' fault q = Breaks-read (due served_table b bytes false) (due served_table b bytes' false) taken taken' fault q
+    → Breaks (due whole_table b bytes false) (due whole_table b bytes' false) taken taken' fault → false ≡ is_read_fault {T = Summary} (Err fault)
+Fed-read b bytes bytes' taken taken' fault q = Breaks-read (due whole_table b bytes false) (due whole_table b bytes' false) taken taken' fault q
 
 -- a read gave n bytes
 pub some-read : (n : ℕ) (buffer : List ℕ) → n ≤ length buffer → (n ≡ 0 → ⊥) → 0 < length (take n buffer)
@@ -232,11 +232,11 @@ pub told-fed : {R : Type 0} (gives : R → List ℕ → R → Type 0) (left : R 
     (taken taken' taken'' : Option (List ℕ)) (piece : List ℕ) (fault : Fault) (p : IsSoFar gives left b turn old mid s taken taken') → turn < turns → 0 < length piece → length piece ≤ 65536
     → gives mid piece new
     → Consumes (left mid) (left new) piece
-    → Breaks (due served_table b (joined p.pieces) false) (due served_table b (joined p.pieces ++ piece) false) taken' taken'' fault
+    → Breaks (due whole_table b (joined p.pieces) false) (due whole_table b (joined p.pieces ++ piece) false) taken' taken'' fault
     → IsTold gives left b turns old new taken taken'' (Err fault)
 told-fed gives left b turns turn old mid new s taken taken' taken'' piece fault p room some size given consumed q =
     told-broken gives left b turns turn old mid new s taken taken' taken'' piece fault p room size given consumed
-    (subst (λ t. Breaks (due served_table b (joined p.pieces) false) (due served_table b (joined p.pieces ++ piece) t) taken' taken'' fault) (sym (is_nothing-some piece some)) q)
+    (subst (λ t. Breaks (due whole_table b (joined p.pieces) false) (due whole_table b (joined p.pieces ++ piece) t) taken' taken'' fault) (sym (is_nothing-some piece some)) q)
 
 -- each byte ends at most one line
 pub lines-more : (turn lines lines' n : ℕ) (buffer : List ℕ) → lines ≤ 65536 * turn → length buffer ≡ 65536 → lines' ≤ lines + length (take n buffer)
@@ -260,7 +260,7 @@ told-none gives left b turns old taken taken' Write s = record {
   reads = refl;
   consumed = Consumes-nil (left old);
   written = s.2;
-  tells = (inr (out_of_memory_line, ([], (due served_table b [] false, refl), refl), s.1), earlier-none b s.0);
+  tells = (inr (out_of_memory_line, ([], (due whole_table b [] false, refl), refl), s.1), earlier-none b s.0);
 }
 told-none gives left b turns old taken taken' Memory s = record {
   pieces = [];
@@ -270,16 +270,16 @@ told-none gives left b turns old taken taken' Memory s = record {
   reads = refl;
   consumed = Consumes-nil (left old);
   written = s;
-  tells = (([], (due served_table b [] false, refl), refl), earlier-none b out_of_memory_line);
+  tells = (([], (due whole_table b [] false, refl), refl), earlier-none b out_of_memory_line);
 }
 told-none gives left b turns old taken taken' InputTooLong s = absurd s
 
 -- ---- one line for each
 
-one-each-of : (b : Bounds) (bytes text : List ℕ) (lines : ℕ) → text ≡ output_of served_table b bytes → lines ≡ length (lines_of bytes)
+one-each-of : (b : Bounds) (bytes text : List ℕ) (lines : ℕ) → text ≡ output_of whole_table b bytes → lines ≡ length (lines_of bytes)
     → (length (whole_lines text) ≡ lines) × (last_piece text ≡ [])
 one-each-of b bytes text lines e h =
-    (ap (λ l. length (whole_lines l)) e ∙ length-whole_lines-output_of served_table b bytes ∙ sym h, ap last_piece e ∙ last_piece-output_of served_table b bytes)
+    (ap (λ l. length (whole_lines l)) e ∙ length-whole_lines-output_of whole_table b bytes ∙ sym h, ap last_piece e ∙ last_piece-output_of whole_table b bytes)
 
 -- what was written has one whole line for each line of the input
 pub one-each : {R : Type 0} (gives : R → List ℕ → R → Type 0) (left : R → Option (List ℕ)) (b : Bounds) (turns : ℕ) (old new : R) (taken taken' : Option (List ℕ))

@@ -8,7 +8,7 @@ use Rattle.dom_model.specs.Commands.Command.{Command}
 use Rattle.dom_model.specs.Commands.Reply.{Reply}
 use Rattle.dom_model.specs.Worlds.World.{World, first_world}
 use Rattle.dom_model.specs.Commands.Answer.{Bounds, Step}
-use Rattle.dom_model.specs.Commands.Table.{served_table}
+use Rattle.dom_model.specs.Commands.Table.{whole_table}
 use Rattle.dom_model.specs.Commands.Line.{command_of}
 use Rattle.dom_model.specs.Commands.Printed.{reply_line, out_of_memory_line}
 use Rattle.dom_model.specs.Commands.Output.{joined, due, whole_lines, last_piece, lines_of, step_of, world_after}
@@ -24,7 +24,7 @@ use Rattle.dom_serve.specs.Tells.{IsCutShort, SaysOutOfMemory, Tells}
 -- the command of the line that is held, of which the bytes were kept unless there were too many
 abbrev pub held_command : List ℕ → Bool → Result Command OwnError
 held_command kept true = Err LineTooLong
-held_command kept false = command_of served_table kept
+held_command kept false = command_of whole_table kept
 
 abbrev pub held_step : Bounds → List ℕ → Bool → World → Step
 held_step b kept too_long w = step_of b (held_command kept too_long) w
@@ -65,7 +65,7 @@ HoldsPiece limit kept true piece = limit < length piece
 
 -- what a server holds when these bytes have come
 pub record Stands (b : Bounds) (bytes : List ℕ) (s : Server) : Type 0 where
-  pub world : StandsFor s.session (world_after served_table b first_world (whole_lines bytes))
+  pub world : StandsFor s.session (world_after whole_table b first_world (whole_lines bytes))
   pub bounds : s.session.bounds ≡ b
   pub line : s.line ≡ b.line
   pub lines : s.lines ≡ length (whole_lines bytes)
@@ -92,23 +92,23 @@ pub record Breaks (before after : List (List ℕ)) (taken taken' : Option (List 
 -- the server took more bytes, up to these
 abbrev pub Fed : {T : Type 0} → Bounds → List ℕ → List ℕ → Server → Option (List ℕ) → Option (List ℕ) → Result T Fault → Type 0
 Fed b bytes bytes' s taken taken' (Ok _) =
-    Stands b bytes' s × Grows (due served_table b bytes false) (due served_table b bytes' false) taken taken'
+    Stands b bytes' s × Grows (due whole_table b bytes false) (due whole_table b bytes' false) taken taken'
 Fed b bytes bytes' s taken taken' (Err fault) =
-    Breaks (due served_table b bytes false) (due served_table b bytes' false) taken taken' fault
+    Breaks (due whole_table b bytes false) (due whole_table b bytes' false) taken taken' fault
 
 -- the server answered what was left at the end of these bytes
 abbrev pub Finishes : {T : Type 0} → Bounds → List ℕ → Server → Option (List ℕ) → Option (List ℕ) → Result T Fault → Type 0
 Finishes b bytes s taken taken' (Ok _) =
-    (s.lines ≡ length (lines_of bytes)) × Grows (due served_table b bytes false) (due served_table b bytes true) taken taken'
+    (s.lines ≡ length (lines_of bytes)) × Grows (due whole_table b bytes false) (due whole_table b bytes true) taken taken'
 Finishes b bytes s taken taken' (Err fault) =
-    Breaks (due served_table b bytes false) (due served_table b bytes true) taken taken' fault
+    Breaks (due whole_table b bytes false) (due whole_table b bytes true) taken taken' fault
 
 -- the same, with the count of lines
 abbrev pub Concludes : Bounds → List ℕ → Option (List ℕ) → Option (List ℕ) → Result Summary Fault → Type 0
 Concludes b bytes taken taken' (Ok summary) =
-    (summary.lines ≡ length (lines_of bytes)) × Grows (due served_table b bytes false) (due served_table b bytes true) taken taken'
+    (summary.lines ≡ length (lines_of bytes)) × Grows (due whole_table b bytes false) (due whole_table b bytes true) taken taken'
 Concludes b bytes taken taken' (Err fault) =
-    Breaks (due served_table b bytes false) (due served_table b bytes true) taken taken' fault
+    Breaks (due whole_table b bytes false) (due whole_table b bytes true) taken taken' fault
 
 -- the pieces that reads gave so far, none of them the end, and that what was due for them was written
 pub record IsSoFar {R : Type 0} (gives : R → List ℕ → R → Type 0) (left : R → Option (List ℕ)) (b : Bounds) (turn : ℕ) (old new : R) (s : Server)
@@ -120,7 +120,7 @@ pub record IsSoFar {R : Type 0} (gives : R → List ℕ → R → Type 0) (left 
   pub open_ended : has_end pieces ≡ false
   pub consumed : Consumes (left old) (left new) (joined pieces)
   pub stands : Stands b (joined pieces) s
-  pub written : Appends taken taken' (joined (due served_table b (joined pieces) false))
+  pub written : Appends taken taken' (joined (due whole_table b (joined pieces) false))
 
 -- the pieces that reads gave, and what was written for them
 pub record IsTold {R : Type 0} (gives : R → List ℕ → R → Type 0) (left : R → Option (List ℕ)) (b : Bounds) (turns : ℕ) (old new : R)

@@ -2,7 +2,7 @@
 -- input has ended, to a last piece that is not empty.
 use Rattle.std.specs.Prelude.{◌≡◌, ℕ, Bool, true, false, List, ◌++◌, length, Result, Ok, Err, ◌⊎◌}
 use Rattle.dom_model.specs.Commands.Answer.{Bounds}
-use Rattle.dom_model.specs.Commands.Table.{served_table}
+use Rattle.dom_model.specs.Commands.Table.{whole_table}
 use Rattle.dom_model.specs.Commands.Printed.{out_of_memory_line}
 use Rattle.dom_model.specs.Commands.Output.{joined, due, output_of, lines_of}
 use Rattle.dom_serve.specs.declared.fault.Fault.{Fault}
@@ -38,15 +38,15 @@ IsCutShort replies text = IsPrefix text (joined replies) ⊎ ((whole : List ℕ)
 
 -- the replies to the lines that were whole before the last read stand whole
 abbrev pub AnswersEarlier : Bounds → List (List ℕ) → List ℕ → Type 0
-AnswersEarlier b pieces text = IsPrefix (joined (due served_table b (joined (before_last pieces)) false)) text
+AnswersEarlier b pieces text = IsPrefix (joined (due whole_table b (joined (before_last pieces)) false)) text
 
 abbrev pub Tells : Bounds → ℕ → List (List ℕ) → List ℕ → Result Summary Fault → Type 0
 Tells b turns pieces text (Ok summary) =
-    (has_end pieces ≡ true) × (text ≡ output_of served_table b (joined pieces)) × (summary.lines ≡ length (lines_of (joined pieces)))
-Tells b turns pieces text (Err Read) = text ≡ joined (due served_table b (joined pieces) false)
+    (has_end pieces ≡ true) × (text ≡ output_of whole_table b (joined pieces)) × (summary.lines ≡ length (lines_of (joined pieces)))
+Tells b turns pieces text (Err Read) = text ≡ joined (due whole_table b (joined pieces) false)
 Tells b turns pieces text (Err InputTooLong) =
-    (length pieces ≡ turns) × (has_end pieces ≡ false) × (text ≡ joined (due served_table b (joined pieces) false))
+    (length pieces ≡ turns) × (has_end pieces ≡ false) × (text ≡ joined (due whole_table b (joined pieces) false))
 Tells b turns pieces text (Err Write) =
-    IsCutShort (due served_table b (joined pieces) (has_end pieces)) text × AnswersEarlier b pieces text
+    IsCutShort (due whole_table b (joined pieces) (has_end pieces)) text × AnswersEarlier b pieces text
 Tells b turns pieces text (Err Memory) =
-    SaysOutOfMemory (due served_table b (joined pieces) (has_end pieces)) text × AnswersEarlier b pieces text
+    SaysOutOfMemory (due whole_table b (joined pieces) (has_end pieces)) text × AnswersEarlier b pieces text

@@ -3,7 +3,7 @@
 ghost use Rattle.std.specs.Prelude.{◌≡◌, ℕ, ◌+◌, ◌<◌, ◌≤◌, ◌^◌, false, List, [], length, IfOk, OnOk, IfSome};
 ghost use Rattle.std.specs.Io.KnownBytes.{Appends, Consumes, IsAtEnd};
 ghost use Rattle.dom_model.specs.Commands.Answer.{Bounds};
-ghost use Rattle.dom_model.specs.Commands.Table.{served_table};
+ghost use Rattle.dom_model.specs.Commands.Table.{whole_table};
 ghost use Rattle.dom_model.specs.Commands.Output.{joined, whole_lines, last_piece, lines_of, output_of};
 ghost use Rattle.dom_session.specs.Bounding.{bounds_of};
 ghost use Rattle.dom_serve.specs.Pieces.{Reads, AreWithin};
@@ -109,7 +109,7 @@ pub fn serve_within<R: Source, W: Sink>(
 
     // Whatever the sizes of the reads, what is written is the output for all bytes of the reader.
     ensures output { OnOk result (IfSome (R.left reader.old) (λ input.
-        Appends (W.taken writer.old) (W.taken writer.new) (output_of served_table (bounds_of limits) input))) }
+        Appends (W.taken writer.old) (W.taken writer.new) (output_of whole_table (bounds_of limits) input))) }
     ensures lines { IfOk result (λ summary. IfSome (R.left reader.old) (λ input.
         summary.lines ≡ length (lines_of input))) }
 
@@ -151,7 +151,7 @@ pub fn serve<R: Source, W: Sink>(
 
     // Whatever the sizes of the reads, what is written is the output for all bytes of the reader.
     ensures output { OnOk result (IfSome (R.left reader.old) (λ input.
-        Appends (W.taken writer.old) (W.taken writer.new) (output_of served_table (bounds_of limits) input))) }
+        Appends (W.taken writer.old) (W.taken writer.new) (output_of whole_table (bounds_of limits) input))) }
     ensures lines { IfOk result (λ summary. IfSome (R.left reader.old) (λ input.
         summary.lines ≡ length (lines_of input))) }
 

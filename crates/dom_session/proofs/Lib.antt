@@ -12,3 +12,5 @@ pub mod Parts
 pub mod RangeFacts
 pub mod RangeAnswers
 pub mod NodeData
+pub mod Unfelt
+pub mod ContentsAnswers

@@ -1,6 +1,8 @@
 //! The contents of live ranges (DOM Standard, "Interface Range").
 
 ghost use Rattle.std.specs.Prelude.{◌≡◌, ◌≤◌, true, IfOk};
+ghost use Rattle.dom_model.specs.Commands.Command.{RangeText, DeleteContents, ExtractContents, CloneContents, InsertNode, SurroundContents};
+ghost use Rattle.dom_model.specs.Commands.Guards.{Bounds};
 ghost use Rattle.dom_model.specs.Commands.Reply.{is_refusal};
 ghost use Rattle.dom_edit.specs.Whole.{IsShown};
 ghost use Rattle.dom_session.specs.Views.{command_view, reply_view};
@@ -8,9 +10,144 @@ ghost use Rattle.dom_session.specs.Stands.{IsStep};
 ghost use Rattle.dom_session.specs.Limiting.{numbered};
 
 use crate::command::Command;
-use crate::reply::Reply;
-use dom_edit::World;
+use crate::copies::lacks_numbers;
+use crate::reply::{Answer, Reply};
+use dom_edit::{Refusal, World};
+use dom_model::OwnError;
+use dom_ranges::RangeId;
+use dom_tree::NodeId;
 use std::alloc::{AllocError, Global};
+
+/// The data of the Texts that lie in a live range.
+pub fn range_text(world: &World, alloc: Global, range: RangeId) -> Result<Reply, AllocError>
+    requires shown { IsShown world.now }
+    ensures { IfOk result (λ reply. (b : Bounds) → IsStep world.now world.now b (RangeText range) reply) }
+{
+    if !world.ranges.holds(range) {
+        return Ok(Reply::Own(OwnError::NoSuchObject));
+    }
+    let text = dom_content::range_text(world, alloc, range)?;
+    Ok(Reply::Done(Answer::Units(text)))
+}
+
+/// Deletes what lies in a live range.
+pub fn delete_contents(
+    world: &mut World,
+    alloc: Global,
+    range: RangeId,
+) -> Result<Reply, AllocError>
+    requires shown { IsShown world.old }
+    ensures step { IfOk result (λ reply. (b : Bounds) → IsStep world.old world.new b (DeleteContents range) reply) }
+    ensures refused { IfOk result (λ reply. is_refusal (reply_view reply) ≡ true → world.new ≡ world.old) }
+{
+    if !world.ranges.holds(range) {
+        return Ok(Reply::Own(OwnError::NoSuchObject));
+    }
+    dom_content::delete_contents(world, alloc, range)?;
+    Ok(Reply::Done(Answer::Nothing))
+}
+
+/// Takes what lies in a live range into a new fragment, and answers that.
+pub fn extract_contents(
+    world: &mut World,
+    numbers: u64,
+    alloc: Global,
+    range: RangeId,
+) -> Result<Reply, AllocError>
+    requires numbers { numbers ≤ 4294967295 }
+    requires shown { IsShown world.old }
+    ensures step { IfOk result (IsStep world.old world.new (numbered numbers) (ExtractContents range)) }
+    ensures refused { IfOk result (λ reply. is_refusal (reply_view reply) ≡ true → world.new ≡ world.old) }
+{
+    if !world.ranges.holds(range) {
+        return Ok(Reply::Own(OwnError::NoSuchObject));
+    }
+    if lacks_numbers(world, numbers) {
+        return Ok(Reply::Own(OwnError::Limit));
+    }
+    match dom_content::extract(world, alloc, range) {
+        Ok(fragment) => Ok(Reply::Done(Answer::Number(fragment.number()))),
+        Err(Refusal::Dom(error)) => Ok(Reply::Dom(error)),
+        Err(Refusal::Memory) => Err(AllocError),
+    }
+}
+
+/// Copies what lies in a live range into a new fragment, and answers that.
+pub fn clone_contents(
+    world: &mut World,
+    numbers: u64,
+    alloc: Global,
+    range: RangeId,
+) -> Result<Reply, AllocError>
+    requires numbers { numbers ≤ 4294967295 }
+    requires shown { IsShown world.old }
+    ensures step { IfOk result (IsStep world.old world.new (numbered numbers) (CloneContents range)) }
+    ensures refused { IfOk result (λ reply. is_refusal (reply_view reply) ≡ true → world.new ≡ world.old) }
+{
+    if !world.ranges.holds(range) {
+        return Ok(Reply::Own(OwnError::NoSuchObject));
+    }
+    if lacks_numbers(world, numbers) {
+        return Ok(Reply::Own(OwnError::Limit));
+    }
+    match dom_content::clone_contents(world, alloc, range) {
+        Ok(fragment) => Ok(Reply::Done(Answer::Number(fragment.number()))),
+        Err(Refusal::Dom(error)) => Ok(Reply::Dom(error)),
+        Err(Refusal::Memory) => Err(AllocError),
+    }
+}
+
+/// Inserts a node at the start of a live range.
+pub fn insert_node(
+    world: &mut World,
+    numbers: u64,
+    alloc: Global,
+    range: RangeId,
+    node: NodeId,
+) -> Result<Reply, AllocError>
+    requires numbers { numbers ≤ 4294967295 }
+    requires shown { IsShown world.old }
+    ensures step { IfOk result (IsStep world.old world.new (numbered numbers) (InsertNode range node)) }
+    ensures refused { IfOk result (λ reply. is_refusal (reply_view reply) ≡ true → world.new ≡ world.old) }
+{
+    if !world.ranges.holds(range) || !world.tree.holds(node) {
+        return Ok(Reply::Own(OwnError::NoSuchObject));
+    }
+    if numbers <= world.tree.made() {
+        return Ok(Reply::Own(OwnError::Limit));
+    }
+    match dom_wrap::insert_node(world, alloc, range, node) {
+        Ok(()) => Ok(Reply::Done(Answer::Nothing)),
+        Err(Refusal::Dom(error)) => Ok(Reply::Dom(error)),
+        Err(Refusal::Memory) => Err(AllocError),
+    }
+}
+
+/// Puts what lies in a live range into a node, and that node in its place.
+pub fn surround_contents(
+    world: &mut World,
+    numbers: u64,
+    alloc: Global,
+    range: RangeId,
+    node: NodeId,
+) -> Result<Reply, AllocError>
+    requires numbers { numbers ≤ 4294967295 }
+    requires shown { IsShown world.old }
+    ensures step { IfOk result (IsStep world.old world.new (numbered numbers) (SurroundContents range node)) }
+    ensures refused { IfOk result (λ reply. is_refusal (reply_view reply) ≡ true → world.new ≡ world.old) }
+{
+    if !world.ranges.holds(range) || !world.tree.holds(node) {
+        return Ok(Reply::Own(OwnError::NoSuchObject));
+    }
+    if lacks_numbers(world, numbers) {
+        return Ok(Reply::Own(OwnError::Limit));
+    }
+    match dom_wrap::surround(world, alloc, range, node) {
+        Ok(()) => Ok(Reply::Done(Answer::Nothing)),
+        Err(Refusal::Dom(error)) => Ok(Reply::Dom(error)),
+        Err(Refusal::Memory) => Err(AllocError),
+    }
+}
 
 /// Answers the commands on the contents of ranges.
 pub fn change_contents(
@@ -24,7 +161,16 @@ pub fn change_contents(
     ensures step { IfOk result (IsStep world.old world.new (numbered numbers) (command_view command)) }
     ensures refused { IfOk result (λ reply. is_refusal (reply_view reply) ≡ true → world.new ≡ world.old) }
 {
-    // no line that is served makes one of the others yet: each ends the session, as want of memory does
-    let _ = (world, numbers, alloc, command);
-    Err(AllocError)
+    match command {
+        Command::RangeText(range) => range_text(world, alloc, range),
+        Command::DeleteContents(range) => delete_contents(world, alloc, range),
+        Command::ExtractContents(range) => extract_contents(world, numbers, alloc, range),
+        Command::CloneContents(range) => clone_contents(world, numbers, alloc, range),
+        Command::InsertNode(range, node) => insert_node(world, numbers, alloc, range, node),
+        Command::SurroundContents(range, node) => surround_contents(
+            world, numbers, alloc, range, node,
+        ),
+        // each other command is answered by a group before this one
+        _ => Err(AllocError),
+    }
 }

@@ -1,7 +1,7 @@
 //! The names of commands: for each its text, the shapes of its arguments, and the command that they make.
 
 ghost use Rattle.std.specs.Prelude.{◌≡◌, ◌≤◌, map, length, filter};
-ghost use Rattle.dom_model.specs.Commands.Table.{served_table};
+ghost use Rattle.dom_model.specs.Commands.Table.{whole_table};
 ghost use Rattle.dom_wire.specs.Rows.{row_of, is_of_length};
 
 use crate::arguments::{Arguments, Shape};
@@ -96,10 +96,10 @@ pub enum Name {
     DescribeStaticRange,
 }
 
-/// The names that are served, of that length in bytes, in the order of the table.
-#[tactic(auto, unfolding(crate::specs::Rows::row_of, dom_model::specs::Commands::Table::served_table))]
+/// The names of that length in bytes, in the order of the table.
+#[tactic(auto, unfolding(crate::specs::Rows::row_of, dom_model::specs::Commands::Table::whole_table))]
 pub fn names_of_length(length: usize) -> &'static [Name]
-    ensures { map row_of result.now ≡ filter (is_of_length length) served_table }
+    ensures { map row_of result.now ≡ filter (is_of_length length) whole_table }
 {
     match length {
         4 => &[
@@ -133,7 +133,13 @@ pub fn names_of_length(length: usize) -> &'static [Name]
             Name::DescribeIterator,
             Name::NextNode,
         ],
-        9 => &[Name::AdoptNode, Name::CloneNode, Name::SplitText],
+        9 => &[
+            Name::AdoptNode,
+            Name::CloneNode,
+            Name::Normalize,
+            Name::SplitText,
+            Name::RangeText,
+        ],
         10 => &[
             Name::CreateText,
             Name::ImportNode,
@@ -142,6 +148,7 @@ pub fn names_of_length(length: usize) -> &'static [Name]
             Name::DeleteData,
             Name::CloneRange,
             Name::SelectNode,
+            Name::InsertNode,
             Name::SetCurrent,
             Name::Disconnect,
         ],
@@ -174,6 +181,7 @@ pub fn names_of_length(length: usize) -> &'static [Name]
             Name::CreateDoctype,
             Name::SubstringData,
             Name::SetStartAfter,
+            Name::CloneContents,
         ],
         14 => &[
             Name::CreateFragment,
@@ -183,6 +191,7 @@ pub fn names_of_length(length: usize) -> &'static [Name]
             Name::IsPointInRange,
             Name::IntersectsNode,
             Name::CommonAncestor,
+            Name::DeleteContents,
             Name::CreateIterator,
             Name::CreateObserver,
         ],
@@ -191,7 +200,9 @@ pub fn names_of_length(length: usize) -> &'static [Name]
             Name::ComparePosition,
             Name::RemoveAttribute,
             Name::ToggleAttribute,
+            Name::ExtractContents,
         ],
+        16 => &[Name::SurroundContents],
         17 => &[Name::CreateStaticRange],
         18 => &[Name::SelectNodeContents],
         21 => &[Name::CompareBoundaryPoints],

@@ -3,7 +3,7 @@
 ghost use Rattle.std.specs.Prelude.{◌≡◌, map, find, option_map};
 ghost use Rattle.serde_json.specs.Find.{as_array};
 ghost use Rattle.serde_json.specs.View.{view};
-ghost use Rattle.dom_model.specs.Commands.Table.{served_table, no_arguments};
+ghost use Rattle.dom_model.specs.Commands.Table.{whole_table, no_arguments};
 ghost use Rattle.dom_model.specs.Commands.Line.{command_of, command_in_array, command_among, if_arguments, arguments_from, is_row_of};
 ghost use Rattle.dom_wire.specs.Reads.{Reads};
 ghost use Rattle.dom_wire.specs.Rows.{row_of};
@@ -18,7 +18,7 @@ use std::alloc::Global;
 
 /// The command of a line, which has no newline, or its refusal: `BadJson`, `BadCommand` or `BadArguments`.
 pub fn read_line(alloc: Global, line: &[u8]) -> Result<Command, ReadError>
-    ensures { Reads result (command_of served_table line.now) }
+    ensures { Reads result (command_of whole_table line.now) }
 {
     match Value::from_slice(alloc, line) {
         Ok(value) => command_in(alloc, &value),
@@ -32,7 +32,7 @@ pub fn read_line(alloc: Global, line: &[u8]) -> Result<Command, ReadError>
 }
 
 fn command_in(alloc: Global, value: &Value) -> Result<Command, ReadError>
-    ensures { Reads result (command_in_array served_table (as_array (view value.now))) }
+    ensures { Reads result (command_in_array whole_table (as_array (view value.now))) }
 {
     match value {
         Value::Array(items) => command_among(alloc, items.as_slice()),
@@ -42,7 +42,7 @@ fn command_in(alloc: Global, value: &Value) -> Result<Command, ReadError>
 
 // A name first, and then its arguments.
 fn command_among(alloc: Global, values: &[Value]) -> Result<Command, ReadError>
-    ensures { Reads result (command_among served_table (map view values.now)) }
+    ensures { Reads result (command_among whole_table (map view values.now)) }
 {
     if let [Value::String(text), rest @ ..] = values
         && let Some(name) = named(text.as_str())
@@ -54,7 +54,7 @@ fn command_among(alloc: Global, values: &[Value]) -> Result<Command, ReadError>
 
 // The name that a text is. Only names of its length are looked at.
 fn named(text: &str) -> Option<Name>
-    ensures { option_map row_of result ≡ find (is_row_of text.now) served_table }
+    ensures { option_map row_of result ≡ find (is_row_of text.now) whole_table }
 {
     named_among(names_of_length(text.len()), text)
 }

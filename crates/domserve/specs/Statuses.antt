@@ -2,7 +2,7 @@
 use Rattle.std.specs.Prelude.{ℕ, ◌≤◌, List, Option, codes}
 use Rattle.std.specs.Io.KnownBytes.{Appends}
 use Rattle.dom_model.specs.Commands.Answer.{Bounds}
-use Rattle.dom_model.specs.Commands.Table.{served_table}
+use Rattle.dom_model.specs.Commands.Table.{whole_table}
 use Rattle.dom_model.specs.Commands.Output.{output_of}
 use Rattle.dom_serve.specs.declared.fault.Fault.{Fault}
 use Rattle.dom_serve.specs.declared.fault.Fault.TheVariants.{Read, Write, Memory, InputTooLong}
@@ -14,7 +14,7 @@ pub record IsInRange (b : Bounds) : Type 0 where
 
 -- the output for the input was written
 abbrev pub IsServed : Bounds → Option (List ℕ) → Option (List ℕ) → List ℕ → Type 0
-IsServed b taken taken' input = Appends taken taken' (output_of served_table b input)
+IsServed b taken taken' input = Appends taken taken' (output_of whole_table b input)
 
 abbrev pub text_of : Fault → List ℕ
 text_of Read = codes "domserve: read failed"

@@ -1,4 +1,4 @@
-//! Written by tools/rows.py from tools/dialogues/bad_input: the dialogues whose commands are all served.
+//! Written by tools/rows.py from tools/dialogues/bad_input.
 
 use crate::cuts::is_answered_in_two;
 use crate::dialogues::{Bytes, Dialogue};
@@ -92,6 +92,96 @@ pub const ATTRIBUTES_REFUSED: Dialogue = Dialogue {
 {"error":"bad-arguments"}
 {"error":"no-such-object"}
 {"error":"TypeError"}
+{"ok":4}
+{"ok":[[0,1,1,"e",[]]]}
+"##,
+};
+
+pub const COPIES_AND_COMPARISONS_REFUSED: Dialogue = Dialogue {
+    name: "copies and comparisons refused",
+    numbers: 4294967295,
+    line: 1048576,
+    given: Bytes::Text(
+        r##"["createElement",0,"e"]
+["createText",0,"t"]
+["createComment",0,"c"]
+["importNode",0,1]
+["importNode",0,1,true,0]
+["importNode","x",1,true]
+["importNode",0,"x",true]
+["importNode",0,1,0]
+["importNode",99,1,true]
+["importNode",0,99,true]
+["importNode",1,1,true]
+["cloneNode",1]
+["cloneNode",1,true,0]
+["cloneNode","x",true]
+["cloneNode",1,0]
+["cloneNode",99,true]
+["normalize"]
+["normalize",1,0]
+["normalize","x"]
+["normalize",99]
+["contains",1]
+["contains",1,null,0]
+["contains","x",null]
+["contains",1,"x"]
+["contains",99,null]
+["contains",1,99]
+["isEqual",1]
+["isEqual",1,null,0]
+["isEqual","x",null]
+["isEqual",1,"x"]
+["isEqual",99,null]
+["isEqual",1,99]
+["comparePosition",1]
+["comparePosition",1,1,0]
+["comparePosition","x",1]
+["comparePosition",1,"x"]
+["comparePosition",99,1]
+["comparePosition",1,99]
+["createText",0,"t"]
+["tree",1]
+"##,
+    ),
+    due: r##"{"ok":1}
+{"ok":2}
+{"ok":3}
+{"error":"bad-arguments"}
+{"error":"bad-arguments"}
+{"error":"bad-arguments"}
+{"error":"bad-arguments"}
+{"error":"bad-arguments"}
+{"error":"no-such-object"}
+{"error":"no-such-object"}
+{"error":"TypeError"}
+{"error":"bad-arguments"}
+{"error":"bad-arguments"}
+{"error":"bad-arguments"}
+{"error":"bad-arguments"}
+{"error":"no-such-object"}
+{"error":"bad-arguments"}
+{"error":"bad-arguments"}
+{"error":"bad-arguments"}
+{"error":"no-such-object"}
+{"error":"bad-arguments"}
+{"error":"bad-arguments"}
+{"error":"bad-arguments"}
+{"error":"bad-arguments"}
+{"error":"no-such-object"}
+{"error":"no-such-object"}
+{"error":"bad-arguments"}
+{"error":"bad-arguments"}
+{"error":"bad-arguments"}
+{"error":"bad-arguments"}
+{"error":"no-such-object"}
+{"error":"no-such-object"}
+{"error":"bad-arguments"}
+{"error":"bad-arguments"}
+{"error":"bad-arguments"}
+{"error":"bad-arguments"}
+{"error":"no-such-object"}
+{"error":"no-such-object"}
 {"ok":4}
 {"ok":[[0,1,1,"e",[]]]}
 "##,
@@ -647,6 +737,88 @@ pub const RANGE_COMPARISONS_REFUSED: Dialogue = Dialogue {
 "##,
 };
 
+pub const RANGE_CONTENTS_REFUSED: Dialogue = Dialogue {
+    name: "range contents refused",
+    numbers: 4294967295,
+    line: 1048576,
+    given: Bytes::Text(
+        r##"["createElement",0,"e"]
+["createText",0,"t"]
+["createComment",0,"c"]
+["createRange",0]
+["rangeText"]
+["rangeText",0,0]
+["rangeText","x"]
+["rangeText",99]
+["deleteContents"]
+["deleteContents",0,0]
+["deleteContents","x"]
+["deleteContents",99]
+["extractContents"]
+["extractContents",0,0]
+["extractContents","x"]
+["extractContents",99]
+["cloneContents"]
+["cloneContents",0,0]
+["cloneContents","x"]
+["cloneContents",99]
+["insertNode",0]
+["insertNode",0,1,0]
+["insertNode","x",1]
+["insertNode",0,"x"]
+["insertNode",99,1]
+["insertNode",0,99]
+["surroundContents",0]
+["surroundContents",0,1,0]
+["surroundContents","x",1]
+["surroundContents",0,"x"]
+["surroundContents",99,1]
+["surroundContents",0,99]
+["createText",0,"t"]
+["tree",1]
+["range",0]
+["createRange",0]
+"##,
+    ),
+    due: r##"{"ok":1}
+{"ok":2}
+{"ok":3}
+{"ok":0}
+{"error":"bad-arguments"}
+{"error":"bad-arguments"}
+{"error":"bad-arguments"}
+{"error":"no-such-object"}
+{"error":"bad-arguments"}
+{"error":"bad-arguments"}
+{"error":"bad-arguments"}
+{"error":"no-such-object"}
+{"error":"bad-arguments"}
+{"error":"bad-arguments"}
+{"error":"bad-arguments"}
+{"error":"no-such-object"}
+{"error":"bad-arguments"}
+{"error":"bad-arguments"}
+{"error":"bad-arguments"}
+{"error":"no-such-object"}
+{"error":"bad-arguments"}
+{"error":"bad-arguments"}
+{"error":"bad-arguments"}
+{"error":"bad-arguments"}
+{"error":"no-such-object"}
+{"error":"no-such-object"}
+{"error":"bad-arguments"}
+{"error":"bad-arguments"}
+{"error":"bad-arguments"}
+{"error":"bad-arguments"}
+{"error":"no-such-object"}
+{"error":"no-such-object"}
+{"ok":4}
+{"ok":[[0,1,1,"e",[]]]}
+{"ok":[0,0,0,0]}
+{"ok":1}
+"##,
+};
+
 pub const RANGE_ENDS_REFUSED: Dialogue = Dialogue {
     name: "range ends refused",
     numbers: 4294967295,
@@ -1097,8 +1269,9 @@ pub const WALKS_REFUSED: Dialogue = Dialogue {
 "##,
 };
 
-pub const ALL: [&Dialogue; 14] = [
+pub const ALL: [&Dialogue; 16] = [
     &ATTRIBUTES_REFUSED,
+    &COPIES_AND_COMPARISONS_REFUSED,
     &DATA_CHANGES_REFUSED,
     &DATA_PARTS_REFUSED,
     &INSERTIONS_REFUSED,
@@ -1106,6 +1279,7 @@ pub const ALL: [&Dialogue; 14] = [
     &OBSERVERS_REFUSED,
     &QUESTIONS_REFUSED,
     &RANGE_COMPARISONS_REFUSED,
+    &RANGE_CONTENTS_REFUSED,
     &RANGE_ENDS_REFUSED,
     &RANGES_REFUSED,
     &REMOVALS_REFUSED,
@@ -1117,6 +1291,11 @@ pub const ALL: [&Dialogue; 14] = [
 #[test]
 fn attributes_refused_cut_in_two(rt: HostRuntime) {
     is_answered_in_two(&rt, rt.alloc(), &ATTRIBUTES_REFUSED);
+}
+
+#[test]
+fn copies_and_comparisons_refused_cut_in_two(rt: HostRuntime) {
+    is_answered_in_two(&rt, rt.alloc(), &COPIES_AND_COMPARISONS_REFUSED);
 }
 
 #[test]
@@ -1152,6 +1331,11 @@ fn questions_refused_cut_in_two(rt: HostRuntime) {
 #[test]
 fn range_comparisons_refused_cut_in_two(rt: HostRuntime) {
     is_answered_in_two(&rt, rt.alloc(), &RANGE_COMPARISONS_REFUSED);
+}
+
+#[test]
+fn range_contents_refused_cut_in_two(rt: HostRuntime) {
+    is_answered_in_two(&rt, rt.alloc(), &RANGE_CONTENTS_REFUSED);
 }
 
 #[test]

@@ -1,4 +1,4 @@
-//! Written by tools/rows.py from tools/dialogues/trees_and_data: the dialogues whose commands are all served.
+//! Written by tools/rows.py from tools/dialogues/trees_and_data.
 
 use crate::cuts::is_answered_in_two;
 use crate::dialogues::{Bytes, Dialogue};
@@ -231,6 +231,58 @@ pub const DISCARDED_TREES: Dialogue = Dialogue {
 "##,
 };
 
+pub const DOCUMENTS_OF_COPIES: Dialogue = Dialogue {
+    name: "documents of copies",
+    numbers: 4294967295,
+    line: 1048576,
+    given: Bytes::Text(
+        r##"["createElement",0,"a"]
+["createElement",0,"b"]
+["createText",0,"c"]
+["createComment",0,"d"]
+["appendChild",0,1]
+["appendChild",1,2]
+["appendChild",2,3]
+["appendChild",1,4]
+["newDocument"]
+["importNode",5,1,true]
+["tree",6]
+["node",9]
+["cloneNode",0,true]
+["tree",10]
+["node",10]
+["node",14]
+["cloneNode",1,false]
+["node",15]
+["children",15]
+["importNode",5,0,true]
+["cloneContents",0]
+"##,
+    ),
+    due: r##"{"ok":1}
+{"ok":2}
+{"ok":3}
+{"ok":4}
+{"ok":1}
+{"ok":2}
+{"ok":3}
+{"ok":4}
+{"ok":5}
+{"ok":6}
+{"ok":[[0,6,1,"a",[]],[1,7,1,"b",[]],[2,8,3,"#text","c"],[1,9,8,"#comment","d"]]}
+{"ok":{"document":5,"name":"#comment","next":null,"parent":6,"previous":7,"type":8}}
+{"ok":10}
+{"ok":[[0,10,9,"#document"],[1,11,1,"a",[]],[2,12,1,"b",[]],[3,13,3,"#text","c"],[2,14,8,"#comment","d"]]}
+{"ok":{"document":10,"name":"#document","next":null,"parent":null,"previous":null,"type":9}}
+{"ok":{"document":10,"name":"#comment","next":null,"parent":11,"previous":12,"type":8}}
+{"ok":15}
+{"ok":{"document":0,"name":"a","next":null,"parent":null,"previous":null,"type":1}}
+{"ok":[]}
+{"error":"NotSupportedError"}
+{"error":"no-such-object"}
+"##,
+};
+
 pub const LONE_SURROGATE: Dialogue = Dialogue {
     name: "lone surrogate",
     numbers: 4294967295,
@@ -438,12 +490,13 @@ pub const TREE_PRINTED: Dialogue = Dialogue {
 "##,
 };
 
-pub const ALL: [&Dialogue; 12] = [
+pub const ALL: [&Dialogue; 13] = [
     &ATTRIBUTES_IN_ORDER,
     &CHILDREN_OF_A_DOCUMENT,
     &COPIES_AND_POSITIONS,
     &DATA_COUNTED_IN_UNITS,
     &DISCARDED_TREES,
+    &DOCUMENTS_OF_COPIES,
     &LONE_SURROGATE,
     &MOVES_BETWEEN_DOCUMENTS,
     &MOVES_REFUSED,
@@ -476,6 +529,11 @@ fn data_counted_in_units_cut_in_two(rt: HostRuntime) {
 #[test]
 fn discarded_trees_cut_in_two(rt: HostRuntime) {
     is_answered_in_two(&rt, rt.alloc(), &DISCARDED_TREES);
+}
+
+#[test]
+fn documents_of_copies_cut_in_two(rt: HostRuntime) {
+    is_answered_in_two(&rt, rt.alloc(), &DOCUMENTS_OF_COPIES);
 }
 
 #[test]

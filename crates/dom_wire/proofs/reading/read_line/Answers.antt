@@ -1,4 +1,4 @@
-use Rattle.dom_model.specs.Commands.Table.{served_table}
+use Rattle.dom_model.specs.Commands.Table.{whole_table}
 use Rattle.dom_model.specs.Commands.Line.{command_of, command_of_json}
 use Rattle.dom_wire.proofs.Steps.{json_of-text, json_of-none}
 use Rattle.dom_wire.proofs.reading.read_line.Goals as goal
@@ -10,4 +10,4 @@ returns-in-Ok c = rw (json_of-text c.args.line.now _ c.in-Ok.ensures.ok.0 c.in-O
 
 pub returns-else-is_memory : goal.returns-else-is_memory
 unfolding command_of
-returns-else-is_memory c = ap (command_of_json served_table) (json_of-none c.args.line.now (c.in-Err.ensures.err (λ memory. true≢false (sym (c.if-is_memory.ensures.1 memory)))))
+returns-else-is_memory c = ap (command_of_json whole_table) (json_of-none c.args.line.now (c.in-Err.ensures.err (λ memory. true≢false (sym (c.if-is_memory.ensures.1 memory)))))
