@@ -72,7 +72,7 @@ filter-absent p m (l ∷ ls) z = go (p l) refl (filter-absent p m ls z)
     go false d i = i
     go true d i = elim (same_or l m) [ same e t ↦ absurd (false≢true (sym z ∙ ap p (sym e) ∙ d)) | apart _ t ↦ rw t i ]
 
-among-filter : (p : ℕ → Bool) (ks : List ℕ) (m : ℕ) → 0 < hits m ks → among m (filter p ks) ≡ p m
+pub among-filter : (p : ℕ → Bool) (ks : List ℕ) (m : ℕ) → 0 < hits m ks → among m (filter p ks) ≡ p m
 among-filter p [] m h = absurd (omega arith)
 among-filter p (k ∷ ks) m h =
     elim (same_or k m) [

@@ -144,7 +144,7 @@ module _ (u : World) (s : IsSound u) (n : ℕ) (hn : 0 < occurs n u.forest) (ele
   is-own : (m k : ℕ) → m ≡ k → is_number (Some m) k ≡ true
   is-own m k e = elim (same_or m k) [ same d t ↦ t | apart ne t ↦ absurd (ne e) ]
 
-  text-parent : is_text u p.node ≡ true → kind_passes may_be_parent f q ≡ true → (m : ℕ) × (parent_of f p.node ≡ Some m) × (q ≡ m)
+  pub text-parent : is_text u p.node ≡ true → kind_passes may_be_parent f q ≡ true → (m : ℕ) × (parent_of f p.node ≡ Some m) × (q ≡ m)
   text-parent t h =
       elim (seen (parent_of f p.node)) [
         | nothing e ↦
