@@ -44,7 +44,7 @@ use Rattle.dom_model.proofs.RangesAndContents.InsertAllowed.{insert-allowed}
 use Rattle.dom_wrap.specs.Allowing.{holder_of, is_refused_at}
 use Rattle.dom_wrap.proofs.InsertedNode.{placed-is}
 use Rattle.dom_wrap.proofs.AllowAbove.{none-or-some, ancestors-kept}
-use Rattle.dom_wrap.proofs.AllowPlaces.{element-passes, parent-is, start-passes, insert-passes, text-parent}
+use Rattle.dom_wrap.proofs.AllowPlaces.{element-passes, parent-is}
 
 -- what was there stays, with its parents
 record IsApart (u v : World) : Type 0 where
@@ -207,7 +207,7 @@ module _ (u : World) (s : IsSound u) (n : ℕ) (hn : 0 < occurs n u.forest) (r :
     under = ap (λ (g : Forest Content). parent_of g n) third_forest ∙ put.put_under n (subst (λ ns. 0 < hits n ns) (sym alone) (hits-first n []))
 
     parent_there : 0 < occurs parent u.forest
-    parent_there = subst (λ m. 0 < occurs m u.forest) (sym (parent-is u s n hn element p)) (holder_there (kind_passes may_be_parent u.forest (holder_of u p.node)) refl passes)
+    parent_there = subst (λ m. 0 < occurs m u.forest) (sym (parent-is u s p)) (holder_there (kind_passes may_be_parent u.forest (holder_of u p.node)) refl passes)
       where
         holder_there : (v : Bool) → kind_passes may_be_parent u.forest (holder_of u p.node) ≡ v → is_refused_at u p n ≡ false → 0 < occurs (holder_of u p.node) u.forest
         holder_there true k i = go (entry_in u.forest (holder_of u p.node)) refl k
@@ -219,7 +219,7 @@ module _ (u : World) (s : IsSound u) (n : ℕ) (hn : 0 < occurs n u.forest) (r :
 
     -- the fragment does not stand above the node
     parent_outside : hits into (ancestors parent u.forest) ≡ 0
-    parent_outside = ap (λ m. hits into (ancestors m u.forest)) (parent-is u s n hn element p) ∙ outside
+    parent_outside = ap (λ m. hits into (ancestors m u.forest)) (parent-is u s p) ∙ outside
 
     above_parts : ancestors parent parts.forest ≡ ancestors parent u.forest
     above_parts =

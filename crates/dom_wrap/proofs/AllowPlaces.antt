@@ -88,7 +88,7 @@ conditions-told false false c d m x k e i = rw (k refl, e, i) (last x)
     last true = refl
     last false = refl
 
-start-told : (a b c : Bool) → first_refusal ((a, HierarchyRequestError) ∷ (b, HierarchyRequestError) ∷ (c, HierarchyRequestError) ∷ []) ≡ (if a || (b || c) then Some HierarchyRequestError else None)
+pub start-told : (a b c : Bool) → first_refusal ((a, HierarchyRequestError) ∷ (b, HierarchyRequestError) ∷ (c, HierarchyRequestError) ∷ []) ≡ (if a || (b || c) then Some HierarchyRequestError else None)
 start-told true b c = refl
 start-told false true c = refl
 start-told false false true = refl
@@ -102,15 +102,12 @@ turned : (v : Bool) → not v ≡ false → v ≡ true
 turned true h = refl
 turned false h = absurd (false≢true (sym h))
 
-module _ (u : World) (s : IsSound u) (n : ℕ) (hn : 0 < occurs n u.forest) (element : is_of_kind Element u.forest n ≡ true) (p : Point) where
+module _ (u : World) (s : IsSound u) (p : Point) where
   abbrev f : Forest Content
   f = u.forest
 
   abbrev pub q : ℕ
   q = holder_of u p.node
-
-  abbrev pub is_refused_here : Bool
-  is_refused_here = is_refused_at u p n
 
   reference-text : is_text u p.node ≡ true → reference_at u p ≡ Some p.node
   reference-text t = rw t refl
@@ -154,7 +151,7 @@ module _ (u : World) (s : IsSound u) (n : ℕ) (hn : 0 < occurs n u.forest) (ele
       ]
 
   -- what it comes in before stands under that node
-  found : kind_passes may_be_parent f q ≡ true → if_given (λ c. not (is_number (parent_of f c) q)) (reference_at u p) ≡ false
+  pub found : kind_passes may_be_parent f q ≡ true → if_given (λ c. not (is_number (parent_of f c) q)) (reference_at u p) ≡ false
   found h = go (is_text u p.node) refl
     where
       by : is_text u p.node ≡ false → (o : Option ℕ) → slice_get (children_of f p.node) p.offset ≡ o → if_given (λ c. not (is_number (parent_of f c) q)) o ≡ false
@@ -167,57 +164,63 @@ module _ (u : World) (s : IsSound u) (n : ℕ) (hn : 0 < occurs n u.forest) (ele
           ap (if_given (λ c. not (is_number (parent_of f c) q))) (reference-text t) ∙ ap (λ o. not (is_number o q)) m.1 ∙ ap not (is-own m.0 q (sym m.2))
       go false t = ap (if_given (λ c. not (is_number (parent_of f c) q))) (reference-child t) ∙ by t (slice_get (children_of f p.node) p.offset) refl
 
-  pub insert-told : check_insert f q n (reference_at u p) ≡ (if is_refused_here then Some HierarchyRequestError else None)
-  insert-told =
-      let child = reference_at u p in
-      let refuses = λ (k : Kind). document_refuses k f q n child in
-      let d : is_of_kind Document f n ≡ false = element-passes f n (is_kind Document) element in
-      let x : is_of_kind Text f n ≡ false = element-passes f n (is_kind Text) element in
-      let y : is_of_kind DocumentType f n ≡ false = element-passes f n (is_kind DocumentType) element in
-      let m : is_misplaced f q n ≡ false = rw (x, y) refl in
-      conditions-told (not (kind_passes may_be_parent f q)) (among n (ancestors q f)) (if_given (λ c. not (is_number (parent_of f c) q)) child) (is_of_kind Document f n) (is_misplaced f q n) (kind_refuses refuses f q n)
-      (λ h. found (turned (kind_passes may_be_parent f q) h)) d m
-      ∙ ap (λ z. if not (kind_passes may_be_parent f q) || (among n (ancestors q f) || (is_of_kind Document f q && z)) then Some HierarchyRequestError else None) (element-passes f n refuses element)
+  -- An element.
 
-  -- where that is not refused, no more is the start
-  pub start-passes : is_refused_here ≡ false → check_start u p n ≡ None
-  start-passes t = start-told (is_of_kind ProcessingInstruction f p.node || is_of_kind Comment f p.node) (is_text u p.node && is_none (parent_of f p.node)) (p.node == n) ∙ (rw (passes (is_text u p.node) refl) refl)
-    where
-      holds : kind_passes may_be_parent f q ≡ true
-      holds = turned (kind_passes may_be_parent f q) (or_first (not (kind_passes may_be_parent f q)) _ t)
+  module _ (n : ℕ) (hn : 0 < occurs n u.forest) (element : is_of_kind Element u.forest n ≡ true) where
+    abbrev pub is_refused_here : Bool
+    is_refused_here = is_refused_at u p n
 
-      outside : among n (ancestors q f) ≡ false
-      outside = or_first (among n (ancestors q f)) _ (or_second (not (kind_passes may_be_parent f q)) _ t)
+    pub insert-told : check_insert f q n (reference_at u p) ≡ (if is_refused_here then Some HierarchyRequestError else None)
+    insert-told =
+        let child = reference_at u p in
+        let refuses = λ (k : Kind). document_refuses k f q n child in
+        let d : is_of_kind Document f n ≡ false = element-passes f n (is_kind Document) element in
+        let x : is_of_kind Text f n ≡ false = element-passes f n (is_kind Text) element in
+        let y : is_of_kind DocumentType f n ≡ false = element-passes f n (is_kind DocumentType) element in
+        let m : is_misplaced f q n ≡ false = rw (x, y) refl in
+        conditions-told (not (kind_passes may_be_parent f q)) (among n (ancestors q f)) (if_given (λ c. not (is_number (parent_of f c) q)) child) (is_of_kind Document f n) (is_misplaced f q n) (kind_refuses refuses f q n)
+        (λ h. found (turned (kind_passes may_be_parent f q) h)) d m
+        ∙ ap (λ z. if not (kind_passes may_be_parent f q) || (among n (ancestors q f) || (is_of_kind Document f q && z)) then Some HierarchyRequestError else None) (element-passes f n refuses element)
 
-      passes : (b : Bool) → is_text u p.node ≡ b → ((is_of_kind ProcessingInstruction f p.node || is_of_kind Comment f p.node) || ((is_text u p.node && is_none (parent_of f p.node)) || (p.node == n))) ≡ false
-      passes true i =
-          let m = text-parent i holds in
-          let other : (p.node == n) ≡ false = elim (same_or p.node n) [ same d k ↦ absurd (false≢true (sym (element-passes f n (is_kind Text) element) ∙ ap (λ x. is_of_kind Text f x) (sym d) ∙ i)) | apart ne k ↦ k ] in
-          rw (text-passes f p.node (is_kind ProcessingInstruction) i, text-passes f p.node (is_kind Comment) i, i, m.1, other) refl
-      passes false i =
-          let k = holder-no_data f p.node (ap (kind_passes may_be_parent f) (sym (holder-child i)) ∙ holds) in
-          let other : (p.node == n) ≡ false = elim (same_or p.node n) [
-            | same d k ↦ absurd (false≢true (sym outside ∙ ap (λ x. among n (ancestors x f)) (holder-child i ∙ d) ∙ hits-among n (ancestors n f) (hits-self n n f refl hn)))
-            | apart ne k ↦ k
-          ] in
-          rw (k, i, other) refl
+    -- where that is not refused, no more is the start
+    pub start-passes : is_refused_here ≡ false → check_start u p n ≡ None
+    start-passes t = start-told (is_of_kind ProcessingInstruction f p.node || is_of_kind Comment f p.node) (is_text u p.node && is_none (parent_of f p.node)) (p.node == n) ∙ (rw (passes (is_text u p.node) refl) refl)
+      where
+        holds : kind_passes may_be_parent f q ≡ true
+        holds = turned (kind_passes may_be_parent f q) (or_first (not (kind_passes may_be_parent f q)) _ t)
 
-  pub insert-passes : is_refused_here ≡ false → check_insert f (parent_at u p) n (reference_at u p) ≡ None
-  insert-passes t = ap (λ x. check_insert f x n (reference_at u p)) parent-is ∙ insert-told ∙ (rw t refl)
+        outside : among n (ancestors q f) ≡ false
+        outside = or_first (among n (ancestors q f)) _ (or_second (not (kind_passes may_be_parent f q)) _ t)
 
-  insert-refuses : is_refused_here ≡ true → check_insert f (parent_at u p) n (reference_at u p) ≡ Some HierarchyRequestError
-  insert-refuses t = ap (λ x. check_insert f x n (reference_at u p)) parent-is ∙ insert-told ∙ (rw t refl)
+        passes : (b : Bool) → is_text u p.node ≡ b → ((is_of_kind ProcessingInstruction f p.node || is_of_kind Comment f p.node) || ((is_text u p.node && is_none (parent_of f p.node)) || (p.node == n))) ≡ false
+        passes true i =
+            let m = text-parent i holds in
+            let other : (p.node == n) ≡ false = elim (same_or p.node n) [ same d k ↦ absurd (false≢true (sym (element-passes f n (is_kind Text) element) ∙ ap (λ x. is_of_kind Text f x) (sym d) ∙ i)) | apart ne k ↦ k ] in
+            rw (text-passes f p.node (is_kind ProcessingInstruction) i, text-passes f p.node (is_kind Comment) i, i, m.1, other) refl
+        passes false i =
+            let k = holder-no_data f p.node (ap (kind_passes may_be_parent f) (sym (holder-child i)) ∙ holds) in
+            let other : (p.node == n) ≡ false = elim (same_or p.node n) [
+              | same d k ↦ absurd (false≢true (sym outside ∙ ap (λ x. among n (ancestors x f)) (holder-child i ∙ d) ∙ hits-among n (ancestors n f) (hits-self n n f refl hn)))
+              | apart ne k ↦ k
+            ] in
+            rw (k, i, other) refl
 
-  -- the one refusal, or none
-  pub inserted-told : (r : ℕ) → refusal_in (inserted_at r n p u) ≡ (if is_refused_here then Some HierarchyRequestError else None)
-  inserted-told r = go is_refused_here refl
-    where
-      go : (b : Bool) → is_refused_here ≡ b → refusal_in (inserted_at r n p u) ≡ (if b then Some HierarchyRequestError else None)
-      go true t =
-          refusal-unless (check_start u p n) u _
-          ∙ ap (or_else (check_start u p n)) (refusal-unless (check_insert f (parent_at u p) n (reference_at u p)) u _)
-          ∙ refused-anyway (check_start u p n) (check_insert f (parent_at u p) n (reference_at u p)) _ _
-          (start-told (is_of_kind ProcessingInstruction f p.node || is_of_kind Comment f p.node) (is_text u p.node && is_none (parent_of f p.node)) (p.node == n)) (insert-refuses t)
-      go false t =
-          let d = insert-done u s.forest n (HasNode-occurs f n hn) p (start-passes t) (insert-passes t) r in
-          ap refusal_in d.1
+    pub insert-passes : is_refused_here ≡ false → check_insert f (parent_at u p) n (reference_at u p) ≡ None
+    insert-passes t = ap (λ x. check_insert f x n (reference_at u p)) parent-is ∙ insert-told ∙ (rw t refl)
+
+    insert-refuses : is_refused_here ≡ true → check_insert f (parent_at u p) n (reference_at u p) ≡ Some HierarchyRequestError
+    insert-refuses t = ap (λ x. check_insert f x n (reference_at u p)) parent-is ∙ insert-told ∙ (rw t refl)
+
+    -- the one refusal, or none
+    pub inserted-told : (r : ℕ) → refusal_in (inserted_at r n p u) ≡ (if is_refused_here then Some HierarchyRequestError else None)
+    inserted-told r = go is_refused_here refl
+      where
+        go : (b : Bool) → is_refused_here ≡ b → refusal_in (inserted_at r n p u) ≡ (if b then Some HierarchyRequestError else None)
+        go true t =
+            refusal-unless (check_start u p n) u _
+            ∙ ap (or_else (check_start u p n)) (refusal-unless (check_insert f (parent_at u p) n (reference_at u p)) u _)
+            ∙ refused-anyway (check_start u p n) (check_insert f (parent_at u p) n (reference_at u p)) _ _
+            (start-told (is_of_kind ProcessingInstruction f p.node || is_of_kind Comment f p.node) (is_text u p.node && is_none (parent_of f p.node)) (p.node == n)) (insert-refuses t)
+        go false t =
+            let d = insert-done u s.forest n (HasNode-occurs f n hn) p (start-passes t) (insert-passes t) r in
+            ap refusal_in d.1

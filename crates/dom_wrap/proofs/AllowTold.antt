@@ -48,7 +48,7 @@ steps_from r n into u = and_then (insert_node r n u) (λ x. and_then (try_pre_in
 abbrev pub told_by : Bool → Option DomError
 told_by t = if t then Some HierarchyRequestError else None
 
-refused-first : (o : Outcome) (step : World → Outcome) (d : DomError) → refusal_in o ≡ Some d → refusal_in (and_then o step) ≡ Some d
+pub refused-first : (o : Outcome) (step : World → Outcome) (d : DomError) → refusal_in o ≡ Some d → refusal_in (and_then o step) ≡ Some d
 refused-first (Ok v) step d e = absurd (cc e)
 refused-first (Err x) step d e = e
 
@@ -122,7 +122,7 @@ module _ (r : ℕ) (range : Range) (w : World) (s : IsSound w) (n : ℕ) (hn : 0
     inserted-is : refusal_in (insert_node r n u) ≡ told_by place_refused
     inserted-is =
         ap (λ (o : Option Range). refusal_in (for_range o (Ok u) (λ (x : Range). inserted_at r n x.start u))) em.found
-        ∙ inserted-told u su n (there_u n hn) element_u em.range.start r
+        ∙ inserted-told u su em.range.start n (there_u n hn) element_u r
 
     -- the node stands above the place
     refused-inside : 0 < hits n (ancestors c w.forest) → refusal_in (steps_from r n w.made u) ≡ told_by true
@@ -145,7 +145,7 @@ module _ (r : ℕ) (range : Range) (w : World) (s : IsSound w) (n : ℕ) (hn : 0
         let same_node : em.range.start.node ≡ c = ap (λ (p : Point). p.node) (start_kept z) ∙ node_is in
         let off : hits w.made (ancestors em.range.start.node u.forest) ≡ 0 = ap (λ m. hits w.made (ancestors m u.forest)) same_node ∙ ap (hits w.made) (above_u z) ∙ new_apart in
         followed u su n (there_u n hn) r em.range em.found last_range.starts
-        (start-passes u su n (there_u n hn) element_u em.range.start t) (insert-passes u su n (there_u n hn) element_u em.range.start t)
+        (start-passes u su em.range.start n (there_u n hn) element_u t) (insert-passes u su em.range.start n (there_u n hn) element_u t)
         element_u t w.made fragment_there fragment_u (holder-outside u su w.made em.range.start.node start_there off)
 
     children_u : hits n (ancestors c w.forest) ≡ 0 → (m : ℕ) → 0 < hits m (ancestors c w.forest) → children_of u.forest m ≡ children_of v.forest m
@@ -183,7 +183,7 @@ module _ (r : ℕ) (range : Range) (w : World) (s : IsSound w) (n : ℕ) (hn : 0
         (ap (λ x. hits n (ancestors x w.forest)) (sym common_is) ∙ k)
         (kids (holder_of w a) (holder-above w s a ha)) (kids a (hits-self a a w.forest refl ha))
 
-    told-still : refusal_in (steps_from r n w.made (replace_all None n (extracted r range w))) ≡ told_by (is_refused_at w range.start n)
+    pub told-still : refusal_in (steps_from r n w.made (replace_all None n (extracted r range w))) ≡ told_by (is_refused_at w range.start n)
     told-still =
         none-or-some n (ancestors c w.forest)
         (λ k. told-aside v sv still.next still.found node_still still.taken k (is_refused_at w range.start n) (still-alike k))
@@ -306,7 +306,7 @@ module _ (r : ℕ) (range : Range) (w : World) (s : IsSound w) (n : ℕ) (hn : 0
     between_above : 0 < hits n (ancestors c w.forest) → is_refused_between w range n ≡ true
     between_above k = rw (hits-among n (ancestors c w.forest) k) refl
 
-    told-left : refusal_in (steps_from r n w.made (replace_all None n (extracted r range w))) ≡ told_by (is_refused_between w range n)
+    pub told-left : refusal_in (steps_from r n w.made (replace_all None n (extracted r range w))) ≡ told_by (is_refused_between w range n)
     told-left =
         none-or-some n (ancestors c w.forest)
         (λ k. told-aside drawn sound_drawn left.next left.found node_left left.taken k (is_refused_between w range n) (left-alike k))
