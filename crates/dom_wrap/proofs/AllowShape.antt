@@ -27,6 +27,7 @@ use Rattle.dom_model.proofs.Soundness.SoundExtracting.{none_listed}
 use Rattle.dom_model.proofs.RangesAndContents.PathsApart.{along, along-ancestors}
 use Rattle.dom_model.proofs.RangesAndContents.PathsToEnds.{holders_above, common-above}
 use Rattle.dom_model.proofs.RangesAndContents.WaysBelow.{way-above, IsFork, fork}
+use Rattle.dom_wrap.specs.Allowing.{is_near}
 use Rattle.dom_wrap.proofs.AllowAbove.{none-or-some, above-within}
 use Rattle.dom_wrap.proofs.AllowPlaces.{text-passes}
 
@@ -34,9 +35,6 @@ use Rattle.dom_wrap.proofs.AllowPlaces.{text-passes}
 pub data IsNear (f : Forest Content) (c n : ℕ) : Type 0 where
   at_it : n ≡ c → path_below f c n ≡ [] → IsNear f c n
   in_text : is_of_kind Text f n ≡ true → parent_of f n ≡ Some c → path_below f c n ≡ n ∷ [] → IsNear f c n
-
-abbrev pub is_near : Forest Content → ℕ → ℕ → Bool
-is_near f c n = (n == c) || (is_of_kind Text f n && is_number (parent_of f n) c)
 
 along-hits : (c : ℕ) (ns : List ℕ) → along (one_at c) ns ≡ hits c ns
 along-hits c [] = refl

@@ -331,8 +331,8 @@ module _ (r : ℕ) (range : Range) (w : World) (s : IsSound w) (n : ℕ) (hn : 0
   abbrev is_deep : Bool
   is_deep = list_any (λ m. is_partially_contained w.forest range m && not (is_text w m)) (numbers w.forest)
 
-  abbrev is_odd : Bool
-  is_odd = is_of_kind Document w.forest n || (is_of_kind DocumentType w.forest n || is_of_kind DocumentFragment w.forest n)
+  abbrev is_invalid_parent : Bool
+  is_invalid_parent = is_of_kind Document w.forest n || (is_of_kind DocumentType w.forest n || is_of_kind DocumentFragment w.forest n)
 
   abbrev drawn : World
   drawn = extracted r range w
@@ -340,7 +340,7 @@ module _ (r : ℕ) (range : Range) (w : World) (s : IsSound w) (n : ℕ) (hn : 0
   abbrev bare : World
   bare = replace_all None n drawn
 
-  module _ (shallow : is_deep ≡ false) (plain : is_odd ≡ false) (checked : check_draw w range ≡ None) where
+  module _ (shallow : is_deep ≡ false) (plain : is_invalid_parent ≡ false) (checked : check_draw w range ≡ None) where
     told-element : is_of_kind Element w.forest n ≡ true → refusal_in (steps_from r n w.made bare) ≡ told_by (is_unplaceable w range n)
     told-element t = go (is_collapsed range || is_in_one_data w range) refl
       where
@@ -387,7 +387,7 @@ module _ (r : ℕ) (range : Range) (w : World) (s : IsSound w) (n : ℕ) (hn : 0
       ∙ ap (λ d. or_else d (refusal_in (steps_from r n w.made (replace_all None n (extract r w))))) (ap (λ o. for_range o None (λ x. check_draw w x)) e)
       ∙ ap (λ v. or_else (check_draw w range) (refusal_in (steps_from r n w.made (replace_all None n v)))) (ap (λ o. for_range o w (λ x. extracted r x w)) e)
 
-  told-rest : is_deep ≡ false → is_odd ≡ false → refusal_in rest ≡ told_by (is_unplaceable w range n)
+  told-rest : is_deep ≡ false → is_invalid_parent ≡ false → refusal_in rest ≡ told_by (is_unplaceable w range n)
   told-rest shallow plain = rest_is ∙ go (has_kind DocumentType w.forest (contained_children w range)) refl
     where
       go : (t : Bool) → has_kind DocumentType w.forest (contained_children w range) ≡ t → or_else (check_draw w range) (refusal_in (steps_from r n w.made bare)) ≡ told_by (is_unplaceable w range n)
@@ -399,9 +399,9 @@ module _ (r : ℕ) (range : Range) (w : World) (s : IsSound w) (n : ℕ) (hn : 0
           ap (λ o. or_else o (refusal_in (steps_from r n w.made bare))) d ∙ told-drawn shallow plain d
 
   told-range : refusal_in (surrounded r n range w) ≡ surround_refusal_of w range n
-  told-range = refusal-unless (check_surround w range n) w _ ∙ go is_deep refl is_odd refl ∙ sym (in-turn is_deep is_odd (is_unplaceable w range n))
+  told-range = refusal-unless (check_surround w range n) w _ ∙ go is_deep refl is_invalid_parent refl ∙ sym (in-turn is_deep is_invalid_parent (is_unplaceable w range n))
     where
-      go : (x : Bool) → is_deep ≡ x → (y : Bool) → is_odd ≡ y → or_else (check_surround w range n) (refusal_in rest) ≡ or_else (check_surround w range n) (told_by (is_unplaceable w range n))
+      go : (x : Bool) → is_deep ≡ x → (y : Bool) → is_invalid_parent ≡ y → or_else (check_surround w range n) (refusal_in rest) ≡ or_else (check_surround w range n) (told_by (is_unplaceable w range n))
       go false d false i = ap (or_else (check_surround w range n)) (told-rest d i)
       go true d y i =
           let k : check_surround w range n ≡ Some InvalidStateError = rw d refl in

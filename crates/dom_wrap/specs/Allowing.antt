@@ -1,19 +1,23 @@
 -- The refusal to surround the contents of a live range, told ahead of the first step. DOM Standard, "Interface Range" (surroundContents).
 -- Where no node but a Text is partially contained, each end stands in the deepest common ancestor, or in a Text that is a child of it. So what
 -- leaves that ancestor are the contained children alone, and the new parent comes in under it; within one node with data nothing leaves.
-use Rattle.std.specs.Prelude.{ℕ, Bool, not, ◌&&◌, ◌||◌, if◌then◌else◌, [], ◌∷◌, drop, Option, None, unwrap_or}
+use Rattle.std.specs.Prelude.{ℕ, ◌==◌, Bool, not, ◌&&◌, ◌||◌, if◌then◌else◌, [], ◌∷◌, drop, Option, None, unwrap_or, slice_get}
 use Rattle.std.specs.List.{list_any}
 use Rattle.dom_model.specs.declared.Kind.TheVariants.{Element, Text, Document, DocumentType, DocumentFragment}
 use Rattle.dom_model.specs.declared.DomError.{DomError}
 use Rattle.dom_model.specs.declared.DomError.TheVariants.{HierarchyRequestError, InvalidStateError, InvalidNodeTypeError}
-use Rattle.dom_model.specs.PlainLists.Lists.{among}
+use Rattle.dom_model.specs.PlainLists.Lists.{among, is_number}
 use Rattle.dom_model.specs.Forests.Kinds.{may_be_parent}
 use Rattle.dom_model.specs.Forests.Forest.{Forest, numbers, parent_of, children_of, ancestors}
-use Rattle.dom_model.specs.Worlds.World.{Point, Range, World}
+use Rattle.dom_model.specs.Worlds.World.{Content, Point, Range, World}
 use Rattle.dom_model.specs.MutationAlgorithms.Checks.{first_refusal, kind_passes, is_of_kind, has_kind, element_refused}
 use Rattle.dom_model.specs.RangesAndContents.Ranges.{is_collapsed, is_partially_contained, range_at}
 use Rattle.dom_model.specs.RangesAndContents.Contents.{for_range, is_in_one_data, contained_in, new_place, common_of}
 use Rattle.dom_model.specs.RangesAndContents.Wrapping.{is_text, reference_at}
+
+-- an end stands in a node, or in a Text that is a child of it
+abbrev pub is_near : Forest Content → ℕ → ℕ → Bool
+is_near f n end = (end == n) || (is_of_kind Text f end && is_number (parent_of f end) n)
 
 -- the node under which something comes in at a point of a node: the parent of a Text that has one, or the node
 abbrev pub holder_of : World → ℕ → ℕ
@@ -38,11 +42,22 @@ is_refused_between w range n =
     among n (ancestors (common_of w range) w.forest)
     || (is_of_kind Document w.forest (common_of w range) && is_full w range (common_of w range))
 
+-- where the contents are gone, an element cannot come in
+abbrev pub is_refused : World → Range → ℕ → Bool
+is_refused w range n = if is_collapsed range || is_in_one_data w range then is_refused_at w range.start n else is_refused_between w range n
+
 -- the new parent is no element, or cannot come in
 abbrev pub is_unplaceable : World → Range → ℕ → Bool
 is_unplaceable w range n =
-    not (is_of_kind Element w.forest n)
-    || (if is_collapsed range || is_in_one_data w range then is_refused_at w range.start n else is_refused_between w range n)
+    not (is_of_kind Element w.forest n) || is_refused w range n
+
+-- the child at the new place; none at the end
+abbrev pub first_behind : World → Range → Option ℕ
+first_behind w range = slice_get (children_of w.forest (common_of w range)) (new_place w.forest range).offset
+
+-- an element that is not contained
+abbrev pub is_left_element : World → Range → ℕ → Bool
+is_left_element w range m = is_of_kind Element w.forest m && not (contained_in w range m)
 
 abbrev pub surround_refusal_of : World → Range → ℕ → Option DomError
 surround_refusal_of w range n =
