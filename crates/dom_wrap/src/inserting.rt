@@ -22,7 +22,7 @@ use dom_tree::{NodeId, Tree};
 use std::alloc::{AllocError, Global};
 
 // Whether a node is of that kind.
-fn is_of_kind(tree: &Tree<Content>, node: NodeId, kind: Kind) -> bool
+pub(crate) fn is_of_kind(tree: &Tree<Content>, node: NodeId, kind: Kind) -> bool
     requires { HasNode tree.now.forest node }
     ensures { result ≡ is_of_kind kind tree.now.forest node }
 {
@@ -50,7 +50,7 @@ fn check_start(world: &World, start: Point, node: NodeId) -> Result<(), DomError
 }
 
 // What comes after a point: the Text in which it stands, or the child at its offset; none at the end.
-fn reference_at(world: &World, point: Point) -> Option<NodeId>
+pub(crate) fn reference_at(world: &World, point: Point) -> Option<NodeId>
     requires { HasNode world.now.tree.forest point.node }
     ensures { result ≡ reference_at (unwatched world.now) point }
 {
@@ -62,7 +62,7 @@ fn reference_at(world: &World, point: Point) -> Option<NodeId>
 }
 
 // The parent of what comes in at a point: that of the Text in which it stands, or its node.
-fn parent_at(world: &World, point: Point) -> NodeId
+pub(crate) fn parent_at(world: &World, point: Point) -> NodeId
     requires whole { IsWhole world.now }
     requires held { HasNode world.now.tree.forest point.node }
     ensures parent { result ≡ parent_at (unwatched world.now) point }

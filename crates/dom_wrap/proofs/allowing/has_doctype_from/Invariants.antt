@@ -1,0 +1,17 @@
+use Rattle.std.proofs.Common.{◌≡◌, length}
+use Rattle.dom_model.specs.declared.Kind.TheVariants.{DocumentType}
+use Rattle.dom_model.specs.Forests.Forest.{children_of}
+use Rattle.dom_model.specs.MutationAlgorithms.Checks.{has_kind}
+use Rattle.dom_edit.specs.Places.{from_optional, IsAmong}
+use Rattle.dom_wrap.proofs.allowing.has_doctype_from.Given as goal
+
+abbrev pub invariant-loop-child : goal.invariant-loop-child
+invariant-loop-child l =
+    let all = children_of l.tree.forest l.fn.parent in
+    record {
+      told : has_kind DocumentType l.tree.forest (from_optional l.fn.first all) ≡ has_kind DocumentType l.tree.forest (from_optional l.child all);
+      within : IsAmong l.child all;
+    }
+
+abbrev pub decreases-loop-child : goal.decreases-loop-child
+decreases-loop-child l = length (from_optional l.child (children_of l.tree.forest l.fn.parent))

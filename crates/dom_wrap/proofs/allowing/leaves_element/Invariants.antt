@@ -1,0 +1,19 @@
+use Rattle.std.proofs.Common.{◌≡◌, length}
+use Rattle.std.specs.List.{list_any}
+use Rattle.dom_model.specs.Forests.Forest.{children_of}
+use Rattle.dom_edit.specs.Whole.{unwatched}
+use Rattle.dom_edit.specs.Places.{from_optional, IsAmong}
+use Rattle.dom_wrap.specs.Allowing.{is_left_element}
+use Rattle.dom_wrap.proofs.allowing.leaves_element.Given as goal
+
+abbrev pub invariant-loop-child : goal.invariant-loop-child
+invariant-loop-child l =
+    let all = children_of l.world.tree.forest l.fn.parent in
+    let left = is_left_element (unwatched l.world) (record { start = l.fn.start; end = l.fn.end }) in
+    record {
+      told : list_any left all ≡ list_any left (from_optional l.child all);
+      within : IsAmong l.child all;
+    }
+
+abbrev pub decreases-loop-child : goal.decreases-loop-child
+decreases-loop-child l = length (from_optional l.child (children_of l.world.tree.forest l.fn.parent))

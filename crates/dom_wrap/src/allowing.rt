@@ -1,0 +1,247 @@
+//! Whether a node may be put around the contents of a live range (DOM Standard, "Interface Range", surroundContents).
+
+ghost use Rattle.std.specs.Prelude.{◌≡◌, ◌&&◌, ◌||◌, not, true, None, Some, IsSome, MatchResult};
+ghost use Rattle.std.specs.List.{list_any};
+ghost use Rattle.dom_model.specs.declared.Kind.TheVariants.{Element, Document, DocumentType, DocumentFragment};
+ghost use Rattle.dom_model.specs.Forests.Forest.{HasNode, children_of, root_of};
+ghost use Rattle.dom_model.specs.Worlds.World.{Range};
+ghost use Rattle.dom_model.specs.Worlds.Sound.{IsRange};
+ghost use Rattle.dom_model.specs.MutationAlgorithms.Checks.{is_of_kind, has_kind};
+ghost use Rattle.dom_model.specs.RangesAndContents.Contents.{common_of};
+ghost use Rattle.dom_model.specs.RangesAndContents.Ranges.{is_before as comes_before};
+ghost use Rattle.dom_model.specs.RangesAndContents.Wrapping.{check_whole_surround};
+ghost use Rattle.dom_ranges.specs.Tables.{range_in};
+ghost use Rattle.dom_edit.specs.Whole.{IsWhole, unwatched};
+ghost use Rattle.dom_edit.specs.Places.{from_optional, IsAmong};
+ghost use Rattle.dom_wrap.specs.Allowing.{is_near, is_refused_at, is_refused_between, is_refused, is_unplaceable, is_left_element, first_behind};
+
+use crate::inserting::{is_of_kind, parent_at, reference_at};
+use dom_edit::{Content, World, check_insert};
+use dom_kinds::{DomError, Kind};
+use dom_point::{Point, common, order};
+use dom_ranges::RangeId;
+use dom_tree::{NodeId, Tree};
+use std::cmp::Ordering;
+
+// Whether an end stands in a node, or in a Text that is a child of it.
+fn is_near(tree: &Tree<Content>, node: NodeId, end: NodeId) -> bool
+    requires { HasNode tree.now.forest end }
+    ensures { result ≡ is_near tree.now.forest node end }
+{
+    if end == node {
+        return true;
+    }
+    if tree.label(end).kind != Kind::Text {
+        return false;
+    }
+    match tree.parent(end) {
+        Some(parent) => parent == node,
+        None => false,
+    }
+}
+
+// Whether the first of two points of one root comes before the second.
+fn is_before(tree: &Tree<Content>, a: Point, b: Point) -> bool
+    requires a_held { HasNode tree.now.forest a.node }
+    requires b_held { HasNode tree.now.forest b.node }
+    requires one_root { root_of tree.now.forest a.node ≡ root_of tree.now.forest b.node }
+    ensures { result ≡ comes_before tree.now.forest a b }
+{
+    match order(tree, a, b) {
+        Ordering::Less => true,
+        Ordering::Equal | Ordering::Greater => false,
+    }
+}
+
+// Whether a node is an element that is not contained in a range of its root.
+fn is_left_element(world: &World, start: Point, end: Point, node: NodeId) -> bool
+    requires held { HasNode world.now.tree.forest node }
+    requires start_held { HasNode world.now.tree.forest start.node }
+    requires end_held { HasNode world.now.tree.forest end.node }
+    requires start_root { root_of world.now.tree.forest node ≡ root_of world.now.tree.forest start.node }
+    requires end_root { root_of world.now.tree.forest node ≡ root_of world.now.tree.forest end.node }
+    ensures { result ≡ is_left_element (unwatched world.now) (record { start = start; end = end }) node }
+{
+    if world.tree.label(node).kind != Kind::Element {
+        return false;
+    }
+    let front = Point { node, offset: 0 };
+    let back = Point {
+        node,
+        offset: world.tree.length(node),
+    };
+    !is_before(&world.tree, start, front) || !is_before(&world.tree, back, end)
+}
+
+// Whether an element is left among the children of a node, once what is contained in a range is gone.
+fn leaves_element(world: &World, start: Point, end: Point, parent: NodeId) -> bool
+    requires held { HasNode world.now.tree.forest parent }
+    requires start_held { HasNode world.now.tree.forest start.node }
+    requires end_held { HasNode world.now.tree.forest end.node }
+    requires start_root { root_of world.now.tree.forest parent ≡ root_of world.now.tree.forest start.node }
+    requires end_root { root_of world.now.tree.forest parent ≡ root_of world.now.tree.forest end.node }
+    ensures { result ≡ list_any (λ m. is_left_element (unwatched world.now) (record { start = start; end = end }) m) (children_of world.now.tree.forest parent) }
+{
+    world.tree.sound();
+    let mut child = world.tree.first(parent);
+    while let Some(id) = child {
+        let (first, last) = (start, end);
+        if is_left_element(world, first, last, id) {
+            return true;
+        }
+        child = world.tree.next(id);
+    }
+    false
+}
+
+// Whether a child of a node, or one behind it, is a doctype.
+fn has_doctype_from(tree: &Tree<Content>, parent: NodeId, first: Option<NodeId>) -> bool
+    requires held { HasNode tree.now.forest parent }
+    requires under { IsAmong first (children_of tree.now.forest parent) }
+    ensures { result ≡ has_kind DocumentType tree.now.forest (from_optional first (children_of tree.now.forest parent)) }
+{
+    tree.sound();
+    let mut child = first;
+    while let Some(id) = child {
+        if is_of_kind(tree, id, Kind::DocumentType) {
+            return true;
+        }
+        child = tree.next(id);
+    }
+    false
+}
+
+// The child of the deepest common ancestor at the place where what lies in a range is gone; none at the end.
+fn first_behind(world: &World, start: Point, end: Point, common: NodeId) -> Option<NodeId>
+    requires whole { IsWhole world.now }
+    requires range { IsRange world.now.tree.forest (record { start = start; end = end }) }
+    requires common { common ≡ common_of (unwatched world.now) (record { start = start; end = end }) }
+    requires near { is_near world.now.tree.forest common start.node ≡ true }
+    ensures { result ≡ first_behind (unwatched world.now) (record { start = start; end = end }) }
+{
+    if world.tree.is_ancestor(start.node, end.node) {
+        world.tree.child_at(common, start.offset)
+    } else {
+        world.tree.next(start.node)
+    }
+}
+
+// Whether an element cannot come in at a point as the world stands.
+fn is_refused_at(world: &World, point: Point, node: NodeId) -> bool
+    requires whole { IsWhole world.now }
+    requires point_held { HasNode world.now.tree.forest point.node }
+    requires node_held { HasNode world.now.tree.forest node }
+    requires element { is_of_kind Element world.now.tree.forest node ≡ true }
+    ensures { result ≡ is_refused_at (unwatched world.now) point node }
+{
+    let (first, second) = (point, point);
+    let parent = parent_at(world, first);
+    let reference = reference_at(world, second);
+    match check_insert(&world.tree, parent, node, reference) {
+        Ok(()) => false,
+        Err(_) => true,
+    }
+}
+
+// Whether an element cannot come in under the deepest common ancestor, once the contained children are gone.
+fn is_refused_between(
+    world: &World,
+    start: Point,
+    end: Point,
+    common: NodeId,
+    node: NodeId,
+) -> bool
+    requires whole { IsWhole world.now }
+    requires range { IsRange world.now.tree.forest (record { start = start; end = end }) }
+    requires common { common ≡ common_of (unwatched world.now) (record { start = start; end = end }) }
+    requires near { is_near world.now.tree.forest common start.node ≡ true }
+    requires held { HasNode world.now.tree.forest common }
+    requires start_root { root_of world.now.tree.forest common ≡ root_of world.now.tree.forest start.node }
+    requires end_root { root_of world.now.tree.forest common ≡ root_of world.now.tree.forest end.node }
+    ensures { result ≡ is_refused_between (unwatched world.now) (record { start = start; end = end }) node }
+{
+    if world.tree.is_ancestor(node, common) {
+        return true;
+    }
+    if !is_of_kind(&world.tree, common, Kind::Document) {
+        return false;
+    }
+    let (first, last) = (start, end);
+    if leaves_element(world, first, last, common) {
+        return true;
+    }
+    let behind = first_behind(world, start, end, common);
+    has_doctype_from(&world.tree, common, behind)
+}
+
+// Whether an element cannot come in once what lies in a range is gone.
+fn is_refused(world: &World, start: Point, end: Point, common: NodeId, node: NodeId) -> bool
+    requires whole { IsWhole world.now }
+    requires range { IsRange world.now.tree.forest (record { start = start; end = end }) }
+    requires common { common ≡ common_of (unwatched world.now) (record { start = start; end = end }) }
+    requires near { is_near world.now.tree.forest common start.node ≡ true }
+    requires node_held { HasNode world.now.tree.forest node }
+    requires element { is_of_kind Element world.now.tree.forest node ≡ true }
+    ensures { result ≡ is_refused (unwatched world.now) (record { start = start; end = end }) node }
+{
+    let within_data = match world.tree.label(start.node).kind {
+        Kind::Text | Kind::ProcessingInstruction | Kind::Comment => start.node == end.node,
+        Kind::Element | Kind::Document | Kind::DocumentType | Kind::DocumentFragment => false,
+    };
+    if start == end || within_data {
+        return is_refused_at(world, start, node);
+    }
+    is_refused_between(world, start, end, common, node)
+}
+
+// Whether an end stands deeper than in a Text under the deepest common ancestor.
+fn is_deep(tree: &Tree<Content>, common: NodeId, start: NodeId, end: NodeId) -> bool
+    requires start_held { HasNode tree.now.forest start }
+    requires end_held { HasNode tree.now.forest end }
+    ensures { result ≡ not (is_near tree.now.forest common start && is_near tree.now.forest common end) }
+{
+    !(is_near(tree, common, start) && is_near(tree, common, end))
+}
+
+// Whether a node is a Document, a doctype or a fragment: none of them can be the new parent.
+fn is_invalid_parent(tree: &Tree<Content>, node: NodeId) -> bool
+    requires held { HasNode tree.now.forest node }
+    ensures { result ≡ (is_of_kind Document tree.now.forest node || (is_of_kind DocumentType tree.now.forest node || is_of_kind DocumentFragment tree.now.forest node)) }
+{
+    is_of_kind(tree, node, Kind::Document)
+        || is_of_kind(tree, node, Kind::DocumentType)
+        || is_of_kind(tree, node, Kind::DocumentFragment)
+}
+
+// Whether a node is no element, or cannot come in once what lies in a range is gone.
+fn is_unplaceable(world: &World, start: Point, end: Point, common: NodeId, node: NodeId) -> bool
+    requires whole { IsWhole world.now }
+    requires range { IsRange world.now.tree.forest (record { start = start; end = end }) }
+    requires common { common ≡ common_of (unwatched world.now) (record { start = start; end = end }) }
+    requires near { is_near world.now.tree.forest common start.node ≡ true }
+    requires node_held { HasNode world.now.tree.forest node }
+    ensures { result ≡ is_unplaceable (unwatched world.now) (record { start = start; end = end }) node }
+{
+    !is_of_kind(&world.tree, node, Kind::Element) || is_refused(world, start, end, common, node)
+}
+
+/// `Ok` where `surround` will not be refused, else the name that it is refused with.
+pub fn can_surround(world: &World, range: RangeId, node: NodeId) -> Result<(), DomError>
+    requires whole { IsWhole world.now }
+    requires held { IsSome (range_in world.now.ranges range) }
+    requires node_held { HasNode world.now.tree.forest node }
+    ensures { MatchResult result (λ _. check_whole_surround range node (unwatched world.now) ≡ None) (λ e. check_whole_surround range node (unwatched world.now) ≡ Some e) }
+{
+    let (start, end) = world.ranges.ends(range);
+    let common = common(&world.tree, start.node, end.node);
+    if is_deep(&world.tree, common, start.node, end.node) {
+        return Err(DomError::InvalidStateError);
+    }
+    if is_invalid_parent(&world.tree, node) {
+        return Err(DomError::InvalidNodeTypeError);
+    }
+    if is_unplaceable(world, start, end, common, node) {
+        return Err(DomError::HierarchyRequestError);
+    }
+    Ok(())
+}
