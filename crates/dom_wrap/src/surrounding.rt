@@ -10,6 +10,7 @@ ghost use Rattle.dom_edit.specs.Whole.{IsWhole, Follows, unwatched};
 ghost use Rattle.dom_edit.specs.Refusals.{IsRefused};
 ghost use Rattle.dom_wrap.specs.Outcomes.{left_by, put_around, HasRoom, Passes};
 
+use crate::allowing::can_surround;
 use crate::inserting::insert_at_start;
 use dom_content::extract;
 use dom_edit::{Refusal, World};
@@ -116,6 +117,9 @@ pub fn surround(
     ensures refused { IfErr result (λ e. IsRefused e (check_whole_surround range node (unwatched world.old)) world.old world.new) }
     ensures whole { IsWhole world.new }
 {
-    let _ = (alloc, range, node);
-    Err(Refusal::Memory)
+    if let Err(error) = can_surround(world, range, node) {
+        return Err(Refusal::Dom(error));
+    }
+    surround_allowed(world, alloc, range, node)?;
+    Ok(())
 }
