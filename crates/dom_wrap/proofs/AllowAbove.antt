@@ -1,12 +1,12 @@
 -- What of a forest stays where parents stay: the nodes above a node, and those among its children. DOM Standard, "Interface Range" (surroundContents).
-use Rattle.std.proofs.Common.{◌≡◌, ℕ, zero, suc, ◌<◌, ◌≤◌, ◌==◌, ◌-◌, nat_lt, Bool, true, false, ◌&&◌, if◌then◌else◌, List, [], ◌∷◌, ◌++◌, length, Option, Some, None, option_map, slice_index_or, refl, ap, sym, ◌∙◌, subst, arith, ⊎_elim}
-use Rattle.std.proofs.lemmas.Bool.{cases_lt, false≢true}
+use Rattle.std.proofs.Common.{◌≡◌, ℕ, zero, suc, ◌<◌, ◌≤◌, ◌==◌, ◌-◌, nat_lt, Bool, true, false, ◌&&◌, if◌then◌else◌, List, [], ◌∷◌, length, Option, Some, None, option_map, slice_index_or, refl, ap, sym, ◌∙◌, subst, arith, ⊎_elim}
+use Rattle.std.proofs.lemmas.Bool.{cases_lt}
 use Rattle.dom_model.specs.PlainLists.Lists.{hits, among}
-use Rattle.dom_model.specs.Forests.Forest.{Forest, occurs, tree_at, cut, parent_of, children_of, index_of, ancestors, inclusive_descendants}
+use Rattle.dom_model.specs.Forests.Forest.{Forest, occurs, tree_at, cut, parent_of, index_of, ancestors, inclusive_descendants}
 use Rattle.dom_model.specs.Worlds.World.{Content, Point, Range, World}
 use Rattle.dom_model.specs.Worlds.Sound.{IsSound}
 use Rattle.dom_model.specs.BoundaryPoints.Points.{after_removal, moved_range, map_ranges}
-use Rattle.dom_model.specs.MutationAlgorithms.Editing.{removed_from, remove, remove_all}
+use Rattle.dom_model.specs.MutationAlgorithms.Editing.{removed_from, remove}
 use Rattle.dom_model.specs.RangesAndContents.Ranges.{range_at}
 use Rattle.dom_model.proofs.PlainLists.Numbers.{same_or, same, apart}
 use Rattle.dom_model.proofs.Forests.Changes.{seen, nothing, just}
@@ -145,14 +145,16 @@ module _ (n x r : ℕ) (v : World) (s : IsSound v) (par : parent_of v.forest x �
   start_inside h =
       none-or-some x (ancestors p.node v.forest)
       (λ z.
-      let node_is : (move p).node ≡ p.node = rw (outside_of z) (either ((p.node == n) && nat_lt (index_of v.forest x) p.offset)) in
-      (subst (λ m. 0 < occurs m out.forest) (sym node_is) (there p.node ha),
-      subst (λ m. 0 < hits n (ancestors m out.forest)) (sym node_is) (subst (λ ns. 0 < hits n ns) (sym (above_left z)) h)))
+      let node_is : (move p).node ≡ p.node = rw (outside_of z) (either ((p.node == n) && nat_lt (index_of v.forest x) p.offset)) in (
+        subst (λ m. 0 < occurs m out.forest) (sym node_is) (there p.node ha),
+        subst (λ m. 0 < hits n (ancestors m out.forest)) (sym node_is) (subst (λ ns. 0 < hits n ns) (sym (above_left z)) h),
+      ))
       (λ lt.
       let i : among p.node (inclusive_descendants v.forest x) ≡ true = hits-among p.node (inclusive_descendants v.forest x) (let k = hits-numbers p.node (tree_at x v.forest) in let j = hits-ancestors x p.node v.forest s.forest.once in omega arith) in
-      let node_is : (move p).node ≡ n = rw i refl in
-      (subst (λ m. 0 < occurs m out.forest) (sym node_is) (there n path.0),
-      subst (λ m. 0 < hits n (ancestors m out.forest)) (sym node_is) (hits-self n n out.forest refl (there n path.0))))
+      let node_is : (move p).node ≡ n = rw i refl in (
+        subst (λ m. 0 < occurs m out.forest) (sym node_is) (there n path.0),
+        subst (λ m. 0 < hits n (ancestors m out.forest)) (sym node_is) (hits-self n n out.forest refl (there n path.0)),
+      ))
     where
       there : (m : ℕ) → 0 < occurs m v.forest → 0 < occurs m out.forest
       there m k = subst (λ y. 0 < y) (sym ((loosened-remove true x v s hx).numbers m)) k

@@ -1,38 +1,29 @@
 -- What tells whether an element may come in at a point, in a world and in a later one that looks the same from there. DOM Standard, "Interface Range" (surroundContents).
-use Rattle.std.proofs.Common.{◌≡◌, ℕ, zero, suc, ◌<◌, ◌≤◌, ◌==◌, Bool, true, false, not, ◌&&◌, ◌||◌, if◌then◌else◌, List, [], ◌∷◌, take, drop, filter, length, Option, Some, None, unwrap_or, slice_get, Ok, Err, refl, ap, sym, ◌∙◌, subst, arith, ◌⊎◌, inl, inr, ⊎_elim}
+use Rattle.std.proofs.Common.{◌≡◌, ℕ, zero, suc, ◌<◌, ◌≤◌, Bool, true, false, not, ◌&&◌, ◌||◌, if◌then◌else◌, List, [], ◌∷◌, take, drop, filter, Option, Some, None, unwrap_or, slice_get, refl, ap, sym, ◌∙◌, subst, arith}
 use Rattle.std.proofs.lemmas.Bool.{false≢true}
-use Rattle.std.specs.List.{list_any}
 use Rattle.dom_model.specs.declared.Kind.{Kind}
-use Rattle.dom_model.specs.declared.Kind.TheVariants.{Element, Text, ProcessingInstruction, Comment, Document, DocumentType, DocumentFragment}
-use Rattle.dom_model.specs.declared.DomError.{DomError}
-use Rattle.dom_model.specs.declared.DomError.TheVariants.{HierarchyRequestError, InvalidStateError, InvalidNodeTypeError}
-use Rattle.dom_model.specs.PlainLists.Lists.{hits, among, head_of, or_else}
+use Rattle.dom_model.specs.declared.Kind.TheVariants.{Element, Text, Document, DocumentType}
+use Rattle.dom_model.specs.PlainLists.Lists.{hits, among, head_of}
 use Rattle.dom_model.specs.Forests.Kinds.{is_kind, may_be_parent}
 use Rattle.dom_model.specs.Forests.Forest.{Forest, occurs, parent_of, children_of, ancestors}
-use Rattle.dom_model.specs.Worlds.World.{Content, Point, Range, World}
-use Rattle.dom_model.specs.Worlds.Sound.{IsRange, IsSound}
+use Rattle.dom_model.specs.Worlds.World.{Content, Point, World}
+use Rattle.dom_model.specs.Worlds.Sound.{IsSound}
 use Rattle.dom_model.specs.MutationAlgorithms.PreRemoval.{past}
-use Rattle.dom_model.specs.MutationAlgorithms.Checks.{if_given, kind_passes, is_of_kind, has_kind, doctype_from, element_refused}
-use Rattle.dom_model.specs.RangesAndContents.Ranges.{is_collapsed, common_ancestor, range_at}
-use Rattle.dom_model.specs.RangesAndContents.Contents.{is_in_one_data, contained_in, new_place, common_of, contained_children}
+use Rattle.dom_model.specs.MutationAlgorithms.Checks.{kind_passes, is_of_kind, has_kind, doctype_from, element_refused}
+use Rattle.dom_model.specs.RangesAndContents.Ranges.{common_ancestor}
 use Rattle.dom_model.specs.RangesAndContents.Wrapping.{is_text, reference_at}
 use Rattle.dom_model.proofs.PlainLists.Numbers.{same_or, same, apart}
 use Rattle.dom_model.proofs.Forests.Changes.{seen, nothing, just}
-use Rattle.dom_model.proofs.Forests.Entries.{occurs-HasNode}
-use Rattle.dom_model.proofs.Forests.Climbing.{hits-append, hits-first, hits-among, among-hits, hits-not_among, hits-self, ancestors-there}
+use Rattle.dom_model.proofs.Forests.Climbing.{hits-append, hits-among, hits-not_among, hits-self, ancestors-there}
 use Rattle.dom_model.proofs.Forests.Listed.{hits-other}
 use Rattle.dom_model.proofs.Forests.Paths.{parent-path}
-use Rattle.dom_model.proofs.Forests.Indices.{child-once, child-parent, child-there, index-child}
-use Rattle.dom_model.proofs.Worlds.Parts.{path-there}
-use Rattle.dom_model.proofs.MutationAlgorithms.ChecksKept.{or_first, or_second}
+use Rattle.dom_model.proofs.Forests.Indices.{child-once, child-there}
 use Rattle.dom_model.proofs.MutationAlgorithms.RemovalsLike.{hits-past_within}
 use Rattle.dom_model.proofs.RangesAndContents.StartsAhead.{got_place}
-use Rattle.dom_model.proofs.Soundness.SoundDeleting.{not_contained}
-use Rattle.dom_model.proofs.RangesAndContents.PlacesLeft.{IsNewPlace, place_is}
-use Rattle.dom_wrap.specs.Allowing.{holder_of, is_refused_at, is_full, is_refused_between}
-use Rattle.dom_wrap.proofs.AllowAbove.{none-or-some, parent-same}
+use Rattle.dom_wrap.specs.Allowing.{holder_of, is_refused_at}
+use Rattle.dom_wrap.proofs.AllowAbove.{parent-same}
 use Rattle.dom_wrap.proofs.AllowPlaces.{element-passes, text-passes}
-use Rattle.dom_wrap.proofs.AllowChildren.{place-taken, drop-filter, any-filter, any-kept, any-alike, from-place}
+use Rattle.dom_wrap.proofs.AllowChildren.{any-alike, from-place}
 
 -- an element among the children, or a doctype from the child at an offset on
 pub element-told : (g : Forest Content) (c k : ℕ) → ((m : ℕ) → hits m (children_of g c) ≤ 1) → element_refused g c (slice_get (children_of g c) k) ≡ (has_kind Element g (children_of g c) || has_kind DocumentType g (drop k (children_of g c)))

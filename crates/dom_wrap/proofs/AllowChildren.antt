@@ -7,15 +7,15 @@ use Rattle.dom_model.specs.declared.Kind.TheVariants.{Element, Text, ProcessingI
 use Rattle.dom_model.specs.PlainLists.Lists.{hits, among, place_in, left_out}
 use Rattle.dom_model.specs.Forests.Kinds.{is_kind, is_character_data}
 use Rattle.dom_model.specs.Forests.Texts.{substring, spliced}
-use Rattle.dom_model.specs.Forests.Forest.{Node, Forest, occurs, tree_at, put, cut, in_document, adopted, parent_of, children_of, ancestors}
+use Rattle.dom_model.specs.Forests.Forest.{Forest, occurs, tree_at, put, cut, in_document, parent_of, children_of}
 use Rattle.dom_model.specs.Worlds.World.{Content, Range, World}
 use Rattle.dom_model.specs.BoundaryPoints.Points.{after_splice, moved_range}
 use Rattle.dom_model.specs.RangesAndContents.Ranges.{range_at}
 use Rattle.dom_model.specs.Worlds.Sound.{IsSound}
 use Rattle.dom_model.specs.MutationAlgorithms.PreRemoval.{past}
 use Rattle.dom_model.specs.MutationAlgorithms.Checks.{if_given, kind_passes, is_of_kind, has_kind}
-use Rattle.dom_model.specs.MutationAlgorithms.Editing.{removed_from, remove, is_fragment, nodes_of, freed, insert_all, insert_nodes, insert, append, node_document}
-use Rattle.dom_model.specs.DataAndCopies.Data.{data_of, with_data, cut_count, replace_data}
+use Rattle.dom_model.specs.MutationAlgorithms.Editing.{removed_from, remove, nodes_of, freed, insert_all, insert_nodes, insert, append, node_document}
+use Rattle.dom_model.specs.DataAndCopies.Data.{data_of, with_data, cut_count}
 use Rattle.dom_model.specs.RangesAndContents.Contents.{clone_with, units_into, children_into}
 use Rattle.dom_model.proofs.PlainLists.Numbers.{same_or, same, apart}
 use Rattle.dom_model.proofs.Forests.Climbing.{hits-append, hits-first, hits-ancestors}
@@ -23,13 +23,12 @@ use Rattle.dom_model.proofs.Forests.Lying.{left_out-absent}
 use Rattle.dom_model.proofs.Forests.Listed.{hits-other}
 use Rattle.dom_model.proofs.Forests.Paths.{root-path}
 use Rattle.dom_model.proofs.Forests.Entries.{children-cut, children-put}
-use Rattle.dom_model.proofs.Forests.Indices.{child-parent, child-there}
-use Rattle.dom_model.proofs.Worlds.SameShape.{IsAlike, with_tree-alike, with_node-alike, children-alike}
+use Rattle.dom_model.proofs.Forests.Indices.{child-parent}
+use Rattle.dom_model.proofs.Worlds.SameShape.{with_tree-alike, with_node-alike, children-alike}
 use Rattle.dom_model.proofs.Worlds.Measured.{children-beside}
 use Rattle.dom_model.proofs.MutationAlgorithms.Loosened.{IsLoosened, forest-remove, loosened-remove, parent-remove}
 use Rattle.dom_model.proofs.Soundness.SoundWorlds.{sound-remove}
-use Rattle.dom_model.proofs.Soundness.SoundAppending.{IsHolder, IsPlain, IsAppended, append-plain, holder_stays, plain_stays, IsCopy, clone_with_copy}
-use Rattle.dom_model.proofs.Soundness.SoundNormalizing.{filter-passed}
+use Rattle.dom_model.proofs.Soundness.SoundAppending.{IsHolder, IsPlain, append-plain, holder_stays, plain_stays, IsCopy, clone_with_copy}
 use Rattle.dom_model.proofs.Soundness.SoundDrawing.{new_apart}
 use Rattle.dom_model.proofs.RangesAndContents.Drawing.{passes_too}
 use Rattle.dom_model.proofs.RangesAndContents.StartsAhead.{got_place}

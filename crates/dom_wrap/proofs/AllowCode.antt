@@ -1,23 +1,23 @@
 -- What the walks of the check ahead of surrounding rest on: the children from one on, and the common ancestor. DOM Standard, "Interface Range".
-use Rattle.std.proofs.Common.{◌≡◌, ℕ, zero, suc, ◌+◌, ◌<◌, ◌≤◌, ◌==◌, Bool, true, false, not, ◌&&◌, ◌||◌, if◌then◌else◌, List, [], ◌∷◌, ◌++◌, find, drop, length, Option, Some, None, IfSome, option_map, option_and_then, unwrap_or, slice_get, refl, ap, sym, ◌∙◌, subst, arith}
+use Rattle.std.proofs.Common.{◌≡◌, ℕ, zero, suc, ◌+◌, ◌<◌, ◌≤◌, Bool, true, false, not, ◌&&◌, ◌||◌, if◌then◌else◌, List, [], ◌∷◌, ◌++◌, find, drop, Option, Some, None, option_map, option_and_then, unwrap_or, slice_get, refl, ap, sym, ◌∙◌, subst, arith}
 use Rattle.std.proofs.lemmas.Bool.{false≢true}
 use Rattle.std.specs.List.{list_any}
 use Rattle.dom_model.specs.declared.Kind.TheVariants.{Element, Text, Document, DocumentType, DocumentFragment}
 use Rattle.dom_model.specs.declared.DomError.{DomError}
 use Rattle.dom_model.specs.declared.DomError.TheVariants.{HierarchyRequestError, InvalidStateError, InvalidNodeTypeError}
-use Rattle.dom_model.specs.PlainLists.Lists.{hits, among, head_of, last_of, place_in, after, is_number}
+use Rattle.dom_model.specs.PlainLists.Lists.{hits, among, last_of, place_in, after, is_number}
 use Rattle.dom_model.specs.Forests.Forest.{Forest, HasNode, occurs, numbers, parent_of, children_of, next_of, index_of, ancestors, root_of}
 use Rattle.dom_model.specs.Worlds.World.{Content, Point, Range}
 use Rattle.dom_model.specs.Worlds.World as model
 use Rattle.dom_model.specs.Worlds.Sound.{IsRange, IsSound}
 use Rattle.dom_model.specs.MutationAlgorithms.Checks.{if_given, is_of_kind, has_kind, check_insert}
-use Rattle.dom_model.specs.RangesAndContents.Ranges.{point_after, is_partially_contained, common_ancestor, range_at}
-use Rattle.dom_model.specs.RangesAndContents.Contents.{for_range, contained_in, new_place, common_of}
+use Rattle.dom_model.specs.RangesAndContents.Ranges.{point_after, is_partially_contained, common_ancestor}
+use Rattle.dom_model.specs.RangesAndContents.Contents.{for_range, new_place, common_of}
 use Rattle.dom_model.specs.RangesAndContents.Wrapping.{is_text, reference_at, parent_at, check_whole_surround}
 use Rattle.dom_model.proofs.PlainLists.Numbers.{same_or, same, apart}
 use Rattle.dom_model.proofs.PlainLists.FromFirst.{from_first}
 use Rattle.dom_model.proofs.Forests.Entries.{HasNode-occurs, occurs-HasNode}
-use Rattle.dom_model.proofs.Forests.Climbing.{hits-append, hits-first, hits-among, ancestors-there}
+use Rattle.dom_model.proofs.Forests.Climbing.{hits-append, hits-among, ancestors-there}
 use Rattle.dom_model.proofs.Forests.Indices.{child-listed, child-once, index-child}
 use Rattle.dom_model.proofs.Worlds.Parts.{path-there}
 use Rattle.dom_model.proofs.BoundaryPoints.RemovalOrder.{ancestors-split}

@@ -1,6 +1,6 @@
 -- What an extraction leaves above the deepest common ancestor and among its children, where only Texts are partially contained.
 -- DOM Standard, "Interface Range" (extract, surroundContents).
-use Rattle.std.proofs.Common.{◌≡◌, ℕ, ◌-◌, ◌<◌, ◌≤◌, ◌==◌, Bool, true, false, not, ◌&&◌, ◌||◌, if◌then◌else◌, List, [], ◌∷◌, filter, reverse, length, Option, Some, None, is_some, unwrap_or, refl, ap, sym, ◌∙◌, subst, arith}
+use Rattle.std.proofs.Common.{◌≡◌, ℕ, ◌-◌, ◌<◌, ◌≤◌, ◌==◌, Bool, true, false, not, ◌&&◌, ◌||◌, if◌then◌else◌, List, [], ◌∷◌, filter, reverse, length, Some, None, is_some, unwrap_or, refl, ap, sym, ◌∙◌, subst, arith}
 use Rattle.std.proofs.lemmas.Bool.{false≢true}
 use Rattle.dom_model.specs.declared.Kind.{Kind}
 use Rattle.dom_model.specs.declared.Kind.TheVariants.{Text, DocumentType, DocumentFragment}
@@ -17,9 +17,7 @@ use Rattle.dom_model.specs.MutationAlgorithms.Editing.{node_document}
 use Rattle.dom_model.specs.DataAndCopies.Data.{data_of}
 use Rattle.dom_model.specs.RangesAndContents.Ranges.{same_root, is_less, is_before, is_collapsed, collapsed_at, range_at, with_range}
 use Rattle.dom_model.specs.RangesAndContents.Contents.{is_in_one_data, contained_in, new_place, new_fragment, units_into, children_into, tail_into, head_into, path_below, common_of, contained_children, parts_into, contents_drawn, check_draw, extracted}
-use Rattle.dom_model.proofs.PlainLists.Numbers.{same_or, same, apart}
 use Rattle.dom_model.proofs.Forests.Climbing.{hits-append, hits-first}
-use Rattle.dom_model.proofs.Forests.Totals.{IsOnce}
 use Rattle.dom_model.proofs.Forests.Entries.{occurs-HasNode}
 use Rattle.dom_model.proofs.Forests.Indices.{child-parent, child-there}
 use Rattle.dom_model.proofs.Worlds.Measured.{entry-beside, children-beside}

@@ -1,24 +1,24 @@
 -- An element that comes in at the start of a live range: refused by one test, or by none. DOM Standard, "Interface Range" (insert).
-use Rattle.std.proofs.Common.{◌≡◌, ℕ, ◌<◌, ◌≤◌, ◌==◌, Bool, true, false, not, ◌&&◌, ◌||◌, if◌then◌else◌, List, [], ◌∷◌, Option, Some, None, is_none, unwrap_or, slice_get, Ok, Err, refl, ap, sym, ◌∙◌, subst, arith}
+use Rattle.std.proofs.Common.{◌≡◌, ℕ, ◌<◌, ◌==◌, Bool, true, false, not, ◌&&◌, ◌||◌, if◌then◌else◌, [], ◌∷◌, Option, Some, None, is_none, unwrap_or, slice_get, refl, ap, sym, ◌∙◌}
 use Rattle.std.proofs.lemmas.Bool.{false≢true}
 use Rattle.dom_model.specs.declared.Kind.{Kind}
 use Rattle.dom_model.specs.declared.Kind.TheVariants.{Element, Text, ProcessingInstruction, Comment, Document, DocumentType, DocumentFragment}
 use Rattle.dom_model.specs.declared.DomError.{DomError}
 use Rattle.dom_model.specs.declared.DomError.TheVariants.{HierarchyRequestError, NotFoundError}
-use Rattle.dom_model.specs.PlainLists.Lists.{hits, among, is_number, or_else}
+use Rattle.dom_model.specs.PlainLists.Lists.{among, is_number, or_else}
 use Rattle.dom_model.specs.Forests.Arena.{Entry}
 use Rattle.dom_model.specs.Forests.Kinds.{is_kind, may_be_parent}
 use Rattle.dom_model.specs.Forests.Forest.{Node, Forest, occurs, entry_in, parent_of, children_of, ancestors}
 use Rattle.dom_model.specs.Worlds.World.{Content, Point, World}
 use Rattle.dom_model.specs.Worlds.Sound.{IsSound}
-use Rattle.dom_model.specs.MutationAlgorithms.Checks.{first_refusal, if_given, entry_has, kind_passes, is_of_kind, element_refused, document_refuses, is_misplaced, kind_refuses, check_insert}
+use Rattle.dom_model.specs.MutationAlgorithms.Checks.{first_refusal, if_given, entry_has, kind_passes, is_of_kind, document_refuses, is_misplaced, kind_refuses, check_insert}
 use Rattle.dom_model.specs.RangesAndContents.Wrapping.{Outcome, and_then, unless, is_text, reference_at, parent_by, parent_at, check_start, inserted_at, refusal_in}
 use Rattle.dom_model.proofs.PlainLists.Numbers.{same_or, same, apart}
 use Rattle.dom_model.proofs.Forests.Changes.{seen, nothing, just}
 use Rattle.dom_model.proofs.Forests.Entries.{HasNode-occurs}
 use Rattle.dom_model.proofs.Forests.Climbing.{hits-among, hits-self}
 use Rattle.dom_model.proofs.Forests.Indices.{child-once, child-parent}
-use Rattle.dom_model.proofs.MutationAlgorithms.ChecksKept.{or_first, or_second, or_both}
+use Rattle.dom_model.proofs.MutationAlgorithms.ChecksKept.{or_first, or_second}
 use Rattle.dom_model.proofs.RangesAndContents.Drawing.{passes_too}
 use Rattle.dom_model.proofs.RangesAndContents.StartsAhead.{got_place}
 use Rattle.dom_model.proofs.RangesAndContents.InsertAllowed.{insert-done}

@@ -1,32 +1,31 @@
 -- Where no node but a Text is partially contained: each end stands in the deepest common ancestor, or in a Text that is a child of it.
 -- DOM Standard, "Interface Range" (surroundContents).
-use Rattle.std.proofs.Common.{◌≡◌, ℕ, zero, suc, ◌+◌, ◌<◌, ◌≤◌, ◌==◌, Bool, true, false, not, ◌&&◌, ◌||◌, if◌then◌else◌, List, [], ◌∷◌, ◌++◌, Option, Some, None, refl, ap, sym, ◌∙◌, subst, arith}
+use Rattle.std.proofs.Common.{◌≡◌, ℕ, ◌+◌, ◌<◌, ◌≤◌, ◌==◌, Bool, true, false, not, ◌&&◌, List, [], ◌∷◌, ◌++◌, Option, Some, None, refl, ap, sym, ◌∙◌, subst, arith}
 use Rattle.std.proofs.lemmas.Bool.{false≢true}
 use Rattle.std.specs.List.{list_any}
 use Rattle.dom_model.specs.declared.Kind.TheVariants.{Text}
 use Rattle.dom_model.specs.PlainLists.Lists.{hits, among, is_number}
 use Rattle.dom_model.specs.Forests.Kinds.{may_be_parent}
-use Rattle.dom_model.specs.Forests.Forest.{Forest, occurs, one_at, total, numbers, parent_of, ancestors}
+use Rattle.dom_model.specs.Forests.Forest.{Forest, occurs, one_at, numbers, parent_of, ancestors}
 use Rattle.dom_model.specs.Worlds.World.{Content, Range}
 use Rattle.dom_model.specs.Worlds.Sound.{IsRange}
-use Rattle.dom_model.specs.MutationAlgorithms.Checks.{up_to, kind_passes, is_of_kind}
+use Rattle.dom_model.specs.MutationAlgorithms.Checks.{up_to, is_of_kind}
 use Rattle.dom_model.specs.RangesAndContents.Ranges.{is_partially_contained, common_ancestor}
 use Rattle.dom_model.specs.RangesAndContents.Contents.{path_below}
 use Rattle.dom_model.proofs.PlainLists.Numbers.{same_or, same, apart}
 use Rattle.dom_model.proofs.Forests.Entries.{occurs-HasNode}
 use Rattle.dom_model.proofs.Forests.Totals.{IsOnce}
-use Rattle.dom_model.proofs.Forests.Climbing.{hits-append, hits-reverse, hits-among, among-hits, hits-not_among, not_among-hits, hits-self, ancestors-there}
+use Rattle.dom_model.proofs.Forests.Climbing.{hits-append, hits-reverse, hits-among, among-hits, hits-not_among, hits-self, ancestors-there}
 use Rattle.dom_model.proofs.Forests.Paths.{parent-path}
 use Rattle.dom_model.proofs.Forests.Indices.{parent-there}
 use Rattle.dom_model.proofs.Forests.TreeOrder.Flattened.{hits-numbers}
 use Rattle.dom_model.proofs.Forests.Chains.{IsWay}
 use Rattle.dom_model.proofs.BoundaryPoints.RemovalOrder.{ancestors-split}
-use Rattle.dom_model.proofs.MutationAlgorithms.ChecksKept.{none-of, any-none}
 use Rattle.dom_model.proofs.Soundness.SoundForests.{IsWood}
 use Rattle.dom_model.proofs.Soundness.SoundExtracting.{none_listed}
 use Rattle.dom_model.proofs.RangesAndContents.PathsApart.{along, along-ancestors}
 use Rattle.dom_model.proofs.RangesAndContents.PathsToEnds.{holders_above, common-above}
-use Rattle.dom_model.proofs.RangesAndContents.WaysBelow.{way-above, IsFork, fork}
+use Rattle.dom_model.proofs.RangesAndContents.WaysBelow.{IsFork, fork}
 use Rattle.dom_wrap.specs.Allowing.{is_near}
 use Rattle.dom_wrap.proofs.AllowAbove.{none-or-some, above-within}
 use Rattle.dom_wrap.proofs.AllowPlaces.{text-passes}

@@ -1,28 +1,28 @@
 -- The refusal to surround is told by the world before the first step. DOM Standard, "Interface Range" (surroundContents).
-use Rattle.std.proofs.Common.{◌≡◌, ℕ, ◌<◌, ◌≤◌, ◌==◌, Bool, true, false, not, ◌&&◌, ◌||◌, if◌then◌else◌, List, [], ◌∷◌, take, drop, filter, length, Option, Some, None, unwrap_or, slice_get, Ok, Err, refl, ap, sym, ◌∙◌, subst, arith, ◌⊎◌, inl, inr, ⊎_elim}
+use Rattle.std.proofs.Common.{◌≡◌, ℕ, ◌<◌, Bool, true, false, not, ◌&&◌, ◌||◌, if◌then◌else◌, List, [], ◌∷◌, take, drop, filter, Option, Some, None, unwrap_or, slice_get, Ok, Err, refl, ap, sym, ◌∙◌, subst, arith}
 use Rattle.std.proofs.lemmas.Bool.{false≢true}
 use Rattle.std.specs.List.{list_any}
 use Rattle.dom_model.specs.declared.Kind.{Kind}
-use Rattle.dom_model.specs.declared.Kind.TheVariants.{Element, Text, ProcessingInstruction, Comment, Document, DocumentType, DocumentFragment}
+use Rattle.dom_model.specs.declared.Kind.TheVariants.{Element, Text, Document, DocumentType, DocumentFragment}
 use Rattle.dom_model.specs.declared.DomError.{DomError}
-use Rattle.dom_model.specs.declared.DomError.TheVariants.{HierarchyRequestError, InvalidStateError, InvalidNodeTypeError, NotFoundError}
-use Rattle.dom_model.specs.PlainLists.Lists.{hits, among, head_of, or_else}
+use Rattle.dom_model.specs.declared.DomError.TheVariants.{HierarchyRequestError}
+use Rattle.dom_model.specs.PlainLists.Lists.{hits, among}
 use Rattle.dom_model.specs.Forests.Arena.{Entry}
-use Rattle.dom_model.specs.Forests.Kinds.{is_kind, may_be_parent, is_character_data}
-use Rattle.dom_model.specs.Forests.Forest.{Node, Forest, occurs, entry_in, numbers, parent_of, children_of, index_of, ancestors}
+use Rattle.dom_model.specs.Forests.Kinds.{is_kind, may_be_parent}
+use Rattle.dom_model.specs.Forests.Forest.{Node, occurs, entry_in, parent_of, children_of, index_of, ancestors}
 use Rattle.dom_model.specs.Worlds.World.{Content, Point, Range, World}
 use Rattle.dom_model.specs.Worlds.Sound.{IsRange, IsSound}
-use Rattle.dom_model.specs.MutationAlgorithms.Checks.{first_refusal, entry_has, kind_passes, is_of_kind, has_kind, element_refused}
+use Rattle.dom_model.specs.MutationAlgorithms.Checks.{entry_has, kind_passes, is_of_kind, has_kind, element_refused}
 use Rattle.dom_model.specs.MutationAlgorithms.Editing.{replace_all}
-use Rattle.dom_model.specs.RangesAndContents.Ranges.{is_collapsed, is_partially_contained, common_ancestor, range_at}
-use Rattle.dom_model.specs.RangesAndContents.Contents.{for_range, is_in_one_data, contained_in, new_place, common_of, contained_children, check_draw, check_extract, extracted, extract}
-use Rattle.dom_model.specs.RangesAndContents.Wrapping.{Outcome, and_then, unless, try_pre_insert, is_text, reference_at, inserted_at, insert_node, check_surround, try_extract, try_select, surrounded, surround, refusal_in, check_whole_surround}
+use Rattle.dom_model.specs.RangesAndContents.Ranges.{is_collapsed, range_at}
+use Rattle.dom_model.specs.RangesAndContents.Contents.{for_range, is_in_one_data, contained_in, new_place, common_of, contained_children, check_draw, extracted}
+use Rattle.dom_model.specs.RangesAndContents.Wrapping.{Outcome, and_then, try_pre_insert, is_text, reference_at, inserted_at, insert_node, try_select, refusal_in}
 use Rattle.dom_model.proofs.PlainLists.Numbers.{same_or, same, apart}
 use Rattle.dom_model.proofs.Forests.Entries.{occurs-HasNode}
-use Rattle.dom_model.proofs.Forests.Climbing.{hits-append, hits-first, among-hits, hits-among, hits-not_among, hits-self, ancestors-there}
+use Rattle.dom_model.proofs.Forests.Climbing.{among-hits, hits-among, hits-not_among, hits-self}
 use Rattle.dom_model.proofs.Forests.Indices.{child-once, child-parent, child-there, index-child}
 use Rattle.dom_model.proofs.Worlds.Parts.{path-there}
-use Rattle.dom_model.proofs.MutationAlgorithms.ChecksKept.{or_first, or_second}
+use Rattle.dom_model.proofs.MutationAlgorithms.ChecksKept.{or_second}
 use Rattle.dom_model.proofs.Soundness.SoundDeleting.{not_contained}
 use Rattle.dom_model.proofs.Soundness.SoundContents.{sound-extracted}
 use Rattle.dom_model.proofs.Soundness.SoundEditing.{clear, sound-replace_all}
@@ -31,11 +31,11 @@ use Rattle.dom_model.proofs.Soundness.SoundExtracting.{none_listed, common_above
 use Rattle.dom_model.proofs.Soundness.SoundRangeSteps.{live_range}
 use Rattle.dom_model.proofs.Soundness.SoundWorlds.{IsLive}
 use Rattle.dom_model.proofs.RangesAndContents.PlacesLeft.{IsNewPlace, place_is}
-use Rattle.dom_wrap.specs.Allowing.{holder_of, is_refused_at, is_full, is_refused_between, is_unplaceable, surround_refusal_of, surround_refusal}
+use Rattle.dom_wrap.specs.Allowing.{holder_of, is_refused_at, is_full, is_refused_between}
 use Rattle.dom_wrap.proofs.AllowAbove.{none-or-some}
 use Rattle.dom_wrap.proofs.AllowCleared.{IsEmptied, emptied}
-use Rattle.dom_wrap.proofs.AllowPlaces.{element-passes, text-passes, start-passes, insert-passes, inserted-told, refusal-unless}
-use Rattle.dom_wrap.proofs.AllowShape.{IsNear, start_near, end_near}
+use Rattle.dom_wrap.proofs.AllowPlaces.{text-passes, start-passes, insert-passes, inserted-told}
+use Rattle.dom_wrap.proofs.AllowShape.{IsNear}
 use Rattle.dom_wrap.proofs.AllowChildren.{among-filter, place-taken, drop-filter, any-filter, any-kept, any-alike}
 use Rattle.dom_wrap.proofs.AllowDrawn.{IsTaken, IsStill, IsLeft, extracted-still, extracted-left}
 use Rattle.dom_wrap.proofs.AllowFollowed.{followed}

@@ -1,10 +1,9 @@
 -- The refusal to surround is told by the world before the first step. DOM Standard, "Interface Range" (surroundContents).
-use Rattle.std.proofs.Common.{◌≡◌, ℕ, zero, suc, ◌+◌, ◌<◌, ◌≤◌, ◌==◌, nat_lt, Bool, true, false, not, ◌&&◌, ◌||◌, if◌then◌else◌, List, [], ◌∷◌, take, drop, Option, Some, None, is_none, unwrap_or, Ok, Err, refl, ap, sym, ◌∙◌, subst, arith, ◌⊎◌, inl, inr, ⊎_elim}
+use Rattle.std.proofs.Common.{◌≡◌, ℕ, zero, suc, ◌+◌, ◌<◌, ◌≤◌, ◌==◌, nat_lt, Bool, true, false, not, ◌&&◌, ◌||◌, if◌then◌else◌, List, [], ◌∷◌, take, drop, Option, Some, None, is_none, Ok, refl, ap, sym, ◌∙◌, subst, arith, ◌⊎◌, inl, inr, ⊎_elim}
 use Rattle.std.proofs.lemmas.Bool.{cases_lt, false≢true}
 use Rattle.std.specs.List.{list_any}
 use Rattle.std.specs.Ordering.{nat_cmp}
-use Rattle.std.specs.declared.cmp.Ordering.{Ordering}
-use Rattle.std.specs.declared.cmp.Ordering.TheVariants.{Less, Equal, Greater}
+use Rattle.std.specs.declared.cmp.Ordering.TheVariants.{Less, Greater}
 use Rattle.std.specs.Cmp.Lexicographic.{slice_cmp}
 use Rattle.dom_model.specs.declared.Kind.{Kind}
 use Rattle.dom_model.specs.declared.Kind.TheVariants.{Element, Text, ProcessingInstruction, Comment, Document, DocumentType, DocumentFragment}
@@ -22,15 +21,15 @@ use Rattle.dom_model.specs.MutationAlgorithms.Checks.{first_refusal, if_given, e
 use Rattle.dom_model.specs.MutationAlgorithms.Editing.{pre_insert, replace_all}
 use Rattle.dom_model.specs.RangesAndContents.Ranges.{is_less, same_root, is_before, is_collapsed, is_partially_contained, range_at}
 use Rattle.dom_model.specs.RangesAndContents.Contents.{for_range, is_in_one_data, contained_in, new_place, common_of, contained_children, check_draw, check_extract, extracted, extract}
-use Rattle.dom_model.specs.RangesAndContents.Wrapping.{Outcome, and_then, unless, try_pre_insert, is_text, reference_at, parent_at, check_start, inserted_at, insert_node, check_surround, try_extract, try_select, surrounded, surround, refusal_in, check_whole_surround}
+use Rattle.dom_model.specs.RangesAndContents.Wrapping.{Outcome, and_then, unless, try_pre_insert, is_text, reference_at, parent_at, check_start, inserted_at, insert_node, check_surround, try_extract, try_select, surrounded, refusal_in, check_whole_surround}
 use Rattle.dom_model.proofs.PlainLists.Numbers.{same_or, same, apart}
-use Rattle.dom_model.proofs.Forests.Entries.{occurs-HasNode, HasNode-occurs}
+use Rattle.dom_model.proofs.Forests.Entries.{occurs-HasNode}
 use Rattle.dom_model.proofs.Forests.Climbing.{hits-append, hits-first}
 use Rattle.dom_model.proofs.Forests.Indices.{child-parent, child-there, index-child, path-child}
 use Rattle.dom_model.proofs.Forests.Paths.{parent-path}
-use Rattle.dom_model.proofs.BoundaryPoints.PointOrder.{nat_cmp-same, nat_cmp-less, nat_cmp-greater, order-above}
+use Rattle.dom_model.proofs.BoundaryPoints.PointOrder.{nat_cmp-same, nat_cmp-greater, order-above}
 use Rattle.dom_model.proofs.MutationAlgorithms.ChecksKept.{or_first, or_second}
-use Rattle.dom_model.proofs.Soundness.SoundForests.{IsWood, entry_there, child-fits, data-childless}
+use Rattle.dom_model.proofs.Soundness.SoundForests.{entry_there, child-fits, data-childless}
 use Rattle.dom_model.proofs.Soundness.SoundDeleting.{not_contained}
 use Rattle.dom_model.proofs.Soundness.SoundContents.{sound-extracted}
 use Rattle.dom_model.proofs.Soundness.SoundEditing.{sound-replace_all}
@@ -38,16 +37,16 @@ use Rattle.dom_model.proofs.Soundness.SoundNormalizing.{filter-passed}
 use Rattle.dom_model.proofs.Soundness.SoundExtracting.{none_listed}
 use Rattle.dom_model.proofs.Soundness.SoundRangeSteps.{live_range}
 use Rattle.dom_model.proofs.Soundness.SoundWorlds.{IsLive}
-use Rattle.dom_model.proofs.RangesAndContents.PlacesLeft.{IsNewPlace, place_is}
-use Rattle.dom_wrap.specs.Allowing.{is_refused_at, is_full, is_refused_between, is_unplaceable, surround_refusal_of, surround_refusal}
+use Rattle.dom_model.proofs.RangesAndContents.PlacesLeft.{place_is}
+use Rattle.dom_wrap.specs.Allowing.{is_refused_between, is_unplaceable, surround_refusal_of, surround_refusal}
 use Rattle.dom_wrap.proofs.AllowAbove.{none-or-some}
-use Rattle.dom_wrap.proofs.AllowCleared.{IsEmptied, emptied}
+use Rattle.dom_wrap.proofs.AllowCleared.{emptied}
 use Rattle.dom_wrap.proofs.AllowPlaces.{start-told, refusal-unless, parent-is, found}
-use Rattle.dom_wrap.proofs.AllowShape.{IsNear, start_near, end_near}
+use Rattle.dom_wrap.proofs.AllowShape.{start_near, end_near}
 use Rattle.dom_wrap.proofs.AllowChildren.{place-taken}
-use Rattle.dom_wrap.proofs.AllowDrawn.{IsTaken, IsStill, IsLeft, extracted-still, extracted-left}
+use Rattle.dom_wrap.proofs.AllowDrawn.{IsTaken, extracted-still, extracted-left}
 use Rattle.dom_wrap.proofs.AllowFollowed.{third, inserted_is, kind_third}
-use Rattle.dom_wrap.proofs.AllowAlike.{hits-taken, common-self}
+use Rattle.dom_wrap.proofs.AllowAlike.{common-self}
 use Rattle.dom_wrap.proofs.AllowTold.{steps_from, told_by, refused-first, told-still, told-left}
 
 any-some : (p : ℕ → Bool) (ns : List ℕ) → list_any p ns ≡ true → (m : ℕ) × (0 < hits m ns) × (p m ≡ true)

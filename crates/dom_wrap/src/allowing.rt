@@ -144,13 +144,7 @@ fn is_refused_at(world: &World, point: Point, node: NodeId) -> bool
 }
 
 // Whether an element cannot come in under the deepest common ancestor, once the contained children are gone.
-fn is_refused_between(
-    world: &World,
-    start: Point,
-    end: Point,
-    common: NodeId,
-    node: NodeId,
-) -> bool
+fn is_refused_between(world: &World, start: Point, end: Point, common: NodeId, node: NodeId) -> bool
     requires whole { IsWhole world.now }
     requires range { IsRange world.now.tree.forest (record { start = start; end = end }) }
     requires common { common ≡ common_of (unwatched world.now) (record { start = start; end = end }) }
