@@ -121,7 +121,7 @@ pub fn pending(world: &World, alloc: Global) -> Result<Reply, AllocError>
     Ok(Reply::Done(Answer::Numbers(numbers)))
 }
 
-/// Answers the commands on observers, the last group: every other command is answered before it.
+/// Answers the commands on observers.
 pub fn watch(
     world: &mut World,
     numbers: u64,
