@@ -1,7 +1,8 @@
 //! However an input is cut, the output is the same.
 
 use crate::Feeder;
-use crate::dialogues::{Dialogue, SUBJECTS};
+use crate::dialogues::{Dialogue, is_answered_over_memory};
+use crate::refusals::is_answered_or_wants;
 use crate::runs::{in_pieces, serve_all};
 use std::alloc::Global;
 use std::process::Abort;
@@ -14,23 +15,23 @@ fn is_answered(rt: &impl Abort, alloc: Global, dialogue: &Dialogue, reader: Feed
     assert!(rt; served.written.as_slice() == dialogue.output(), "{name}");
 }
 
-/// That the dialogue, cut in two at any byte, is answered as is due. Each dialogue has a test that asks it, beside its text.
-pub fn is_answered_in_two(rt: &impl Abort, alloc: Global, dialogue: &Dialogue) {
-    for cut in 0..dialogue.input().len() {
-        let mut reader = in_pieces(dialogue.input(), usize::MAX);
-        reader.cut = cut;
+// That the dialogue, given in pieces, is answered as is due.
+fn is_answered_in_pieces(rt: &impl Abort, alloc: Global, dialogue: &Dialogue) {
+    for most in [1, 7, 65536] {
+        let reader = in_pieces(dialogue.input(), most);
         is_answered(rt, alloc, dialogue, reader);
     }
 }
 
-#[test]
-fn cut_in_pieces(rt: HostRuntime) {
-    for subject in &SUBJECTS {
-        for dialogue in *subject {
-            for most in [1, 7, 65536] {
-                let reader = in_pieces(dialogue.input(), most);
-                is_answered(&rt, rt.alloc(), dialogue, reader);
-            }
-        }
+/// That the dialogue is answered as is due whole, in pieces, where a growth is refused, and cut in two at any byte. Each dialogue has a
+/// test that asks it, beside its text.
+pub fn is_answered_in_two(rt: &impl Abort, alloc: Global, dialogue: &Dialogue) {
+    is_answered_over_memory(rt, alloc, dialogue);
+    is_answered_in_pieces(rt, alloc, dialogue);
+    is_answered_or_wants(rt, alloc, dialogue);
+    for cut in 0..dialogue.input().len() {
+        let mut reader = in_pieces(dialogue.input(), usize::MAX);
+        reader.cut = cut;
+        is_answered(rt, alloc, dialogue, reader);
     }
 }

@@ -58,18 +58,8 @@ impl Dialogue {
     }
 }
 
-/// The dialogues of each subject.
-pub const SUBJECTS: [&[&Dialogue]; 6] = [
-    &lines_and_limits::ALL,
-    &trees_and_data::ALL,
-    &ranges::ALL,
-    &traversal::ALL,
-    &observers::ALL,
-    &bad_input::ALL,
-];
-
-// That the dialogue is answered as is due, in as many lines as have a reply, over readers and writers of the library.
-fn is_answered(rt: &impl Abort, alloc: Global, dialogue: &Dialogue) {
+/// That the dialogue is answered as is due, in as many lines as have a reply, over readers and writers of the library.
+pub fn is_answered_over_memory(rt: &impl Abort, alloc: Global, dialogue: &Dialogue) {
     let limits = dialogue.limits();
     assert!(rt; 1 <= limits.numbers && limits.numbers <= 4294967295 && 1 <= limits.line);
     let mut reader = FromRead::new(dialogue.input());
@@ -84,13 +74,4 @@ fn is_answered(rt: &impl Abort, alloc: Global, dialogue: &Dialogue) {
         .filter(|byte| **byte == b'\n')
         .count() as u64;
     assert!(rt; ended == Ok(Summary { lines }), "{name}");
-}
-
-#[test]
-fn dialogues_over_memory(rt: HostRuntime) {
-    for subject in &SUBJECTS {
-        for dialogue in *subject {
-            is_answered(&rt, rt.alloc(), dialogue);
-        }
-    }
 }

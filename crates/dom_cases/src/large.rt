@@ -65,7 +65,7 @@ fn units_inserted(alloc: Global, first: u32, step: u32) -> Result<String, AllocE
     }
     lines.push_str("\"]\n")?;
     for number in 0..INSERTIONS {
-        let place = first + step * number;
+        let place = first.wrapping_add(step.wrapping_mul(number));
         let line = format!(in alloc; "[\"insertData\",1,{place},\"b\"]\n")?;
         lines.push_str(line.as_str())?;
     }

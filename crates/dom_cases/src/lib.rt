@@ -1,4 +1,4 @@
-//! The tests that cross crates: dialogues from bytes to bytes, cut anywhere, with faults, refused growths and large inputs; the token text drawn;
+//! The tests that cross crates: dialogues from bytes to bytes, cut anywhere, with faults, refused growths and large inputs;
 //! and the reader and the writer of stated pieces that they use.
 #![tactic(auto)]
 
@@ -8,8 +8,6 @@ mod chains;
 mod cuts;
 #[cfg(test)]
 mod dialogues;
-#[cfg(test)]
-mod drawing;
 #[cfg(test)]
 mod faults;
 mod feeder;

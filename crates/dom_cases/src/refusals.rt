@@ -4,8 +4,8 @@
 ghost use Rattle.std.specs.Prelude.{◌≡◌, false, IfOk};
 
 use crate::Taker;
+use crate::dialogues::Dialogue;
 use crate::dialogues::trees_and_data::TREE_PRINTED;
-use crate::dialogues::{Dialogue, SUBJECTS};
 use crate::runs::{USUAL, all_taken, first_lines, in_pieces};
 use dom_serve::{Fault, Summary, serve};
 use std::alloc::{AllocError, Global};
@@ -31,8 +31,8 @@ fn is_cut_by_want(output: &[u8], text: &[u8]) -> bool {
     })
 }
 
-// That the dialogue is answered whole, or up to a want of memory.
-fn is_answered_or_wants(rt: &impl Abort, alloc: Global, dialogue: &Dialogue) {
+/// That the dialogue is answered whole, or up to a want of memory.
+pub fn is_answered_or_wants(rt: &impl Abort, alloc: Global, dialogue: &Dialogue) {
     let Ok(mut writer) = roomy(alloc) else {
         return;
     };
@@ -55,15 +55,6 @@ fn is_answered_or_wants(rt: &impl Abort, alloc: Global, dialogue: &Dialogue) {
 #[test]
 fn first_dialogue_under_refusals(rt: HostRuntime) {
     is_answered_or_wants(&rt, rt.alloc(), &TREE_PRINTED);
-}
-
-#[test]
-fn dialogues_under_refusals(rt: HostRuntime) {
-    for subject in &SUBJECTS {
-        for dialogue in *subject {
-            is_answered_or_wants(&rt, rt.alloc(), dialogue);
-        }
-    }
 }
 
 // Each reply is one write, and so is the line that says that memory was wanting.
