@@ -10,8 +10,8 @@ Theorems: for each NAME a file Subject/Name.antt in crates/dom_model/proofs/Dial
 there and be named in the file beside that folder. The bytes that a session reads give the bytes that it writes, and the edits of the
 token text that its commands make leave the ends, texts and worlds that the commands leave. They hold by computation.
 
-Tests: for each subject a file in crates/dom_cases/src/dialogues, with its dialogues, each of them served cut in two at each of its
-bytes; other tests serve them whole, in pieces and with faults.
+Tests: for each subject a file in crates/dom_cases/src/dialogues, with its dialogues, each with a test that serves it whole, in pieces,
+with refused growths, and cut in two at each of its bytes.
 """
 import os
 import subprocess
@@ -175,7 +175,7 @@ def test(name, given, wanted, bounds):
 
 
 def cut_test(name):
-    """The test that a dialogue is answered as is due wherever it is cut in two."""
+    """The test that a dialogue is answered as is due however it comes."""
     return (
         f"\n#[test]\nfn {name}_cut_in_two(rt: HostRuntime) {{\n"
         + f"    is_answered_in_two(&rt, rt.alloc(), &{name.upper()});\n}}\n"
