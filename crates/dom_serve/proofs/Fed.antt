@@ -11,7 +11,7 @@ use Rattle.dom_model.specs.Commands.Answer.{Bounds, Step}
 use Rattle.dom_model.specs.Worlds.World.{World, first_world}
 use Rattle.dom_model.specs.Commands.Printed.{reply_line}
 use Rattle.dom_model.specs.Commands.Output.{whole_lines, last_piece, lines_of, line_if_any, step_of, line_step, world_after, replies_from, due}
-use Rattle.dom_session.specs.Stands.{StandsFor}
+use Rattle.dom_wire.specs.Sessions.{StandsFor}
 use Rattle.dom_serve.specs.declared.fault.Fault.{Fault}
 use Rattle.dom_serve.specs.declared.fault.Fault.TheVariants.{Read, Write, Memory, InputTooLong}
 use Rattle.dom_serve.specs.declared.server.Server.{Server}

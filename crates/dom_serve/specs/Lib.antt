@@ -2,3 +2,4 @@ pub mod Writes
 pub mod Pieces
 pub mod Tells
 pub mod Server
+pub mod Limits

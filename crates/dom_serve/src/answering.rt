@@ -5,7 +5,7 @@ ghost use Rattle.std.specs.Io.KnownBytes.{Appends, Consumes, IsAtEnd};
 ghost use Rattle.dom_model.specs.Commands.Answer.{Bounds};
 ghost use Rattle.dom_model.specs.Commands.Table.{whole_table};
 ghost use Rattle.dom_model.specs.Commands.Output.{joined, whole_lines, last_piece, lines_of, output_of};
-ghost use Rattle.dom_session.specs.Bounding.{bounds_of};
+ghost use Rattle.dom_wire.specs.Sessions.{bounds_of};
 ghost use Rattle.dom_serve.specs.Pieces.{Reads, AreWithin};
 ghost use Rattle.dom_serve.specs.Tells.{is_read_fault, is_write_fault, Tells};
 ghost use Rattle.dom_serve.specs.Server.{Stands, Concludes, IsTold};
@@ -14,7 +14,7 @@ use crate::fault::{Fault, Summary};
 use crate::server::Server;
 use crate::streams::{Failed, Sink, Source};
 use crate::writing::write_out_of_memory;
-use dom_session::Limits;
+use dom_wire::Limits;
 use std::alloc::{AllocError, Global};
 
 /// How many bytes are read at once, at most.

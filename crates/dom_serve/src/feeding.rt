@@ -2,7 +2,7 @@
 
 ghost use Rattle.std.specs.Prelude.{◌≡◌, ℕ, ◌+◌, ◌<◌, ◌≤◌, ◌^◌, false, List, ◌++◌, ◌∷◌, [], length, IfOk};
 ghost use Rattle.dom_model.specs.Commands.Answer.{Bounds};
-ghost use Rattle.dom_session.specs.Bounding.{bounds_of};
+ghost use Rattle.dom_wire.specs.Sessions.{bounds_of};
 ghost use Rattle.dom_serve.specs.Tells.{is_write_fault};
 ghost use Rattle.dom_serve.specs.Server.{Stands, Fed, Finishes};
 
@@ -11,7 +11,7 @@ use crate::replies::answer;
 use crate::server::Server;
 use crate::streams::Sink;
 use crate::writing::write_out_of_memory;
-use dom_session::{Limits, Session};
+use dom_wire::{Limits, Session};
 use std::alloc::{AllocError, Global};
 
 impl Server {

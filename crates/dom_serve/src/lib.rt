@@ -14,7 +14,7 @@ mod to_write;
 mod writing;
 
 pub use answering::{serve, serve_within};
-pub use dom_session::Limits;
+pub use dom_wire::Limits;
 pub use fault::{Fault, Summary};
 pub use from_read::FromRead;
 pub use streams::{Failed, Sink, Source};

@@ -2,8 +2,8 @@
 
 ghost use Rattle.std.specs.Prelude.{◌≡◌, false, IfOk};
 ghost use Rattle.dom_model.specs.Worlds.World.{World};
-ghost use Rattle.dom_session.specs.Stands.{StandsFor};
-ghost use Rattle.dom_session.specs.Views.{reply_view};
+ghost use Rattle.dom_wire.specs.Sessions.{StandsFor};
+ghost use Rattle.dom_wire.specs.Sessions.{reply_view};
 ghost use Rattle.dom_wire.specs.Reads.{Reads};
 ghost use Rattle.dom_serve.specs.Tells.{is_write_fault};
 ghost use Rattle.dom_serve.specs.Server.{held_command, held_step, Takes, Prints, Answers};
@@ -11,8 +11,7 @@ ghost use Rattle.dom_serve.specs.Server.{held_command, held_step, Takes, Prints,
 use crate::fault::Fault;
 use crate::streams::{Failed, Sink};
 use crate::writing::{write_line, write_out_of_memory};
-use dom_session::{Command, Ended, OwnError, Reply, Session};
-use dom_wire::{ReadError, read_line, write_reply};
+use dom_wire::{Command, Ended, OwnError, ReadError, Reply, Session, read_line, write_reply};
 use std::alloc::{AllocError, Global};
 
 /// The command of a line, or the refusal of its form.

@@ -1,6 +1,6 @@
 //! What a server holds: a session, and the line that is being read.
 
-use dom_session::Session;
+use dom_wire::Session;
 use std::alloc::Global;
 
 /// A session, and the bytes of the line that has no newline yet: at most as many as a line may have.

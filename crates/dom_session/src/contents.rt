@@ -26,7 +26,7 @@ pub fn range_text(world: &World, alloc: Global, range: RangeId) -> Result<Reply,
     if !world.ranges.holds(range) {
         return Ok(Reply::Own(OwnError::NoSuchObject));
     }
-    let text = dom_content::range_text(world, alloc, range)?;
+    let text = dom_wrap::range_text(world, alloc, range)?;
     Ok(Reply::Done(Answer::Units(text)))
 }
 
@@ -43,7 +43,7 @@ pub fn delete_contents(
     if !world.ranges.holds(range) {
         return Ok(Reply::Own(OwnError::NoSuchObject));
     }
-    dom_content::delete_contents(world, alloc, range)?;
+    dom_wrap::delete_contents(world, alloc, range)?;
     Ok(Reply::Done(Answer::Nothing))
 }
 
@@ -65,7 +65,7 @@ pub fn extract_contents(
     if lacks_numbers(world, numbers) {
         return Ok(Reply::Own(OwnError::Limit));
     }
-    match dom_content::extract(world, alloc, range) {
+    match dom_wrap::extract(world, alloc, range) {
         Ok(fragment) => Ok(Reply::Done(Answer::Number(fragment.number()))),
         Err(Refusal::Dom(error)) => Ok(Reply::Dom(error)),
         Err(Refusal::Memory) => Err(AllocError),
@@ -90,7 +90,7 @@ pub fn clone_contents(
     if lacks_numbers(world, numbers) {
         return Ok(Reply::Own(OwnError::Limit));
     }
-    match dom_content::clone_contents(world, alloc, range) {
+    match dom_wrap::clone_contents(world, alloc, range) {
         Ok(fragment) => Ok(Reply::Done(Answer::Number(fragment.number()))),
         Err(Refusal::Dom(error)) => Ok(Reply::Dom(error)),
         Err(Refusal::Memory) => Err(AllocError),

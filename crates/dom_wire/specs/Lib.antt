@@ -2,3 +2,4 @@ pub mod Shapes
 pub mod Rows
 pub mod Reads
 pub mod Prints
+pub mod Sessions

@@ -2,7 +2,7 @@
 
 ghost use Rattle.std.specs.Prelude.{◌≡◌, ◌≤◌, [], IfErr, IfOk, codes, map};
 ghost use Rattle.clap.specs.Words.{app_of, found_of, kind_of, new_app, rows_of};
-ghost use Rattle.dom_session.specs.Bounding.{bounds_of};
+ghost use Rattle.dom_serve.specs.Limits.{bounds_of};
 ghost use Rattle.domserve.specs.CommandLine.{IsRefusalOf, TellsOf, bounds_asked, bounds_at, faults_in, program_app, value_within};
 ghost use Rattle.domserve.specs.Statuses.{IsInRange};
 

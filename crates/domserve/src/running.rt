@@ -2,7 +2,7 @@
 
 ghost use Rattle.std.specs.Prelude.{◌≡◌, ◌≤◌, ℕ, List, [], true, false, ◌⊎◌, IfSome, map};
 ghost use Rattle.std.specs.Io.KnownBytes.{Appends};
-ghost use Rattle.dom_session.specs.Bounding.{bounds_of};
+ghost use Rattle.dom_serve.specs.Limits.{bounds_of};
 ghost use Rattle.domserve.specs.CommandLine.{asks_for_help, bounds_asked, faults_in, has_mistake};
 ghost use Rattle.domserve.specs.Statuses.{IsInRange, text_of, status_of, IsServed};
 

@@ -1,4 +1,4 @@
-use Rattle.dom_session.specs.Bounding.{bounds_of}
+use Rattle.dom_wire.specs.Sessions.{bounds_of}
 use Rattle.dom_serve.proofs.Told.{told-none, one-each}
 use Rattle.dom_serve.proofs.answering.serve_within.Goals as goal
 

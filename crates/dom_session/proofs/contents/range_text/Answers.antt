@@ -13,4 +13,4 @@ returns c b =
     let v = c.args.world.now in
     let live : is_some (range_in v.ranges c.args.range) ≡ true = cc in
     step-stays b (RangeText c.args.range) (Done (Units c.in_ok-text.text)) v
-    (λ w shown. answer-range_text v b w shown c.args.range c.in_ok-text.text live c.in_ok-text.ensures)
+    (λ w shown. answer-range_text v b w shown c.args.range c.in_ok-text.text live c.in_ok-text.ensures.text)
