@@ -11,7 +11,7 @@ there and be named in the file beside that folder. The bytes that a session read
 token text that its commands make leave the ends, texts and worlds that the commands leave. They hold by computation.
 
 Tests: for each subject a file in crates/dom_cases/src/dialogues, with its dialogues, each with a test that serves it whole, in pieces,
-with refused growths, and cut in two at each of its bytes.
+with refused growths, with each read, write and flush failing in turn, and cut in two at each of its bytes.
 """
 import os
 import subprocess
@@ -189,8 +189,6 @@ def write_tests(subject, dialogues):
         out.write("\nuse crate::cuts::is_answered_in_two;\nuse crate::dialogues::{Bytes, Dialogue};\n")
         for name, parts in dialogues.items():
             out.write(test(name, *parts))
-        listed = ", ".join(f"&{name.upper()}" for name in dialogues)
-        out.write(f"\npub const ALL: [&Dialogue; {len(dialogues)}] = [{listed}];\n")
         for name in dialogues:
             out.write(cut_test(name))
 

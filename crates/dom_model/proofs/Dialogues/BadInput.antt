@@ -15,3 +15,5 @@ pub mod RemovalsRefused
 pub mod StaticRangesRefused
 pub mod WalksBegunRefused
 pub mod WalksRefused
+pub mod ForbiddenAttributeNames
+pub mod ForbiddenCharacters

@@ -13,3 +13,10 @@ pub mod NodesLimited
 pub mod RefusedLines
 pub mod ThreeBlankLines
 pub mod TwoBlankLines
+pub mod BytesOfNoText
+pub mod DeepLines
+pub mod LinesAtTheLimit
+pub mod LinesOfNoCommand
+pub mod NumbersWrittenOtherwise
+pub mod OneByteLines
+pub mod UnitsAndSurrogates

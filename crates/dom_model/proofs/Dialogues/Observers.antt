@@ -8,3 +8,4 @@ pub mod OrderOfRegistrations
 pub mod TransientRegistrations
 pub mod TransientsOfTransients
 pub mod TwoTold
+pub mod MembersOfOptions
