@@ -21,3 +21,10 @@ pub mod DrawnPaths
 pub mod InsertAllowed
 pub mod SurroundChecked
 pub mod RangesElsewhere
+pub mod ContainedChildren
+pub mod TreesAside
+pub mod ListsByParts
+pub mod TopsOfTrees
+pub mod TreesOfRoots
+pub mod OldTrees
+pub mod TreesDrawn

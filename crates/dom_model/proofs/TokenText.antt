@@ -8,3 +8,4 @@ pub mod AlikeTrees
 pub mod Marked
 pub mod EditsMade
 pub mod Contents
+pub mod Fragments

@@ -179,7 +179,7 @@ module _ (low : ℕ) (v : World) (d : IsDrawing low v) where
         clash a (inl i) = let x = a.0 in let y = i.0 in omega arith
         clash a (inr i) = let x = a.1 in omega arith
 
-    may_come : IsInsertable v.forest n into None
+    pub may_come : IsInsertable v.forest n into None
     may_come =
         record {
           there = c.there;

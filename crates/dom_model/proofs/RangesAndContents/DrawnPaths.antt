@@ -100,7 +100,7 @@ kind-drawn f made s c p e h d =
     rw ec.1 (stands-drawn ep.0.value.label.kind ec.0.value.label.kind fit k)
 
 -- the children of a node that is drawn may be drawn
-child-drawable : (low : ℕ) (v : World) → IsDrawing low v → (n c : ℕ) → IsDrawable low v n → 0 < hits c (children_of v.forest n) → IsDrawable low v c
+pub child-drawable : (low : ℕ) (v : World) → IsDrawing low v → (n c : ℕ) → IsDrawable low v n → 0 < hits c (children_of v.forest n) → IsDrawable low v c
 child-drawable low v d n c h k =
     let p = child-parent v.forest d.sound.forest.once c n k in
     let hc = child-there v.forest d.sound.forest.once c n k in
@@ -136,38 +136,38 @@ module _ (low into n : ℕ) (v : World) (d : IsDrawing low v) (k : IsHolder low 
   n_holds : kind_passes may_be_parent v.forest n ≡ true
   n_holds = let e = entry_there v.forest n n_there in rw e.1 (drawn-holds e.0.value.label.kind (rw e.1 at drawable.kind) (rw e.1 at no_data))
 
-  kind_copied : (test : Kind → Bool) → kind_passes test copied.forest v.made ≡ kind_passes test v.forest n
+  pub kind_copied : (test : Kind → Bool) → kind_passes test copied.forest v.made ≡ kind_passes test v.forest n
   kind_copied test = kind-clone test (document_of_clone v n) v.made false n v.forest d.sound.forest.once (d.sound.forest.small v.made (omega arith)) n_there
 
-  first : Draws low (doing_clone false n) v copied
+  pub first : Draws low (doing_clone false n) v copied
   first = draws-clone low v d false n
 
-  second : Draws low (doing_append v.made into) copied held
+  pub second : Draws low (doing_append v.made into) copied held
   second =
       draws-append low copied first.drawing into v.made (holder-extends low v copied into first.extends k)
       (coming low copied into v.made (kind_copied is_drawn ∙ drawable.kind) (inr (new-greater low v d into (passes_there may_be_parent v.forest into k.kind))))
 
-  third : Draws low (doing_fragment (node_document v n)) held begun
+  pub third : Draws low (doing_fragment (node_document v n)) held begun
   third = draws-fragment low held second.drawing (node_document v n)
 
-  copy_holds : IsHolder low held v.made
+  pub copy_holds : IsHolder low held v.made
   copy_holds = holder-extends low copied held v.made second.extends (record { fresh = d.begun; kind = kind_copied may_be_parent ∙ n_holds })
 
-  kind_inner : (test : Kind → Bool) → kind_passes test begun.forest held.made ≡ test DocumentFragment
+  pub kind_inner : (test : Kind → Bool) → kind_passes test begun.forest held.made ≡ test DocumentFragment
   kind_inner test =
       ap (entry_has test)
       (entry-new held.forest second.drawing.sound.forest.once (record { number = held.made; document = node_document v n; label = named DocumentFragment []; body = no_content }) (second.drawing.sound.forest.small held.made (omega arith)))
 
-  greater : v.made < held.made
+  pub greater : v.made < held.made
   greater = new-greater low held second.drawing v.made (passes_there may_be_parent held.forest v.made copy_holds.kind)
 
-  inner_there : 0 < occurs held.made begun.forest
+  pub inner_there : 0 < occurs held.made begun.forest
   inner_there = passes_there (is_kind DocumentFragment) begun.forest held.made (kind_inner (is_kind DocumentFragment))
 
-  inner_holds : IsHolder low begun held.made
+  pub inner_holds : IsHolder low begun held.made
   inner_holds = record { fresh = second.drawing.begun; kind = kind_inner may_be_parent }
 
-  extended : Extends v begun
+  pub extended : Extends v begun
   extended = extends-then v held begun (extends-then v copied held first.extends second.extends) third.extends
 
   extended_data : KeepsData v begun
@@ -199,10 +199,10 @@ module _ (low into n : ℕ) (v : World) (d : IsDrawing low v) (k : IsHolder low 
       draws-as low v (append held.made v.made (filled held.made begun)) (λ t. doing_append held.made v.made (fill held.made (doing_fragment (node_document v n) (doing_append v.made into (doing_clone false n t))))) (doing_copy into n fill) (λ es. refl)
       (draws-filled (fill held.made) (filled held.made begun) (each held.made begun third.drawing extended extended_data inner_holds))
 
-if_so : {A : Type 0} (b : Bool) (x y : A) → b ≡ true → (if b then x else y) ≡ x
+pub if_so : {A : Type 0} (b : Bool) (x y : A) → b ≡ true → (if b then x else y) ≡ x
 if_so b x y e = rw e refl
 
-if_not : {A : Type 0} (b : Bool) (x y : A) → b ≡ false → (if b then x else y) ≡ y
+pub if_not : {A : Type 0} (b : Bool) (x y : A) → b ≡ false → (if b then x else y) ≡ y
 if_not b x y e = rw e refl
 
 -- A path down: nodes that may be drawn, and none with data but the last.
@@ -217,7 +217,7 @@ IsWithin offset v [] = Unit {0}
 IsWithin offset v (n ∷ []) = kind_passes is_character_data v.forest n ≡ true → offset ≤ length (data_of v n)
 IsWithin offset v (n ∷ m ∷ path) = IsWithin offset v (m ∷ path)
 
-within-kept : (low offset : ℕ) (v u : World) → Extends v u → KeepsData v u → (path : List ℕ) → ArePath low v path → IsWithin offset v path → IsWithin offset u path
+pub within-kept : (low offset : ℕ) (v u : World) → Extends v u → KeepsData v u → (path : List ℕ) → ArePath low v path → IsWithin offset v path → IsWithin offset u path
 within-kept low offset v u x kept [] p h = tt
 within-kept low offset v u x kept (n ∷ []) p h =
     λ k. let hn = passes_there is_drawn v.forest n p.kind in

@@ -47,7 +47,7 @@ module _ (low : ℕ) (v : World) (d : IsDrawing low v) where
         };
       }
 
-  draws-cut_if : (moves : Bool) (n offset count : ℕ) → kind_passes is_character_data v.forest n ≡ true → offset ≤ length (data_of v n) → Draws low (doing_cut_if moves n offset count) v (cut_if moves n offset count v)
+  pub draws-cut_if : (moves : Bool) (n offset count : ℕ) → kind_passes is_character_data v.forest n ≡ true → offset ≤ length (data_of v n) → Draws low (doing_cut_if moves n offset count) v (cut_if moves n offset count v)
   draws-cut_if false n offset count k within = draws-none low v d
   draws-cut_if true n offset count k within = draws-cut n offset count k within
 
@@ -73,7 +73,7 @@ module _ (low : ℕ) (v : World) (d : IsDrawing low v) where
   abbrev cut_copy : List ℕ → ℕ → Forest Content
   cut_copy units n = map_nodes (with_data units) (original false n v.forest)
 
-  draws-clone_with : (units : List ℕ) (n : ℕ) → Draws low (doing_clone_with units n) v (clone_with units n v)
+  pub draws-clone_with : (units : List ℕ) (n : ℕ) → Draws low (doing_clone_with units n) v (clone_with units n v)
   draws-clone_with units n =
       let fits : KindsFit None (cut_copy units n) = fits-alike (map-alike (with_data units) (λ x. refl) (original false n v.forest)) (fits-original false n v.forest d.sound.forest.kinds) in
       record {
@@ -119,7 +119,7 @@ drawn-doctype Document h = refl
 drawn-doctype DocumentType h = absurd (false≢true h)
 drawn-doctype DocumentFragment h = refl
 
-drawn-fragment : (k : Kind) → is_drawn k ≡ true → is_kind DocumentFragment k ≡ false
+pub drawn-fragment : (k : Kind) → is_drawn k ≡ true → is_kind DocumentFragment k ≡ false
 drawn-fragment Element h = refl
 drawn-fragment Text h = refl
 drawn-fragment ProcessingInstruction h = refl
@@ -128,7 +128,7 @@ drawn-fragment Document h = refl
 drawn-fragment DocumentType h = refl
 drawn-fragment DocumentFragment h = absurd (false≢true h)
 
-data-drawn : (k : Kind) → is_character_data k ≡ true → is_drawn k ≡ true
+pub data-drawn : (k : Kind) → is_character_data k ≡ true → is_drawn k ≡ true
 data-drawn Element h = refl
 data-drawn Text h = refl
 data-drawn ProcessingInstruction h = refl

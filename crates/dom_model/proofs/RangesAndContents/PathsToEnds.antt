@@ -31,7 +31,7 @@ use Rattle.dom_model.proofs.RangesAndContents.DrawnPieces.{IsDrawable}
 use Rattle.dom_model.proofs.RangesAndContents.DrawnPaths.{ArePath, IsWithin, kind-drawn}
 
 -- what stands below something is no Document and no fragment
-below_kinds : (parent k : Kind) → may_stand_in parent k ≡ true → (is_kind Document k ≡ false) × (is_kind DocumentFragment k ≡ false)
+pub below_kinds : (parent k : Kind) → may_stand_in parent k ≡ true → (is_kind Document k ≡ false) × (is_kind DocumentFragment k ≡ false)
 below_kinds parent Element h = (refl, refl)
 below_kinds parent Text h = (refl, refl)
 below_kinds parent ProcessingInstruction h = (refl, refl)

@@ -77,7 +77,7 @@ sound-made_node document label body w s =
 
 -- Copies.
 
-once-renumbered : (d next : ℕ) (g : Forest Content) (n : ℕ) → (occurs n (renumbered d next g) ≤ 1) × (n < next → occurs n (renumbered d next g) ≡ 0) × (next + size g ≤ n → occurs n (renumbered d next g) ≡ 0)
+pub once-renumbered : (d next : ℕ) (g : Forest Content) (n : ℕ) → (occurs n (renumbered d next g) ≤ 1) × (n < next → occurs n (renumbered d next g) ≡ 0) × (next + size g ≤ n → occurs n (renumbered d next g) ≡ 0)
 once-renumbered d next empty n = (omega arith, λ l. refl, λ l. refl)
 once-renumbered d next (node x kids rest) n =
     let i = once-renumbered d (next + 1) kids n in

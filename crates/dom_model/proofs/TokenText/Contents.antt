@@ -15,3 +15,17 @@ pub mod DeletedInPlace
 pub mod DeletedUnits
 pub mod WithinData
 pub mod LeftByText
+pub mod PathTokens
+pub mod TopsByParts
+pub mod WholePieces
+pub mod NodesOut
+pub mod PathShapes
+pub mod BetweenParts
+pub mod CutUnits
+pub mod PlaceOfContents
+pub mod CutEnds
+pub mod DeletedLeft
+pub mod NodesTaken
+pub mod TreesLeft
+pub mod ExtractedAsDeleted
+pub mod ExtractedLeft

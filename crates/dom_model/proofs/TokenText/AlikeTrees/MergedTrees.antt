@@ -86,7 +86,7 @@ module _ {X : Type 0} where
   with_node-beside n h empty g = refl
   with_node-beside n h (node x kids rest) g = ap (node (if x.number == n then h x else x) (with_node n h kids)) (with_node-beside n h rest g)
 
-  tree_at-with_node : (c n : ℕ) (h : Node X → Node X) → ((x : Node X) → (h x).number ≡ x.number) → (f : Forest X) → tree_at c (with_node n h f) ≡ with_node n h (tree_at c f)
+  pub tree_at-with_node : (c n : ℕ) (h : Node X → Node X) → ((x : Node X) → (h x).number ≡ x.number) → (f : Forest X) → tree_at c (with_node n h f) ≡ with_node n h (tree_at c f)
   tree_at-with_node c n h e empty = refl
   tree_at-with_node c n h e (node x kids rest) = go (x.number == n) refl (same_or x.number c) (tree_at-with_node c n h e kids) (tree_at-with_node c n h e rest)
     where

@@ -17,7 +17,7 @@ pub record IsLeft (r root : ℕ) (w v : World) : Type 0 where
   pub before : unmarked (before_mark r true (text_among root (texts_of v))) ≡ left_before r (text_among root (texts_of w))
   pub after : unmarked (after_mark r false (text_among root (texts_of v))) ≡ left_after r (text_among root (texts_of w))
 
-same-ends : (range : Range) → is_collapsed range ≡ true → range.start ≡ range.end
+pub same-ends : (range : Range) → is_collapsed range ≡ true → range.start ≡ range.end
 same-ends range h =
     elim (same_or range.start.node range.end.node) [
       | same d t ↦

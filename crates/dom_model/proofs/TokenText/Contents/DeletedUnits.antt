@@ -26,7 +26,7 @@ use Rattle.dom_model.proofs.TokenText.Contents.TextTold.{no_mark}
 
 -- The text of a root in which a node's text changes is its text with that change, if the root's text opens the node.
 
-among-tally : (test : Token → Bool) (root : ℕ) (texts : List (List Token)) → tally test (text_among root texts) ≤ tallies test texts
+pub among-tally : (test : Token → Bool) (root : ℕ) (texts : List (List Token)) → tally test (text_among root texts) ≤ tallies test texts
 among-tally test root [] = omega arith
 among-tally test root (text ∷ texts) = go (is_root_text root text) (among-tally test root texts)
   where
@@ -34,7 +34,7 @@ among-tally test root (text ∷ texts) = go (is_root_text root text) (among-tall
     go true h = omega arith
     go false h = omega arith
 
-among-changed : (test : Token → Bool) (root : ℕ) (above : List (List Token)) (text other : List Token) (below : List (List Token)) → is_root_text root other ≡ is_root_text root text → ((text_among root (above ++ (text ∷ below)) ≡ text) × (text_among root (above ++ (other ∷ below)) ≡ other)) ⊎ (tally test (text_among root (above ++ (text ∷ below))) ≤ tallies test above + tallies test below)
+pub among-changed : (test : Token → Bool) (root : ℕ) (above : List (List Token)) (text other : List Token) (below : List (List Token)) → is_root_text root other ≡ is_root_text root text → ((text_among root (above ++ (text ∷ below)) ≡ text) × (text_among root (above ++ (other ∷ below)) ≡ other)) ⊎ (tally test (text_among root (above ++ (text ∷ below))) ≤ tallies test above + tallies test below)
 among-changed test root [] text other below e = go (is_root_text root text) refl
   where
     go : (v : Bool) → is_root_text root text ≡ v → ((text_among root (text ∷ below) ≡ text) × (text_among root (other ∷ below) ≡ other)) ⊎ (tally test (text_among root (text ∷ below)) ≤ 0 + tallies test below)
@@ -131,11 +131,11 @@ three-parts (suc o) (suc c) [] = let e : suc o + suc c ≡ suc (o + suc c) = ome
 three-parts zero c (u ∷ us) = let e : 0 + c ≡ c = omega arith in rw e (sym (take-append-drop c (u ∷ us)))
 three-parts (suc o) c (u ∷ us) = let e : suc o + c ≡ suc (o + c) = omega arith in rw e (ap (λ vs. u ∷ vs) (three-parts o c us))
 
-units-anywhere : (n i j : ℕ) (us : List ℕ) → unit_tokens no_marks n i us ≡ unit_tokens no_marks n j us
+pub units-anywhere : (n i j : ℕ) (us : List ℕ) → unit_tokens no_marks n i us ≡ unit_tokens no_marks n j us
 units-anywhere n i j [] = refl
 units-anywhere n i j (u ∷ us) = ap (λ ts. OneUnit u ∷ ts) (units-anywhere n (suc i) (suc j) us)
 
-units-append : (n : ℕ) (us vs : List ℕ) → unit_tokens no_marks n 0 (us ++ vs) ≡ unit_tokens no_marks n 0 us ++ unit_tokens no_marks n 0 vs
+pub units-append : (n : ℕ) (us vs : List ℕ) → unit_tokens no_marks n 0 (us ++ vs) ≡ unit_tokens no_marks n 0 us ++ unit_tokens no_marks n 0 vs
 units-append n [] vs = refl
 units-append n (u ∷ us) vs =
     ap (λ ts. OneUnit u ∷ ts) (units-anywhere n 1 0 (us ++ vs) ∙ units-append n us vs ∙ ap (λ ts. ts ++ unit_tokens no_marks n 0 vs) (units-anywhere n 0 1 us))

@@ -28,11 +28,11 @@ opens-unit : (u : ℕ) (above ts : List Token) → opens_left above (OneUnit u �
 opens-unit u [] ts = refl
 opens-unit u (o ∷ above) ts = refl
 
-closes-open : (n depth : ℕ) (ts : List Token) → closes_left depth (Open n ∷ ts) ≡ closes_left (suc depth) ts
+pub closes-open : (n depth : ℕ) (ts : List Token) → closes_left depth (Open n ∷ ts) ≡ closes_left (suc depth) ts
 closes-open n zero ts = refl
 closes-open n (suc depth) ts = refl
 
-opens-open : (n : ℕ) (above ts : List Token) → opens_left above (Open n ∷ ts) ≡ opens_left (Open n ∷ above) ts
+pub opens-open : (n : ℕ) (above ts : List Token) → opens_left above (Open n ∷ ts) ≡ opens_left (Open n ∷ above) ts
 opens-open n [] ts = refl
 opens-open n (o ∷ above) ts = refl
 

@@ -108,7 +108,7 @@ module _ (w : World) (sound : IsSound w) (range : Range) (is_range : IsRange w.f
       }
 
   module _ (t : EndsAhead w range root) where
-    once-opened : (m : ℕ) → opened m (root_text w.forest root) ≤ 1
+    pub once-opened : (m : ℕ) → opened m (root_text w.forest root) ≤ 1
     once-opened m =
         let e = ap (opened m) t.tree.text ∙ opened-own no_marks no_mark m t.tree.top t.tree.kids (t.tree.alone, t.tree.less, tt) in
         let o = t.tree.once m in

@@ -14,9 +14,9 @@ use Rattle.dom_model.specs.MutationAlgorithms.Checks.{kind_passes}
 use Rattle.dom_model.specs.RangesAndContents.Ranges.{is_collapsed, range_at}
 use Rattle.dom_model.specs.RangesAndContents.Contents.{for_range, is_in_one_data, deleted, delete_contents}
 use Rattle.dom_model.specs.DataAndCopies.Data.{cut_count, data_of, with_data, replace_data}
-use Rattle.dom_model.specs.TokenText.Tokens.{Token, Open, Close, point, no_marks, unit_tokens}
-use Rattle.dom_model.specs.TokenText.Gaps.{root_text, tokens_ahead}
-use Rattle.dom_model.specs.TokenText.Between.{closes_left, opens_left}
+use Rattle.dom_model.specs.TokenText.Tokens.{Token, Open, Close, point, no_marks, unit_tokens, texts_of}
+use Rattle.dom_model.specs.TokenText.Gaps.{text_among, root_text, tokens_ahead}
+use Rattle.dom_model.specs.TokenText.Between.{between, closes_left, opens_left}
 use Rattle.dom_model.proofs.PlainLists.Numbers.{same_or, same, apart}
 use Rattle.dom_model.proofs.Forests.Entries.{occurs-HasNode}
 use Rattle.dom_model.proofs.Worlds.SameShape.{with_node-alike, root-alike}
@@ -38,7 +38,7 @@ pub record BothIn (w : World) (range : Range) : Type 0 where
   pub one : range.start.node ≡ range.end.node
   pub kind : kind_passes is_character_data w.forest range.start.node ≡ true
 
-both-in : (w : World) (range : Range) → is_in_one_data w range ≡ true → BothIn w range
+pub both-in : (w : World) (range : Range) → is_in_one_data w range ≡ true → BothIn w range
 both-in w range h =
     elim (same_or range.start.node range.end.node) [
       | same d t ↦ record { one = d; kind = rw t at h }
@@ -89,10 +89,10 @@ module _ (w : World) (r root : ℕ) (range : Range) (sound : IsSound w) (h : ran
   long : node_length unit_count w.forest range.start.node ≡ length (data_of w range.start.node)
   long = data-long w range.start.node both.kind
 
-  start-fits : range.start.offset ≤ length (data_of w range.start.node)
+  pub start-fits : range.start.offset ≤ length (data_of w range.start.node)
   start-fits = let l = is_range.starts.within in let k = long in omega arith
 
-  end-fits : range.end.offset ≤ length (data_of w range.start.node)
+  pub end-fits : range.end.offset ≤ length (data_of w range.start.node)
   end-fits =
       let l : range.end.offset ≤ node_length unit_count w.forest range.start.node = subst (λ m. range.end.offset ≤ node_length unit_count w.forest m) (sym both.one) is_range.ends.within in
       let k = long in
@@ -110,7 +110,7 @@ module _ (w : World) (r root : ℕ) (range : Range) (sound : IsSound w) (h : ran
   b-is : parts.b ≡ length there_data.ahead + suc range.end.offset
   b-is = end-in w sound range is_range root rooted ends range.end parts.b there_data.ahead range.start.node there_data.behind there_data.now free (sym both.one) end-fits parts.ends
 
-  in_order : range.start.offset ≤ range.end.offset
+  pub in_order : range.start.offset ≤ range.end.offset
   in_order = let a = a-is in let b = b-is in let l = parts.le in omega arith
 
   abbrev many : ℕ
@@ -197,19 +197,25 @@ module _ (w : World) (r root : ℕ) (range : Range) (sound : IsSound w) (h : ran
       let d : c ≡ length there_data.ahead + suc range.start.offset = cc e in
       d ∙ sym front-long
 
-  pub within-left : IsLeft r root w next
-  within-left =
-      let m = matches-units range.start.node 0 (take (range.end.offset - range.start.offset) (drop range.start.offset (data_of w range.start.node))) in
+  inner : take (parts.b - parts.a) (drop parts.a (root_text w.forest root)) ≡ middle
+  inner =
       let x : parts.a ≡ length front = a-is ∙ sym front-long in
       let y : parts.b - parts.a ≡ length middle = (let a = a-is in let b = b-is in let l = middle-long in omega arith) in
-      let z : parts.b ≡ length (front ++ middle) = (let a = a-is in let b = b-is in let i = in_order in let l = middle-long in let f = front-long in omega (arith, length-append front middle)) in
-      let inner : take (parts.b - parts.a) (drop parts.a (root_text w.forest root)) ≡ middle =
       ap (λ k. take k (drop parts.a (root_text w.forest root))) y
       ∙ ap (λ k. take (length middle) (drop k (root_text w.forest root))) x
       ∙ ap (λ ts. take (length middle) (drop (length front) ts)) text-now
       ∙ ap (take (length middle)) (drop-front front (middle ++ back))
       ∙ take-front middle back
-      in
+
+  -- between the markers are the units between the offsets
+  pub between-within : between r (text_among root (texts_of w)) ≡ unit_tokens no_marks range.start.node 0 (take (range.end.offset - range.start.offset) (drop range.start.offset (data_of w range.start.node)))
+  between-within = parts.inside ∙ inner
+
+  pub within-left : IsLeft r root w next
+  within-left =
+      let m = matches-units range.start.node 0 (take (range.end.offset - range.start.offset) (drop range.start.offset (data_of w range.start.node))) in
+      let x : parts.a ≡ length front = a-is ∙ sym front-long in
+      let z : parts.b ≡ length (front ++ middle) = (let a = a-is in let b = b-is in let i = in_order in let l = middle-long in let f = front-long in omega (arith, length-append front middle)) in
       let closes : closes_left 0 middle ≡ [] = ap (closes_left 0) (sym (append-nil middle)) ∙ m.closes 0 [] in
       let opens : opens_left [] middle ≡ [] = ap (opens_left []) (sym (append-nil middle)) ∙ m.opens [] [] in
       record {

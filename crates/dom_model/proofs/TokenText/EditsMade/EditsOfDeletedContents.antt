@@ -49,14 +49,14 @@ follows-cut_up_to n offset v s w es l =
     follows-if (kind_passes is_character_data v.forest n) v (replace_data n 0 offset [] v) v (doing_replace_data n 0 offset []) (λ t. t)
     (λ k. follows-replace_data n 0 offset [] v s k (omega arith)) (follows-none v) w es l
 
-cut_from-live : (r n offset : ℕ) (w : World) → is_live r (cut_from n offset w) ≡ is_live r w
+pub cut_from-live : (r n offset : ℕ) (w : World) → is_live r (cut_from n offset w) ≡ is_live r w
 cut_from-live r n offset w = go (kind_passes is_character_data w.forest n)
   where
     go : (b : Bool) → is_live r (if b then replace_data n offset (length (data_of w n) - offset) [] w else w) ≡ is_live r w
     go true = replace_data-live r n offset (length (data_of w n) - offset) [] w
     go false = refl
 
-cut_up_to-live : (r n offset : ℕ) (w : World) → is_live r (cut_up_to n offset w) ≡ is_live r w
+pub cut_up_to-live : (r n offset : ℕ) (w : World) → is_live r (cut_up_to n offset w) ≡ is_live r w
 cut_up_to-live r n offset w = go (kind_passes is_character_data w.forest n)
   where
     go : (b : Bool) → is_live r (if b then replace_data n 0 offset [] w else w) ≡ is_live r w

@@ -67,7 +67,7 @@ no_refusal : (b : Bool) → first_refusal ((b, HierarchyRequestError) ∷ []) �
 no_refusal true h = absurd (let k : Some HierarchyRequestError ≡ None = h in cc k)
 no_refusal false h = refl
 
-second-too : (a b : Bool) → (a && b) ≡ true → b ≡ true
+pub second-too : (a b : Bool) → (a && b) ≡ true → b ≡ true
 second-too true b h = h
 second-too false b h = absurd (false≢true h)
 
@@ -86,13 +86,13 @@ module _ (w : World) (s : IsSound w) (range : Range) (h : IsRange w.forest range
   fresh : occurs w.made w.forest ≡ 0
   fresh = s.forest.small w.made (omega arith)
 
-  at_start : IsDrawing w.made w
+  pub at_start : IsDrawing w.made w
   at_start = record { sound = s; begun = omega arith; rising = λ n q l e. absurd (let i = child_there w.forest n q e in let z = s.forest.small n l in omega arith) }
 
-  first : Draws w.made (doing_fragment document) w grown
+  pub first : Draws w.made (doing_fragment document) w grown
   first = draws-fragment w.made w at_start document
 
-  holds : IsHolder w.made grown w.made
+  pub holds : IsHolder w.made grown w.made
   holds = record { fresh = omega arith; kind = ap (entry_has may_be_parent) (entry-new w.forest s.forest.once fragment fresh) }
 
   below-made : (n : ℕ) → 0 < occurs n w.forest → n < w.made
@@ -129,7 +129,7 @@ module _ (w : World) (s : IsSound w) (range : Range) (h : IsRange w.forest range
   same_entry : (m : ℕ) → 0 < occurs m w.forest → entry_in grown.forest m ≡ entry_in w.forest m
   same_entry m k = entry-more w.forest s.forest.once fragment fresh m k
 
-  same_ancestors : (n : ℕ) → 0 < occurs n w.forest → ancestors n grown.forest ≡ ancestors n w.forest
+  pub same_ancestors : (n : ℕ) → 0 < occurs n w.forest → ancestors n grown.forest ≡ ancestors n w.forest
   same_ancestors n k = ancestors-part w.forest grown.forest s.forest.once (more-once w.forest s.forest.once fragment fresh) same_entry n k
 
   there : (n : ℕ) → 0 < occurs n w.forest → 0 < occurs n grown.forest
@@ -140,7 +140,7 @@ module _ (w : World) (s : IsSound w) (range : Range) (h : IsRange w.forest range
 
   -- The range stands to the trees as it did.
 
-  common-same : common_of grown range ≡ common_of w range
+  pub common-same : common_of grown range ≡ common_of w range
   common-same =
       ap (λ ns. unwrap_or (head_of (filter (λ a. among a ns) (ancestors range.start.node grown.forest))) range.start.node) (same_ancestors range.end.node he)
       ∙ ap (λ ns. unwrap_or (head_of (filter (λ a. among a (ancestors range.end.node w.forest)) ns)) range.start.node) (same_ancestors range.start.node hs)
@@ -161,10 +161,10 @@ module _ (w : World) (s : IsSound w) (range : Range) (h : IsRange w.forest range
   end_path = path-down w.made grown first.drawing.sound old (common_of grown range) range.end.node (there range.end.node he) (same_kind (is_kind DocumentType) range.end.node he ∙ h.ends.kind) above.1
 
   -- and its start is within the data of its node
-  start_data : data_of grown range.start.node ≡ data_of w range.start.node
+  pub start_data : data_of grown range.start.node ≡ data_of w range.start.node
   start_data = data-copies w.made w at_start document (node (record { number = 0; document = document; label = named DocumentFragment []; body = no_content }) empty empty) range.start.node hs
 
-  start_within : kind_passes is_character_data grown.forest range.start.node ≡ true → range.start.offset ≤ length (data_of grown range.start.node)
+  pub start_within : kind_passes is_character_data grown.forest range.start.node ≡ true → range.start.offset ≤ length (data_of grown range.start.node)
   start_within k = subst (λ (xs : List ℕ). range.start.offset ≤ length xs) (sym start_data) (offset_of_start w range h (sym (same_kind is_character_data range.start.node hs) ∙ k))
 
   contained-same : (n : ℕ) → 0 < occurs n w.forest → contained_in grown range n ≡ contained_in w range n
@@ -180,14 +180,14 @@ module _ (w : World) (s : IsSound w) (range : Range) (h : IsRange w.forest range
       both : {a b c d : Bool} → a ≡ b → c ≡ d → (a && c) ≡ (b && d)
       both {a} {b} {c} {d} e f = ap (λ x. x && c) e ∙ ap (λ x. b && x) f
 
-  contained_children-same : contained_children grown range ≡ contained_children w range
+  pub contained_children-same : contained_children grown range ≡ contained_children w range
   contained_children-same =
       ap (λ m. filter (contained_in grown range) (children_of grown.forest m)) common-same
       ∙ ap (λ ns. filter (contained_in grown range) ns) (children-more w.forest s.forest.once fragment fresh (common_of w range) common_there)
       ∙ filter-agree (contained_in grown range) (contained_in w range) (children_of w.forest (common_of w range)) (λ n k. contained-same n (child-there w.forest s.forest.once n (common_of w range) k))
 
   module _ (no_doctype : check_draw w range ≡ None) where
-    contained_drawable : (c : ℕ) → 0 < hits c (contained_children grown range) → IsDrawable w.made grown c
+    pub contained_drawable : (c : ℕ) → 0 < hits c (contained_children grown range) → IsDrawable w.made grown c
     contained_drawable c k =
         let parent = common_of w range in
         let kw : 0 < hits c (contained_children w range) = subst (λ ns. 0 < hits c ns) contained_children-same k in

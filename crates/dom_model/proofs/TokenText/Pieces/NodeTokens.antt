@@ -18,7 +18,7 @@ use Rattle.dom_model.proofs.TokenText.AlikeTrees.TreesAlikeAfter.{alike-tree}
 use Rattle.dom_model.proofs.TokenText.Marked.MarkedTexts.{Marked, not_twice, trees_once}
 
 -- the tokens of a node of a forest
-node-tokens : (marks : (Point → List Token)) → ((p : Point) → AreMarks (marks p)) → (y : Node Content) (ys f : Forest Content) → ((m : ℕ) → occurs m f ≤ 1) → Childless f → tree_at y.number f ≡ node y ys empty → tokens_among y.number (token_texts marks f) ≡ own marks y ys
+pub node-tokens : (marks : (Point → List Token)) → ((p : Point) → AreMarks (marks p)) → (y : Node Content) (ys f : Forest Content) → ((m : ℕ) → occurs m f ≤ 1) → Childless f → tree_at y.number f ≡ node y ys empty → tokens_among y.number (token_texts marks f) ≡ own marks y ys
 node-tokens marks only y ys f o c e =
     let h = not_twice f o y ys e in
     let a = around_texts marks y.number (node y ys empty) f o c h e in

@@ -1,0 +1,218 @@
+-- The fragment that extracting or cloning the contents of a live range makes holds what lies between the range's markers.
+-- DOM Standard, "Interface Range": extractContents, cloneContents.
+use Rattle.std.proofs.Common.{◌≡◌, ℕ, suc, ◌-◌, ◌<◌, ◌≤◌, ◌==◌, Bool, true, false, ◌||◌, if◌then◌else◌, List, [], ◌∷◌, ◌++◌, take, drop, length, Option, Some, None, refl, ap, sym, ◌∙◌, subst, arith, length-drop, ⊎_elim}
+use Rattle.std.specs.Prelude.{replicate}
+use Rattle.std.proofs.lemmas.Bool.{cases_lt, false≢true}
+use Rattle.std.proofs.lemmas.List.{length-take-le}
+use Rattle.dom_model.specs.declared.Kind.TheVariants.{DocumentFragment}
+use Rattle.dom_model.specs.PlainLists.Lists.{hits, last_of}
+use Rattle.dom_model.specs.Forests.Kinds.{is_character_data, may_be_parent}
+use Rattle.dom_model.specs.Forests.Arena.{Entry, parent_in, children_in}
+use Rattle.dom_model.specs.Forests.Forest.{Node, Forest, empty, node, occurs, tops, entry_in, parent_of, children_of, root_of}
+use Rattle.dom_model.specs.Worlds.World.{Content, Range, World, no_content}
+use Rattle.dom_model.specs.Worlds.Sound.{IsRange, IsSound}
+use Rattle.dom_model.specs.MutationAlgorithms.Checks.{entry_has, kind_passes}
+use Rattle.dom_model.specs.MutationAlgorithms.Editing.{node_document}
+use Rattle.dom_model.specs.Commands.Making.{named}
+use Rattle.dom_model.specs.DataAndCopies.Data.{data_of}
+use Rattle.dom_model.specs.RangesAndContents.Ranges.{is_collapsed, range_at, with_range, collapsed_at}
+use Rattle.dom_model.specs.RangesAndContents.Contents.{for_range, is_in_one_data, new_place, new_fragment, units_into, parts_into, contents_drawn, check_draw, check_extract, extracted, extract, clone_contents}
+use Rattle.dom_model.specs.TokenText.Tokens.{Token, Open, Close, no_marks, unit_tokens, texts_of}
+use Rattle.dom_model.specs.TokenText.Gaps.{text_among, root_text, tokens_ahead}
+use Rattle.dom_model.specs.TokenText.Between.{between, same_shape, are_units, fragment_shape}
+use Rattle.dom_model.proofs.PlainLists.Numbers.{same_or, same, apart}
+use Rattle.dom_model.proofs.Forests.Changes.{seen, nothing, just}
+use Rattle.dom_model.proofs.Forests.Climbing.{hits-first}
+use Rattle.dom_model.proofs.Forests.Entries.{Lies-entry_in, occurs-HasNode}
+use Rattle.dom_model.proofs.Forests.OneMoreRoot.{entry-new}
+use Rattle.dom_model.proofs.Forests.Paths.{root-path}
+use Rattle.dom_model.proofs.MutationAlgorithms.Loosened.{root-listed}
+use Rattle.dom_model.proofs.TokenText.Marked.MarkedFirst.{kinds-childless}
+use Rattle.dom_model.proofs.TokenText.EditsMade.EditsOfDrawnContents.{sound-range, check-range, first, holds, start_data, start_within, second-too}
+use Rattle.dom_model.proofs.RangesAndContents.Drawing.{IsDrawing, passes_there}
+use Rattle.dom_model.proofs.TokenText.Contents.TextsOfRoots.{TreeOf, tree_of_root}
+use Rattle.dom_model.proofs.TokenText.Contents.PartsByGaps.{parts-by_gaps}
+use Rattle.dom_model.proofs.TokenText.Contents.DeletedInPlace.{same-ends}
+use Rattle.dom_model.proofs.TokenText.Contents.WithinData.{BothIn, both-in, end-fits, in_order, between-within}
+use Rattle.dom_model.proofs.TokenText.Contents.PathTokens.{start_path, end_path, parts_tokens}
+use Rattle.dom_model.proofs.TokenText.Contents.BetweenParts.{between-parts}
+use Rattle.dom_model.proofs.TokenText.Fragments.Shapes.{shape, shape-append, shape-same, shape-children, tree_shape}
+use Rattle.dom_model.proofs.TokenText.Fragments.StandingTrees.{Stands, stands-lies, stands-shape}
+use Rattle.dom_model.proofs.TokenText.Fragments.DrawnTrees.{Drew, drew-none}
+use Rattle.dom_model.proofs.TokenText.Fragments.DrawnCopies.{units-drew}
+use Rattle.dom_model.proofs.TokenText.Fragments.DrawnParts.{parts-drew}
+use Rattle.dom_model.proofs.TokenText.Fragments.MatchedParts.{parts-shape}
+
+-- The text of a root that holds trees.
+
+module _ (v : World) (sound : IsSound v) (n : ℕ) (there : 0 < occurs n v.forest) (top : parent_of v.forest n ≡ None) (no_data : kind_passes is_character_data v.forest n ≡ false) where
+  tree : TreeOf (entry_in v.forest) n v.forest
+  tree =
+      tree_of_root (entry_in v.forest) n v.forest sound.forest.once (Lies-entry_in v.forest sound.forest.once) (kinds-childless None v.forest sound.forest.kinds)
+      (root-listed v.forest sound.forest.once n top there)
+
+  top_there : 0 < occurs tree.top.number (node tree.top tree.kids empty)
+  top_there = elim (same_or tree.top.number tree.top.number) [ same e t ↦ rw t (omega arith) | apart ne t ↦ absurd (ne refl) ]
+
+  in_forest : 0 < occurs tree.top.number v.forest
+  in_forest = occurs-HasNode v.forest tree.top.number (rw tree.entry refl)
+
+  named_so : tree.top.number ≡ n
+  named_so =
+      let a = root-path v.forest sound.forest.once tree.top.number in_forest (ap (λ (o : Option (Entry (Node Content))). parent_in o) tree.entry) in
+      let e : Some tree.top.number ≡ Some n = sym (ap last_of a) ∙ tree.inside tree.top.number top_there in
+      cc e
+
+  bare : is_character_data tree.top.label.kind ≡ false
+  bare = sym (ap (entry_has is_character_data) tree.entry) ∙ ap (kind_passes is_character_data v.forest) named_so ∙ no_data
+
+  listed : children_of v.forest n ≡ tops tree.kids
+  listed = ap (children_of v.forest) (sym named_so) ∙ ap children_in tree.entry
+
+  pub text-shape : (trees : Forest Content) → Stands v trees → children_of v.forest n ≡ tops trees → shape (root_text v.forest n) ≡ Open 0 ∷ (tree_shape trees ++ (Close ∷ []))
+  text-shape trees s e =
+      ap shape tree.text
+      ∙ shape-children 0 0 (node tree.top tree.kids empty)
+      ∙ (rw bare refl)
+      ∙ ap (λ ts. Open 0 ∷ (ts ++ (Close ∷ []))) (stands-shape v tree.kids trees (stands-lies v (Some tree.top.number) tree.kids tree.lies) s (sym listed ∙ e))
+
+-- ends in one node that are not one point
+apart-ends : (range : Range) → range.start.node ≡ range.end.node → is_collapsed range ≡ false → range.start.offset ≤ range.end.offset → range.start.offset < range.end.offset
+apart-ends range one wide le =
+    ⊎_elim
+    (λ (lt : range.start.offset < range.end.offset). lt)
+    (λ (ge : range.end.offset ≤ range.start.offset).
+    let e : range.start.offset ≡ range.end.offset = omega arith in
+    absurd (elim (same_or range.start.node range.end.node) [
+      | same d t ↦ elim (same_or range.start.offset range.end.offset) [ same i u ↦ false≢true (sym wide ∙ (rw (t, u) refl)) | apart ne u ↦ ne e ]
+      | apart ne t ↦ ne one
+    ]))
+    (cases_lt range.start.offset range.end.offset)
+
+-- The fragment of a drawing.
+
+module _ (w : World) (sound : IsSound w) (range : Range) (is : IsRange w.forest range) where
+  abbrev grown : World
+  grown = new_fragment (node_document w range.start.node) w
+
+  abbrev fragment : Node Content
+  fragment = record { number = w.made; document = node_document w range.start.node; label = named DocumentFragment []; body = no_content }
+
+  begins : IsDrawing w.made grown
+  begins = (first w sound range is).drawing
+
+  fragment_entry : entry_in grown.forest w.made ≡ Some (record { value = fragment; parent = None; children = [] })
+  fragment_entry = entry-new w.forest sound.forest.once fragment (sound.forest.small w.made (omega arith))
+
+  fragment_there : 0 < occurs w.made grown.forest
+  fragment_there = passes_there may_be_parent grown.forest w.made (holds w sound range is).kind
+
+  -- the fragment has the shape of what was drawn
+  drawn-shape : (bad touched : List ℕ) (u : World) (ts : List Token) → Drew w.made bad touched grown u w.made ts → shape (root_text u.forest w.made) ≡ Open 0 ∷ (shape ts ++ (Close ∷ []))
+  drawn-shape bad touched u ts d =
+      text-shape u d.drawing.sound w.made (d.extends.there w.made fragment_there) root (d.extends.kinds is_character_data w.made fragment_there ∙ ap (entry_has is_character_data) fragment_entry) d.trees d.stands
+      (d.added ∙ ap (λ ns. ns ++ tops d.trees) (ap children_in fragment_entry))
+      ∙ ap (λ us. Open 0 ∷ (us ++ (Close ∷ []))) d.shaped
+    where
+      root : parent_of u.forest w.made ≡ None
+      root =
+          elim (seen (parent_of u.forest w.made)) [
+            | nothing e ↦ e
+            | just q e ↦ absurd (let i = d.drawing.rising w.made q (omega arith) e in let a = i.0 in let b = i.1 in omega arith)
+          ]
+
+  module _ (r root : ℕ) (h : range_at w r ≡ Some range) (rooted : root_of w.forest range.start.node ≡ Some root) (moves : Bool) where
+    abbrev wanted : List Token
+    wanted = shape (fragment_shape (between r (text_among root (texts_of w))))
+
+    -- a range whose ends are one point
+    of_none : is_collapsed range ≡ true → shape (root_text grown.forest w.made) ≡ wanted
+    of_none one =
+        let p = parts-by_gaps w r root range sound h rooted in
+        let e : Some p.a ≡ Some p.b = sym p.starts ∙ ap (λ q. tokens_ahead q [] (root_text w.forest root)) (same-ends range one) ∙ p.ends in
+        let d : p.a ≡ p.b = cc e in
+        let z : p.b - p.a ≡ 0 = omega arith in
+        let none : between r (text_among root (texts_of w)) ≡ [] = p.inside ∙ ap (λ k. take k (drop p.a (root_text w.forest root))) z in
+        drawn-shape [] [] grown [] (drew-none w.made [] [] grown w.made begins) ∙ sym (ap (λ ts. shape (fragment_shape ts)) none)
+
+    -- one within a node with data
+    one_node-shape : (n : ℕ) (us : List ℕ) → 0 < length us → fragment_shape (unit_tokens no_marks n 0 us) ≡ Open 0 ∷ ((Open 0 ∷ (unit_tokens no_marks n 0 us ++ (Close ∷ []))) ++ (Close ∷ []))
+    one_node-shape n [] l = absurd (omega arith)
+    one_node-shape n (u ∷ us) l = rw (units-are n 1 us) refl
+      where
+        units-are : (n i : ℕ) (us : List ℕ) → are_units (unit_tokens no_marks n i us) ≡ true
+        units-are n i [] = refl
+        units-are n i (u ∷ us) = units-are n (suc i) us
+
+    of_units : is_collapsed range ≡ false → is_in_one_data w range ≡ true → shape (root_text (units_into moves w.made range.start.node range.start.offset (range.end.offset - range.start.offset) grown).forest w.made) ≡ wanted
+    of_units wide one =
+        let has = second-too (range.start.node == range.end.node) (kind_passes is_character_data w.forest range.start.node) one in
+        let g = (first w sound range is).extends in
+        let hs = occurs-HasNode w.forest range.start.node is.starts.there in
+        let d = units-drew w.made (range.start.node ∷ []) old w.made range.start.node range.start.offset (range.end.offset - range.start.offset) grown begins (holds w sound range is) (g.kinds is_character_data range.start.node hs ∙ has) (start_within w sound range is (g.kinds is_character_data range.start.node hs ∙ has)) (hits-first range.start.node []) moves in
+        drawn-shape (range.start.node ∷ []) (range.start.node ∷ []) _ _ d
+        ∙ ap (λ (us : List ℕ). Open 0 ∷ (shape (Open range.start.node ∷ (unit_tokens no_marks range.start.node 0 (take (range.end.offset - range.start.offset) (drop range.start.offset us)) ++ (Close ∷ []))) ++ (Close ∷ []))) (start_data w sound range is)
+        ∙ ap (λ ts. Open 0 ∷ ts) (sym (shape-append (Open range.start.node ∷ (unit_tokens no_marks range.start.node 0 units ++ (Close ∷ []))) (Close ∷ [])))
+        ∙ sym (ap shape (one_node-shape range.start.node units some))
+        ∙ sym (ap (λ ts. shape (fragment_shape ts)) (between-within w r root range sound h rooted both))
+      where
+        units : List ℕ
+        units = take (range.end.offset - range.start.offset) (drop range.start.offset (data_of w range.start.node))
+
+        both : BothIn w range
+        both = both-in w range one
+
+        some : 0 < length units
+        some =
+            let i = in_order w r root range sound h rooted both in
+            let j = end-fits w r root range sound h rooted both in
+            let k = length-drop range.start.offset (data_of w range.start.node) in
+            let l = length-take-le (range.end.offset - range.start.offset) (drop range.start.offset (data_of w range.start.node)) (omega arith) in
+            let ne = apart-ends range both.one wide i in
+            omega arith
+
+        old : (x : ℕ) → w.made ≤ x → hits x (range.start.node ∷ []) ≡ 0
+        old x l =
+            elim (same_or range.start.node x) [
+              | same e t ↦ absurd (let z = sound.forest.small x l in let i = subst (λ m. 0 < occurs m w.forest) e (occurs-HasNode w.forest range.start.node is.starts.there) in omega arith)
+              | apart ne t ↦ rw t refl
+            ]
+
+    -- any other
+    of_parts : is_collapsed range ≡ false → is_in_one_data w range ≡ false → check_draw w range ≡ None → shape (root_text (parts_into moves w.made range grown).forest w.made) ≡ wanted
+    of_parts wide two no_doctype =
+        drawn-shape _ _ _ _ (parts-drew w sound range is no_doctype moves)
+        ∙ ap (λ ts. Open 0 ∷ ts) (sym (shape-append (replicate (length (start_path w range)) (Open 0) ++ (parts_tokens w range ++ replicate (length (end_path w range)) Close)) (Close ∷ [])))
+        ∙ sym (ap shape (parts-shape w sound range is))
+        ∙ sym (ap (λ ts. shape (fragment_shape ts)) (between-parts w r root range sound h rooted wide two))
+
+    drawn-between : check_draw w range ≡ None → shape (root_text (contents_drawn moves range w).forest w.made) ≡ wanted
+    drawn-between no_doctype = go (is_collapsed range) (is_in_one_data w range) refl refl
+      where
+        go : (a b : Bool) → is_collapsed range ≡ a → is_in_one_data w range ≡ b → shape (root_text (if a then grown else if b then units_into moves w.made range.start.node range.start.offset (range.end.offset - range.start.offset) grown else parts_into moves w.made range grown).forest w.made) ≡ wanted
+        go true b e d = of_none e
+        go false true e d = of_units e d
+        go false false e d = of_parts e d no_doctype
+
+-- clone the contents
+pub cloned-between : (w : World) (r root : ℕ) (range : Range) → IsSound w → range_at w r ≡ Some range → root_of w.forest range.start.node ≡ Some root → check_extract r w ≡ None →
+    same_shape (root_text (clone_contents r w).forest w.made) (fragment_shape (between r (text_among root (texts_of w)))) ≡ true
+cloned-between w r root range sound h rooted fits =
+    let is = sound-range w r range sound h in
+    let e = drawn-between w sound range is r root h rooted false (check-range w r range h fits) in
+    let d : clone_contents r w ≡ contents_drawn false range w = ap (λ (o : Option Range). for_range o w (λ x. contents_drawn false x w)) h in
+    shape-same (root_text (clone_contents r w).forest w.made) (fragment_shape (between r (text_among root (texts_of w)))) (ap (λ (u : World). shape (root_text u.forest w.made)) d ∙ e)
+
+-- extract
+pub extracted-between : (w : World) (r root : ℕ) (range : Range) → IsSound w → range_at w r ≡ Some range → root_of w.forest range.start.node ≡ Some root → check_extract r w ≡ None →
+    same_shape (root_text (extract r w).forest w.made) (fragment_shape (between r (text_among root (texts_of w)))) ≡ true
+extracted-between w r root range sound h rooted fits =
+    let is = sound-range w r range sound h in
+    let e = drawn-between w sound range is r root h rooted true (check-range w r range h fits) in
+    let d : extract r w ≡ extracted r range w = ap (λ (o : Option Range). for_range o w (λ x. extracted r x w)) h in
+    let moved : (extracted r range w).forest ≡ (contents_drawn true range w).forest = go (is_collapsed range || is_in_one_data w range) in
+    shape-same (root_text (extract r w).forest w.made) (fragment_shape (between r (text_among root (texts_of w)))) (ap (λ (u : World). shape (root_text u.forest w.made)) d ∙ ap (λ f. shape (root_text f w.made)) moved ∙ e)
+  where
+    go : (v : Bool) → (if v then contents_drawn true range w else with_range r (collapsed_at (new_place w.forest range)) (contents_drawn true range w)).forest ≡ (contents_drawn true range w).forest
+    go true = refl
+    go false = refl
