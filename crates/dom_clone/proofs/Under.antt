@@ -1,7 +1,7 @@
 -- A root goes under a node of its node document, and the world stays whole.
 use Rattle.std.proofs.Common.{◌≡◌, ℕ, ◌<◌, Bool, true, false, if◌then◌else◌, Option, Some, None, IfSome, is_some, refl, ap, sym, ◌∙◌, subst, arith}
 use Rattle.std.proofs.lemmas.Bool.{false≢true}
-use Rattle.std.proofs.lemmas.List.Elements.{All-weaker, All-nil}
+use Rattle.std.proofs.lemmas.List.Elements.{All-weaker}
 use Rattle.dom_model.specs.PlainLists.Lists.{among, or_else}
 use Rattle.dom_model.specs.Forests.Arena.{Entry}
 use Rattle.dom_model.specs.Forests.Kinds.{is_kind, may_stand_in}
@@ -11,7 +11,7 @@ use Rattle.dom_model.specs.Forests.EachNode.{EachNode}
 use Rattle.dom_model.specs.declared.Kind.TheVariants.{Document}
 use Rattle.dom_model.specs.Worlds.World.{Content, Range}
 use Rattle.dom_model.specs.Worlds.World as model
-use Rattle.dom_model.specs.Worlds.Sound.{IsSound, IsRegistration}
+use Rattle.dom_model.specs.Worlds.Sound.{IsSound}
 use Rattle.dom_model.specs.Commands.Making.{made_node}
 use Rattle.dom_model.specs.MutationAlgorithms.Checks.{is_of_kind}
 use Rattle.dom_model.specs.MutationAlgorithms.Editing.{document_in}
@@ -30,7 +30,7 @@ use Rattle.dom_tree.specs.Standing.{MayStand}
 use Rattle.dom_observe.specs.Watchers.{Watches}
 use Rattle.dom_edit.specs.declared.world.World.{World}
 use Rattle.dom_edit.specs.Whole.{IsWhole, AreHeld, Keeps, Follows, unwatched}
-use Rattle.dom_edit.proofs.Following.{follows-then, keeps-unwatched, whole-sound}
+use Rattle.dom_edit.proofs.Following.{follows-then, keeps-unwatched, sound-unwatched, whole-sound}
 use Rattle.dom_clone.specs.Growing.{made_under}
 
 -- what holds of each node holds of what an entry tells
@@ -52,9 +52,6 @@ follows-same a b s t alike f = record {
   keeps = λ w k. subst (λ v. Keeps b v) (alike w k) (f.keeps w k);
   watches = λ w k o. let e : (s w).observing ≡ (t w).observing = ap (λ (v : model.World). v.observing) (alike w k) in subst (λ x. Watches b.observers x) e (f.watches w k o);
 }
-
-pub sound-unwatched : (v : World) → IsWhole v → IsSound (unwatched v)
-sound-unwatched v h = record { forest = h.forest; ranges = h.ranges; iterators = h.iterators; walkers = h.walkers; registrations = All-nil (IsRegistration v.tree.forest) }
 
 -- a root and a node of its node document that may have it as its child
 pub record MayGoUnder (f : Forest Content) (parent child d : ℕ) : Type 0 where

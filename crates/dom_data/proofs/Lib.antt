@@ -14,3 +14,4 @@ pub mod JoinedInTurn
 pub mod FollowingTexts
 pub mod TakenIn
 pub mod JoinedTexts
+pub mod Marking

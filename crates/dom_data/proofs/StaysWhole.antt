@@ -23,18 +23,9 @@ use Rattle.dom_edit.specs.declared.world.World.{World}
 use Rattle.dom_edit.specs.Whole.{AreHeld, IsWhole, Keeps, Follows, unwatched}
 use Rattle.dom_observe.specs.Watchers.{Watches}
 use Rattle.std.proofs.lemmas.Bool.Decides.{nat_tests}
+pub use Rattle.dom_edit.proofs.Following.{sound-unwatched}
 use Rattle.dom_edit.proofs.Following.{whole-sound}
 use Rattle.dom_data.proofs.ChangedBodies.{EachNode-with_node}
-
--- in a whole world, nobody watching, all is sound
-pub sound-unwatched : (v : World) → IsWhole v → IsSound (unwatched v)
-sound-unwatched v h = record {
-  forest = h.forest;
-  ranges = h.ranges;
-  iterators = h.iterators;
-  walkers = h.walkers;
-  registrations = λ i d lt. absurd (omega arith);
-}
 
 -- other observers
 pub whole-observed : (old new : World) → new ≡ record old { observers = new.observers } → IsWhole old → IsWhole new

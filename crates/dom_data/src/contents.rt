@@ -7,7 +7,9 @@ ghost use Rattle.dom_model.specs.Forests.Kinds.{may_be_parent};
 ghost use Rattle.dom_model.specs.MutationAlgorithms.Checks.{kind_passes};
 ghost use Rattle.std.specs.Option.{ForSome};
 ghost use Rattle.dom_model.specs.MutationAlgorithms.Editing.{replace_all};
+ghost use Rattle.dom_model.specs.TokenText.Edits.{set_text_content_edits};
 ghost use Rattle.dom_edit.specs.Whole.{IsWhole, Follows, unwatched};
+ghost use Rattle.dom_edit.specs.Markers.{StandByEdits};
 ghost use Rattle.dom_data.specs.Gathering.{text_at, gathered};
 
 use crate::bodies::{data_in, kind_in};
@@ -118,6 +120,7 @@ pub fn set_text_content(
     requires held { HasNode world.old.tree.forest node }
     requires room { world.old.tree.made < 4294967295 }
     ensures set { OnOk result (Follows world.old world.new (set_text_content node text)) }
+    ensures markers { OnOk result (StandByEdits world.old world.new (set_text_content_edits node text)) }
     ensures whole { IsWhole world.new }
 {
     match kind_in(&world.tree, node) {

@@ -8,7 +8,9 @@ ghost use Rattle.dom_model.specs.MutationAlgorithms.Checks.{is_of_kind};
 ghost use Rattle.dom_model.specs.DataAndCopies.Data.{data_of, replace_data, following_texts, is_descendant, join_following, normalize_text, normalize_each, normalize};
 ghost use Rattle.dom_model.proofs.Soundness.SoundJoining.{AreJoinable};
 ghost use Rattle.dom_ranges.specs.Tables.{live_nodes};
+ghost use Rattle.dom_model.specs.TokenText.Edits.{normalize_edits};
 ghost use Rattle.dom_edit.specs.Whole.{IsWhole, Follows, unwatched};
+ghost use Rattle.dom_edit.specs.Markers.{StandByEdits};
 ghost use Rattle.dom_data.specs.TextsAlone.{alone, texts_among};
 ghost use Rattle.dom_data.specs.Joining.{next_text, texts_behind, data_among, IsNextTaken, taken_in, each_taken_in};
 
@@ -274,6 +276,7 @@ pub fn normalize(world: &mut World, alloc: Global, node: NodeId) -> Result<(), A
     requires whole { IsWhole world.old }
     requires held { HasNode world.old.tree.forest node }
     ensures normalized { OnOk result (Follows world.old world.new (normalize node)) }
+    ensures markers { OnOk result (StandByEdits world.old world.new (normalize_edits node)) }
     ensures whole { IsWhole world.new }
 {
     let texts = texts_below(&world.tree, alloc, node)?;

@@ -5,7 +5,9 @@ ghost use Rattle.std.specs.Result.{IfErr};
 ghost use Rattle.dom_model.specs.Forests.Kinds.{is_character_data};
 ghost use Rattle.dom_model.specs.MutationAlgorithms.Checks.{kind_passes};
 ghost use Rattle.dom_model.specs.DataAndCopies.Data.{data_of, data_record, replace_units, check_offset, replace_data, set_data, substring_data};
+ghost use Rattle.dom_model.specs.TokenText.Edits.{replace_data_edits, set_data_edits};
 ghost use Rattle.dom_edit.specs.Whole.{IsWhole, Follows, unwatched};
+ghost use Rattle.dom_edit.specs.Markers.{StandByEdits};
 ghost use Rattle.dom_edit.specs.Refusals.{IsRefused};
 ghost use Rattle.dom_data.specs.Reading.{IsNamed};
 
@@ -53,6 +55,7 @@ pub fn replace_data(
     requires kind { kind_passes is_character_data world.old.tree.forest node ≡ true }
     ensures allowed { OnOk result (check_offset (unwatched world.old) node offset ≡ None) }
     ensures replaced { OnOk result (Follows world.old world.new (replace_data node offset count added.now)) }
+    ensures markers { OnOk result (StandByEdits world.old world.new (replace_data_edits node offset count added.now)) }
     ensures refused { IfErr result (λ e. IsRefused e (check_offset (unwatched world.old) node offset) world.old world.new) }
     ensures whole { IsWhole world.new }
 {
@@ -75,6 +78,7 @@ pub fn set_data(
     requires whole { IsWhole world.old }
     requires kind { kind_passes is_character_data world.old.tree.forest node ≡ true }
     ensures set { OnOk result (Follows world.old world.new (set_data node text.now)) }
+    ensures markers { OnOk result (StandByEdits world.old world.new (set_data_edits node text.now)) }
     ensures whole { IsWhole world.new }
 {
     let length = data_in(&world.tree, node).len();

@@ -6,7 +6,9 @@ ghost use Rattle.dom_model.specs.declared.Kind.TheVariants.{Text};
 ghost use Rattle.dom_model.specs.Forests.Forest.{HasNode, parent_of, children_of};
 ghost use Rattle.dom_model.specs.MutationAlgorithms.Checks.{is_of_kind};
 ghost use Rattle.dom_model.specs.DataAndCopies.Data.{check_offset, split, split_off};
+ghost use Rattle.dom_model.specs.TokenText.Edits.{split_edits};
 ghost use Rattle.dom_edit.specs.Whole.{IsWhole, Follows, unwatched};
+ghost use Rattle.dom_edit.specs.Markers.{StandByEdits};
 ghost use Rattle.dom_edit.specs.Refusals.{IsRefused};
 ghost use Rattle.dom_data.specs.Tails.{IsTail};
 
@@ -93,6 +95,7 @@ pub fn split(
     ensures number { IfOk result (λ id. id ≡ world.old.tree.made) }
     ensures allowed { OnOk result (check_offset (unwatched world.old) node offset ≡ None) }
     ensures split { OnOk result (Follows world.old world.new (split node offset)) }
+    ensures markers { OnOk result (StandByEdits world.old world.new (split_edits node offset)) }
     ensures refused { IfErr result (λ e. IsRefused e (check_offset (unwatched world.old) node offset) world.old world.new) }
     ensures whole { IsWhole world.new }
 {

@@ -1,11 +1,11 @@
 -- Steps of the definitions that follow one another, and what a world of the code shows after one.
-use Rattle.std.proofs.Common.{◌≡◌, ◌≤◌, [], refl, All, subst, sym}
-use Rattle.std.specs.Prelude.{Option, IfSome}
+use Rattle.std.proofs.Common.{◌≤◌, refl, All, subst}
+use Rattle.std.proofs.lemmas.List.Elements.{All-nil}
 use Rattle.dom_model.specs.Forests.Forest.{IsForest}
 use Rattle.dom_model.specs.Forests.Documents.{HasOneDocument}
 use Rattle.dom_model.specs.Worlds.World as model
 use Rattle.dom_model.specs.Worlds.World.{Content, Range}
-use Rattle.dom_model.specs.Worlds.Sound.{IsRange, IsIterator, IsWalker, IsSound}
+use Rattle.dom_model.specs.Worlds.Sound.{IsRegistration, IsSound}
 use Rattle.dom_model.proofs.Worlds.Owners.{HasOwners}
 use Rattle.dom_edit.specs.declared.world.World.{World}
 use Rattle.dom_edit.specs.Whole.{AreHeld, IsWhole, Keeps, Shows, Follows, unwatched}
@@ -44,4 +44,14 @@ whole-sound v w k s documents owners covered statics = record {
   statics = statics;
   iterators = rw (k.forest, k.iterators) at s.iterators;
   walkers = rw (k.forest, k.walkers) at s.walkers;
+}
+
+-- a whole world is sound, as one in which nobody watches
+pub sound-unwatched : (v : World) → IsWhole v → IsSound (unwatched v)
+sound-unwatched v h = record {
+  forest = h.forest;
+  ranges = h.ranges;
+  iterators = h.iterators;
+  walkers = h.walkers;
+  registrations = All-nil (IsRegistration v.tree.forest);
 }

@@ -1,12 +1,12 @@
 -- A node leaves its parent: what follows, and that the world stays whole.
 use Rattle.std.proofs.Common.{◌≡◌, ◌<◌, ◌≤◌, ℕ, Bool, true, List, [], ◌∷◌, Option, Some, None, IfSome, All, refl, ap, sym, ◌∙◌, subst, arith, ⊎_elim}
 use Rattle.std.proofs.lemmas.Bool.{cases_lt}
-use Rattle.std.proofs.lemmas.List.Elements.{All-nil, All-weaker}
+use Rattle.std.proofs.lemmas.List.Elements.{All-weaker}
 use Rattle.dom_model.specs.Forests.Forest.{HasNode, Forest, parent_of, previous_of, next_of, index_of, inclusive_descendants, ancestors, cut}
 use Rattle.dom_model.specs.Forests.Documents.{HasOneDocument}
 use Rattle.dom_model.specs.Worlds.World as model
 use Rattle.dom_model.specs.Worlds.World.{Content, Range, Registration, Observing}
-use Rattle.dom_model.specs.Worlds.Sound.{IsRegistration, IsSound}
+use Rattle.dom_model.specs.Worlds.Sound.{IsSound}
 use Rattle.dom_model.specs.BoundaryPoints.Points.{map_ranges, after_removal}
 use Rattle.dom_model.specs.MutationAlgorithms.PreRemoval.{pre_removed_all}
 use Rattle.dom_model.specs.MutationAlgorithms.Editing.{taken_out, transients_made, tree_record_unless, removed_from, remove}
@@ -21,6 +21,7 @@ use Rattle.dom_observe.specs.Watchers.{Watches}
 use Rattle.dom_observe.proofs.Watching.{watches-unstood}
 use Rattle.dom_edit.specs.declared.world.World.{World}
 use Rattle.dom_edit.specs.Whole.{AreHeld, IsWhole, Keeps, Follows, unwatched}
+pub use Rattle.dom_edit.proofs.Following.{sound-unwatched}
 use Rattle.dom_edit.proofs.Following.{keeps-unwatched, whole-sound}
 use Rattle.dom_edit.proofs.Queuing.{tree_mutation}
 
@@ -31,16 +32,6 @@ if_some P (Some a) h = h a refl
 
 pub it_is : {A : Type 0} (P : A → Type 0) (o : Option A) (a : A) → o ≡ Some a → IfSome o P → P a
 it_is P o a e h = subst (λ q. IfSome q P) e h
-
--- a world of the code in which nobody watches is sound
-pub sound-unwatched : (v : World) → IsWhole v → IsSound (unwatched v)
-sound-unwatched v h = record {
-  forest = h.forest;
-  ranges = h.ranges;
-  iterators = h.iterators;
-  walkers = h.walkers;
-  registrations = All-nil (IsRegistration v.tree.forest);
-}
 
 pub well_owned : (v : World) → IsWhole v → IsOwnedWell v.tree.forest
 well_owned v h = record { documents = h.documents; owners = h.owners }

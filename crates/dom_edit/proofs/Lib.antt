@@ -12,3 +12,4 @@ pub mod Adopting
 pub mod Naming
 pub mod InsertedNodes
 pub mod ReplacedNodes
+pub mod Marking

@@ -4,7 +4,6 @@ use Rattle.std.proofs.lemmas.List.Elements.{All-weaker}
 use Rattle.dom_model.specs.Forests.Forest.{Forest, Grove, HasNode}
 use Rattle.dom_model.specs.Worlds.World.{Content, Range}
 use Rattle.dom_model.specs.Worlds.World as model
-use Rattle.dom_model.specs.Worlds.Sound.{IsSound}
 use Rattle.dom_model.specs.MutationAlgorithms.Editing.{put_all, gap_before}
 use Rattle.dom_model.proofs.Forests.Entries.{HasNode-occurs, occurs-HasNode}
 use Rattle.dom_model.proofs.Soundness.SoundPlacing.{sound-put_all}
@@ -12,20 +11,9 @@ use Rattle.dom_observe.specs.Watchers.{Watches}
 use Rattle.dom_edit.specs.declared.world.World.{World}
 use Rattle.dom_edit.specs.Whole.{AreHeld, IsWhole, Keeps, Follows, unwatched}
 use Rattle.dom_edit.specs.Inserting.{all_placed, with_room, IsOpen}
+pub use Rattle.dom_edit.proofs.Following.{sound-unwatched}
 use Rattle.dom_edit.proofs.Following.{keeps-unwatched, whole-sound}
 use Rattle.dom_edit.proofs.PlacedRoots.{placed-world, placed-all}
-use Rattle.dom_model.specs.Worlds.Sound.{IsRegistration}
-use Rattle.std.proofs.lemmas.List.Elements.{All-nil}
-
--- a whole world is sound, as one in which nobody watches
-pub sound-unwatched : (v : World) → IsWhole v → IsSound (unwatched v)
-sound-unwatched v h = record {
-  forest = h.forest;
-  ranges = h.ranges;
-  iterators = h.iterators;
-  walkers = h.walkers;
-  registrations = All-nil (IsRegistration v.tree.forest);
-}
 
 -- the world with room made, and the roots in
 abbrev pub with_placed : ℕ → Option ℕ → List ℕ → World → World

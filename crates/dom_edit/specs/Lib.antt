@@ -1,4 +1,5 @@
 pub mod Places
 pub mod Whole
+pub mod Markers
 pub mod Refusals
 pub mod Inserting

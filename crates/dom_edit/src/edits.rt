@@ -10,7 +10,9 @@ ghost use Rattle.dom_model.specs.Forests.Kinds.{may_be_parent};
 ghost use Rattle.dom_model.specs.Forests.Forest.{HasNode};
 ghost use Rattle.dom_model.specs.MutationAlgorithms.Checks.{check_insert, check_replace, is_of_kind, kind_passes};
 ghost use Rattle.dom_model.specs.MutationAlgorithms.Editing.{remove, pre_insert, append, replace, replace_all, adopt};
+ghost use Rattle.dom_model.specs.TokenText.Edits.{pre_insert_edits, append_edits, replace_edits, remove_edits, replace_all_edits, adopt_edits};
 ghost use Rattle.dom_edit.specs.Whole.{IsWhole, Follows};
+ghost use Rattle.dom_edit.specs.Markers.{StandByEdits};
 ghost use Rattle.dom_edit.specs.Refusals.{check_remove_child, check_only_child, check_adopt, IsRefused};
 
 use crate::checks::{check_insert, check_replace};
@@ -39,6 +41,7 @@ impl World {
         requires child_held { ForSome child (λ c. HasNode self.old.tree.forest c) }
         ensures allowed { OnOk result (check_insert self.old.tree.forest parent node child ≡ None) }
         ensures inserted { OnOk result (Follows self.old self.new (pre_insert node parent child)) }
+        ensures markers { OnOk result (StandByEdits self.old self.new (pre_insert_edits node parent child)) }
         ensures refused { IfErr result (λ e. IsRefused e (check_insert self.old.tree.forest parent node child) self.old self.new) }
         ensures whole { IsWhole self.new }
     {
@@ -59,6 +62,7 @@ impl World {
         requires node_held { HasNode self.old.tree.forest node }
         ensures allowed { OnOk result (check_insert self.old.tree.forest parent node None ≡ None) }
         ensures appended { OnOk result (Follows self.old self.new (append node parent)) }
+        ensures markers { OnOk result (StandByEdits self.old self.new (append_edits node parent)) }
         ensures refused { IfErr result (λ e. IsRefused e (check_insert self.old.tree.forest parent node None) self.old self.new) }
         ensures whole { IsWhole self.new }
     {
@@ -81,6 +85,7 @@ impl World {
         requires child_held { HasNode self.old.tree.forest child }
         ensures allowed { OnOk result (check_replace self.old.tree.forest parent node child ≡ None) }
         ensures replaced { OnOk result (Follows self.old self.new (replace child node parent)) }
+        ensures markers { OnOk result (StandByEdits self.old self.new (replace_edits child node parent)) }
         ensures refused { IfErr result (λ e. IsRefused e (check_replace self.old.tree.forest parent node child) self.old self.new) }
         ensures whole { IsWhole self.new }
     {
@@ -117,6 +122,7 @@ impl World {
         requires child_held { HasNode self.old.tree.forest child }
         ensures allowed { OnOk result (check_remove_child self.old.tree.forest parent child ≡ None) }
         ensures removed { OnOk result (Follows self.old self.new (remove false child)) }
+        ensures markers { OnOk result (StandByEdits self.old self.new (remove_edits child)) }
         ensures refused { IfErr result (λ e. IsRefused e (check_remove_child self.old.tree.forest parent child) self.old self.new) }
         ensures whole { IsWhole self.new }
     {
@@ -132,6 +138,7 @@ impl World {
         requires whole { IsWhole self.old }
         requires held { HasNode self.old.tree.forest node }
         ensures removed { OnOk result (Follows self.old self.new (remove false node)) }
+        ensures markers { OnOk result (StandByEdits self.old self.new (remove_edits node)) }
         ensures whole { IsWhole self.new }
     {
         self.remove_node(alloc, node, false)
@@ -152,6 +159,7 @@ impl World {
         requires node_held { ForSome node (λ n. HasNode self.old.tree.forest n) }
         ensures allowed { OnOk result (check_only_child self.old.tree.forest parent node ≡ None) }
         ensures replaced { OnOk result (Follows self.old self.new (replace_all node parent)) }
+        ensures markers { OnOk result (StandByEdits self.old self.new (replace_all_edits node parent)) }
         ensures refused { IfErr result (λ e. IsRefused e (check_only_child self.old.tree.forest parent node) self.old self.new) }
         ensures whole { IsWhole self.new }
     {
@@ -177,6 +185,7 @@ impl World {
         requires node_held { HasNode self.old.tree.forest node }
         ensures allowed { OnOk result (check_adopt self.old.tree.forest node ≡ None) }
         ensures adopted { OnOk result (Follows self.old self.new (adopt node document)) }
+        ensures markers { OnOk result (StandByEdits self.old self.new (adopt_edits node)) }
         ensures refused { IfErr result (λ e. IsRefused e (check_adopt self.old.tree.forest node) self.old self.new) }
         ensures whole { IsWhole self.new }
     {

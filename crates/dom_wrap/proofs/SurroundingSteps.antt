@@ -43,7 +43,11 @@ pub on-ok : {E P Q : Type 0} (o : Result (Unit {0}) E) → (P → Q) → OnOk o 
 on-ok (Ok u) f p = f p
 on-ok (Err e) f p = tt
 
-ok-left : (o : Outcome) → refusal_in o ≡ None → (w : model.World) → o ≡ Ok (left_by o w)
+pub on-ok_both : {E P Q R : Type 0} (o : Result (Unit {0}) E) → (P → Q → R) → OnOk o P → OnOk o Q → OnOk o R
+on-ok_both (Ok u) f p q = f p q
+on-ok_both (Err e) f p q = tt
+
+pub ok-left : (o : Outcome) → refusal_in o ≡ None → (w : model.World) → o ≡ Ok (left_by o w)
 ok-left (Ok v) i w = refl
 ok-left (Err d) i w = absurd (cc i)
 

@@ -8,8 +8,10 @@ ghost use Rattle.dom_model.specs.Worlds.World.{World as PlainWorld};
 ghost use Rattle.dom_model.specs.MutationAlgorithms.Checks.{check_insert as insert_refusal, is_of_kind};
 ghost use Rattle.dom_model.specs.MutationAlgorithms.Editing.{reference_child};
 ghost use Rattle.dom_model.specs.RangesAndContents.Wrapping.{insert_node, is_text, inserted_at, placed_at, refusal_in, check_start, reference_at, parent_at, reference_after, split_at, offset_past, end_if_collapsed};
+ghost use Rattle.dom_model.specs.TokenText.Edits.{insert_node_edits};
 ghost use Rattle.dom_ranges.specs.Tables.{range_in};
 ghost use Rattle.dom_edit.specs.Whole.{IsWhole, Keeps, Follows, unwatched};
+ghost use Rattle.dom_edit.specs.Markers.{StandByEdits};
 ghost use Rattle.dom_edit.specs.Refusals.{IsRefused};
 ghost use Rattle.dom_wrap.specs.Outcomes.{left_by, HasRoom, IsPlaceable, MayEndAt};
 
@@ -245,6 +247,7 @@ pub fn insert_node(
     requires room { world.old.tree.made < 4294967295 }
     ensures allowed { OnOk result (refusal_in (insert_node range node (unwatched world.old)) ≡ None) }
     ensures inserted { OnOk result (Follows world.old world.new (λ w. left_by (insert_node range node w) w)) }
+    ensures markers { OnOk result (StandByEdits world.old world.new (insert_node_edits range node)) }
     ensures refused { IfErr result (λ e. IsRefused e (refusal_in (insert_node range node (unwatched world.old))) world.old world.new) }
     ensures whole { IsWhole world.new }
 {

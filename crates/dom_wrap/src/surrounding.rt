@@ -5,8 +5,10 @@ ghost use Rattle.std.specs.Result.{IfErr};
 ghost use Rattle.dom_model.specs.Forests.Forest.{HasNode};
 ghost use Rattle.dom_model.specs.MutationAlgorithms.Editing.{replace_all};
 ghost use Rattle.dom_model.specs.RangesAndContents.Wrapping.{surround, try_select, check_whole_surround};
+ghost use Rattle.dom_model.specs.TokenText.Edits.{surround_edits};
 ghost use Rattle.dom_ranges.specs.Tables.{range_in};
 ghost use Rattle.dom_edit.specs.Whole.{IsWhole, Follows, unwatched};
+ghost use Rattle.dom_edit.specs.Markers.{StandByEdits};
 ghost use Rattle.dom_edit.specs.Refusals.{IsRefused};
 ghost use Rattle.dom_wrap.specs.Outcomes.{left_by, put_around, HasRoom, Passes};
 
@@ -114,6 +116,7 @@ pub fn surround(
     requires room { (left_by (surround range node (unwatched world.old)) (unwatched world.old)).made ≤ 4294967295 }
     ensures allowed { OnOk result (check_whole_surround range node (unwatched world.old) ≡ None) }
     ensures surrounded { OnOk result (Follows world.old world.new (λ w. left_by (surround range node w) w)) }
+    ensures markers { OnOk result (StandByEdits world.old world.new (surround_edits range node)) }
     ensures refused { IfErr result (λ e. IsRefused e (check_whole_surround range node (unwatched world.old)) world.old world.new) }
     ensures whole { IsWhole world.new }
 {

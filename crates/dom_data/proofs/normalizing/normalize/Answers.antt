@@ -6,6 +6,7 @@ use Rattle.dom_model.specs.PlainLists.Lists.{hits}
 use Rattle.dom_model.specs.Forests.Forest.{inclusive_descendants}
 use Rattle.dom_model.specs.MutationAlgorithms.Checks.{is_of_kind}
 use Rattle.dom_model.proofs.Soundness.SoundNormalizing.{filter-passed}
+use Rattle.dom_data.proofs.Marking.{stand-by_normalize}
 use Rattle.dom_data.proofs.TextsBelow.{texts-filtered}
 use Rattle.dom_data.proofs.TextsInTurn.{follows-all}
 use Rattle.dom_data.proofs.normalizing.normalize.Goals as goal
@@ -22,3 +23,7 @@ returns-clause-normalized c =
     let f = c.args.world.now.tree.forest in
     let below = drop 1 (inclusive_descendants f c.args.node) in
     on_ok_weaker c.normalize_each.result (follows-all c.args.world.now c.normalize_each.new.world c.args.node c.deref.result.now (c.deref.ensures.value ∙ c.in_ok-texts.ensures ∙ texts-filtered f below)) c.normalize_each.ensures.normalized
+
+pub returns-clause-markers : goal.returns-clause-markers
+returns-clause-markers c =
+    on_ok_weaker c.normalize_each.result (stand-by_normalize c.args.world.now c.normalize_each.new.world c.requires.whole c.normalize_each.ensures.whole c.args.node) (returns-clause-normalized c)

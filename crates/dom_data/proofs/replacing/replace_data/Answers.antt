@@ -1,7 +1,8 @@
 -- A count that is cut at the end.
-use Rattle.std.proofs.Common.{◌≤◌, ℕ, List, length, ap, ◌∙◌, arith}
+use Rattle.std.proofs.Common.{◌≤◌, ℕ, List, length, ap, ◌∙◌, subst, arith}
 use Rattle.std.proofs.lemmas.Bool.Decides.{nat_tests}
 use Rattle.dom_model.specs.DataAndCopies.Data.{cut_count}
+use Rattle.dom_data.proofs.Marking.{stand-by_replace_data}
 use Rattle.dom_data.proofs.StaysWhole.{count-cut, follows-cut}
 use Rattle.dom_data.proofs.replacing.replace_data.Goals as goal
 
@@ -12,3 +13,10 @@ returns-clause-replaced c =
     follows-cut c.args.world.now c.replace_units.new.world c.args.node c.args.offset c.args.count c.min-count.result c.args.added.now
     (c.min-count.ensures ∙ count-cut c.len-length.result c.args.offset c.args.count within ∙ ap (λ l. cut_count l c.args.offset c.args.count) whole)
     c.in_ok-replace_units.ensures.replaced
+
+pub returns-clause-markers : goal.returns-clause-markers
+returns-clause-markers c =
+    let whole = c.len-length.ensures ∙ ap (λ (units : List ℕ). length units) c.data_in.ensures in
+    let within : c.args.offset ≤ c.len-length.result = grind (arith, nat_tests, c.if-offset-length.false) in
+    stand-by_replace_data c.args.world.now c.replace_units.new.world c.requires.whole c.replace_units.ensures.whole c.args.node c.args.offset c.args.count c.args.added.now c.requires.kind
+    (subst (λ l. c.args.offset ≤ l) whole within) (returns-clause-replaced c)

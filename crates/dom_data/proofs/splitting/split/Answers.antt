@@ -6,6 +6,7 @@ use Rattle.dom_model.specs.Forests.Kinds.{is_kind}
 use Rattle.dom_data.proofs.NewTexts.{old-kind}
 use Rattle.dom_data.proofs.Parting.{text-held, tail-cut, follows-split, length-tail}
 use Rattle.dom_data.proofs.Behind.{is-tail}
+use Rattle.dom_data.proofs.Marking.{stand-by_split}
 use Rattle.dom_data.proofs.splitting.split.Goals as goal
 
 pub part-requires-clause-kind : goal.part-requires-clause-kind
@@ -32,3 +33,10 @@ returns-in-Ok-clause-split c =
     (text-held c.args.world.now.tree.forest c.args.node c.requires.kind) c.document_in-document.ensures.document c.in_ok-new.ensures.number (tail ∙ ap (drop c.args.offset) c.data_in-data.ensures)
     (length-tail c.args.offset count c.in_ok-tail.tail units (ap (λ l. l - c.args.offset) c.len-length.ensures) tail)
     c.in_ok-new.ensures.made c.in_ok-part.ensures.parted c.in-Ok.ensures.replaced
+
+pub returns-in-Ok-clause-markers : goal.returns-in-Ok-clause-markers
+returns-in-Ok-clause-markers c =
+    let units = c.data_in-data.result.now in
+    let within : c.args.offset ≤ length units = grind (arith, nat_tests, c.if-offset-length.false, c.len-length.ensures) in
+    stand-by_split c.args.world.now c.replace_data.new.world c.requires.whole c.replace_data.ensures.whole c.args.node c.args.offset c.requires.kind
+    (subst (λ (xs : List ℕ). c.args.offset ≤ length xs) c.data_in-data.ensures within) (returns-in-Ok-clause-split c)

@@ -1,6 +1,11 @@
-use Rattle.std.proofs.Common.{◌≡◌, false, refl, arith}
+use Rattle.std.proofs.Common.{◌≡◌, false, refl, ap, ◌∙◌, arith}
 use Rattle.std.proofs.lemmas.Bool.Decides.{nat_tests}
+use Rattle.dom_model.specs.Forests.Forest.{Grove}
+use Rattle.dom_model.specs.Worlds.World.{Content}
+use Rattle.dom_model.proofs.TokenText.AlikeTrees.TreesAlike.{bared}
+use Rattle.dom_model.proofs.TokenText.AlikeTrees.TreesAlikeAfter.{bared-adopted}
 use Rattle.dom_edit.specs.declared.world.World.{World}
+use Rattle.dom_edit.proofs.Marking.{stand-by_adopt}
 use Rattle.dom_edit.proofs.Adopting.{removed-held, removed-root, removed-document, whole-adopted, follows-staying}
 use Rattle.dom_edit.proofs.world.World.adopt.Goals as goal
 
@@ -21,7 +26,19 @@ returns-then-ne-clause-whole c =
     let document = removed-document v out false c.args.node c.requires.whole c.requires.node_held c.in_ok-remove_node.ensures.removed c.args.document c.requires.document_kind in
     whole-adopted out new c.args.node c.args.document c.in_ok-remove_node.ensures.whole root document c.set_document.ensures refl refl refl refl
 
+pub returns-then-ne-clause-markers : goal.returns-then-ne-clause-markers
+returns-then-ne-clause-markers c =
+    let out = c.remove_node.new.self in
+    let new : World = record { tree = c.set_document.new.self; ranges = out.ranges; statics = out.statics; iters = out.iters; walkers = out.walkers; observers = out.observers } in
+    stand-by_adopt c.args.self.now new c.requires.whole (returns-then-ne-clause-whole c) out c.args.node c.in_ok-remove_node.ensures.removed
+    (ap (λ (t : Grove Content). bared t.forest) c.set_document.ensures ∙ bared-adopted c.args.node c.args.document out.tree.forest) refl
+
 pub returns-else-ne-clause-adopted : goal.returns-else-ne-clause-adopted
 returns-else-ne-clause-adopted c =
     let same_document : c.document_of.result ≡ c.args.document = grind (arith, nat_tests) in
     follows-staying c.args.self.now c.remove_node.new.self c.args.node c.args.document c.document_of.result c.in_ok-remove_node.ensures.whole c.in_ok-remove_node.ensures.removed c.document_of.ensures same_document
+
+pub returns-else-ne-clause-markers : goal.returns-else-ne-clause-markers
+returns-else-ne-clause-markers c =
+    let out = c.remove_node.new.self in
+    stand-by_adopt c.args.self.now out c.requires.whole c.in_ok-remove_node.ensures.whole out c.args.node c.in_ok-remove_node.ensures.removed refl refl

@@ -1,6 +1,7 @@
 use Rattle.std.proofs.Common.{sym, ◌∙◌, subst}
 use Rattle.dom_model.specs.MutationAlgorithms.Editing.{remove_all}
 use Rattle.dom_edit.specs.Whole.{Follows}
+use Rattle.dom_edit.proofs.Marking.{stand-by_replace_all}
 use Rattle.dom_edit.proofs.ReplacedNodes.{children-held, parent-emptied, insertable-only, entering-only, follows-replace_all}
 use Rattle.dom_edit.proofs.world.World.replace_children.Goals as goal
 
@@ -25,3 +26,11 @@ returns-clause-replaced c =
     follows-replace_all c.args.self.now c.remove_all.new.self c.insert_if_any.new.self c.queue_replaced.new.self c.args.node c.args.parent c.as_slice-3.result.now c.as_slice-4.result.now
     (c.as_slice-3.ensures ∙ c.in_ok-added.ensures) (c.as_slice-4.ensures.value ∙ c.in_ok-removed.ensures)
     (subst (λ ns. Follows c.args.self.now c.remove_all.new.self (remove_all ns)) (c.as_slice.ensures.value ∙ sym c.as_slice-4.ensures.value) c.in_ok-remove_all.ensures.removed) c.in_ok-insert_if_any.ensures.inserted c.in_ok-queue_replaced.ensures.queued
+
+pub returns-clause-markers : goal.returns-clause-markers
+returns-clause-markers c =
+    let v = c.args.self.now in
+    stand-by_replace_all v c.queue_replaced.new.self c.requires.whole c.queue_replaced.ensures.whole c.args.node c.args.parent c.requires.node_held c.in_default.ensures
+    (follows-replace_all v c.remove_all.new.self c.insert_if_any.new.self c.queue_replaced.new.self c.args.node c.args.parent c.as_slice-3.result.now c.as_slice-4.result.now
+    (c.as_slice-3.ensures ∙ c.in_ok-added.ensures) (c.as_slice-4.ensures.value ∙ c.in_ok-removed.ensures)
+    (subst (λ ns. Follows v c.remove_all.new.self (remove_all ns)) (c.as_slice.ensures.value ∙ sym c.as_slice-4.ensures.value) c.in_ok-remove_all.ensures.removed) c.in_ok-insert_if_any.ensures.inserted c.in_ok-queue_replaced.ensures.queued)
