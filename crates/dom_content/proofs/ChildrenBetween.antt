@@ -1,6 +1,6 @@
 -- Of the children of the deepest common ancestor of a range's ends, those that lie between the two ways down to them are contained.
 -- DOM Standard, "Interface Range".
-use Rattle.std.proofs.Common.{◌≡◌, ℕ, zero, suc, ◌+◌, ◌*◌, ◌<◌, ◌≤◌, ◌==◌, Bool, true, false, ◌&&◌, List, [], ◌∷◌, ◌++◌, filter, Option, Some, None, refl, ap, sym, ◌∙◌, subst, arith, slice_get, ⊎_elim}
+use Rattle.std.proofs.Common.{◌≡◌, ℕ, zero, suc, ◌+◌, ◌*◌, ◌<◌, ◌≤◌, ◌==◌, Bool, true, false, ◌&&◌, List, [], ◌∷◌, ◌++◌, take, drop, filter, Option, Some, None, refl, ap, sym, ◌∙◌, subst, arith, slice_get, ⊎_elim}
 use Rattle.std.specs.Option.{option_eq}
 use Rattle.std.proofs.lemmas.Bool.{cases_lt, false≢true, lt-ltb, le-ltb}
 use Rattle.dom_model.specs.PlainLists.Lists.{hits, among, is_number}
@@ -9,6 +9,7 @@ use Rattle.dom_model.specs.Forests.Lengths.{unit_count, node_length}
 use Rattle.dom_model.specs.Worlds.World.{Content, Point, Range}
 use Rattle.dom_model.specs.Worlds.Sound.{IsRange}
 use Rattle.dom_model.specs.BoundaryPoints.Points.{path_places, order_of}
+use Rattle.dom_model.specs.MutationAlgorithms.PreRemoval.{past}
 use Rattle.dom_model.specs.MutationAlgorithms.Checks.{is_same}
 use Rattle.dom_model.specs.RangesAndContents.Ranges.{is_less, is_before, same_root, is_contained, common_ancestor}
 use Rattle.dom_model.specs.RangesAndContents.Contents.{path_below}
@@ -27,8 +28,8 @@ use Rattle.dom_model.proofs.RangesAndContents.StartsAhead.{got_place}
 use Rattle.dom_model.proofs.RangesAndContents.WaysBelow.{IsFork, fork, way-above}
 use Rattle.dom_model.proofs.TokenText.EditsMade.EditsOfInsertions.{get-place}
 use Rattle.dom_edit.specs.Places.{IsAmong, from_optional, ahead_of}
-use Rattle.dom_edit.proofs.AmongChildren.{from_optional-head}
-use Rattle.dom_edit.proofs.Placing.{ahead-on}
+use Rattle.dom_edit.proofs.AmongChildren.{IsAmong-after, from_optional-head, next_of-child}
+use Rattle.dom_edit.proofs.Placing.{ahead-on, from_successor}
 use Rattle.dom_content.specs.Drawing.{index_behind, index_at}
 
 -- A list whose elements pass from one index on, and ahead of another.
@@ -91,6 +92,30 @@ between-pass test (n ∷ ns) once (suc i) (suc j) l h =
     let this : test n ≡ false = (h 0 n refl).1 (omega arith) in
     let rest = between-pass test ns (λ m. let o = once m in omega arith) i j (omega arith) (λ k m e. let x = h (suc k) m e in (λ a b. x.0 (omega arith) (omega arith), λ a. x.1 (omega arith), λ a. x.2 (omega arith))) in
     rw this (rest ∙ ap (ahead_of (slice_get ns j)) (sym (from-rest n ns i once)))
+
+-- The part from an index on, and the part up to one.
+
+pub from-got : (k : ℕ) (ns : List ℕ) → ((m : ℕ) → hits m ns ≤ 1) → from_optional (slice_get ns k) ns ≡ drop k ns
+from-got zero [] once = refl
+from-got (suc k) [] once = refl
+from-got zero (n ∷ ns) once = from-head (n ∷ ns)
+from-got (suc k) (n ∷ ns) once = from-rest n ns k once ∙ from-got k ns (λ m. let o = once m in omega arith)
+
+pub ahead-got : (k : ℕ) (ns : List ℕ) → ((m : ℕ) → hits m ns ≤ 1) → ahead_of (slice_get ns k) ns ≡ take k ns
+ahead-got zero [] once = refl
+ahead-got (suc k) [] once = refl
+ahead-got zero (n ∷ ns) once = elim (same_or n n) [ same _ t ↦ rw t refl | apart ne t ↦ absurd (ne refl) ]
+ahead-got (suc k) (n ∷ ns) once =
+    ahead-on (slice_get ns k) n ns (not-first n ns k once) ∙ ap (λ ms. n ∷ ms) (ahead-got k ns (λ m. let o = once m in omega arith))
+
+-- nothing comes after a number that is not there
+pub past-absent : (n : ℕ) (ns : List ℕ) → hits n ns ≡ 0 → past n ns ≡ []
+past-absent n [] h = refl
+past-absent n (x ∷ xs) h =
+    elim (same_or x n) [
+      | same d t ↦ absurd (let k = rw t at h in omega arith)
+      | apart ne t ↦ (let k = rw t at h in rw t (past-absent n xs (omega arith)))
+    ]
 
 -- The children between the two ways.
 
@@ -292,6 +317,39 @@ given-is (Some u) n v h = h
 pub got-among : (ns : List ℕ) → ((m : ℕ) → hits m ns ≤ 1) → (k : ℕ) (o : Option ℕ) → o ≡ slice_get ns k → IsAmong o ns
 got-among ns once k None e = tt
 got-among ns once k (Some n) e = let h = hits-get ns k n (sym e) in let o = once n in omega arith
+
+some-is : (o : Option ℕ) (n : ℕ) → is_number o n ≡ true → o ≡ Some n
+some-is None n h = absurd (false≢true h)
+some-is (Some m) n h = elim (same_or m n) [ same d t ↦ ap Some d | apart ne t ↦ absurd (false≢true (sym t ∙ h)) ]
+
+-- The children past one of them.
+
+module _ (g : Grove Content) (s : IsForest g) (parent child : ℕ) where
+  kids_once : (m : ℕ) → hits m (children_of g.forest parent) ≤ 1
+  kids_once m = child-once g.forest s.once m parent
+
+  module _ (held : HasNode g.forest child) (e : is_number (parent_of g.forest child) parent ≡ true) where
+    listed-once : hits child (children_of g.forest parent) ≡ 1
+    listed-once =
+        let o = kids_once child in
+        let h = child-listed g.forest s.once child parent (occurs-HasNode g.forest child held) (some-is (parent_of g.forest child) parent e) in
+        omega arith
+
+    pub next-among : IsAmong (next_of g.forest child) (children_of g.forest parent)
+    next-among = rw (next_of-child g s parent child listed-once) (IsAmong-after child (children_of g.forest parent) kids_once)
+
+    pub past-next : from_optional (next_of g.forest child) (children_of g.forest parent) ≡ past child (children_of g.forest parent)
+    past-next = ap (λ o. from_optional o (children_of g.forest parent)) (next_of-child g s parent child listed-once) ∙ from_successor child (children_of g.forest parent) kids_once listed-once
+
+  pub past-none : is_number (parent_of g.forest child) parent ≡ false → past child (children_of g.forest parent) ≡ []
+  past-none e =
+      past-absent child (children_of g.forest parent)
+      (⊎_elim
+      (λ (lt : 0 < hits child (children_of g.forest parent)).
+      let p = child-parent g.forest s.once child parent lt in
+      absurd (elim (same_or parent parent) [ same _ t ↦ false≢true (sym e ∙ ap (λ o. is_number o parent) p ∙ t) | apart ne t ↦ ne refl ]))
+      (λ (le : hits child (children_of g.forest parent) ≤ 0). omega arith)
+      (cases_lt 0 (hits child (children_of g.forest parent))))
 
 module _ (f : Forest Content) (once : (m : ℕ) → occurs m f ≤ 1) (parent : ℕ) (p : Point) where
   -- the first on a way is a child

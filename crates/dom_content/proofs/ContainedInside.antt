@@ -1,10 +1,10 @@
 -- What is inside a contained node is contained too, so that a walk that looks for those on top passes over it. DOM Standard, "Interface Range".
-use Rattle.std.proofs.Common.{◌≡◌, ℕ, zero, suc, ◌+◌, ◌<◌, ◌≤◌, ◌==◌, nat_lt, Bool, true, false, ◌&&◌, if◌then◌else◌, List, [], ◌∷◌, ◌++◌, length, drop, flat_map, Some, refl, ap, sym, ◌∙◌, subst, arith, append_assoc, length-append}
+use Rattle.std.proofs.Common.{◌≡◌, ℕ, zero, suc, ◌<◌, ◌≤◌, ◌==◌, nat_lt, Bool, true, false, ◌&&◌, if◌then◌else◌, List, [], ◌∷◌, ◌++◌, length, drop, flat_map, Some, refl, ap, sym, ◌∙◌, subst, arith, length-append}
 use Rattle.std.specs.declared.cmp.Ordering.TheVariants.{Less}
 use Rattle.std.proofs.lemmas.Bool.{false≢true, lt-ltb, le-ltb}
 use Rattle.std.proofs.lemmas.Grind.{flat_map-append}
 use Rattle.dom_model.specs.PlainLists.Lists.{hits, among, last_of, after}
-use Rattle.dom_model.specs.Forests.Forest.{Forest, Grove, IsForest, HasNode, occurs, one_at, numbers, parent_of, children_of, index_of, ancestors, root_of, tree_at, inclusive_descendants}
+use Rattle.dom_model.specs.Forests.Forest.{Grove, IsForest, HasNode, occurs, one_at, parent_of, children_of, index_of, ancestors, root_of, tree_at, inclusive_descendants}
 use Rattle.dom_model.specs.Forests.Lengths.{node_length, unit_count}
 use Rattle.dom_model.specs.Worlds.World.{Content, Point, Range}
 use Rattle.dom_model.specs.Worlds.Sound.{IsRange}
@@ -21,36 +21,19 @@ use Rattle.dom_model.proofs.Forests.Climbing.{hits-append, hits-first, ancestors
 use Rattle.dom_model.proofs.Forests.Entries.{occurs-HasNode, HasNode-occurs}
 use Rattle.dom_model.proofs.Forests.Indices.{child-listed, index-child, path-child}
 use Rattle.dom_model.proofs.Forests.Totals.{total-tree_at}
-use Rattle.dom_model.proofs.Forests.ToTheRoot.{among-above, among-here, among-top, inside, inside-among, inside-root, root-above, shorter}
-use Rattle.dom_model.proofs.Forests.TreeOrder.Flattened.{hits-numbers, numbers-without}
+use Rattle.dom_model.proofs.Forests.ToTheRoot.{among-above, among-top, inside-among, root-above, shorter}
+use Rattle.dom_model.proofs.Forests.TreeOrder.Flattened.{hits-numbers}
 use Rattle.dom_model.proofs.Forests.WaysMeeting.{above-root}
 use Rattle.dom_model.proofs.BoundaryPoints.PointOrder.{order-above}
 use Rattle.dom_model.proofs.BoundaryPoints.OrderByWays.{order-below}
 use Rattle.dom_model.proofs.Soundness.SoundForests.{parent-passes}
 use Rattle.dom_model.proofs.Worlds.Measured.{length-parent}
-use Rattle.dom_model.proofs.TokenText.AlikeTrees.TreesWithin.{tree_within}
-use Rattle.dom_ranges.proofs.Inside.{D-once, from-top, rest-next}
+use Rattle.dom_ranges.proofs.Inside.{D-once, rest-next}
 use Rattle.dom_content.specs.Contained.{is_top, if_top, last_passed}
-use Rattle.dom_content.proofs.PartsBetween.{IsTold, TellsContained, place, order-is, from-less, less-true, inside-of, split, and-both, next-of, told-next}
+use Rattle.dom_content.proofs.PartsBetween.{IsTold, TellsContained, inside-of, and-both, next-of, told-next}
+use Rattle.dom_content.proofs.AlongGaps.{place, order-is, from-less, less-true}
+use Rattle.dom_content.proofs.NodesPassed.{passed}
 use Rattle.dom_content.proofs.ContainedTops.{tops-contained}
-
--- Lists.
-
-from-behind : (x : ℕ) (pre rest : List ℕ) → hits x pre ≡ 0 → from_first x (pre ++ x ∷ rest) ≡ x ∷ rest
-from-behind x [] rest z = elim (same_or x x) [ same _ t ↦ rw t refl | apart ne t ↦ absurd (ne refl) ]
-from-behind x (y ∷ ys) rest z =
-    elim (same_or y x) [
-      | same d t ↦ absurd (let k = rw t at z in omega arith)
-      | apart ne t ↦ (let k = rw t at z in rw t (from-behind x ys rest (omega arith)))
-    ]
-
-last-split : (ns : List ℕ) (x : ℕ) → last_of ns ≡ Some x → (xs : List ℕ) × (ns ≡ xs ++ x ∷ [])
-last-split [] x e = absurd (cc e)
-last-split (n ∷ []) x e = let u : Some n ≡ Some x = e in let d : n ≡ x = cc u in ([], ap (λ m. m ∷ []) d)
-last-split (n ∷ m ∷ ns) x e = let i = last-split (m ∷ ns) x e in (n ∷ i.0, ap (λ l. n ∷ l) i.1)
-
-same_number : (n : ℕ) → (n == n) ≡ true
-same_number n = elim (same_or n n) [ same _ t ↦ t | apart ne t ↦ absurd (ne refl) ]
 
 is_same-some : (n : ℕ) → is_same (Some n) (Some n) ≡ true
 is_same-some n = elim (same_or n n) [ same _ t ↦ t | apart ne t ↦ absurd (ne refl) ]
@@ -84,26 +67,26 @@ module _ (g : Grove Content) (s : IsForest g) (range : Range) (is : IsRange g.fo
       let none : nat_lt (index_of f x) 0 ≡ false = le-ltb (index_of f x) 0 (omega arith) in
       let first : order_of f (front q) (front x) ≡ Less = order-above f q x (index_of f x) 0 0 [] way ∙ (rw none refl) in
       let last : order_of f (back x) (back q) ≡ Less = order-below f x q (index_of f x) (node_length unit_count f x) (node_length unit_count f q) [] way ∙ (rw (lt-ltb (index_of f x) (node_length unit_count f q) below) refl) in
-      let a = place g s range is root rooted part blank range.start rooted is.starts.within in
-      let b = place g s range is root rooted part blank (front q) inq.of_root (omega arith) in
-      let d = place g s range is root rooted part blank (front x) rx (omega arith) in
-      let j = place g s range is root rooted part blank (back x) rx (omega arith) in
-      let k = place g s range is root rooted part blank (back q) inq.of_root (omega arith) in
+      let a = place g s root range.start rooted is.starts.within in
+      let b = place g s root (front q) inq.of_root (omega arith) in
+      let d = place g s root (front x) rx (omega arith) in
+      let j = place g s root (back x) rx (omega arith) in
+      let k = place g s root (back q) inq.of_root (omega arith) in
       let re : root_of f range.end.node ≡ Some root = sym is.one_root ∙ rooted in
-      let z = place g s range is root rooted part blank range.end re is.ends.within in
-      let l1 = from-less a.0 b.0 (ap is_less (sym (order-is g s range is root rooted part blank range.start (front q) a.0 b.0 rooted inq.of_root is.starts.within (omega arith) a.1 b.1)) ∙ inq.starts) in
-      let l2 = from-less b.0 d.0 (ap is_less (sym (order-is g s range is root rooted part blank (front q) (front x) b.0 d.0 inq.of_root rx (omega arith) (omega arith) b.1 d.1) ∙ first)) in
-      let l3 = from-less j.0 k.0 (ap is_less (sym (order-is g s range is root rooted part blank (back x) (back q) j.0 k.0 rx inq.of_root (omega arith) (omega arith) j.1 k.1) ∙ last)) in
-      let l4 = from-less k.0 z.0 (ap is_less (sym (order-is g s range is root rooted part blank (back q) range.end k.0 z.0 inq.of_root re (omega arith) is.ends.within k.1 z.1)) ∙ inq.ends) in
-      let starts : is_before f range.start (front x) ≡ true = ap is_less (order-is g s range is root rooted part blank range.start (front x) a.0 d.0 rooted rx is.starts.within (omega arith) a.1 d.1) ∙ less-true a.0 d.0 (omega arith) in
-      let ends : is_before f (back x) range.end ≡ true = ap is_less (order-is g s range is root rooted part blank (back x) range.end j.0 z.0 rx re (omega arith) is.ends.within j.1 z.1) ∙ less-true j.0 z.0 (omega arith) in
+      let z = place g s root range.end re is.ends.within in
+      let l1 = from-less a.0 b.0 (ap is_less (sym (order-is g s root range.start (front q) a.0 b.0 rooted inq.of_root is.starts.within (omega arith) a.1 b.1)) ∙ inq.starts) in
+      let l2 = from-less b.0 d.0 (ap is_less (sym (order-is g s root (front q) (front x) b.0 d.0 inq.of_root rx (omega arith) (omega arith) b.1 d.1) ∙ first)) in
+      let l3 = from-less j.0 k.0 (ap is_less (sym (order-is g s root (back x) (back q) j.0 k.0 rx inq.of_root (omega arith) (omega arith) j.1 k.1) ∙ last)) in
+      let l4 = from-less k.0 z.0 (ap is_less (sym (order-is g s root (back q) range.end k.0 z.0 inq.of_root re (omega arith) is.ends.within k.1 z.1)) ∙ inq.ends) in
+      let starts : is_before f range.start (front x) ≡ true = ap is_less (order-is g s root range.start (front x) a.0 d.0 rooted rx is.starts.within (omega arith) a.1 d.1) ∙ less-true a.0 d.0 (omega arith) in
+      let ends : is_before f (back x) range.end ≡ true = ap is_less (order-is g s root (back x) range.end j.0 z.0 rx re (omega arith) is.ends.within j.1 z.1) ∙ less-true j.0 z.0 (omega arith) in
       let one : is_same (root_of f x) (root_of f range.start.node) ≡ true = ap (λ o. is_same o (root_of f range.start.node)) rx ∙ ap (is_same (Some root)) rooted ∙ is_same-some root in
       ap (λ v. v && (is_before f range.start (front x) && is_before f (back x) range.end)) one
       ∙ ap (λ v. v && is_before f (back x) range.end) starts
       ∙ ends
 
   module _ (top : ℕ) (c : is_contained unit_count g.forest range top ≡ true) where
-    inside-contained : (k x : ℕ) → length (ancestors x g.forest) ≤ k → HasNode g.forest x → among top (ancestors x g.forest) ≡ true → is_contained unit_count g.forest range x ≡ true
+    pub inside-contained : (k x : ℕ) → length (ancestors x g.forest) ≤ k → HasNode g.forest x → among top (ancestors x g.forest) ≡ true → is_contained unit_count g.forest range x ≡ true
     inside-contained zero x l h i = absurd (let a = ancestors-there x g.forest (occurs-HasNode g.forest x h) in let b = ap (λ ns. length ns) a.1 in omega arith)
     inside-contained (suc k) x l h i =
         elim (same_or x top) [
@@ -150,56 +133,15 @@ module _ (g : Grove Content) (s : IsForest g) (range : Range) (is : IsRange g.fo
           | apart ne t ↦ t
         ]
 
-    -- what comes from a contained node on: itself, what is inside it, and what is behind it
-    record IsPassed (last : ℕ) : Type 0 where
-      within : List ℕ
-      behind : List ℕ
-      first : from_first top all ≡ top ∷ (within ++ behind)
-      second : from_first last all ≡ last ∷ behind
-      silent : flat_map part within ≡ []
-
-    passed : (last : ℕ) → HasNode g.forest top → root_of g.forest top ≡ Some root → last_of below ≡ Some last → IsPassed last
-    passed last h r l =
-        let ht : 0 < occurs top (tree_at root g.forest) = inside-root s top root r in
-        let once : occurs top (tree_at root g.forest) ≡ 1 = omega (arith, total-tree_at (one_at top) root g.forest, s.once top) in
-        let p = numbers-without top (tree_at root g.forest) once in
-        let own = ap (λ (t : Forest Content). numbers t) (tree_within root top g.forest s.once ht) in
-        let whole : all ≡ p.ahead ++ (below ++ p.behind) = p.holds ∙ ap (λ ns. p.ahead ++ (ns ++ p.behind)) own in
-        let count : (x : ℕ) → hits x p.ahead + (hits x below + hits x p.behind) ≤ 1 = λ x. few x p.ahead p.behind whole in
-        let listed : 0 < hits top below = omega (arith, hits-numbers top (tree_at top g.forest), inside s top top (sym (among-here g.forest top top h (same_number top)))) in
-        let q = split top below listed in
-        let start : below ≡ top ∷ q.rest = sym (from-top g s top h) ∙ q.from in
-        let z = last-split below last l in
-        let ct = count top in
-        let cl = count last in
-        let hl = hits-last_of below last l in
-        let lone : hits last z.0 ≡ 0 = (let a = ap (hits last) z.1 in let b = hits-append last z.0 (last ∷ []) in let d = hits-first last [] in omega arith) in
-        record {
-          within = q.rest;
-          behind = p.behind;
-          first = ap (from_first top) (whole ∙ ap (λ ns. p.ahead ++ (ns ++ p.behind)) start) ∙ from-behind top p.ahead (q.rest ++ p.behind) (omega arith);
-          second =
-              ap (from_first last)
-              (whole
-              ∙ ap (λ ns. p.ahead ++ (ns ++ p.behind)) z.1
-              ∙ ap (λ ns. p.ahead ++ ns) (append_assoc z.0 (last ∷ []) p.behind)
-              ∙ sym (append_assoc p.ahead z.0 (last ∷ p.behind)))
-              ∙ from-behind last (p.ahead ++ z.0) p.behind (let a = hits-append last p.ahead z.0 in omega arith);
-          silent = none-of q.rest (λ x k. silent x q.rest k start (let a = count x in omega arith));
-        }
+    -- nothing is told of what comes behind the node inside it
+    pub silent : (rest : List ℕ) → inclusive_descendants g.forest top ≡ top ∷ rest → flat_map part rest ≡ []
+    silent rest start = none-of rest (λ x k. none x k)
       where
-        few : (x : ℕ) (ahead behind : List ℕ) → all ≡ ahead ++ (below ++ behind) → hits x ahead + (hits x below + hits x behind) ≤ 1
-        few x ahead behind whole =
-            let a = ap (hits x) whole in
-            let b = hits-append x ahead (below ++ behind) in
-            let d = hits-append x below behind in
-            let e = D-once g s root x in
-            omega arith
-
-        silent : (x : ℕ) (rest : List ℕ) → 0 < hits x rest → below ≡ top ∷ rest → hits x below ≤ 1 → part x ≡ []
-        silent x rest k start c =
+        none : (x : ℕ) → 0 < hits x rest → part x ≡ []
+        none x k =
             let a = ap (hits x) start in
             let d = hits-append x (top ∷ []) rest in
+            let o = D-once g s top x in
             let inside_tree : 0 < occurs x (tree_at top g.forest) = omega (arith, hits-numbers x (tree_at top g.forest)) in
             let held = HasNode-occurs g.forest x (omega (arith, total-tree_at (one_at x) top g.forest)) in
             none-below x held (not-first x rest k (omega arith)) (inside-among s top x inside_tree)
@@ -223,7 +165,7 @@ module _ (g : Grove Content) (s : IsForest g) (range : Range) (is : IsRange g.fo
 
         go : (v : Bool) → is_top g.forest range m ≡ v → length (from_first last (inclusive_descendants g.forest root)) < length (from_first n (inclusive_descendants g.forest root))
         go true d =
-            let p = passed m (contained d) last next.1 next.0 (as-passed true d) in
+            let p = passed g s root m last next.1 next.0 (as-passed true d) in
             let a = ap (λ ns. length ns) p.first in
             let b = ap (λ ns. length ns) p.second in
             let c = length-append p.within p.behind in
@@ -244,7 +186,7 @@ module _ (g : Grove Content) (s : IsForest g) (range : Range) (is : IsRange g.fo
 
         go : (v : Bool) → is_top g.forest range m ≡ v → IsTold g range part root before last text2
         go true d =
-            let p = passed m (contained d) last next.1 next.0 (as-passed true d) in
+            let p = passed g s root m last next.1 next.0 (as-passed true d) in
             let listed = hits-last_of (inclusive_descendants g.forest m) last (as-passed true d) in
             let inside_tree : 0 < occurs last (tree_at m g.forest) = omega (arith, hits-numbers last (tree_at m g.forest)) in
             let hl : 0 < occurs last g.forest = omega (arith, total-tree_at (one_at last) m g.forest) in
@@ -256,7 +198,7 @@ module _ (g : Grove Content) (s : IsForest g) (range : Range) (is : IsRange g.fo
               grown =
                   told.grown
                   ∙ ap (λ ns. text2 ++ flat_map part (drop 1 ns)) p.first
-                  ∙ ap (λ us. text2 ++ us) (flat_map-append part p.within p.behind ∙ ap (λ us. us ++ flat_map part p.behind) p.silent)
+                  ∙ ap (λ us. text2 ++ us) (flat_map-append part p.within p.behind ∙ ap (λ us. us ++ flat_map part p.behind) (silent m (contained d) p.within p.own))
                   ∙ ap (λ ns. text2 ++ flat_map part (drop 1 ns)) (sym p.second);
             }
         go false d =

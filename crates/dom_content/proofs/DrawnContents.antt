@@ -213,10 +213,10 @@ module _ (v : World) (n : ℕ) (r : Range) (e : range_in v.ranges n ≡ Some r) 
   range-here : (w : model.World) → Keeps v w → range_at w n ≡ Some r
   range-here w k = ap (λ rs. range_in (record { ranges = rs; covered = v.ranges.covered }) n) k.ranges ∙ e
 
-  range-extracted : (w : model.World) → Keeps v w → extract n w ≡ extracted n r w
+  pub range-extracted : (w : model.World) → Keeps v w → extract n w ≡ extracted n r w
   range-extracted w k = ap (λ (o : Option Range). for_range o w (λ x. extracted n x w)) (range-here w k)
 
-  range-cloned : (w : model.World) → Keeps v w → clone_contents n w ≡ contents_drawn false r w
+  pub range-cloned : (w : model.World) → Keeps v w → clone_contents n w ≡ contents_drawn false r w
   range-cloned w k = ap (λ (o : Option Range). for_range o w (λ x. contents_drawn false x w)) (range-here w k)
 
   made-extracted : (w : model.World) → (extracted n r w).made ≡ (contents_drawn true r w).made

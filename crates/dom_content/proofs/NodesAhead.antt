@@ -17,7 +17,7 @@ use Rattle.dom_model.proofs.Forests.WaysMeeting.{above-root}
 use Rattle.dom_model.proofs.BoundaryPoints.OrderByWays.{path-through}
 use Rattle.dom_model.proofs.BoundaryPoints.PointOrder.{order-one_node, order-above}
 use Rattle.dom_model.proofs.RangesAndContents.StartsAhead.{got_place}
-use Rattle.dom_content.proofs.PartsBetween.{less-false}
+use Rattle.dom_content.proofs.AlongGaps.{less-false}
 
 -- the node is there, of the point's root, and its front does not come after the point
 pub record IsAheadOf (g : Grove Content) (p : Point) (n : ℕ) : Type 0 where

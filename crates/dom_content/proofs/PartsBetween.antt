@@ -1,65 +1,26 @@
 -- The nodes that are contained in a range lie behind each node whose front does not come after its start, up to the first node that does
 -- not come before its end. So whatever is told of contained nodes alone is told by a walk between the two. DOM Standard, "Interface Range".
-use Rattle.std.proofs.Common.{◌≡◌, ℕ, zero, suc, ◌+◌, ◌<◌, ◌≤◌, Bool, true, false, ◌&&◌, List, [], ◌∷◌, ◌++◌, length, drop, flat_map, Option, Some, None, refl, ap, sym, ◌∙◌, subst, arith, append_assoc, append-nil, ⊎_elim}
-use Rattle.std.specs.Ordering.{nat_cmp}
-use Rattle.std.specs.declared.cmp.Ordering.TheVariants.{Equal, Greater}
-use Rattle.std.proofs.lemmas.Bool.{false≢true, cases_lt}
+use Rattle.std.proofs.Common.{◌≡◌, ℕ, ◌+◌, ◌<◌, Bool, true, false, ◌&&◌, List, [], ◌∷◌, ◌++◌, length, drop, flat_map, Option, Some, None, refl, ap, sym, ◌∙◌, subst, arith, append_assoc, append-nil}
+use Rattle.std.proofs.lemmas.Bool.{false≢true}
 use Rattle.std.proofs.lemmas.Grind.{flat_map-append}
 use Rattle.dom_model.specs.PlainLists.Lists.{hits, after}
 use Rattle.dom_model.specs.Forests.Forest.{Grove, IsForest, HasNode, occurs, one_at, numbers, root_of, tree_at, inclusive_descendants}
 use Rattle.dom_model.specs.Forests.Lengths.{node_length, unit_count}
 use Rattle.dom_model.specs.Worlds.World.{Content, Point, Range}
 use Rattle.dom_model.specs.Worlds.Sound.{IsRange}
-use Rattle.dom_model.specs.BoundaryPoints.Points.{order_of}
 use Rattle.dom_model.specs.MutationAlgorithms.Checks.{is_same}
 use Rattle.dom_model.specs.RangesAndContents.Ranges.{is_less, is_before, is_contained}
-use Rattle.dom_model.specs.TokenText.Gaps.{root_text, tokens_ahead, gap_order}
+use Rattle.dom_model.specs.TokenText.Gaps.{root_text, tokens_ahead}
 use Rattle.dom_model.proofs.PlainLists.Numbers.{same_or, same, apart}
 use Rattle.dom_model.proofs.PlainLists.FromFirst.{from_first}
-use Rattle.dom_model.proofs.PlainLists.Members.{hits-last_of}
-use Rattle.dom_model.proofs.Forests.Changes.{seen, nothing, just}
-use Rattle.dom_model.proofs.Forests.Climbing.{hits-append, hits-first, hits-among}
-use Rattle.dom_model.proofs.Forests.Entries.{occurs-HasNode, HasNode-occurs}
+use Rattle.dom_model.proofs.Forests.Climbing.{hits-append, hits-first}
+use Rattle.dom_model.proofs.Forests.Entries.{HasNode-occurs}
 use Rattle.dom_model.proofs.Forests.Totals.{total-tree_at}
 use Rattle.dom_model.proofs.Forests.Below.{tree-there}
-use Rattle.dom_model.proofs.Forests.ToTheRoot.{inside-root}
 use Rattle.dom_model.proofs.Forests.TreeOrder.Flattened.{hits-numbers, numbers-without}
-use Rattle.dom_model.proofs.Forests.TreeOrder.Preceding.{order-step}
-use Rattle.dom_model.proofs.BoundaryPoints.PointOrder.{nat_cmp-same, nat_cmp-less, nat_cmp-greater, order-one_node}
-use Rattle.dom_model.proofs.TokenText.PointGaps.GapsInOrder.{gap-found, gaps-in_order}
-use Rattle.dom_ranges.proofs.Inside.{IsAt, rest-next, rest-end}
-use Rattle.dom_content.proofs.NodesInOrder.{ahead-after}
-
-pub less-false : (i j : ℕ) → j ≤ i → is_less (nat_cmp i j) ≡ false
-less-false i j h =
-    ⊎_elim
-    (λ (lt : j < i). rw (nat_cmp-greater i j lt) refl)
-    (λ (le : i ≤ j). let e : i ≡ j = omega arith in rw (e, nat_cmp-same j) refl)
-    (cases_lt j i)
-
-pub less-true : (i j : ℕ) → i < j → is_less (nat_cmp i j) ≡ true
-less-true i j h = rw (nat_cmp-less i j h) refl
-
-pub from-less : (i j : ℕ) → is_less (nat_cmp i j) ≡ true → i < j
-from-less i j h = ⊎_elim (λ (lt : i < j). lt) (λ (le : j ≤ i). absurd (false≢true (sym (less-false i j le) ∙ h))) (cases_lt i j)
-
-from-not_less : (i j : ℕ) → is_less (nat_cmp i j) ≡ false → j ≤ i
-from-not_less i j h = ⊎_elim (λ (lt : i < j). absurd (false≢true (sym h ∙ less-true i j lt))) (λ (le : j ≤ i). le) (cases_lt i j)
-
--- the same order as of two offsets that rise
-from-offsets : (i j a b : ℕ) → a ≤ b → nat_cmp i j ≡ nat_cmp a b → i ≤ j
-from-offsets i j a b h e =
-    ⊎_elim
-    (λ (lt : j < i).
-    ⊎_elim
-    (λ (c : a < b). let x : false ≡ true = ap is_less (sym (nat_cmp-greater i j lt) ∙ e ∙ nat_cmp-less a b c) in absurd (false≢true x))
-    (λ (c : b ≤ a).
-    let d : a ≡ b = omega arith in
-    let x : Greater ≡ Equal = sym (nat_cmp-greater i j lt) ∙ e ∙ ap (λ m. nat_cmp a m) (sym d) ∙ nat_cmp-same a in
-    absurd (cc x))
-    (cases_lt a b))
-    (λ (le : i ≤ j). le)
-    (cases_lt j i)
+use Rattle.dom_model.proofs.BoundaryPoints.PointOrder.{order-one_node}
+use Rattle.dom_ranges.proofs.Inside.{rest-next, rest-end}
+use Rattle.dom_content.proofs.AlongGaps.{from-less, from-not_less, from-offsets, place, order-is, there, step, walk-at, later}
 
 pub and-both : (a b : Bool) → (a && b) ≡ true → (a ≡ true) × (b ≡ true)
 and-both true true h = (refl, refl)
@@ -69,10 +30,6 @@ and-both false b h = absurd (false≢true h)
 same-some : (o : Option ℕ) (c : ℕ) → is_same o (Some c) ≡ true → o ≡ Some c
 same-some None c h = absurd (false≢true h)
 same-some (Some d) c h = elim (same_or d c) [ same e t ↦ ap (λ x. Some x) e | apart ne t ↦ absurd (let k = rw t at h in false≢true k) ]
-
-few-hits : (n : ℕ) (ns : List ℕ) → hits n ns ≤ length ns
-few-hits n [] = omega arith
-few-hits n (m ∷ ns) = elim (same_or m n) [ same e t ↦ rw t (let i = few-hits n ns in omega arith) | apart ne t ↦ rw t (let i = few-hits n ns in omega arith) ]
 
 -- a list up to a number, and from it on
 pub record IsSplit (n : ℕ) (ns : List ℕ) : Type 0 where
@@ -128,52 +85,6 @@ module _ (g : Grove Content) (s : IsForest g) (range : Range) (is : IsRange g.fo
   end-rooted : root_of g.forest range.end.node ≡ Some root
   end-rooted = sym is.one_root ∙ rooted
 
-  pub place : (p : Point) → root_of g.forest p.node ≡ Some root → p.offset ≤ node_length unit_count g.forest p.node → (k : ℕ) × (ahead p ≡ Some k)
-  place p r l = gap-found g.forest s.once s.kinds root p r l
-
-  pub order-is : (p q : Point) (i j : ℕ) → root_of g.forest p.node ≡ Some root → root_of g.forest q.node ≡ Some root → p.offset ≤ node_length unit_count g.forest p.node → q.offset ≤ node_length unit_count g.forest q.node → ahead p ≡ Some i → ahead q ≡ Some j → order_of g.forest p q ≡ nat_cmp i j
-  order-is p q i j rp rq lp lq hp hq =
-      let o = gaps-in_order g.forest s.once s.kinds root p q rp rq lp lq in
-      let e : gap_order p q (root_text g.forest root) ≡ Some (nat_cmp i j) = rw (hp, hq) refl in
-      let d : Some (order_of g.forest p q) ≡ Some (nat_cmp i j) = sym o ∙ e in
-      cc d
-
-  there : (n : ℕ) → root_of g.forest n ≡ Some root → 0 < occurs n (tree_at root g.forest)
-  there n r = inside-root s n root r
-
-  -- one step of a walk from a node of the root
-  step : (n m : ℕ) → HasNode g.forest n → root_of g.forest n ≡ Some root → after n all ≡ Some m → (root_of g.forest m ≡ Some root) × HasNode g.forest m
-  step n m h r e =
-      let o = order-step s n m h (rw r (sym e)) in
-      (o.1.0 ∙ r, o.1.1)
-
-  pub walk-at : (n : ℕ) → HasNode g.forest n → root_of g.forest n ≡ Some root → IsAt g.forest root n
-  walk-at n h r = record { there = h; under = hits-among root _ (hits-last_of _ root r) }
-
-  -- what comes in tree order from a node on is no less far on
-  later : (k n x i j : ℕ) → length (from_first n all) ≤ k → HasNode g.forest n → root_of g.forest n ≡ Some root → 0 < hits x (from_first n all) → ahead (front n) ≡ Some i → ahead (front x) ≡ Some j → i ≤ j
-  later zero n x i j l h r o hi hj = absurd (let w = few-hits x (from_first n all) in omega arith)
-  later (suc k) n x i j l h r o hi hj =
-      elim (same_or n x) [
-        | same d t ↦ (let e : Some i ≡ Some j = sym hi ∙ ap (λ m. ahead (front m)) d ∙ hj in let w : i ≡ j = cc e in omega arith)
-        | apart ne t ↦
-            elim (seen (after n all)) [
-              | nothing z ↦ absurd (let w = rest-end g s root n (walk-at n h r) z in let y = rw w at o in let v = rw t at y in omega arith)
-              | just m z ↦
-                  let w = rest-next g s root n m z in
-                  let y = rw w at o in
-                  let v = rw t at y in
-                  let q = step n m h r z in
-                  let c = place (front m) q.0 (omega arith) in
-                  let less = ahead-after g s root n (occurs-HasNode g.forest n h) (there n r) m z in
-                  let cmp = sym (order-is (front n) (front m) i c.0 r q.0 (omega arith) (omega arith) hi c.1) ∙ less in
-                  let lt = from-less i c.0 (ap is_less cmp) in
-                  let len = ap length w in
-                  let rec = later k m x c.0 j (omega arith) q.1 q.0 (omega arith) c.1 hj in
-                  omega arith
-            ]
-      ]
-
   -- what is contained is of the root, behind the start and ahead of the end
   pub record IsInside (x : ℕ) : Type 0 where
     pub of_root : root_of g.forest x ≡ Some root
@@ -196,26 +107,26 @@ module _ (g : Grove Content) (s : IsForest g) (range : Range) (is : IsRange g.fo
   -- nothing up to a node whose front does not come after the start
   none-ahead : (here x : ℕ) → root_of g.forest here ≡ Some root → is_before g.forest range.start (front here) ≡ false → HasNode g.forest x → 0 < hits here (from_first x all) → IsInside x → ⊥
   none-ahead here x r early h o c =
-      let i = place (front x) c.of_root (omega arith) in
-      let j = place (front here) r (omega arith) in
-      let a = place range.start rooted is.starts.within in
-      let l = later (length (from_first x all)) x here i.0 j.0 (omega arith) h c.of_root o i.1 j.1 in
-      let m = from-not_less a.0 j.0 (ap is_less (sym (order-is range.start (front here) a.0 j.0 rooted r is.starts.within (omega arith) a.1 j.1)) ∙ early) in
-      let b = from-less a.0 i.0 (ap is_less (sym (order-is range.start (front x) a.0 i.0 rooted c.of_root is.starts.within (omega arith) a.1 i.1)) ∙ c.starts) in
+      let i = place g s root (front x) c.of_root (omega arith) in
+      let j = place g s root (front here) r (omega arith) in
+      let a = place g s root range.start rooted is.starts.within in
+      let l = later g s root (length (from_first x all)) x here i.0 j.0 (omega arith) h c.of_root o i.1 j.1 in
+      let m = from-not_less a.0 j.0 (ap is_less (sym (order-is g s root range.start (front here) a.0 j.0 rooted r is.starts.within (omega arith) a.1 j.1)) ∙ early) in
+      let b = from-less a.0 i.0 (ap is_less (sym (order-is g s root range.start (front x) a.0 i.0 rooted c.of_root is.starts.within (omega arith) a.1 i.1)) ∙ c.starts) in
       omega arith
 
   none-behind : (z x : ℕ) → HasNode g.forest z → root_of g.forest z ≡ Some root → is_before g.forest (front z) range.end ≡ false → 0 < hits x (from_first z all) → IsInside x → ⊥
   none-behind z x h r late o c =
       let size = node_length unit_count g.forest x in
-      let i = place (front z) r (omega arith) in
-      let j = place (front x) c.of_root (omega arith) in
-      let k = place (record { node = x; offset = size }) c.of_root (omega arith) in
-      let b = place range.end end-rooted is.ends.within in
-      let l = later (length (from_first z all)) z x i.0 j.0 (omega arith) h r o i.1 j.1 in
-      let e = sym (order-is (front x) (record { node = x; offset = size }) j.0 k.0 c.of_root c.of_root (omega arith) (omega arith) j.1 k.1) ∙ order-one_node g.forest x 0 size in
+      let i = place g s root (front z) r (omega arith) in
+      let j = place g s root (front x) c.of_root (omega arith) in
+      let k = place g s root (record { node = x; offset = size }) c.of_root (omega arith) in
+      let b = place g s root range.end end-rooted is.ends.within in
+      let l = later g s root (length (from_first z all)) z x i.0 j.0 (omega arith) h r o i.1 j.1 in
+      let e = sym (order-is g s root (front x) (record { node = x; offset = size }) j.0 k.0 c.of_root c.of_root (omega arith) (omega arith) j.1 k.1) ∙ order-one_node g.forest x 0 size in
       let m = from-offsets j.0 k.0 0 size (omega arith) e in
-      let u = from-less k.0 b.0 (ap is_less (sym (order-is (record { node = x; offset = size }) range.end k.0 b.0 c.of_root end-rooted (omega arith) is.ends.within k.1 b.1)) ∙ c.ends) in
-      let v = from-not_less i.0 b.0 (ap is_less (sym (order-is (front z) range.end i.0 b.0 r end-rooted (omega arith) is.ends.within i.1 b.1)) ∙ late) in
+      let u = from-less k.0 b.0 (ap is_less (sym (order-is g s root (record { node = x; offset = size }) range.end k.0 b.0 c.of_root end-rooted (omega arith) is.ends.within k.1 b.1)) ∙ c.ends) in
+      let v = from-not_less i.0 b.0 (ap is_less (sym (order-is g s root (front z) range.end i.0 b.0 r end-rooted (omega arith) is.ends.within i.1 b.1)) ∙ late) in
       omega arith
 
   none-told : (ns : List ℕ) → ((m : ℕ) → 0 < hits m ns → IsInside m → ⊥) → told ns ≡ []
@@ -228,11 +139,11 @@ module _ (g : Grove Content) (s : IsForest g) (range : Range) (is : IsRange g.fo
   -- the root stands once
   root-once : occurs root g.forest ≡ 1
   root-once =
-      let h = tree-there range.start.node root g.forest (there range.start.node rooted) in
+      let h = tree-there range.start.node root g.forest (there g s root range.start.node rooted) in
       omega (arith, s.once root)
 
   listed : (x : ℕ) → root_of g.forest x ≡ Some root → 0 < hits x all
-  listed x r = omega (arith, hits-numbers x (tree_at root g.forest), there x r)
+  listed x r = omega (arith, hits-numbers x (tree_at root g.forest), there g s root x r)
 
   -- nothing of another root is contained
   pub all-told : told (numbers g.forest) ≡ told all
@@ -253,7 +164,7 @@ module _ (g : Grove Content) (s : IsForest g) (range : Range) (is : IsRange g.fo
       ∙ append-nil (told all)
 
   held-of : (x : ℕ) → root_of g.forest x ≡ Some root → HasNode g.forest x
-  held-of x r = HasNode-occurs g.forest x (omega (arith, total-tree_at (one_at x) root g.forest, there x r))
+  held-of x r = HasNode-occurs g.forest x (omega (arith, total-tree_at (one_at x) root g.forest, there g s root x r))
 
   -- nothing is told up to a node whose front does not come after the start
   pub start-told : (here : ℕ) → HasNode g.forest here → root_of g.forest here ≡ Some root → is_before g.forest range.start (front here) ≡ false → told all ≡ told (drop 1 (from_first here all))
@@ -285,7 +196,7 @@ module _ (g : Grove Content) (s : IsForest g) (range : Range) (is : IsRange g.fo
   }
 
   pub next-of : (n m : ℕ) → HasNode g.forest n → root_of g.forest n ≡ Some root → after n all ≡ Some m → (root_of g.forest m ≡ Some root) × HasNode g.forest m
-  next-of n m h r e = step n m h r e
+  next-of n m h r e = step g s root n m h r e
 
   begins : (m : ℕ) → 0 < hits m all → told (from_first m all) ≡ part m ++ told (drop 1 (from_first m all))
   begins m h =
@@ -294,7 +205,7 @@ module _ (g : Grove Content) (s : IsForest g) (range : Range) (is : IsRange g.fo
 
   pub told-next : (before : List ℕ) (n m : ℕ) (text text2 : List ℕ) → IsTold g range part root before n text → after n all ≡ Some m → text2 ≡ text ++ part m → IsTold g range part root before m text2
   told-next before n m text text2 i e grown =
-      let q = step n m i.there i.of_root e in
+      let q = step g s root n m i.there i.of_root e in
       let rest = told (drop 1 (from_first m all)) in
       record {
         rooted = rooted;
@@ -310,7 +221,7 @@ module _ (g : Grove Content) (s : IsForest g) (range : Range) (is : IsRange g.fo
 
   pub told-stop : (before : List ℕ) (n m : ℕ) (text : List ℕ) → IsTold g range part root before n text → after n all ≡ Some m → is_before g.forest (front m) range.end ≡ false → text ≡ before ++ flat_map part (numbers g.forest)
   told-stop before n m text i e late =
-      let q = step n m i.there i.of_root e in
+      let q = step g s root n m i.there i.of_root e in
       sym (i.grown
       ∙ ap (λ ns. text ++ told (drop 1 ns)) (rest-next g s root n m e)
       ∙ ap (λ us. text ++ us) (none-told (from_first m all) (λ x h c. none-behind m x q.1 q.0 late h c))
@@ -318,4 +229,4 @@ module _ (g : Grove Content) (s : IsForest g) (range : Range) (is : IsRange g.fo
 
   pub told-end : (before : List ℕ) (n : ℕ) (text : List ℕ) → IsTold g range part root before n text → after n all ≡ None → text ≡ before ++ flat_map part (numbers g.forest)
   told-end before n text i e =
-      sym (i.grown ∙ ap (λ ns. text ++ told (drop 1 ns)) (rest-end g s root n (walk-at n i.there i.of_root) e) ∙ append-nil text)
+      sym (i.grown ∙ ap (λ ns. text ++ told (drop 1 ns)) (rest-end g s root n (walk-at g s root n i.there i.of_root) e) ∙ append-nil text)

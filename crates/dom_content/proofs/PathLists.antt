@@ -1,8 +1,8 @@
--- Parts of lists of nodes: what comes after or before one of them, and the way up from a node.
+-- Lists of nodes: parts of the children of a node, and the way up from a node.
 use Rattle.std.specs.Prelude.{◌==◌}
-use Rattle.std.proofs.Common.{◌≡◌, ℕ, zero, suc, ◌+◌, ◌-◌, ◌<◌, ◌≤◌, true, false, List, [], ◌∷◌, ◌++◌, take, drop, length, slice_index_or, Option, Some, None, refl, ap, sym, ◌∙◌, arith, length-drop, append-nil}
+use Rattle.std.proofs.Common.{◌≡◌, ℕ, zero, suc, ◌+◌, ◌<◌, ◌≤◌, true, false, List, [], ◌∷◌, ◌++◌, take, drop, length, slice_index_or, Option, Some, None, refl, ap, sym, ◌∙◌, arith, length-drop, append-nil}
 use Rattle.std.proofs.lemmas.List.{append_assoc}
-use Rattle.std.proofs.lemmas.List.{drop_more, take_more}
+use Rattle.std.proofs.lemmas.List.{drop_more}
 use Rattle.dom_model.specs.PlainLists.Lists.{hits}
 use Rattle.dom_model.specs.Forests.Forest.{Forest, HasNode, occurs, parent_of, children_of, ancestors}
 use Rattle.dom_model.specs.MutationAlgorithms.PreRemoval.{past}
@@ -22,33 +22,6 @@ no_more (x ∷ xs) e = absurd (omega arith)
 
 pub none-left : (nodes : List ℕ) (i : ℕ) → length nodes ≤ i → drop i nodes ≡ []
 none-left nodes i le = no_more (drop i nodes) (let l = length-drop i nodes in omega arith)
-
--- Looking for the one.
-
-past-other : (n x : ℕ) (xs : List ℕ) → (x == n) ≡ false → past n (x ∷ xs) ≡ past n xs
-past-other n x xs e = rw e refl
-
-past-same : (n x : ℕ) (xs : List ℕ) → (x == n) ≡ true → past n (x ∷ xs) ≡ xs
-past-same n x xs e = rw e refl
-
-pub past-on : (nodes : List ℕ) (n i x : ℕ) → past n (drop i nodes) ≡ past n nodes → x ≡ slice_index_or nodes i x → i < length nodes → (x == n) ≡ false → past n (drop (i + 1) nodes) ≡ past n nodes
-past-on nodes n i x h is lt e = sym (past-other n x (drop (i + 1) nodes) e) ∙ sym (ap (past n) (listed nodes i x is lt)) ∙ h
-
-pub past-found : (nodes : List ℕ) (n i x : ℕ) → past n (drop i nodes) ≡ past n nodes → x ≡ slice_index_or nodes i x → i < length nodes → (x == n) ≡ true → drop (i + 1) nodes ≡ past n nodes
-past-found nodes n i x h is lt e = sym (past-same n x (drop (i + 1) nodes) e) ∙ sym (ap (past n) (listed nodes i x is lt)) ∙ h
-
-take-whole : (k : ℕ) (xs : List ℕ) → length xs ≤ k → take k xs ≡ xs
-take-whole zero [] h = refl
-take-whole zero (x ∷ xs) h = absurd (omega arith)
-take-whole (suc k) [] h = refl
-take-whole (suc k) (x ∷ xs) h = ap (λ ys. x ∷ ys) (take-whole k xs (omega arith))
-
-pub past-slice : (nodes : List ℕ) (n i x : ℕ) → past n (drop i nodes) ≡ past n nodes → x ≡ slice_index_or nodes i x → i < length nodes → (x == n) ≡ true → take (length nodes - (i + 1)) (drop (i + 1) nodes) ≡ past n nodes
-past-slice nodes n i x h is lt e =
-    take-whole (length nodes - (i + 1)) (drop (i + 1) nodes) (let l = length-drop (i + 1) nodes in omega (arith, l)) ∙ past-found nodes n i x h is lt e
-
-pub past-none : (nodes : List ℕ) (n i : ℕ) → past n (drop i nodes) ≡ past n nodes → length nodes ≤ i → [] ≡ past n nodes
-past-none nodes n i h le = sym (ap (past n) (none-left nodes i le)) ∙ h
 
 -- Children that are there.
 
@@ -112,24 +85,3 @@ module _ {X : Type 0} (f : Forest X) (o : (m : ℕ) → occurs m f ≤ 1) (a n :
       sym (append-nil passed)
       ∙ ap (λ xs. passed ++ xs) (sym (up_to-same a n (way_up f q) same) ∙ sym (ap (up_to a) (way-on f o n held q e).0))
       ∙ h
-
--- What comes before the one.
-
-pub ahead-on : (nodes : List ℕ) (n i x : ℕ) → take i nodes ++ up_to n (drop i nodes) ≡ up_to n nodes → x ≡ slice_index_or nodes i x → i < length nodes → (x == n) ≡ false → take (i + 1) nodes ++ up_to n (drop (i + 1) nodes) ≡ up_to n nodes
-ahead-on nodes n i x h is lt e =
-    ap (λ ys. ys ++ up_to n (drop (i + 1) nodes)) (take_more nodes i x lt ∙ ap (λ y. take i nodes ++ y ∷ []) (sym is))
-    ∙ append_assoc (take i nodes) (x ∷ []) (up_to n (drop (i + 1) nodes))
-    ∙ ap (λ ys. take i nodes ++ ys) (sym (up_to-other n x (drop (i + 1) nodes) e) ∙ sym (ap (up_to n) (listed nodes i x is lt)))
-    ∙ h
-
-pub ahead-found : (nodes : List ℕ) (n i x : ℕ) → take i nodes ++ up_to n (drop i nodes) ≡ up_to n nodes → x ≡ slice_index_or nodes i x → i < length nodes → (x == n) ≡ true → take i nodes ≡ up_to n nodes
-ahead-found nodes n i x h is lt e =
-    sym (append-nil (take i nodes)) ∙ ap (λ ys. take i nodes ++ ys) (sym (up_to-same n x (drop (i + 1) nodes) e) ∙ sym (ap (up_to n) (listed nodes i x is lt))) ∙ h
-
-pub ahead-none : (nodes : List ℕ) (n i : ℕ) → take i nodes ++ up_to n (drop i nodes) ≡ up_to n nodes → length nodes ≤ i → take (length nodes) nodes ≡ up_to n nodes
-ahead-none nodes n i h le =
-    take-whole (length nodes) nodes (omega arith)
-    ∙ sym (append-nil nodes)
-    ∙ ap (λ ys. ys ++ []) (sym (take-whole i nodes le))
-    ∙ ap (λ ys. take i nodes ++ up_to n ys) (sym (none-left nodes i le))
-    ∙ h

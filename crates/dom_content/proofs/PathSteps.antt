@@ -337,6 +337,11 @@ module _ (initial now : World) (moves : Bool) (whole : model.World → model.Wor
   pub down-last : length below ≤ i → IsGoingDown initial now moves whole walk parts here (n ∷ [])
   down-last le = subst (λ (ns : List ℕ). IsGoingDown initial now moves whole walk parts here (n ∷ ns)) (none-left below i le) t
 
+-- the second node of the path is there too
+pub down-next_held : (initial now : World) (moves : Bool) (whole : model.World → model.World) (walk : ℕ → List ℕ → model.World → model.World) (parts : List Partial) (here n m : ℕ) (path : List ℕ) → IsGoingDown initial now moves whole walk parts here (n ∷ m ∷ path) → HasNode now.tree.forest m
+down-next_held initial now moves whole walk parts here n m path t =
+    HasNode-occurs now.tree.forest m (t.still m (t.there m (let i = hits-append m (n ∷ []) (m ∷ path) in let j = hits-first m path in omega arith)))
+
 pub no_partials : (ps : List Partial) → length ps ≡ 0 → ps ≡ []
 no_partials [] e = refl
 no_partials (p ∷ ps) e = absurd (omega arith)

@@ -17,7 +17,7 @@ use dom_tree::{NodeId, Tree};
 use std::alloc::{AllocError, Global};
 
 // The children of a node from one of them on, and ahead of another.
-fn children_between(
+pub(crate) fn children_between(
     tree: &Tree<Content>,
     alloc: Global,
     parent: NodeId,

@@ -10,27 +10,19 @@ ghost use Rattle.dom_model.specs.DataAndCopies.Data.{data_of, replace_data, remo
 ghost use Rattle.dom_model.specs.RangesAndContents.Ranges.{collapsed_at, with_range};
 ghost use Rattle.dom_model.specs.RangesAndContents.Contents.{is_in_one_data, cut_from, cut_up_to, new_place as place_left, deleted_between, delete_contents};
 ghost use Rattle.dom_ranges.specs.Tables.{range_in};
+ghost use Rattle.dom_model.specs.TokenText.Edits.{delete_contents_edits};
 ghost use Rattle.dom_edit.specs.Whole.{IsWhole, Follows, unwatched};
+ghost use Rattle.dom_edit.specs.Markers.{StandByEdits};
+ghost use Rattle.dom_content.specs.Left.{IsLeftOf};
 
 use crate::contained::contained_tops;
+use crate::data::{has_data, is_in_one_data};
 use dom_data::replace_data;
 use dom_edit::{Content, World};
-use dom_kinds::Kind;
 use dom_point::{Point, common};
 use dom_ranges::RangeId;
 use dom_tree::{NodeId, Tree};
 use std::alloc::{AllocError, Global};
-
-// Whether a node has data.
-fn has_data(tree: &Tree<Content>, node: NodeId) -> bool
-    requires held { HasNode tree.now.forest node }
-    ensures { result ≡ kind_passes is_character_data tree.now.forest node }
-{
-    match tree.label(node).kind {
-        Kind::Text | Kind::ProcessingInstruction | Kind::Comment => true,
-        Kind::Element | Kind::Document | Kind::DocumentType | Kind::DocumentFragment => false,
-    }
-}
 
 // Takes units of a node's data out. An offset within the data is not refused, so that only memory can be wanting.
 fn cut_units(
@@ -171,16 +163,8 @@ fn delete_between(
     stand_at(world, range, place)
 }
 
-// Whether both points stand in one node that has data.
-fn is_in_one_data(tree: &Tree<Content>, start: Point, end: Point) -> bool
-    requires held { HasNode tree.now.forest start.node }
-    ensures { result ≡ ((start.node == end.node) && kind_passes is_character_data tree.now.forest start.node) }
-{
-    start.node == end.node && has_data(tree, start.node)
-}
-
-/// Deletes what lies in a live range; both its ends then stand where that was.
-pub fn delete_contents(world: &mut World, alloc: Global, range: RangeId) -> Result<(), AllocError>
+// Deletes what lies in a live range.
+fn delete_range(world: &mut World, alloc: Global, range: RangeId) -> Result<(), AllocError>
     requires whole { IsWhole world.old }
     requires held { IsSome (range_in world.old.ranges range) }
     ensures deleted { OnOk result (Follows world.old world.new (delete_contents range)) }
@@ -195,4 +179,17 @@ pub fn delete_contents(world: &mut World, alloc: Global, range: RangeId) -> Resu
         return cut_units(world, alloc, start.node, start.offset, count);
     }
     delete_between(world, alloc, range, start, end)
+}
+
+/// Deletes what lies in a live range; both its ends then stand where that was.
+pub fn delete_contents(world: &mut World, alloc: Global, range: RangeId) -> Result<(), AllocError>
+    requires whole { IsWhole world.old }
+    requires held { IsSome (range_in world.old.ranges range) }
+    ensures deleted { OnOk result (Follows world.old world.new (delete_contents range)) }
+    ensures markers { OnOk result (StandByEdits world.old world.new (delete_contents_edits range)) }
+    ensures left { OnOk result (IsLeftOf world.old world.new range) }
+    ensures whole { IsWhole world.new }
+{
+    delete_range(world, alloc, range)?;
+    Ok(())
 }

@@ -11,12 +11,16 @@ ghost use Rattle.dom_model.specs.RangesAndContents.Ranges.{is_collapsed as ends_
 ghost use Rattle.dom_model.specs.RangesAndContents.Contents.{units_into, contents_drawn, check_draw, check_extract, extracted, extract, clone_contents};
 ghost use Rattle.dom_ranges.specs.Tables.{range_in};
 ghost use Rattle.dom_edit.specs.Inserting.{AreThere};
+ghost use Rattle.dom_model.specs.TokenText.Edits.{extract_edits, clone_contents_edits};
 ghost use Rattle.dom_edit.specs.Whole.{IsWhole, Follows, unwatched};
+ghost use Rattle.dom_edit.specs.Markers.{StandByEdits};
 ghost use Rattle.dom_edit.specs.Refusals.{IsRefused};
+ghost use Rattle.dom_content.specs.Left.{IsLeftOf, HoldsBetween};
 ghost use Rattle.dom_content.specs.Paths.{HasRoom, StillHeld};
 ghost use Rattle.dom_content.specs.Drawing.{AreParts, in_one_data, parts_drawn, filled};
 
 use crate::children::contained_children;
+use crate::data::is_in_one_data;
 use crate::deleting::{new_place, stand_at};
 use crate::paths::{head_into, path_below, tail_into};
 use crate::pieces::{children_into, new_fragment, units_into};
@@ -83,25 +87,6 @@ fn is_collapsed(start: Point, end: Point) -> bool
     ensures { result ≡ ends_meet (record { start = start; end = end }) }
 {
     start.node == end.node && start.offset == end.offset
-}
-
-// Whether a node has data.
-fn has_data(tree: &Tree<Content>, node: NodeId) -> bool
-    requires held { HasNode tree.now.forest node }
-    ensures { result ≡ kind_passes is_character_data tree.now.forest node }
-{
-    match tree.label(node).kind {
-        Kind::Text | Kind::ProcessingInstruction | Kind::Comment => true,
-        Kind::Element | Kind::Document | Kind::DocumentType | Kind::DocumentFragment => false,
-    }
-}
-
-// Whether two points stand in one node with data.
-fn is_in_one_data(tree: &Tree<Content>, start: Point, end: Point) -> bool
-    requires held { HasNode tree.now.forest start.node }
-    ensures { result ≡ in_one_data tree.now.forest (record { start = start; end = end }) }
-{
-    start.node == end.node && has_data(tree, start.node)
 }
 
 // Whether the ends of a range follow the cut, once its contents are gone.
@@ -253,6 +238,9 @@ pub fn extract(world: &mut World, alloc: Global, range: RangeId) -> Result<NodeI
     ensures number { IfOk result (λ id. id ≡ world.old.tree.made) }
     ensures allowed { OnOk result (check_extract range (unwatched world.old) ≡ None) }
     ensures extracted { OnOk result (Follows world.old world.new (extract range)) }
+    ensures markers { OnOk result (StandByEdits world.old world.new (extract_edits range)) }
+    ensures left { OnOk result (IsLeftOf world.old world.new range) }
+    ensures held { IfOk result (λ id. HoldsBetween world.old world.new range id) }
     ensures refused { IfErr result (λ e. IsRefused e (check_extract range (unwatched world.old)) world.old world.new) }
     ensures whole { IsWhole world.new }
 {
@@ -275,6 +263,8 @@ pub fn clone_contents(world: &mut World, alloc: Global, range: RangeId) -> Resul
     ensures number { IfOk result (λ id. id ≡ world.old.tree.made) }
     ensures allowed { OnOk result (check_extract range (unwatched world.old) ≡ None) }
     ensures cloned { OnOk result (Follows world.old world.new (clone_contents range)) }
+    ensures markers { OnOk result (StandByEdits world.old world.new (clone_contents_edits range)) }
+    ensures held { IfOk result (λ id. HoldsBetween world.old world.new range id) }
     ensures refused { IfErr result (λ e. IsRefused e (check_extract range (unwatched world.old)) world.old world.new) }
     ensures whole { IsWhole world.new }
 {

@@ -3,6 +3,7 @@
 
 mod children;
 mod contained;
+mod data;
 mod deleting;
 mod drawing;
 mod paths;

@@ -12,22 +12,14 @@ ghost use Rattle.dom_edit.specs.Inserting.{AreThere};
 ghost use Rattle.dom_edit.specs.Whole.{IsWhole, Keeps, Follows};
 ghost use Rattle.dom_content.specs.Paths.{HasRoom, StillHeld, opened, inner_of, entered, closed_one, closed, IsUnfinished, AreUnfinished};
 
+use crate::children::children_between;
+use crate::data::has_data;
 use crate::pieces::{children_into, copy_of, document_in, new_fragment, put_last, units_into};
 use dom_edit::{Content, World};
-use dom_kinds::Kind;
 use dom_tree::{NodeId, Tree};
+use smallvec::SmallVec;
 use std::alloc::{AllocError, Global};
-
-// Whether a node has data.
-fn has_data(tree: &Tree<Content>, node: NodeId) -> bool
-    requires held { HasNode tree.now.forest node }
-    ensures { result ≡ kind_passes is_character_data tree.now.forest node }
-{
-    match tree.label(node).kind {
-        Kind::Text | Kind::ProcessingInstruction | Kind::Comment => true,
-        Kind::Element | Kind::Document | Kind::DocumentType | Kind::DocumentFragment => false,
-    }
-}
+use std::default::MadeWith;
 
 // The number of units from an offset on.
 fn units_past(tree: &Tree<Content>, node: NodeId, offset: usize) -> usize
@@ -37,47 +29,7 @@ fn units_past(tree: &Tree<Content>, node: NodeId, offset: usize) -> usize
     tree.body(node).text.len().saturating_sub(offset)
 }
 
-// The nodes that come after one of a list; none where it is not there.
-fn nodes_past(nodes: &[NodeId], node: NodeId) -> &[NodeId]
-    ensures { result.now ≡ past node nodes.now }
-{
-    for index in 0..nodes.len() {
-        if nodes[index] == node {
-            return &nodes[index + 1..];
-        }
-    }
-    &nodes[nodes.len()..]
-}
-
-// Where a node stands in a list; behind the last where it is not there.
-fn place_of(nodes: &[NodeId], node: NodeId) -> usize
-    ensures { take result nodes.now ≡ up_to node nodes.now }
-{
-    for index in 0..nodes.len() {
-        if nodes[index] == node {
-            return index;
-        }
-    }
-    nodes.len()
-}
-
-// The children of a node.
-fn children(tree: &Tree<Content>, alloc: Global, parent: NodeId) -> Result<Vec<NodeId>, AllocError>
-    requires { HasNode tree.now.forest parent }
-    ensures { IfOk result (λ list. list.items ≡ children_of tree.now.forest parent) }
-{
-    tree.sound();
-    let mut list = Vec::new(alloc);
-    let mut child = tree.first(parent);
-    while let Some(id) = child {
-        list.push(id)?;
-        child = tree.next(id);
-    }
-    Ok(list)
-}
-
 // The children of a node from an offset on.
-#[tactic(auto, using(std::proofs::lemmas::List::drop_min))]
 fn children_from(
     tree: &Tree<Content>,
     alloc: Global,
@@ -87,28 +39,31 @@ fn children_from(
     requires { HasNode tree.now.forest parent }
     ensures { IfOk result (λ list. list.items ≡ drop offset (children_of tree.now.forest parent)) }
 {
-    let mut list = children(tree, alloc, parent)?;
-    let place = offset.min(list.len());
-    let rest = list.split_off(place)?;
-    Ok(rest)
+    tree.sound();
+    let from = tree.child_at(parent, offset);
+    children_between(tree, alloc, parent, from, None)
 }
 
-// The children of a node that come after one of them.
+// The children of a node that come after one of them; none where it is not there.
 fn children_past(
     tree: &Tree<Content>,
     alloc: Global,
     parent: NodeId,
     child: NodeId,
 ) -> Result<Vec<NodeId>, AllocError>
-    requires { HasNode tree.now.forest parent }
+    requires held { HasNode tree.now.forest parent }
+    requires child_held { HasNode tree.now.forest child }
     ensures { IfOk result (λ list. list.items ≡ past child (children_of tree.now.forest parent)) }
 {
-    let list = children(tree, alloc, parent)?;
-    let rest = Vec::from_slice(alloc, nodes_past(list.as_slice(), child))?;
-    Ok(rest)
+    tree.sound();
+    if tree.parent(child) == Some(parent) {
+        let from = tree.next(child);
+        return children_between(tree, alloc, parent, from, None);
+    }
+    Ok(Vec::new(alloc))
 }
 
-// The children of a node that come before one of them.
+// The children of a node that come before one of them; all where it is not there.
 fn children_ahead(
     tree: &Tree<Content>,
     alloc: Global,
@@ -118,10 +73,9 @@ fn children_ahead(
     requires { HasNode tree.now.forest parent }
     ensures { IfOk result (λ list. list.items ≡ up_to child (children_of tree.now.forest parent)) }
 {
-    let mut list = children(tree, alloc, parent)?;
-    let place = place_of(list.as_slice(), child);
-    list.truncate(place);
-    Ok(list)
+    tree.sound();
+    let from = tree.first(parent);
+    children_between(tree, alloc, parent, from, Some(child))
 }
 
 // The children of a node up to an offset.
@@ -134,9 +88,10 @@ fn children_until(
     requires { HasNode tree.now.forest parent }
     ensures { IfOk result (λ list. list.items ≡ take offset (children_of tree.now.forest parent)) }
 {
-    let mut list = children(tree, alloc, parent)?;
-    list.truncate(offset);
-    Ok(list)
+    tree.sound();
+    let from = tree.first(parent);
+    let until = tree.child_at(parent, offset);
+    children_between(tree, alloc, parent, from, until)
 }
 
 // The inclusive ancestors of a node below another one, from the node on.
@@ -183,6 +138,20 @@ struct Partial {
     copy: NodeId,
     inner: NodeId,
     children: Vec<NodeId>,
+}
+
+/// The nodes on a path that lie in a range in part. Those of a short path take no memory.
+type Partials = SmallVec<Partial, 8>;
+
+impl MadeWith<Global> for Partial {
+    // An empty one, which stands in a place that is not taken.
+    fn made_with(alloc: Global) -> Self {
+        Partial {
+            copy: NodeId::new(0),
+            inner: NodeId::new(0),
+            children: Vec::new(alloc),
+        }
+    }
 }
 
 // Puts a copy of a node last into a fragment, and makes a further fragment.
@@ -247,7 +216,7 @@ fn close_all(
     world: &mut World,
     alloc: Global,
     moves: bool,
-    mut partials: Vec<Partial>,
+    mut partials: Partials,
 ) -> Result<(), AllocError>
     requires whole { IsWhole world.old }
     requires unfinished { AreUnfinished world.old.tree.forest partials.items }
@@ -296,6 +265,7 @@ fn open_tail(
     requires whole { IsWhole world.old }
     requires into_held { HasNode world.old.tree.forest into }
     requires held { HasNode world.old.tree.forest node }
+    requires next_held { HasNode world.old.tree.forest next }
     requires room { HasRoom world.old (opened into node) }
     ensures copy { IfOk result (λ p. p.copy ≡ world.old.tree.made) }
     ensures inner { IfOk result (λ p. (w : model.World) → Keeps world.old w → p.inner ≡ inner_of into node w) }
@@ -356,7 +326,7 @@ fn tail_along(
     ensures still_held { OnOk result (StillHeld world.old world.new) }
     ensures whole { IsWhole world.new }
 {
-    let mut partials: Vec<Partial> = Vec::new(alloc);
+    let mut partials: Partials = SmallVec::new(alloc);
     let mut here = into;
     let mut node = first;
     for next in below {
@@ -466,7 +436,7 @@ fn head_along(
     ensures still_held { OnOk result (StillHeld world.old world.new) }
     ensures whole { IsWhole world.new }
 {
-    let mut partials: Vec<Partial> = Vec::new(alloc);
+    let mut partials: Partials = SmallVec::new(alloc);
     let mut here = into;
     let mut node = first;
     for next in below {

@@ -8,6 +8,9 @@ ghost use Rattle.dom_model.specs.Worlds.Sound.{IsRange};
 ghost use Rattle.dom_model.specs.MutationAlgorithms.Checks.{is_of_kind};
 ghost use Rattle.dom_model.specs.RangesAndContents.Contents.{range_text};
 ghost use Rattle.dom_model.specs.DataAndCopies.Data.{content_in};
+ghost use Rattle.dom_model.specs.TokenText.Tokens.{texts_of};
+ghost use Rattle.dom_model.specs.TokenText.Gaps.{text_among};
+ghost use Rattle.dom_model.specs.TokenText.Between.{text_of_range};
 ghost use Rattle.dom_ranges.specs.Tables.{range_in};
 ghost use Rattle.dom_edit.specs.Whole.{IsWhole, unwatched};
 ghost use Rattle.dom_content.specs.Texts.{part_of, text_within, texts_within};
@@ -108,8 +111,8 @@ fn append_between(
     Ok(())
 }
 
-/// The data of the Texts that lie in a live range, cut at its two ends.
-pub fn range_text(world: &World, alloc: Global, range: RangeId) -> Result<Units, AllocError>
+// Gathers the data of the Texts that lie in a live range, cut at its two ends.
+fn gather_text(world: &World, alloc: Global, range: RangeId) -> Result<Units, AllocError>
     requires whole { IsWhole world.now }
     requires held { IsSome (range_in world.now.ranges range) }
     ensures { IfOk result (λ text. IfSome (range_in world.now.ranges range) (λ r. text ≡ range_text (unwatched world.now) r)) }
@@ -124,5 +127,19 @@ pub fn range_text(world: &World, alloc: Global, range: RangeId) -> Result<Units,
     append_tail(tree, start, &mut text)?;
     append_between(tree, start, end, &mut text)?;
     append_part(tree, end.node, 0, end.offset, &mut text)?;
+    Ok(text)
+}
+
+/// The data of the Texts that lie in a live range, cut at its two ends.
+///
+/// In the token text of the root it is what lies between the markers of the two ends.
+pub fn range_text(world: &World, alloc: Global, range: RangeId) -> Result<Units, AllocError>
+    requires whole { IsWhole world.now }
+    requires held { IsSome (range_in world.now.ranges range) }
+    ensures text { IfOk result (λ text. IfSome (range_in world.now.ranges range) (λ r. text ≡ range_text (unwatched world.now) r)) }
+    ensures between { IfOk result (λ text. IfSome (range_in world.now.ranges range) (λ r. IfSome (root_of world.now.tree.forest r.start.node)
+        (λ root. text ≡ text_of_range (unwatched world.now) range (text_among root (texts_of (unwatched world.now)))))) }
+{
+    let text = gather_text(world, alloc, range)?;
     Ok(text)
 }

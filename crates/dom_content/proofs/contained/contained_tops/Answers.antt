@@ -1,89 +1,116 @@
--- Each step tells one node, up to the first that does not come before the end.
-use Rattle.std.proofs.Common.{sym, ap, ◌∙◌, subst, []}
+-- Each step tells one node, up to the last that is ahead of the end.
+use Rattle.std.proofs.Common.{ℕ, ◌==◌, List, [], sym, ap, ◌∙◌, subst, refl}
+use Rattle.std.proofs.lemmas.Bool.{not-true, not-false, eqb-true}
 use Rattle.dom_model.specs.Forests.Forest.{root_of, numbers}
 use Rattle.dom_model.specs.Worlds.World.{Point, Range}
-use Rattle.dom_content.specs.Contained.{if_top}
-use Rattle.dom_content.proofs.PartsBetween.{IsTold, told-start, told-stop, told-end, walk-at, next-of}
-use Rattle.dom_content.proofs.ContainedInside.{passed-fewer, told-passed}
-use Rattle.dom_content.proofs.ContainedTops.{tops-contained, tops-filtered}
+use Rattle.dom_model.proofs.Forests.Changes.{seen, nothing, just}
+use Rattle.dom_content.proofs.AlongGaps.{walk-at}
+use Rattle.dom_content.proofs.WalkedTops.{IsAlong, last-ahead, apart-from, along-start, along-end, along-found, next, next-not_past, along-next}
+use Rattle.dom_content.proofs.ContainedInside.{passed-fewer}
+use Rattle.dom_content.proofs.ContainedTops.{tops-filtered}
 use Rattle.dom_content.proofs.contained.contained_tops.Goals as goal
 
-pub loop-next-init : goal.loop-next-init
-loop-next-init c =
+pub loop-start-init : goal.loop-start-init
+loop-start-init c =
     let g = c.args.tree.now in
     let r : Range = record { start = c.args.start; end = c.args.end } in
     let rooted = ap (λ (p : Point). root_of g.forest p.node) (sym c.start.view_is) ∙ sym c.root-root.ensures in
-    subst (λ ns. IsTold g r (if_top g.forest r) c.root-root.result [] c.last_ahead-here.result ns) (sym c.new-tops.ensures.items)
-    (told-start g c.sound.ensures r c.requires.range c.root-root.result rooted (if_top g.forest r) (tops-contained g r) c.last_ahead-here.result [] c.last_ahead-here.ensures.held (c.last_ahead-here.ensures.one_root ∙ rooted) c.last_ahead-here.ensures.ahead)
+    let stop = last-ahead g c.root-root.result c.args.end c.last_ahead-stop.result c.last_ahead-stop.ensures.held c.last_ahead-stop.ensures.one_root c.last_ahead-stop.ensures.ahead c.last_ahead-stop.ensures.behind
+    (sym c.requires.range.one_root ∙ rooted) c.requires.range.ends.within in
+    let first = last-ahead g c.root-root.result c.args.start c.last_ahead-here.result c.last_ahead-here.ensures.held c.last_ahead-here.ensures.one_root c.last_ahead-here.ensures.ahead c.last_ahead-here.ensures.behind
+    rooted c.requires.range.starts.within in
+    subst (λ (ns : List ℕ). IsAlong g r c.root-root.result c.last_ahead-stop.result c.last_ahead-here.result ns) (sym c.new-tops.ensures.items)
+    (along-start g c.sound.ensures r c.requires.range c.root-root.result rooted c.last_ahead-stop.result stop c.last_ahead-here.result first)
 
 pub next_inside-requires-clause-held : goal.next_inside-requires-clause-held
-next_inside-requires-clause-held c = c.loop-next.invariant.there
+next_inside-requires-clause-held c = c.loop-start.invariant.told.there
 
 pub next_inside-requires-clause-under : goal.next_inside-requires-clause-under
 next_inside-requires-clause-under c =
-    let g = c.args.tree.now in
-    let r : Range = record { start = c.args.start; end = c.args.end } in
-    let t = c.loop-next.invariant in
-    (walk-at g c.sound.ensures r c.requires.range c.root-root.result t.rooted (if_top g.forest r) (tops-contained g r) c.loop-next.here t.there t.of_root).under
+    let t = c.loop-start.invariant.told in
+    (walk-at c.args.tree.now c.sound.ensures c.root-root.result c.loop-start.here t.there t.of_root).under
 
-pub is_before-requires-clause-a_held : goal.is_before-requires-clause-a_held
-is_before-requires-clause-a_held c =
+pub unwrap-next-requires : goal.unwrap-next-requires
+unwrap-next-requires c =
     let g = c.args.tree.now in
     let r : Range = record { start = c.args.start; end = c.args.end } in
-    let t = c.loop-next.invariant in
-    (next-of g c.sound.ensures r c.requires.range c.root-root.result t.rooted (if_top g.forest r) (tops-contained g r) c.loop-next.here c.in-Some.next t.there t.of_root (sym c.next_inside.ensures ∙ c.in-Some.is)).1
-
-pub is_before-requires-clause-one_root : goal.is_before-requires-clause-one_root
-is_before-requires-clause-one_root c =
-    let g = c.args.tree.now in
-    let r : Range = record { start = c.args.start; end = c.args.end } in
-    let t = c.loop-next.invariant in
-    (next-of g c.sound.ensures r c.requires.range c.root-root.result t.rooted (if_top g.forest r) (tops-contained g r) c.loop-next.here c.in-Some.next t.there t.of_root (sym c.next_inside.ensures ∙ c.in-Some.is)).0
-    ∙ sym t.rooted ∙ c.requires.range.one_root
-
-pub returns-then-not-is_before : goal.returns-then-not-is_before
-returns-then-not-is_before c =
-    let g = c.args.tree.now in
-    let r : Range = record { start = c.args.start; end = c.args.end } in
-    let t = c.loop-next.invariant in
-    told-stop g c.sound.ensures r c.requires.range c.root-root.result t.rooted (if_top g.forest r) (tops-contained g r) [] c.loop-next.here c.in-Some.next c.loop-next.tops.items t (sym c.next_inside.ensures ∙ c.in-Some.is) (sym c.if-not-is_before.ensures)
-    ∙ tops-filtered g.forest r (numbers g.forest)
+    let t = c.loop-start.invariant in
+    let rooted = t.told.rooted in
+    let stop = last-ahead g c.root-root.result c.args.end c.last_ahead-stop.result c.last_ahead-stop.ensures.held c.last_ahead-stop.ensures.one_root c.last_ahead-stop.ensures.ahead c.last_ahead-stop.ensures.behind
+    (sym c.requires.range.one_root ∙ rooted) c.requires.range.ends.within in
+    let ne = apart-from c.loop-start.here c.last_ahead-stop.result (not-true (c.loop-start.here == c.last_ahead-stop.result) (sym c.ne.ensures ∙ c.loop-start-test.true)) in
+    elim (seen c.next_inside.result) [
+      | nothing e ↦ absurd (along-found g c.sound.ensures r c.requires.range c.root-root.result rooted c.last_ahead-stop.result stop c.loop-start.here c.loop-start.tops.items t ne (sym c.next_inside.ensures ∙ e))
+      | just m e ↦ rw e refl
+    ]
 
 pub append_top-requires-clause-held : goal.append_top-requires-clause-held
 append_top-requires-clause-held c =
     let g = c.args.tree.now in
     let r : Range = record { start = c.args.start; end = c.args.end } in
-    let t = c.loop-next.invariant in
-    (next-of g c.sound.ensures r c.requires.range c.root-root.result t.rooted (if_top g.forest r) (tops-contained g r) c.loop-next.here c.in-Some.next t.there t.of_root (sym c.next_inside.ensures ∙ c.in-Some.is)).1
+    let t = c.loop-start.invariant in
+    let rooted = t.told.rooted in
+    let stop = last-ahead g c.root-root.result c.args.end c.last_ahead-stop.result c.last_ahead-stop.ensures.held c.last_ahead-stop.ensures.one_root c.last_ahead-stop.ensures.ahead c.last_ahead-stop.ensures.behind
+    (sym c.requires.range.one_root ∙ rooted) c.requires.range.ends.within in
+    let ne = apart-from c.loop-start.here c.last_ahead-stop.result (not-true (c.loop-start.here == c.last_ahead-stop.result) (sym c.ne.ensures ∙ c.loop-start-test.true)) in
+    let e = sym c.next_inside.ensures ∙ c.unwrap-next.ensures in
+    (next g c.sound.ensures r c.requires.range c.root-root.result rooted c.last_ahead-stop.result stop c.loop-start.here c.loop-start.tops.items t ne c.unwrap-next.result e).1
 
 pub append_top-requires-clause-one_root : goal.append_top-requires-clause-one_root
 append_top-requires-clause-one_root c =
     let g = c.args.tree.now in
     let r : Range = record { start = c.args.start; end = c.args.end } in
-    let t = c.loop-next.invariant in
-    (next-of g c.sound.ensures r c.requires.range c.root-root.result t.rooted (if_top g.forest r) (tops-contained g r) c.loop-next.here c.in-Some.next t.there t.of_root (sym c.next_inside.ensures ∙ c.in-Some.is)).0
-    ∙ sym t.rooted
+    let t = c.loop-start.invariant in
+    let rooted = t.told.rooted in
+    let stop = last-ahead g c.root-root.result c.args.end c.last_ahead-stop.result c.last_ahead-stop.ensures.held c.last_ahead-stop.ensures.one_root c.last_ahead-stop.ensures.ahead c.last_ahead-stop.ensures.behind
+    (sym c.requires.range.one_root ∙ rooted) c.requires.range.ends.within in
+    let ne = apart-from c.loop-start.here c.last_ahead-stop.result (not-true (c.loop-start.here == c.last_ahead-stop.result) (sym c.ne.ensures ∙ c.loop-start-test.true)) in
+    let e = sym c.next_inside.ensures ∙ c.unwrap-next.ensures in
+    (next g c.sound.ensures r c.requires.range c.root-root.result rooted c.last_ahead-stop.result stop c.loop-start.here c.loop-start.tops.items t ne c.unwrap-next.result e).0 ∙ sym rooted
 
-pub loop-next-smaller : goal.loop-next-smaller
-loop-next-smaller c =
+pub append_top-requires-clause-behind : goal.append_top-requires-clause-behind
+append_top-requires-clause-behind c = c.loop-start.invariant.behind c.unwrap-next.result (sym c.next_inside.ensures ∙ c.unwrap-next.ensures)
+
+pub append_top-requires-clause-not_past : goal.append_top-requires-clause-not_past
+append_top-requires-clause-not_past c =
     let g = c.args.tree.now in
     let r : Range = record { start = c.args.start; end = c.args.end } in
-    let t = c.loop-next.invariant in
-    passed-fewer g c.sound.ensures r c.requires.range c.root-root.result t.rooted [] c.loop-next.here c.in-Some.next c.in_ok-here.here c.loop-next.tops.items c.append_top.new.tops.items t (sym c.next_inside.ensures ∙ c.in-Some.is)
-    c.in_ok-here.ensures.last
+    let t = c.loop-start.invariant in
+    let rooted = t.told.rooted in
+    let stop = last-ahead g c.root-root.result c.args.end c.last_ahead-stop.result c.last_ahead-stop.ensures.held c.last_ahead-stop.ensures.one_root c.last_ahead-stop.ensures.ahead c.last_ahead-stop.ensures.behind
+    (sym c.requires.range.one_root ∙ rooted) c.requires.range.ends.within in
+    let ne = apart-from c.loop-start.here c.last_ahead-stop.result (not-true (c.loop-start.here == c.last_ahead-stop.result) (sym c.ne.ensures ∙ c.loop-start-test.true)) in
+    let e = sym c.next_inside.ensures ∙ c.unwrap-next.ensures in
+    next-not_past g c.sound.ensures r c.requires.range c.root-root.result rooted c.last_ahead-stop.result stop c.loop-start.here c.loop-start.tops.items t ne c.unwrap-next.result e
 
-pub loop-next-preserved : goal.loop-next-preserved
-loop-next-preserved c =
+pub loop-start-smaller : goal.loop-start-smaller
+loop-start-smaller c =
     let g = c.args.tree.now in
     let r : Range = record { start = c.args.start; end = c.args.end } in
-    let t = c.loop-next.invariant in
-    told-passed g c.sound.ensures r c.requires.range c.root-root.result t.rooted [] c.loop-next.here c.in-Some.next c.in_ok-here.here c.loop-next.tops.items c.append_top.new.tops.items t (sym c.next_inside.ensures ∙ c.in-Some.is)
-    c.in_ok-here.ensures.last c.in_ok-here.ensures.tops
+    let t = c.loop-start.invariant in
+    let rooted = t.told.rooted in
+    let e = sym c.next_inside.ensures ∙ c.unwrap-next.ensures in
+    passed-fewer g c.sound.ensures r c.requires.range c.root-root.result rooted [] c.loop-start.here c.unwrap-next.result c.in_ok-here.here c.loop-start.tops.items c.append_top.new.tops.items t.told e c.in_ok-here.ensures.last
+
+pub loop-start-preserved : goal.loop-start-preserved
+loop-start-preserved c =
+    let g = c.args.tree.now in
+    let r : Range = record { start = c.args.start; end = c.args.end } in
+    let t = c.loop-start.invariant in
+    let rooted = t.told.rooted in
+    let stop = last-ahead g c.root-root.result c.args.end c.last_ahead-stop.result c.last_ahead-stop.ensures.held c.last_ahead-stop.ensures.one_root c.last_ahead-stop.ensures.ahead c.last_ahead-stop.ensures.behind
+    (sym c.requires.range.one_root ∙ rooted) c.requires.range.ends.within in
+    let ne = apart-from c.loop-start.here c.last_ahead-stop.result (not-true (c.loop-start.here == c.last_ahead-stop.result) (sym c.ne.ensures ∙ c.loop-start-test.true)) in
+    let e = sym c.next_inside.ensures ∙ c.unwrap-next.ensures in
+    along-next g c.sound.ensures r c.requires.range c.root-root.result rooted c.last_ahead-stop.result stop c.loop-start.here c.loop-start.tops.items t ne c.unwrap-next.result e c.in_ok-here.here c.append_top.new.tops.items c.in_ok-here.ensures.tops c.in_ok-here.ensures.last
 
 pub returns : goal.returns
 returns c =
     let g = c.args.tree.now in
     let r : Range = record { start = c.args.start; end = c.args.end } in
-    let t = c.loop-next.invariant in
-    told-end g c.sound.ensures r c.requires.range c.root-root.result t.rooted (if_top g.forest r) (tops-contained g r) [] c.loop-next.here c.loop-next.tops.items t (sym c.next_inside.ensures ∙ c.in_default.is)
-    ∙ tops-filtered g.forest r (numbers g.forest)
+    let t = c.loop-start.invariant in
+    let rooted = t.told.rooted in
+    let stop = last-ahead g c.root-root.result c.args.end c.last_ahead-stop.result c.last_ahead-stop.ensures.held c.last_ahead-stop.ensures.one_root c.last_ahead-stop.ensures.ahead c.last_ahead-stop.ensures.behind
+    (sym c.requires.range.one_root ∙ rooted) c.requires.range.ends.within in
+    let same = eqb-true c.loop-start.here c.last_ahead-stop.result (not-false (c.loop-start.here == c.last_ahead-stop.result) (sym c.ne.ensures ∙ c.loop-start-test.false)) in
+    along-end g c.sound.ensures r c.requires.range c.root-root.result rooted c.last_ahead-stop.result stop c.loop-start.here c.loop-start.tops.items t same ∙ tops-filtered g.forest r (numbers g.forest)

@@ -1,8 +1,10 @@
 -- The point's node itself, or the last node inside the child ahead of the point.
-use Rattle.std.proofs.Common.{◌-◌, sym, subst, ◌∙◌, arith}
-use Rattle.dom_model.specs.Forests.Forest.{HasNode}
+use Rattle.std.proofs.Common.{◌-◌, slice_get, ap, sym, subst, ◌∙◌, arith}
+use Rattle.dom_model.specs.PlainLists.Lists.{after}
+use Rattle.dom_model.specs.Forests.Forest.{HasNode, children_of, inclusive_descendants}
 use Rattle.dom_model.specs.Worlds.World.{Point}
 use Rattle.dom_content.proofs.NodesAhead.{ahead-itself, ahead-inside, child-held, ahead-as}
+use Rattle.dom_content.proofs.NodesBehind.{behind-itself, behind-childless, behind-child}
 use Rattle.dom_content.proofs.contained.last_ahead.Goals as goal
 
 pub returns-then-offset-eq0-clause-ahead : goal.returns-then-offset-eq0-clause-ahead
@@ -37,3 +39,24 @@ returns-in-None-clause-ahead c =
     let q : Point = record { node = c.point.inside.node; offset = c.point.inside.offset } in
     let held = subst (λ (p : Point). HasNode c.args.tree.now.forest p.node) (sym c.point.view_is) c.requires.held in
     (ahead-as c.args.tree.now c.args.point q c.point.inside.node c.point.view_is (ahead-itself c.args.tree.now q held)).ahead
+
+pub returns-then-offset-eq0-clause-behind : goal.returns-then-offset-eq0-clause-behind
+returns-then-offset-eq0-clause-behind c = λ root next rooted within e.
+    let i = ap (λ (p : Point). p.offset) c.point.view_is in
+    behind-itself c.args.tree.now c.sound.ensures c.args.point c.requires.held root rooted within next (omega arith)
+    (ap (λ (p : Point). after p.node (inclusive_descendants c.args.tree.now.forest root)) (sym c.point.view_is) ∙ e)
+
+pub returns-in-Some-clause-behind : goal.returns-in-Some-clause-behind
+returns-in-Some-clause-behind c = λ root next rooted within e.
+    let i = ap (λ (p : Point). p.offset) c.point.view_is in
+    let k = c.point.inside.offset - 1 in
+    behind-child c.args.tree.now c.sound.ensures c.args.point c.requires.held root rooted within k c.in-Some.child c.last_inside.result next (omega arith)
+    (ap (λ (p : Point). slice_get (children_of c.args.tree.now.forest p.node) k) (sym c.point.view_is) ∙ sym c.child_at.ensures ∙ c.in-Some.is) (sym c.last_inside.ensures) e
+
+pub returns-in-None-clause-behind : goal.returns-in-None-clause-behind
+returns-in-None-clause-behind c = λ root next rooted within e.
+    let i = ap (λ (p : Point). p.offset) c.point.view_is in
+    let k = c.point.inside.offset - 1 in
+    behind-childless c.args.tree.now c.sound.ensures c.args.point c.requires.held root rooted within next k (omega arith)
+    (ap (λ (p : Point). slice_get (children_of c.args.tree.now.forest p.node) k) (sym c.point.view_is) ∙ sym c.child_at.ensures ∙ c.in-None.is)
+    (ap (λ (p : Point). after p.node (inclusive_descendants c.args.tree.now.forest root)) (sym c.point.view_is) ∙ e)

@@ -1,29 +1,10 @@
--- Nothing of a collapsed range, units of one node, or what lies between two nodes.
-use Rattle.std.proofs.Common.{◌≤◌, ◌==◌, refl, ap, sym, arith}
-use Rattle.std.proofs.lemmas.Result.{on_ok_weaker}
-use Rattle.dom_model.specs.Forests.Kinds.{is_character_data}
-use Rattle.dom_model.specs.Worlds.World.{Point, Range}
-use Rattle.dom_model.specs.MutationAlgorithms.Checks.{kind_passes}
-use Rattle.dom_content.proofs.PartsBetween.{and-both}
-use Rattle.dom_content.proofs.RangeTexts.{range-held, ahead-of}
-use Rattle.dom_content.proofs.DeletedBetween.{follows-between}
+-- The markers stand by the edits of the token text, and what lay between them is gone.
+use Rattle.dom_content.proofs.ContentsMarked.{markers-deleted}
+use Rattle.dom_content.proofs.ContentsLeft.{left-deleted}
 use Rattle.dom_content.proofs.deleting.delete_contents.Goals as goal
 
-pub overflow_sub-count : goal.overflow_sub-count
-overflow_sub-count c =
-    let v = c.args.world.now in
-    let range : Range = record { start = c.ends-start.result.0; end = c.ends-start.result.1 } in
-    let is = range-held v c.requires.whole c.args.range range c.ends-start.ensures.ends in
-    let one_node = (and-both (range.start.node == range.end.node) (kind_passes is_character_data v.tree.forest range.start.node) (sym c.if-is_in_one_data.ensures)).0 in
-    let l : range.start.offset ≤ range.end.offset = ahead-of v.tree.forest range range.start range.end is refl refl one_node in
-    let i = ap (λ (p : Point). p.offset) c.start.view_is in
-    let j = ap (λ (p : Point). p.offset) c.end.view_is in
-    omega arith
+pub returns-clause-markers : goal.returns-clause-markers
+returns-clause-markers c = markers-deleted c.args.world.now c.delete_range.new.world c.args.range c.requires.whole c.in_ok-delete_range.ensures.whole c.in_ok-delete_range.ensures.deleted
 
-pub returns-clause-deleted : goal.returns-clause-deleted
-returns-clause-deleted c =
-    let v = c.args.world.now in
-    let range : Range = record { start = c.ends-start.result.0; end = c.ends-start.result.1 } in
-    on_ok_weaker c.delete_between.result
-    (follows-between v c.args.range range c.ends-start.ensures.ends c.delete_between.new.world (sym c.if-eq.ensures) (sym c.if-is_in_one_data.ensures))
-    c.delete_between.ensures.deleted
+pub returns-clause-left : goal.returns-clause-left
+returns-clause-left c = left-deleted c.args.world.now c.delete_range.new.world c.args.range c.requires.whole c.in_ok-delete_range.ensures.deleted

@@ -1,5 +1,6 @@
 -- One after another is finished.
-use Rattle.std.proofs.Common.{◌≡◌, [], arith}
+use Rattle.std.proofs.Common.{◌<◌, ◌≤◌, length, arith, ⊎_elim}
+use Rattle.std.proofs.lemmas.Bool.{cases_lt, false≢true}
 use Rattle.dom_content.proofs.PathSteps.{closing-first, closing-last, closing-room, closing-next, closing-end, no_partials, fewer}
 use Rattle.dom_content.proofs.paths.close_all.Goals as goal
 
@@ -27,8 +28,12 @@ loop-partial-preserved c =
 
 pub returns-clause-closed : goal.returns-clause-closed
 returns-clause-closed c =
-    let none : c.loop-partial.partials.items ≡ [] = no_partials c.loop-partial.partials.items (omega (arith, c.loop-partial.partials.ok, c.in_default.ensures.cases.0)) in
-    closing-end c.args.world.now c.loop-partial.world c.args.moves c.args.partials.items (rw none at c.loop-partial.invariant)
+    let empty =
+    ⊎_elim
+    (λ (lt : 0 < length c.loop-partial.partials.items). absurd (false≢true (c.in_default.ensures.variant.1 lt)))
+    (λ (le : length c.loop-partial.partials.items ≤ 0). no_partials c.loop-partial.partials.items (omega arith))
+    (cases_lt 0 (length c.loop-partial.partials.items)) in
+    closing-end c.args.world.now c.loop-partial.world c.args.moves c.args.partials.items (rw empty at c.loop-partial.invariant)
 
 pub returns-clause-still_held : goal.returns-clause-still_held
 returns-clause-still_held c = c.loop-partial.invariant.still

@@ -35,7 +35,7 @@ pub loop-next-preserved : goal.loop-next-preserved
 loop-next-preserved c =
     let whole = head_into c.args.moves c.args.into c.args.offset (c.args.first ∷ c.args.below.now) in
     let more = drop (c.loop-next.next-index + 1) c.args.below.now in
-    rw c.in_ok-push.ensures.items
+    rw c.in_ok-push.ensures.ok
     (down-next c.args.world.now c.loop-next.world c.args.moves whole (λ i ns. head_into c.args.moves i c.args.offset ns) c.loop-next.partials.items c.loop-next.here c.loop-next.node (c.next-item.result ∷ more)
     (down-more c.args.world.now c.loop-next.world c.args.moves whole (λ i ns. head_into c.args.moves i c.args.offset ns) c.loop-next.partials.items c.loop-next.here c.loop-next.node c.args.below.now c.loop-next.next-index c.loop-next.invariant c.next-item.result c.next-item.is c.loop-next-test.true)
     c.open_head.new.world (entered c.args.moves c.loop-next.here c.loop-next.node c.next-item.result) c.in_ok-partial.partial

@@ -2,7 +2,7 @@
 use Rattle.std.proofs.Common.{[], ◌∷◌, ◌+◌, drop, arith}
 use Rattle.dom_model.specs.RangesAndContents.Contents.{tail_into}
 use Rattle.dom_content.specs.Paths.{opened}
-use Rattle.dom_content.proofs.PathSteps.{down-first, down-held, down-room, down-next, down-close_room, down-end, down-more, down-last, tail-opens, tail-down, all_unfinished-still}
+use Rattle.dom_content.proofs.PathSteps.{down-first, down-held, down-next_held, down-room, down-next, down-close_room, down-end, down-more, down-last, tail-opens, tail-down, all_unfinished-still}
 use Rattle.dom_content.proofs.paths.tail_along.Goals as goal
 
 pub loop-next-init : goal.loop-next-init
@@ -21,6 +21,12 @@ open_tail-requires-clause-held c =
     down-held c.args.world.now c.loop-next.world c.args.moves (tail_into c.args.moves c.args.into c.args.offset (c.args.first ∷ c.args.below.now)) (λ i ns. tail_into c.args.moves i c.args.offset ns) c.loop-next.partials.items c.loop-next.here c.loop-next.node
     (drop c.loop-next.next-index c.args.below.now) c.loop-next.invariant
 
+pub open_tail-requires-clause-next_held : goal.open_tail-requires-clause-next_held
+open_tail-requires-clause-next_held c =
+    let whole = tail_into c.args.moves c.args.into c.args.offset (c.args.first ∷ c.args.below.now) in
+    down-next_held c.args.world.now c.loop-next.world c.args.moves whole (λ i ns. tail_into c.args.moves i c.args.offset ns) c.loop-next.partials.items c.loop-next.here c.loop-next.node c.next-item.result (drop (c.loop-next.next-index + 1) c.args.below.now)
+    (down-more c.args.world.now c.loop-next.world c.args.moves whole (λ i ns. tail_into c.args.moves i c.args.offset ns) c.loop-next.partials.items c.loop-next.here c.loop-next.node c.args.below.now c.loop-next.next-index c.loop-next.invariant c.next-item.result c.next-item.is c.loop-next-test.true)
+
 pub open_tail-requires-clause-room : goal.open_tail-requires-clause-room
 open_tail-requires-clause-room c =
     let whole = tail_into c.args.moves c.args.into c.args.offset (c.args.first ∷ c.args.below.now) in
@@ -34,7 +40,7 @@ pub loop-next-preserved : goal.loop-next-preserved
 loop-next-preserved c =
     let whole = tail_into c.args.moves c.args.into c.args.offset (c.args.first ∷ c.args.below.now) in
     let more = drop (c.loop-next.next-index + 1) c.args.below.now in
-    rw c.in_ok-push.ensures.items
+    rw c.in_ok-push.ensures.ok
     (down-next c.args.world.now c.loop-next.world c.args.moves whole (λ i ns. tail_into c.args.moves i c.args.offset ns) c.loop-next.partials.items c.loop-next.here c.loop-next.node (c.next-item.result ∷ more)
     (down-more c.args.world.now c.loop-next.world c.args.moves whole (λ i ns. tail_into c.args.moves i c.args.offset ns) c.loop-next.partials.items c.loop-next.here c.loop-next.node c.args.below.now c.loop-next.next-index c.loop-next.invariant c.next-item.result c.next-item.is c.loop-next-test.true)
     c.open_tail.new.world (opened c.loop-next.here c.loop-next.node) c.in_ok-partial.partial

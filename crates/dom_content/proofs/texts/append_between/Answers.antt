@@ -4,7 +4,8 @@ use Rattle.dom_model.specs.Forests.Forest.{root_of}
 use Rattle.dom_model.specs.Worlds.World.{Point, Range}
 use Rattle.dom_ranges.proofs.Inside.{smaller}
 use Rattle.dom_content.specs.Texts.{text_within}
-use Rattle.dom_content.proofs.PartsBetween.{told-start, told-next, told-stop, told-end, walk-at, next-of}
+use Rattle.dom_content.proofs.PartsBetween.{told-start, told-next, told-stop, told-end, next-of}
+use Rattle.dom_content.proofs.AlongGaps.{walk-at}
 use Rattle.dom_content.proofs.RangeTexts.{texts-contained}
 use Rattle.dom_content.proofs.texts.append_between.Goals as goal
 
@@ -23,7 +24,7 @@ next_inside-requires-clause-under c =
     let g = c.args.tree.now in
     let r : Range = record { start = c.args.start; end = c.args.end } in
     let t = c.loop-next.invariant in
-    (walk-at g c.sound.ensures r c.requires.range c.root-root.result t.rooted (text_within g.forest r) (texts-contained g r) c.loop-next.here t.there t.of_root).under
+    (walk-at g c.sound.ensures c.root-root.result c.loop-next.here t.there t.of_root).under
 
 pub is_before-requires-clause-a_held : goal.is_before-requires-clause-a_held
 is_before-requires-clause-a_held c =

@@ -1,38 +1,6 @@
--- The pieces are in order, and make the text.
-use Rattle.std.proofs.Common.{◌≡◌, ◌-◌, ◌++◌, length, sym, ap, ◌∙◌, subst}
-use Rattle.std.specs.Prelude.{IfSome}
-use Rattle.dom_model.specs.RangesAndContents.Contents.{range_text}
-use Rattle.dom_model.specs.Forests.Forest.{entry_in}
-use Rattle.dom_model.specs.Worlds.World.{Point}
-use Rattle.dom_model.specs.DataAndCopies.Data.{content_in}
-use Rattle.dom_edit.specs.Whole.{unwatched}
-use Rattle.dom_content.specs.Texts.{part_of, texts_within}
-use Rattle.dom_content.proofs.RangeTexts.{range-held, ahead-of, apart-kinds, apart-nodes, none-less, pieces-text}
+-- What lies between the markers is the text that was gathered.
+use Rattle.dom_content.proofs.ContentsMarked.{text-between}
 use Rattle.dom_content.proofs.texts.range_text.Goals as goal
-use Rattle.dom_content.proofs.texts.range_text.Goals.{else-eq-via-then-eq+else-is_text, else-eq-via-else-eq}
 
-pub append_part-requires-clause-ahead : goal.append_part-requires-clause-ahead
-append_part-requires-clause-ahead c =
-    λ k. ahead-of c.args.world.now.tree.forest (record { start = c.ends.result.0; end = c.ends.result.1 }) (record { node = c.start.inside.node; offset = c.start.inside.offset }) (record { node = c.end.inside.node; offset = c.end.inside.offset })
-    (range-held c.args.world.now c.requires.whole c.args.range (record { start = c.ends.result.0; end = c.ends.result.1 }) c.ends.ensures.ends)
-    c.start.view_is c.end.view_is (sym c.if-eq.ensures)
-
-pub append_between-requires : goal.append_between-requires
-append_between-requires c = record { range = range-held c.args.world.now c.requires.whole c.args.range (record { start = c.ends.result.0; end = c.ends.result.1 }) c.ends.ensures.ends }
-
-pub returns : goal.returns
-returns c =
-    subst (λ o. IfSome o (λ r. c.append_part-2.new.text ≡ range_text (unwatched c.args.world.now) r)) (sym c.ends.ensures.ends)
-    (pieces-text c.args.world.now (record { start = c.ends.result.0; end = c.ends.result.1 }) c.append_part-2.new.text
-    (elim c.else-eq.branch [
-      | else-eq-via-then-eq+else-is_text w ↦ apart-kinds c.args.world.now.tree.forest (record { start = c.ends.result.0; end = c.ends.result.1 }) (record { node = c.start.inside.node; offset = c.start.inside.offset }) (record { node = c.end.inside.node; offset = c.end.inside.offset }) c.start.view_is c.end.view_is (sym w.if-is_text.ensures)
-      | else-eq-via-else-eq w ↦ apart-nodes c.args.world.now.tree.forest (record { start = c.ends.result.0; end = c.ends.result.1 }) (record { node = c.start.inside.node; offset = c.start.inside.offset }) (record { node = c.end.inside.node; offset = c.end.inside.offset }) c.start.view_is c.end.view_is (sym w.if-eq.ensures)
-    ])
-    (c.in_ok-append_part-2.ensures
-    ∙ ap (λ (p : Point). c.append_between.new.text ++ part_of c.args.world.now.tree.forest p.node 0 (p.offset - 0)) c.end-2.view_is
-    ∙ ap (λ n. c.append_between.new.text ++ part_of c.args.world.now.tree.forest c.ends.result.1.node 0 n) (none-less c.ends.result.1.offset)
-    ∙ ap (λ us. us ++ part_of c.args.world.now.tree.forest c.ends.result.1.node 0 c.ends.result.1.offset)
-    (c.in_ok-append_between.ensures
-    ∙ ap (λ us. us ++ texts_within c.args.world.now.tree.forest (record { start = c.ends.result.0; end = c.ends.result.1 }))
-    (c.in_ok-append_tail.ensures
-    ∙ ap (λ us. us ++ part_of c.args.world.now.tree.forest c.ends.result.0.node c.ends.result.0.offset (length (content_in (entry_in c.args.world.now.tree.forest c.ends.result.0.node)).text - c.ends.result.0.offset)) c.new-text.ensures))))
+pub returns-clause-between : goal.returns-clause-between
+returns-clause-between c = text-between c.args.world.now c.args.range c.in_ok-text.text c.requires.whole c.in_ok-text.ensures

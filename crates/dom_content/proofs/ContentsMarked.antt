@@ -1,0 +1,53 @@
+-- Where the markers of live ranges stand once contents are deleted, extracted or copied, and the text between two of them.
+use Rattle.std.proofs.Common.{◌≡◌, ℕ, List, Some, None, false, refl, ap, sym, ◌∙◌}
+use Rattle.std.specs.Prelude.{IfSome}
+use Rattle.dom_model.specs.declared.Kind.TheVariants.{DocumentType}
+use Rattle.dom_model.specs.Forests.Forest.{root_of}
+use Rattle.dom_model.specs.Worlds.World.{Range}
+use Rattle.dom_model.specs.MutationAlgorithms.Checks.{has_kind}
+use Rattle.dom_model.specs.RangesAndContents.Contents.{contained_children, range_text, delete_contents, check_extract, extract, clone_contents}
+use Rattle.dom_model.specs.TokenText.Tokens.{texts_of}
+use Rattle.dom_model.specs.TokenText.Edits.{delete_contents_edits, extract_edits, clone_contents_edits}
+use Rattle.dom_model.specs.TokenText.Gaps.{text_among}
+use Rattle.dom_model.specs.TokenText.Between.{text_of_range}
+use Rattle.dom_model.proofs.Forests.Changes.{seen, nothing, just}
+use Rattle.dom_model.proofs.TokenText.Contents.RangeText.{range_text-between}
+use Rattle.dom_model.proofs.TokenText.EditsMade.EditsOfDeletedContents.{leave-delete_contents}
+use Rattle.dom_model.proofs.TokenText.EditsMade.EditsOfDrawnContents.{leave-extract, leave-clone_contents}
+use Rattle.dom_ranges.specs.Tables.{range_in}
+use Rattle.dom_edit.specs.declared.world.World.{World}
+use Rattle.dom_edit.specs.Whole.{IsWhole, Follows, unwatched}
+use Rattle.dom_edit.specs.Markers.{StandByEdits}
+use Rattle.dom_edit.proofs.Following.{sound-unwatched}
+use Rattle.dom_edit.proofs.Marking.{stand-by_edits}
+use Rattle.dom_content.specs.Drawing.{AreParts}
+
+module _ (old new : World) (r : ℕ) (before : IsWhole old) (after : IsWhole new) where
+  pub markers-deleted : Follows old new (delete_contents r) → StandByEdits old new (delete_contents_edits r)
+  markers-deleted f = stand-by_edits old new (delete_contents r) (delete_contents_edits r) before after f (leave-delete_contents r (unwatched old) (sound-unwatched old before))
+
+  module _ (allowed : check_extract r (unwatched old) ≡ None) where
+    pub markers-extracted : Follows old new (extract r) → StandByEdits old new (extract_edits r)
+    markers-extracted f = stand-by_edits old new (extract r) (extract_edits r) before after f (leave-extract r (unwatched old) (sound-unwatched old before) allowed)
+
+    pub markers-cloned : Follows old new (clone_contents r) → StandByEdits old new (clone_contents_edits r)
+    markers-cloned f = stand-by_edits old new (clone_contents r) (clone_contents_edits r) before after f (leave-clone_contents r (unwatched old) (sound-unwatched old before) allowed)
+
+-- contents without a doctype may be drawn
+pub may-draw : (v : World) (r : ℕ) (range : Range) (first contained last : List ℕ) → range_in v.ranges r ≡ Some range → AreParts v.tree.forest range first contained last → has_kind DocumentType v.tree.forest contained ≡ false → check_extract r (unwatched v) ≡ None
+may-draw v r range first contained last e parts none =
+    let d : has_kind DocumentType v.tree.forest (contained_children (unwatched v) range) ≡ false = ap (has_kind DocumentType v.tree.forest) (sym parts.contained) ∙ none in
+    rw (e, d) refl
+
+-- the text of a live range is what lies between its markers
+pub text-between : (v : World) (r : ℕ) (text : List ℕ) → IsWhole v → IfSome (range_in v.ranges r) (λ range. text ≡ range_text (unwatched v) range)
+    → IfSome (range_in v.ranges r) (λ range. IfSome (root_of v.tree.forest range.start.node) (λ root. text ≡ text_of_range (unwatched v) r (text_among root (texts_of (unwatched v)))))
+text-between v r text whole told =
+    elim (seen (range_in v.ranges r)) [
+      | nothing e ↦ rw e tt
+      | just range e ↦
+          rw e (elim (seen (root_of v.tree.forest range.start.node)) [
+            | nothing d ↦ rw d tt
+            | just root d ↦ rw d ((rw e at told) ∙ range_text-between (unwatched v) r root range (sound-unwatched v whole) e d)
+          ])
+    ]
