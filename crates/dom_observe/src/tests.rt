@@ -173,6 +173,81 @@ fn a_text_that_left(rt: HostRuntime) -> Result<(), Fail> {
     Ok(())
 }
 
+fn is_named(rt: &impl Abort, observers: &Observers, tree: &Tree<u8>, node: NodeId) -> bool {
+    assert!(rt; tree.holds(node));
+    observers.refers(tree, node)
+}
+
+// A node leaves another, of which the observers are told.
+fn leaves(
+    rt: &impl Abort,
+    observers: &mut Observers,
+    tree: &Tree<u8>,
+    alloc: Global,
+    parent: NodeId,
+    node: NodeId,
+) -> Result<(), AllocError> {
+    assert!(rt; tree.holds(parent));
+    let mutation = Mutation {
+        what: RecordType::ChildList,
+        target: parent,
+        added: Vec::new(alloc),
+        removed: vec![in alloc; node]?,
+        previous: None,
+        next: None,
+        name: None,
+        old_value: None,
+    };
+    observers.queue(tree, mutation)
+}
+
+// A registration names its node, a transient one its own node too, and a record the nodes that it tells of.
+#[test]
+fn what_is_named(rt: HostRuntime) -> Result<(), Fail> {
+    let alloc = rt.alloc();
+    let tree = two_roots(&rt, alloc)?;
+    let (top, text) = (NodeId::new(0), NodeId::new(1));
+    let mut observers = watching(&rt, alloc, top, true)?;
+    assert!(rt; is_named(&rt, &observers, &tree, top));
+    assert!(rt; !is_named(&rt, &observers, &tree, text));
+    assert!(rt; tree.holds(top));
+    observers.transients(&tree, top, text)?;
+    assert!(rt; is_named(&rt, &observers, &tree, text));
+    assert_eq!(rt; observers.notify()?.len(), 0);
+    assert!(rt; !is_named(&rt, &observers, &tree, text));
+    let mut given = nothing();
+    given.child_list = Some(true);
+    watch(&rt, &mut observers, ObserverId::new(0), top, given)?;
+    leaves(&rt, &mut observers, &tree, alloc, top, text)?;
+    assert!(rt; is_named(&rt, &observers, &tree, text));
+    assert_eq!(rt; take(&rt, &mut observers, ObserverId::new(0)).len(), 1);
+    assert!(rt; !is_named(&rt, &observers, &tree, text));
+    assert!(rt; is_named(&rt, &observers, &tree, top));
+    Ok(())
+}
+
+#[test]
+fn options_are_copied(rt: HostRuntime) -> Result<(), Fail> {
+    let alloc = rt.alloc();
+    let mut given = nothing();
+    given.subtree = Some(true);
+    given.attribute_filter = Some(vec![in alloc; String::from_str(alloc, "id")?]?);
+    match settle(given) {
+        Ok(options) => {
+            let copy = options.try_clone(alloc)?;
+            assert!(rt; copy.attributes && copy.subtree);
+            assert!(rt; !copy.child_list && !copy.character_data);
+            assert!(rt; !copy.attribute_old_value && !copy.character_data_old_value);
+            match &copy.attribute_filter {
+                Some(names) => assert!(rt; names.len() == 1 && names[0].as_str() == "id"),
+                None => assert!(rt; false, "the filter is copied too"),
+            }
+        }
+        Err(_) => assert!(rt; false),
+    }
+    Ok(())
+}
+
 // The first registration on a node takes memory: where a growth is refused, it is made at the second call.
 fn twice(rt: &impl Abort, observers: &mut Observers, node: NodeId) -> Result<(), AllocError> {
     let mut given = nothing();
@@ -185,13 +260,18 @@ fn twice(rt: &impl Abort, observers: &mut Observers, node: NodeId) -> Result<(),
     watch(rt, observers, ObserverId::new(0), node, given)
 }
 
+// Each of the first hundred growths may be refused, and the registrations come out the same.
 #[test]
 fn a_hundred_nodes(rt: HostRuntime) -> Result<(), Fail> {
-    let alloc = rt.alloc();
-    let mut observers = watching(&rt, alloc, NodeId::new(0), true)?;
-    for number in 1..101 {
+    let mut observers = Observers::new(rt.alloc());
+    if observers.make().is_err() {
+        let _ = observers.make()?;
+    }
+    for number in 0..100 {
         twice(&rt, &mut observers, NodeId::new(number))?;
     }
+    assert_eq!(rt; observers.made(), 1);
+    assert!(rt; !observers.is_idle());
     assert!(rt; observers.holds(ObserverId::new(0)));
     observers.disconnect(ObserverId::new(0));
     assert!(rt; observers.is_idle());

@@ -10,9 +10,9 @@ mod setting;
 mod shift;
 mod statics;
 
-pub use numbers::{RangeId, StaticId};
+pub use numbers::RangeId;
 pub use ranges::Ranges;
-pub use statics::Statics;
+pub use statics::{StaticId, Statics};
 
 #[cfg(test)]
 mod tests;

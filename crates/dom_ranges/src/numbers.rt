@@ -1,4 +1,4 @@
-//! The numbers of ranges, and of their ends.
+//! The numbers of live ranges, and of their ends.
 
 ghost use Rattle.std.specs.Prelude.{◌≡◌};
 
@@ -28,40 +28,6 @@ impl RangeId {
         ensures { result ≡ number }
     {
         RangeId { number }
-    }
-
-    /// The number itself.
-    pub fn number(self) -> u32
-        ensures { result ≡ self }
-    {
-        self.number
-    }
-}
-
-/// The number by which callers name a static range: the first that is made has 0.
-#[derive(Clone, Copy, Debug, PartialEq, Eq)]
-pub struct StaticId {
-    number: u32,
-}
-
-impl Model for StaticId {
-    ghost use Rattle.std.specs.Prelude.{ℕ, ◌<◌, ◌^◌};
-
-    ghost Value = { ℕ };
-
-    ghost view = { λ u. u.number };
-
-    ghost invariant = { λ u. u.number < 2 ^ 32 };
-
-    ghost inverse = { λ n. record { number = n } };
-}
-
-impl StaticId {
-    /// The id of a number, whether or not there is such a range.
-    pub fn new(number: u32) -> StaticId
-        ensures { result ≡ number }
-    {
-        StaticId { number }
     }
 
     /// The number itself.

@@ -11,13 +11,46 @@ ghost use Rattle.dom_model.specs.MutationAlgorithms.Discarding.{nodes_of_range};
 ghost use Rattle.dom_model.specs.Forests.Lengths.{node_length};
 ghost use Rattle.dom_ranges.specs.Tables.{refused};
 
-use crate::numbers::StaticId;
 use crate::setting::{is_before, is_doctype, same_root};
 use dom_kinds::DomError;
 use dom_point::Point;
 use dom_tree::{Body, NodeId, Tree};
 use std::alloc::{AllocError, Global};
 use std::marker::Model;
+
+/// The number by which callers name a static range: the first that is made has 0.
+#[derive(Clone, Copy, Debug, PartialEq, Eq)]
+pub struct StaticId {
+    number: u32,
+}
+
+impl Model for StaticId {
+    ghost use Rattle.std.specs.Prelude.{ℕ, ◌<◌, ◌^◌};
+
+    ghost Value = { ℕ };
+
+    ghost view = { λ u. u.number };
+
+    ghost invariant = { λ u. u.number < 2 ^ 32 };
+
+    ghost inverse = { λ n. record { number = n } };
+}
+
+impl StaticId {
+    /// The id of a number, whether or not there is such a range.
+    pub fn new(number: u32) -> StaticId
+        ensures { result ≡ number }
+    {
+        StaticId { number }
+    }
+
+    /// The number itself.
+    pub fn number(self) -> u32
+        ensures { result ≡ self }
+    {
+        self.number
+    }
+}
 
 /// Two points that no change of the tree moves.
 #[derive(Clone, Copy, Drop)]

@@ -1,8 +1,8 @@
-//! Ranges over a small tree: made, read, moved by a removal, released; and room that is refused.
+//! Ranges over a small tree: made, read, set anew, adjusted, released; and room that is refused.
 
-ghost use Rattle.std.specs.Prelude.{◌≡◌, ◌<◌, false};
+ghost use Rattle.std.specs.Prelude.{◌≡◌, ◌<◌, ◌≤◌, [], ◌∷◌, ◌++◌, Some, false, IfOk, OnOk};
 ghost use Rattle.std.specs.declared.cmp.Ordering.TheVariants.{Greater};
-ghost use Rattle.dom_model.specs.declared.Kind.TheVariants.{Element};
+ghost use Rattle.dom_model.specs.declared.Kind.TheVariants.{Element, Text};
 ghost use Rattle.dom_model.specs.Forests.Forest.{HasNode, root_of};
 ghost use Rattle.dom_model.specs.BoundaryPoints.Points.{order_of};
 ghost use Rattle.dom_model.specs.MutationAlgorithms.Checks.{is_of_kind};
@@ -29,9 +29,9 @@ impl Body for Units {
     }
 }
 
-fn element(alloc: Global) -> Label {
+fn label(alloc: Global, kind: Kind) -> Label {
     Label {
-        kind: Kind::Element,
+        kind,
         name: String::new(alloc),
         public_id: String::new(alloc),
         system_id: String::new(alloc),
@@ -45,10 +45,17 @@ fn is_element(tree: &Tree<Units>, id: NodeId) -> bool
     matches!(tree.label(id).kind, Kind::Element)
 }
 
+fn is_text(tree: &Tree<Units>, id: NodeId) -> bool
+    requires { HasNode tree.now.forest id }
+    ensures { result ≡ is_of_kind Text tree.now.forest id }
+{
+    matches!(tree.label(id).kind, Kind::Text)
+}
+
 // A new element, which is a root.
 fn made(rt: &impl Abort, alloc: Global, tree: &mut Tree<Units>) -> Result<NodeId, AllocError> {
     assert!(rt; tree.made() < 1_000_000);
-    tree.make(element(alloc), Units(0), None)
+    tree.make(label(alloc, Kind::Element), Units(0), None)
 }
 
 // A new element, the last child of another.
@@ -69,7 +76,29 @@ fn child(
     Ok(id)
 }
 
-fn at(node: NodeId, offset: usize) -> Point {
+// A new Text of so many units, the last child of an element.
+fn text(
+    rt: &impl Abort,
+    alloc: Global,
+    tree: &mut Tree<Units>,
+    parent: NodeId,
+    units: usize,
+) -> Result<NodeId, AllocError> {
+    assert!(rt; tree.made() < 1_000_000);
+    let id = tree.make(label(alloc, Kind::Text), Units(units), None)?;
+    assert!(rt; tree.holds(id));
+    assert!(rt; tree.holds(parent));
+    assert!(rt; tree.parent(id).is_none());
+    assert!(rt; !tree.is_ancestor(id, parent));
+    assert!(rt; is_text(tree, id));
+    assert!(rt; is_element(tree, parent));
+    tree.put(parent, id, None);
+    Ok(id)
+}
+
+fn at(node: NodeId, offset: usize) -> Point
+    ensures { result ≡ record { node = node; offset = offset } }
+{
     Point { node, offset }
 }
 
@@ -116,7 +145,10 @@ fn ranged(
     tree: &Tree<Units>,
     start: Point,
     end: Point,
-) -> Result<RangeId, AllocError> {
+) -> Result<RangeId, AllocError>
+    ensures ranges { OnOk result (ranges.new.ranges ≡ ranges.old.ranges ++ Some (record { start = start; end = end }) ∷ []) }
+    ensures covered { OnOk result (ranges.old.covered ≤ ranges.new.covered) }
+{
     assert!(rt; tree.holds(start.node));
     assert!(rt; tree.holds(end.node));
     assert!(rt; !is_doctype(tree, start.node));
@@ -129,6 +161,23 @@ fn ranged(
     ranges.cover(u64::from(end.node.number()) + 1)?;
     assert!(rt; ranges.made() < 1_000_000);
     ranges.make(tree, start, end)
+}
+
+// A live range alone, and room for ends in a thousand nodes.
+fn alone(
+    rt: &impl Abort,
+    alloc: Global,
+    tree: &Tree<Units>,
+    start: Point,
+    end: Point,
+) -> Result<Ranges, AllocError>
+    ensures ranges { IfOk result (λ ranges. ranges.ranges ≡ Some (record { start = start; end = end }) ∷ []) }
+    ensures covered { IfOk result (λ ranges. 1000 ≤ ranges.covered) }
+{
+    let mut ranges = Ranges::new(alloc);
+    ranges.cover(1000)?;
+    let _ = ranged(rt, &mut ranges, tree, start, end)?;
+    Ok(ranges)
 }
 
 #[test]
@@ -203,5 +252,87 @@ fn removed(rt: HostRuntime) -> Result<(), Fail> {
     let r = ranged(&rt, &mut ranges, &tree, at(b, 0), at(root, 2))?;
     leaves(&rt, &mut ranges, &tree, a)?;
     lies(&rt, &ranges, r, at(root, 0), at(root, 1));
+    Ok(())
+}
+
+// root [ a [ b ] t u ], with ten units in t and six in u
+fn with_texts(rt: &impl Abort, alloc: Global) -> Result<Tree<Units>, AllocError> {
+    let mut tree = Tree::new(alloc);
+    let root = made(rt, alloc, &mut tree)?;
+    let a = child(rt, alloc, &mut tree, root)?;
+    let _ = child(rt, alloc, &mut tree, a)?;
+    let _ = text(rt, alloc, &mut tree, root, 10)?;
+    let _ = text(rt, alloc, &mut tree, root, 6)?;
+    Ok(tree)
+}
+
+// Sets one end of a range whose ends stand in one tree.
+fn set(rt: &impl Abort, ranges: &mut Ranges, tree: &Tree<Units>, is_start: bool, p: Point) -> bool {
+    let r = RangeId::new(0);
+    if ranges.cover(1000).is_err() {
+        return false;
+    }
+    assert!(rt; ranges.holds(r));
+    let (start, end) = ranges.ends(r);
+    assert!(rt; tree.holds(start.node));
+    assert!(rt; tree.holds(end.node));
+    assert_eq!(rt; tree.root(start.node), tree.root(end.node));
+    assert!(rt; tree.holds(p.node));
+    assert!(rt; p.node.number() < 1000);
+    if is_start {
+        ranges.set_start(tree, r, p).is_ok()
+    } else {
+        ranges.set_end(tree, r, p).is_ok()
+    }
+}
+
+// An end that comes to stand on the other's wrong side takes it along, and one past the length is refused.
+#[test]
+fn set_anew(rt: HostRuntime) -> Result<(), Fail> {
+    let tree = with_texts(&rt, rt.alloc())?;
+    let (root, b, t) = (NodeId::new(0), NodeId::new(2), NodeId::new(3));
+    let r = RangeId::new(0);
+    let mut ranges = alone(&rt, rt.alloc(), &tree, at(b, 0), at(root, 2))?;
+    assert!(rt; set(&rt, &mut ranges, &tree, true, at(root, 1)));
+    lies(&rt, &ranges, r, at(root, 1), at(root, 2));
+    assert!(rt; set(&rt, &mut ranges, &tree, false, at(b, 0)));
+    lies(&rt, &ranges, r, at(b, 0), at(b, 0));
+    assert!(rt; set(&rt, &mut ranges, &tree, true, at(t, 4)));
+    lies(&rt, &ranges, r, at(t, 4), at(t, 4));
+    assert!(rt; !set(&rt, &mut ranges, &tree, false, at(t, 11)));
+    assert!(rt; set(&rt, &mut ranges, &tree, false, at(t, 10)));
+    lies(&rt, &ranges, r, at(t, 4), at(t, 10));
+    Ok(())
+}
+
+// Each adjusting call, on a range of its own. Room of 7,777 bytes marks where they begin: a preloaded `malloc` may refuse everything
+// after it, the room of the last line too, and the ends come out the same (tools/refused_growths).
+#[test]
+fn adjusted_without_a_growth(rt: HostRuntime) -> Result<(), Fail> {
+    let alloc = rt.alloc();
+    let tree = with_texts(&rt, alloc)?;
+    let root = NodeId::new(0);
+    let b = NodeId::new(2);
+    let (t, u, new) = (NodeId::new(3), NodeId::new(4), NodeId::new(9));
+    let mut gapped = alone(&rt, alloc, &tree, at(root, 1), at(root, 3))?;
+    let mut spliced = alone(&rt, alloc, &tree, at(t, 2), at(t, 8))?;
+    let mut split = alone(&rt, alloc, &tree, at(t, 7), at(root, 2))?;
+    let mut merged = alone(&rt, alloc, &tree, at(root, 2), at(u, 5))?;
+    let mut removed = alone(&rt, alloc, &tree, at(b, 0), at(root, 2))?;
+    let mut mark: Vec<u8> = Vec::new(alloc);
+    mark.reserve(7777)?;
+    gapped.gap(root, 1, 2);
+    spliced.spliced(t, 1, 3, 5);
+    split.was_split(t, 4, new, root, 1);
+    merged.merged(u, t, 10, root, 2);
+    leaves(&rt, &mut removed, &tree, NodeId::new(1))?;
+    let r = RangeId::new(0);
+    lies(&rt, &gapped, r, at(root, 1), at(root, 5));
+    lies(&rt, &spliced, r, at(t, 1), at(t, 10));
+    lies(&rt, &split, r, at(new, 3), at(root, 3));
+    lies(&rt, &merged, r, at(t, 10), at(t, 15));
+    lies(&rt, &removed, r, at(root, 0), at(root, 1));
+    let mut last: Vec<u8> = Vec::new(alloc);
+    let _refused = last.reserve(1);
     Ok(())
 }
