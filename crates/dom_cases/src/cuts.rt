@@ -2,6 +2,7 @@
 
 use crate::Feeder;
 use crate::dialogues::{Dialogue, is_answered_over_memory};
+use crate::faults::is_told_of_each_fault;
 use crate::refusals::is_answered_or_wants;
 use crate::runs::{in_pieces, serve_all};
 use std::alloc::Global;
@@ -23,12 +24,13 @@ fn is_answered_in_pieces(rt: &impl Abort, alloc: Global, dialogue: &Dialogue) {
     }
 }
 
-/// That the dialogue is answered as is due whole, in pieces, where a growth is refused, and cut in two at any byte. Each dialogue has a
-/// test that asks it, beside its text.
+/// That the dialogue is answered as is due whole, in pieces, where a growth is refused, and cut in two at any byte; and that faults are
+/// told. Each dialogue has a test that asks it, beside its text.
 pub fn is_answered_in_two(rt: &impl Abort, alloc: Global, dialogue: &Dialogue) {
     is_answered_over_memory(rt, alloc, dialogue);
     is_answered_in_pieces(rt, alloc, dialogue);
     is_answered_or_wants(rt, alloc, dialogue);
+    is_told_of_each_fault(rt, alloc, dialogue);
     for cut in 0..dialogue.input().len() {
         let mut reader = in_pieces(dialogue.input(), usize::MAX);
         reader.cut = cut;

@@ -13,7 +13,6 @@ use dom_serve::{FromRead, Limits, Summary, ToWrite, serve};
 use std::alloc::Global;
 use std::process::Abort;
 
-/// An input under limits, and the output that is due for it.
 /// Bytes as they are written in a table: a text, or bytes that are none.
 #[derive(Drop)]
 pub enum Bytes {
@@ -50,11 +49,6 @@ impl Dialogue {
 
     pub fn output(&self) -> &'static [u8] {
         self.due.as_bytes()
-    }
-
-    /// Short enough to be served anew for each of its bytes.
-    pub fn is_short(&self) -> bool {
-        self.input().len() <= 300
     }
 }
 

@@ -1,6 +1,7 @@
 //! Reads, writes and flushes that fail, and inputs that do not end within the reads.
 
-use crate::dialogues::{Dialogue, lines_and_limits};
+use crate::Taker;
+use crate::dialogues::Dialogue;
 use crate::runs::{USUAL, all_taken, first_lines, in_pieces, newlines, serve_all};
 use dom_serve::{Fault, FromRead, Summary, ToWrite, serve, serve_within};
 use std::alloc::Global;
@@ -59,58 +60,102 @@ fn fails_at_each_read(rt: &impl Abort, alloc: Global, dialogue: &Dialogue, most:
     }
 }
 
-#[test]
-fn each_read_fails_in_turn(rt: HostRuntime) {
-    for dialogue in &lines_and_limits::ALL {
-        if dialogue.is_short() {
-            fails_at_each_read(&rt, rt.alloc(), dialogue, 1);
-            fails_at_each_read(&rt, rt.alloc(), dialogue, 7);
-            fails_at_each_read(&rt, rt.alloc(), dialogue, 65536);
+// The front of a text that so many writes take, where each takes at most so many bytes of one line.
+fn first_writes(text: &[u8], most: usize, writes: usize) -> &[u8] {
+    let mut left = writes;
+    let mut room: usize = 0;
+    for (at, byte) in text.iter().enumerate() {
+        if room == 0 {
+            if left == 0 {
+                return text.get(..at).unwrap_or(text);
+            }
+            left -= 1;
+            room = most;
+        }
+        room = room.saturating_sub(1);
+        if *byte == b'\n' {
+            room = 0;
         }
     }
+    text
 }
 
-// That where each write fails in turn, what was written is a front of the output that is due.
-fn fails_at_each_write(rt: &impl Abort, alloc: Global, dialogue: &Dialogue) {
+// Serves the dialogue in pieces to this writer, and shows that what it took is this, and that serving failed where that is not all.
+fn fails_after(rt: &impl Abort, alloc: Global, dialogue: &Dialogue, mut writer: Taker, due: &[u8]) {
     let name = dialogue.name;
     let limits = dialogue.limits();
     assert!(rt; 1 <= limits.numbers && limits.numbers <= 4294967295 && 1 <= limits.line);
-    for writes in 0..dialogue.output().len() {
-        let mut reader = in_pieces(dialogue.input(), 7);
+    assert!(rt; !writer.failed);
+    let mut reader = in_pieces(dialogue.input(), writer.most);
+    let ended = serve(alloc, limits, &mut reader, &mut writer);
+    assert!(rt; writer.taken.as_slice() == due, "{name}");
+    assert!(rt; ended.is_ok() == !writer.failed, "{name}");
+    assert!(rt; ended.is_ok() || ended == Err(Fault::Write), "{name}");
+}
+
+// That where each write fails in turn, what was written is what the writes before it took, and that one that is not made changes nothing.
+fn fails_at_each_write(rt: &impl Abort, alloc: Global, dialogue: &Dialogue, most: usize) {
+    let output = dialogue.output();
+    for writes in 0..=output.len() {
+        let due = first_writes(output, most, writes);
         let mut writer = all_taken(alloc);
-        writer.most = 1;
+        writer.most = most;
         writer.writes = writes as u64;
-        let ended = serve(alloc, limits, &mut reader, &mut writer);
-        assert!(rt; ended == Err(Fault::Write), "{name}");
-        let due = dialogue.output().get(..writes);
-        assert!(rt; Some(writer.taken.as_slice()) == due, "{name}");
+        fails_after(rt, alloc, dialogue, writer, due);
+        if due.len() == output.len() {
+            break;
+        }
     }
 }
 
 // That where each flush fails in turn, what was written is whole lines: a line is passed on as it is written.
-fn fails_at_each_flush(rt: &impl Abort, alloc: Global, dialogue: &Dialogue) {
-    let name = dialogue.name;
-    let limits = dialogue.limits();
-    assert!(rt; 1 <= limits.numbers && limits.numbers <= 4294967295 && 1 <= limits.line);
-    for flushes in 0..newlines(dialogue.output()) {
-        let mut reader = in_pieces(dialogue.input(), 65536);
+fn fails_at_each_flush(rt: &impl Abort, alloc: Global, dialogue: &Dialogue, most: usize) {
+    let output = dialogue.output();
+    for flushes in 0..=newlines(output) {
         let mut writer = all_taken(alloc);
-        writer.most = 7;
+        writer.most = most;
         writer.flushes = flushes as u64;
-        let ended = serve(alloc, limits, &mut reader, &mut writer);
-        assert!(rt; ended == Err(Fault::Write), "{name}");
-        let due = first_lines(dialogue.output(), flushes.saturating_add(1));
-        assert!(rt; writer.taken.as_slice() == due, "{name}");
+        let due = first_lines(output, flushes.saturating_add(1));
+        fails_after(rt, alloc, dialogue, writer, due);
     }
 }
 
-#[test]
-fn each_write_and_each_flush_fails_in_turn(rt: HostRuntime) {
-    for dialogue in &lines_and_limits::ALL {
-        if dialogue.is_short() {
-            fails_at_each_write(&rt, rt.alloc(), dialogue);
-            fails_at_each_flush(&rt, rt.alloc(), dialogue);
-        }
+// That a writer with room for so many bytes gets that front of the output, and that serving fails where that is not all: a slice takes
+// no more bytes once it is full.
+fn fills_the_room(rt: &impl Abort, alloc: Global, dialogue: &Dialogue, room: usize) {
+    let name = dialogue.name;
+    let limits = dialogue.limits();
+    assert!(rt; 1 <= limits.numbers && limits.numbers <= 4294967295 && 1 <= limits.line);
+    let mut space = Vec::new(alloc);
+    assert!(rt; space.resize(room, 0u8).is_ok());
+    let mut reader = in_pieces(dialogue.input(), 65536);
+    let mut writer = ToWrite::new(space.as_mut_slice());
+    let ended = serve(alloc, limits, &mut reader, &mut writer);
+    let rest = writer.into_inner();
+    assert!(rt; rest.is_empty(), "{name} {room}");
+    assert!(rt;
+        ended.is_ok() == (room == dialogue.output().len()),
+        "{name} {room}"
+    );
+    assert!(rt;
+        ended.is_ok() || ended == Err(Fault::Write),
+        "{name} {room}"
+    );
+    assert!(rt;
+        Some(space.as_slice()) == dialogue.output().get(..room),
+        "{name} {room}"
+    );
+}
+
+/// That in pieces of 1, 7 and 65,536 bytes each read, write and flush fails in turn as it should, and that a writer is filled to its last byte.
+pub fn is_told_of_each_fault(rt: &impl Abort, alloc: Global, dialogue: &Dialogue) {
+    for most in [1, 7, 65536] {
+        fails_at_each_read(rt, alloc, dialogue, most);
+        fails_at_each_write(rt, alloc, dialogue, most);
+        fails_at_each_flush(rt, alloc, dialogue, most);
+    }
+    for room in 0..=dialogue.output().len() {
+        fills_the_room(rt, alloc, dialogue, room);
     }
 }
 

@@ -1,5 +1,5 @@
-//! The tests that cross crates: dialogues from bytes to bytes, cut anywhere, with faults, refused growths and large inputs;
-//! and the reader and the writer of stated pieces that they use.
+//! The tests that cross crates: dialogues from bytes to bytes, cut anywhere, with faults, refused growths and large inputs; token texts
+//! that are drawn; and the reader and the writer of stated pieces that they use.
 #![tactic(auto)]
 
 #[cfg(test)]
@@ -8,6 +8,8 @@ mod chains;
 mod cuts;
 #[cfg(test)]
 mod dialogues;
+#[cfg(test)]
+mod drawn;
 #[cfg(test)]
 mod faults;
 mod feeder;

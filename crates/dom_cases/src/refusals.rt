@@ -19,7 +19,7 @@ fn roomy(alloc: Global) -> Result<Taker, AllocError>
     ensures { IfOk result (λ writer. writer.failed ≡ false) }
 {
     let mut writer = all_taken(alloc);
-    writer.taken.reserve(1000)?;
+    writer.taken.reserve(2000)?;
     Ok(writer)
 }
 

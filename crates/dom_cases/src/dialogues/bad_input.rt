@@ -331,6 +331,207 @@ pub const DATA_PARTS_REFUSED: Dialogue = Dialogue {
 "##,
 };
 
+pub const FORBIDDEN_ATTRIBUTE_NAMES: Dialogue = Dialogue {
+    name: "forbidden attribute names",
+    numbers: 4294967295,
+    line: 1048576,
+    given: Bytes::Text(
+        r##"["createElement",0,"e"]
+["setAttribute",1,"","v"]
+["toggleAttribute",1,"",null]
+["setAttribute",1,"\t","v"]
+["toggleAttribute",1,"\t",null]
+["setAttribute",1,"\n","v"]
+["toggleAttribute",1,"\n",null]
+["setAttribute",1,"\f","v"]
+["toggleAttribute",1,"\f",null]
+["setAttribute",1,"\r","v"]
+["toggleAttribute",1,"\r",null]
+["setAttribute",1," ","v"]
+["toggleAttribute",1," ",null]
+["setAttribute",1,"\u0000","v"]
+["toggleAttribute",1,"\u0000",null]
+["setAttribute",1,"/","v"]
+["toggleAttribute",1,"/",null]
+["setAttribute",1,">","v"]
+["toggleAttribute",1,">",null]
+["setAttribute",1,"=","v"]
+["toggleAttribute",1,"=",null]
+["toggleAttribute",1,"a b",false]
+["toggleAttribute",1,"a=",false]
+["setAttribute",1,"\u000b",""]
+["setAttribute",1,"<",""]
+["setAttribute",1,"1",""]
+["setAttribute",1,"\"",""]
+["setAttribute",1,"\u007f",""]
+["setAttribute",1,"é",""]
+["toggleAttribute",1,"-",true]
+["getAttribute",1,"a b"]
+["hasAttribute",1,"="]
+["removeAttribute",1,""]
+["attributeNames",1]
+["createDoctype",0,"a\t","",""]
+["createDoctype",0,"a\n","",""]
+["createDoctype",0,"a\f","",""]
+["createDoctype",0,"a\r","",""]
+["createDoctype",0,"a ","",""]
+["createDoctype",0,"a\u0000","",""]
+["createDoctype",0,"a>","",""]
+["createDoctype",0,"","a b>","\u0000"]
+["createDoctype",0,"/","a b>","\u0000"]
+["createDoctype",0,"=","a b>","\u0000"]
+["createDoctype",0,"1","a b>","\u0000"]
+["createDoctype",0,"\u000b","a b>","\u0000"]
+["tree",2]
+"##,
+    ),
+    due: "{\"ok\":1}\n{\"error\":\"InvalidCharacterError\"}\n{\"error\":\"InvalidCharacterError\"}\n{\"error\":\"InvalidCharacterError\"}\n{\"error\":\"InvalidCharacterError\"}\n{\"error\":\"InvalidCharacterError\"}\n{\"error\":\"InvalidCharacterError\"}\n{\"error\":\"InvalidCharacterError\"}\n{\"error\":\"InvalidCharacterError\"}\n{\"error\":\"InvalidCharacterError\"}\n{\"error\":\"InvalidCharacterError\"}\n{\"error\":\"InvalidCharacterError\"}\n{\"error\":\"InvalidCharacterError\"}\n{\"error\":\"InvalidCharacterError\"}\n{\"error\":\"InvalidCharacterError\"}\n{\"error\":\"InvalidCharacterError\"}\n{\"error\":\"InvalidCharacterError\"}\n{\"error\":\"InvalidCharacterError\"}\n{\"error\":\"InvalidCharacterError\"}\n{\"error\":\"InvalidCharacterError\"}\n{\"error\":\"InvalidCharacterError\"}\n{\"error\":\"InvalidCharacterError\"}\n{\"error\":\"InvalidCharacterError\"}\n{\"ok\":null}\n{\"ok\":null}\n{\"ok\":null}\n{\"ok\":null}\n{\"ok\":null}\n{\"ok\":null}\n{\"ok\":true}\n{\"ok\":null}\n{\"ok\":false}\n{\"ok\":null}\n{\"ok\":[\"\\u000b\",\"<\",\"1\",\"\\\"\",\"\u{7f}\",\"é\",\"-\"]}\n{\"error\":\"InvalidCharacterError\"}\n{\"error\":\"InvalidCharacterError\"}\n{\"error\":\"InvalidCharacterError\"}\n{\"error\":\"InvalidCharacterError\"}\n{\"error\":\"InvalidCharacterError\"}\n{\"error\":\"InvalidCharacterError\"}\n{\"error\":\"InvalidCharacterError\"}\n{\"ok\":2}\n{\"ok\":3}\n{\"ok\":4}\n{\"ok\":5}\n{\"ok\":6}\n{\"ok\":[[0,2,10,\"\",\"a b>\",\"\\u0000\"]]}\n",
+};
+
+pub const FORBIDDEN_CHARACTERS: Dialogue = Dialogue {
+    name: "forbidden characters",
+    numbers: 4294967295,
+    line: 1048576,
+    given: Bytes::Text(
+        r##"["createElement",0,"a\tb"]
+["createElement",0,"a\nb"]
+["createElement",0,"a\fb"]
+["createElement",0,"a\rb"]
+["createElement",0,"a b"]
+["createElement",0,"a\u0000b"]
+["createElement",0,"a/b"]
+["createElement",0,"a>b"]
+["createElement",0,"a="]
+["createElement",0,"a<"]
+["createElement",0,"a\u000b"]
+["createElement",0,"a\u0001"]
+["createElement",0,"a\""]
+["createElement",0,"a'"]
+["createElement",0,"a?"]
+["createElement",0,"a\u007f"]
+["createElement",0,"1a"]
+["createElement",0,"-a"]
+["createElement",0,".a"]
+["createElement",0," a"]
+["createElement",0,"=a"]
+["createElement",0,"/"]
+["createElement",0,"@"]
+["createElement",0,"["]
+["createElement",0,"`"]
+["createElement",0,"{"]
+["createElement",0,"\u007f"]
+["createElement",0,""]
+["createElement",0,"A"]
+["createElement",0,"z"]
+["createElement",0,":"]
+["createElement",0,"_"]
+["createElement",0,"\u0080"]
+["createElement",0,"é"]
+["createElement",0,"_a-b.c:d_Z09"]
+["createElement",0,"éà😀"]
+["createElement",0,"a😀"]
+["createElement",0,":a=b"]
+["createElement",0,"_a b"]
+["createElement",0,"_a/b"]
+["createElement",0,"_a>"]
+["createElement",0,"_a\u0000"]
+["createElement",0,"_a\u007f"]
+["createElement",0,"_@"]
+["createElement",0,"éa="]
+["createElement",0,":<"]
+["createPI",0,"a\t",""]
+["createPI",0,"a\n",""]
+["createPI",0,"a\f",""]
+["createPI",0,"a\r",""]
+["createPI",0,"a ",""]
+["createPI",0,"a\u0000",""]
+["createPI",0,"a/",""]
+["createPI",0,"a>",""]
+["createPI",0,"",""]
+["createPI",0,"1",""]
+["createPI",0,"a?",""]
+["createPI",0,"a","?>"]
+["createPI",0,"a","a?>b"]
+["createPI",0,"a","??>"]
+["createPI",0,"a",[63,62]]
+["createPI",0,"a",[55296,63,62]]
+["createPI",0,"a","? >"]
+["createPI",0,"a",">?"]
+["createPI",0,"a","?"]
+["createPI",0,"a",">"]
+["createPI",0,"a",[63,55296,62]]
+"##,
+    ),
+    due: r##"{"error":"InvalidCharacterError"}
+{"error":"InvalidCharacterError"}
+{"error":"InvalidCharacterError"}
+{"error":"InvalidCharacterError"}
+{"error":"InvalidCharacterError"}
+{"error":"InvalidCharacterError"}
+{"error":"InvalidCharacterError"}
+{"error":"InvalidCharacterError"}
+{"ok":1}
+{"ok":2}
+{"ok":3}
+{"ok":4}
+{"ok":5}
+{"ok":6}
+{"ok":7}
+{"ok":8}
+{"error":"InvalidCharacterError"}
+{"error":"InvalidCharacterError"}
+{"error":"InvalidCharacterError"}
+{"error":"InvalidCharacterError"}
+{"error":"InvalidCharacterError"}
+{"error":"InvalidCharacterError"}
+{"error":"InvalidCharacterError"}
+{"error":"InvalidCharacterError"}
+{"error":"InvalidCharacterError"}
+{"error":"InvalidCharacterError"}
+{"error":"InvalidCharacterError"}
+{"error":"InvalidCharacterError"}
+{"ok":9}
+{"ok":10}
+{"ok":11}
+{"ok":12}
+{"ok":13}
+{"ok":14}
+{"ok":15}
+{"ok":16}
+{"ok":17}
+{"error":"InvalidCharacterError"}
+{"error":"InvalidCharacterError"}
+{"error":"InvalidCharacterError"}
+{"error":"InvalidCharacterError"}
+{"error":"InvalidCharacterError"}
+{"error":"InvalidCharacterError"}
+{"error":"InvalidCharacterError"}
+{"error":"InvalidCharacterError"}
+{"error":"InvalidCharacterError"}
+{"error":"InvalidCharacterError"}
+{"error":"InvalidCharacterError"}
+{"error":"InvalidCharacterError"}
+{"error":"InvalidCharacterError"}
+{"error":"InvalidCharacterError"}
+{"error":"InvalidCharacterError"}
+{"error":"InvalidCharacterError"}
+{"error":"InvalidCharacterError"}
+{"error":"InvalidCharacterError"}
+{"error":"InvalidCharacterError"}
+{"ok":18}
+{"error":"InvalidCharacterError"}
+{"error":"InvalidCharacterError"}
+{"error":"InvalidCharacterError"}
+{"error":"InvalidCharacterError"}
+{"error":"InvalidCharacterError"}
+{"ok":19}
+{"ok":20}
+{"ok":21}
+{"ok":22}
+{"ok":23}
+"##,
+};
+
 pub const INSERTIONS_REFUSED: Dialogue = Dialogue {
     name: "insertions refused",
     numbers: 4294967295,
@@ -1269,25 +1470,6 @@ pub const WALKS_REFUSED: Dialogue = Dialogue {
 "##,
 };
 
-pub const ALL: [&Dialogue; 16] = [
-    &ATTRIBUTES_REFUSED,
-    &COPIES_AND_COMPARISONS_REFUSED,
-    &DATA_CHANGES_REFUSED,
-    &DATA_PARTS_REFUSED,
-    &INSERTIONS_REFUSED,
-    &MAKING_REFUSED,
-    &OBSERVERS_REFUSED,
-    &QUESTIONS_REFUSED,
-    &RANGE_COMPARISONS_REFUSED,
-    &RANGE_CONTENTS_REFUSED,
-    &RANGE_ENDS_REFUSED,
-    &RANGES_REFUSED,
-    &REMOVALS_REFUSED,
-    &STATIC_RANGES_REFUSED,
-    &WALKS_BEGUN_REFUSED,
-    &WALKS_REFUSED,
-];
-
 #[test]
 fn attributes_refused_cut_in_two(rt: HostRuntime) {
     is_answered_in_two(&rt, rt.alloc(), &ATTRIBUTES_REFUSED);
@@ -1306,6 +1488,16 @@ fn data_changes_refused_cut_in_two(rt: HostRuntime) {
 #[test]
 fn data_parts_refused_cut_in_two(rt: HostRuntime) {
     is_answered_in_two(&rt, rt.alloc(), &DATA_PARTS_REFUSED);
+}
+
+#[test]
+fn forbidden_attribute_names_cut_in_two(rt: HostRuntime) {
+    is_answered_in_two(&rt, rt.alloc(), &FORBIDDEN_ATTRIBUTE_NAMES);
+}
+
+#[test]
+fn forbidden_characters_cut_in_two(rt: HostRuntime) {
+    is_answered_in_two(&rt, rt.alloc(), &FORBIDDEN_CHARACTERS);
 }
 
 #[test]

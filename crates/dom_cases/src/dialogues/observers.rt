@@ -43,6 +43,104 @@ pub const FRAGMENT_OBSERVED: Dialogue = Dialogue {
 "##,
 };
 
+pub const MEMBERS_OF_OPTIONS: Dialogue = Dialogue {
+    name: "members of options",
+    numbers: 4294967295,
+    line: 1048576,
+    given: Bytes::Text(
+        r##"["createElement",0,"e"]
+["createElement",0,"f"]
+["createObserver"]
+["observe",0,1,{"childList":true,"childList":false}]
+["observe",0,1,{"ChildList":true}]
+["observe",0,1,{"childList ":true}]
+["observe",0,1,{"other":true}]
+["observe",0,1,{"childList":1}]
+["observe",0,1,{"childList":null}]
+["observe",0,1,{"childList":"true"}]
+["observe",0,1,{"childList":[]}]
+["observe",0,1,{"attributes":0}]
+["observe",0,1,{"characterData":{}}]
+["observe",0,1,{"childList":true,"subtree":1}]
+["observe",0,1,{"childList":true,"subtree":null}]
+["observe",0,1,{"childList":true,"attributeOldValue":null}]
+["observe",0,1,{"childList":true,"characterDataOldValue":"x"}]
+["observe",0,1,{"childList":true,"attributeFilter":"x"}]
+["observe",0,1,{"childList":true,"attributeFilter":null}]
+["observe",0,1,{"childList":true,"attributeFilter":{}}]
+["observe",0,1,{"childList":true,"attributeFilter":[7]}]
+["observe",0,1,{"childList":true,"attributeFilter":["x",null]}]
+["observe",0,1,{"childList":true,"attributeFilter":[["x"]]}]
+["observe",0,1,{"childList":true,"childList":1}]
+["observe",0,1,null]
+["observe",0,1,true]
+["observe",0,1,"childList"]
+["observe",0,1,[["childList",true]]]
+["observe",9,9,{"childList":1}]
+["observe",9,9,{}]
+["setAttribute",1,"x","0"]
+["appendChild",1,2]
+["takeRecords",0]
+["observe",0,1,{"childList":1,"childList":true,"other":[{"deep":null}],"":0,"subtree":"no","subtree":false}]
+["remove",2]
+["takeRecords",0]
+["observe",0,1,{"attributeFilter":["y"],"attributeFilter":["x","x"]}]
+["setAttribute",1,"y","1"]
+["setAttribute",1,"x","1"]
+["takeRecords",0]
+["observe",0,1,{"child\u004cist":true,"attributes":true,"attributes":false}]
+["setAttribute",1,"x","2"]
+["appendChild",1,2]
+["takeRecords",0]
+"##,
+    ),
+    due: r##"{"ok":1}
+{"ok":2}
+{"ok":0}
+{"error":"TypeError"}
+{"error":"TypeError"}
+{"error":"TypeError"}
+{"error":"TypeError"}
+{"error":"bad-arguments"}
+{"error":"bad-arguments"}
+{"error":"bad-arguments"}
+{"error":"bad-arguments"}
+{"error":"bad-arguments"}
+{"error":"bad-arguments"}
+{"error":"bad-arguments"}
+{"error":"bad-arguments"}
+{"error":"bad-arguments"}
+{"error":"bad-arguments"}
+{"error":"bad-arguments"}
+{"error":"bad-arguments"}
+{"error":"bad-arguments"}
+{"error":"bad-arguments"}
+{"error":"bad-arguments"}
+{"error":"bad-arguments"}
+{"error":"bad-arguments"}
+{"error":"bad-arguments"}
+{"error":"bad-arguments"}
+{"error":"bad-arguments"}
+{"error":"bad-arguments"}
+{"error":"bad-arguments"}
+{"error":"no-such-object"}
+{"ok":null}
+{"ok":2}
+{"ok":[]}
+{"ok":null}
+{"ok":null}
+{"ok":[["childList",1,[],[2],null,null,null,null]]}
+{"ok":null}
+{"ok":null}
+{"ok":null}
+{"ok":[["attributes",1,[],[],null,null,"x",null]]}
+{"ok":null}
+{"ok":null}
+{"ok":2}
+{"ok":[["childList",1,[2],[],null,null,null,null]]}
+"##,
+};
+
 pub const NODE_BEFORE_ITSELF: Dialogue = Dialogue {
     name: "node before itself",
     numbers: 4294967295,
@@ -505,21 +603,14 @@ pub const TWO_TOLD: Dialogue = Dialogue {
 "##,
 };
 
-pub const ALL: [&Dialogue; 9] = [
-    &FRAGMENT_OBSERVED,
-    &NODE_BEFORE_ITSELF,
-    &OBSERVER_OPTIONS,
-    &OBSERVERS_APART,
-    &ONE_RECORD_EACH,
-    &ORDER_OF_REGISTRATIONS,
-    &TRANSIENT_REGISTRATIONS,
-    &TRANSIENTS_OF_TRANSIENTS,
-    &TWO_TOLD,
-];
-
 #[test]
 fn fragment_observed_cut_in_two(rt: HostRuntime) {
     is_answered_in_two(&rt, rt.alloc(), &FRAGMENT_OBSERVED);
+}
+
+#[test]
+fn members_of_options_cut_in_two(rt: HostRuntime) {
+    is_answered_in_two(&rt, rt.alloc(), &MEMBERS_OF_OPTIONS);
 }
 
 #[test]

@@ -821,25 +821,6 @@ pub const TEXTS_SURROUNDED: Dialogue = Dialogue {
 "##,
 };
 
-pub const ALL: [&Dialogue; 16] = [
-    &COMMENTS_ARE_NO_TEXT,
-    &CONTENTS_CLONED_AND_EXTRACTED,
-    &CONTENTS_OF_A_RANGE,
-    &EMPTY_ENDS_EXTRACTED,
-    &ENDS_AFTER_INSERTION,
-    &ENDS_AFTER_NORMALIZING,
-    &ENDS_AFTER_REPLACED_DATA,
-    &ENDS_AFTER_SPLIT,
-    &ENDS_AT_JOINED_TEXTS,
-    &ENDS_COMPARED,
-    &EXTRACT_ACROSS_PARAGRAPHS,
-    &RANGES_COMPARED,
-    &REFUSED_SURROUND_LEAVES_NO_TRACE,
-    &STATIC_RANGES_STAY,
-    &SURROUND_ALL_OR_NOTHING,
-    &TEXTS_SURROUNDED,
-];
-
 #[test]
 fn comments_are_no_text_cut_in_two(rt: HostRuntime) {
     is_answered_in_two(&rt, rt.alloc(), &COMMENTS_ARE_NO_TEXT);

@@ -625,16 +625,6 @@ pub const WALKER_PAST_ITS_ROOT: Dialogue = Dialogue {
 "##,
 };
 
-pub const ALL: [&Dialogue; 7] = [
-    &FILTERS_BY_KIND_AND_NAME,
-    &ITERATOR_FALLS_BACK,
-    &ITERATOR_GIVES_WAY,
-    &WALKER_LISTS,
-    &WALKER_MOVES,
-    &WALKER_OUTSIDE_ITS_ROOT,
-    &WALKER_PAST_ITS_ROOT,
-];
-
 #[test]
 fn filters_by_kind_and_name_cut_in_two(rt: HostRuntime) {
     is_answered_in_two(&rt, rt.alloc(), &FILTERS_BY_KIND_AND_NAME);

@@ -490,22 +490,6 @@ pub const TREE_PRINTED: Dialogue = Dialogue {
 "##,
 };
 
-pub const ALL: [&Dialogue; 13] = [
-    &ATTRIBUTES_IN_ORDER,
-    &CHILDREN_OF_A_DOCUMENT,
-    &COPIES_AND_POSITIONS,
-    &DATA_COUNTED_IN_UNITS,
-    &DISCARDED_TREES,
-    &DOCUMENTS_OF_COPIES,
-    &LONE_SURROGATE,
-    &MOVES_BETWEEN_DOCUMENTS,
-    &MOVES_REFUSED,
-    &ORDER_OF_CHILDREN,
-    &ORDER_OF_INSERT_REFUSALS,
-    &SPLIT_PAST_THE_END,
-    &TREE_PRINTED,
-];
-
 #[test]
 fn attributes_in_order_cut_in_two(rt: HostRuntime) {
     is_answered_in_two(&rt, rt.alloc(), &ATTRIBUTES_IN_ORDER);

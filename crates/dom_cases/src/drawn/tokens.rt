@@ -1,0 +1,92 @@
+//! The tokens of a drawn text, and where its gaps are.
+
+ghost use Rattle.std.specs.Prelude.{◌≤◌, length, IfOk};
+
+use std::alloc::{AllocError, Global};
+
+/// A boundary point.
+#[derive(Clone, Copy, PartialEq, Eq)]
+pub struct Point {
+    pub node: u64,
+    pub offset: u64,
+}
+
+/// The two ends of a live range.
+#[derive(Clone, Copy, PartialEq, Eq)]
+pub struct Ends {
+    pub start: Point,
+    pub end: Point,
+}
+
+/// What a node opens and closes with: a tag of one letter, or quotes.
+#[derive(Clone, Copy, PartialEq, Eq)]
+pub enum Sign {
+    Tag(u8),
+    Quotes,
+}
+
+/// A token of a text.
+#[derive(Clone, Copy, PartialEq, Eq)]
+pub enum Token {
+    /// With the number of the node.
+    Open(u64, Sign),
+    Close,
+    OneUnit(u8),
+    /// With the number of the live range.
+    Mark(usize, Side),
+}
+
+/// Which end of a live range.
+#[derive(Clone, Copy, PartialEq, Eq)]
+pub enum Side {
+    Start,
+    End,
+}
+
+// Walking a text: the point that the walk has come to in the innermost open node, and in each around it.
+
+fn step(here: &mut Vec<Point>) {
+    if let Some(point) = here.last_mut() {
+        point.offset = point.offset.saturating_add(1);
+    }
+}
+
+/// Where the walk has come to past the token.
+pub fn pass(here: &mut Vec<Point>, token: Token) -> Result<(), AllocError> {
+    match token {
+        Token::Open(node, _) => here.push(Point { node, offset: 0 })?,
+        Token::Close => {
+            let _left = here.pop();
+            step(here);
+        }
+        Token::OneUnit(_) => step(here),
+        Token::Mark(_, _) => {}
+    }
+    Ok(())
+}
+
+/// The gap of a marker, as a point.
+pub fn gap_of(alloc: Global, text: &[Token], mark: Token) -> Result<Option<Point>, AllocError> {
+    let mut here = Vec::new(alloc);
+    for token in text {
+        if *token == mark {
+            return Ok(here.last().copied());
+        }
+        pass(&mut here, *token)?;
+    }
+    Ok(None)
+}
+
+/// How many tokens are ahead of the point's gap.
+pub fn ahead_of(alloc: Global, text: &[Token], point: Point) -> Result<usize, AllocError>
+    ensures { IfOk result (λ ahead. ahead ≤ length text.now) }
+{
+    let mut here = Vec::new(alloc);
+    for (ahead, token) in text.iter().enumerate() {
+        if here.last().copied() == Some(point) {
+            return Ok(ahead);
+        }
+        pass(&mut here, *token)?;
+    }
+    Ok(text.len())
+}
