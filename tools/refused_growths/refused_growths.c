@@ -1,6 +1,8 @@
 /* A preloaded malloc that refuses growths.
  *   REFUSE_AT=N      the Nth growth is refused
+ *   REFUSE_FROM=N    the Nth growth and each later one is refused
  *   REFUSE_AFTER=S   once room of exactly S bytes was handed out, every growth is refused
+ *   REFUSE_IN=NAME   these hold in a program of that name only
  * At the end it writes "growths G, refused R" to standard error. */
 #define _GNU_SOURCE
 #include <dlfcn.h>
@@ -8,9 +10,10 @@
 #include <stddef.h>
 #include <stdio.h>
 #include <stdlib.h>
+#include <string.h>
 #include <unistd.h>
 
-static unsigned long growths, refused, at, after;
+static unsigned long growths, refused, at, from, after;
 static int marked, is_read;
 
 static unsigned long number_of(const char *name)
@@ -19,16 +22,24 @@ static unsigned long number_of(const char *name)
     return text ? strtoul(text, NULL, 10) : 0;
 }
 
+/* Whether this is the program whose growths are refused. */
+static int is_meant(void)
+{
+    const char *name = getenv("REFUSE_IN");
+    return !name || strcmp(name, program_invocation_short_name) == 0;
+}
+
 /* Whether this growth is refused. */
 static int is_refused(size_t size)
 {
-    if (!is_read) {
-        is_read = 1;
+    if (!is_read && is_meant()) {
         at = number_of("REFUSE_AT");
+        from = number_of("REFUSE_FROM");
         after = number_of("REFUSE_AFTER");
+        is_read = 1;
     }
     growths++;
-    if (marked || growths == at) {
+    if (marked || growths == at || (from != 0 && growths >= from)) {
         refused++;
         errno = ENOMEM;
         return 1;

@@ -1,0 +1,94 @@
+"""The built program, the dialogues, and runs of the one over the other, for the scripts beside this file.
+
+DOMSERVE, where it is set, names another program than crates/domserve/out/domserve.
+"""
+import os
+import resource
+import signal
+import subprocess
+import sys
+from collections import namedtuple
+
+ROOT = os.path.dirname(os.path.dirname(os.path.abspath(__file__)))
+PROGRAM = os.environ.get("DOMSERVE") or os.path.join(ROOT, "crates/domserve/out/domserve")
+DIALOGUES = os.path.join(ROOT, "tools/dialogues")
+
+# The longest that one run may take, in seconds.
+LIMIT = 600
+
+OUT_OF_MEMORY = b'{"error":"out-of-memory"}\n'
+
+# An input's file and bytes, the program's words, and the bytes that are due.
+Dialogue = namedtuple("Dialogue", "name path given words due")
+
+# How a run ended, and what it wrote.
+Run = namedtuple("Run", "status out err")
+
+
+def content(path):
+    with open(path, "rb") as file:
+        return file.read()
+
+
+def dialogue(path):
+    front = path[: -len(".in")]
+    words = content(front + ".opts").decode().split() if os.path.exists(front + ".opts") else []
+    return Dialogue(os.path.relpath(front, ROOT), path, content(path), words, content(front + ".out"))
+
+
+def dialogues(folders):
+    """The dialogues below the folders, or those of the repository where none is given."""
+    found = []
+    for top in folders or [DIALOGUES]:
+        for folder, _, names in sorted(os.walk(top)):
+            found += [dialogue(os.path.join(folder, name)) for name in sorted(names) if name.endswith(".in")]
+    if not found:
+        sys.exit("no dialogue is there")
+    return found
+
+
+def refusing_malloc(folder):
+    """Compiles the malloc that refuses growths."""
+    library = os.path.join(folder, "refused.so")
+    source = os.path.join(ROOT, "tools/refused_growths/refused_growths.c")
+    subprocess.run(["cc", "-shared", "-fPIC", "-O2", "-Wall", "-o", library, source, "-ldl"], check=True)
+    return library
+
+
+def read_all(pipe):
+    """What comes out of a pipe until it ends."""
+    with os.fdopen(pipe, "rb") as file:
+        return file.read()
+
+
+def wait_for(process, pipe):
+    """The status of a process and what it says on a pipe. It is ended where it takes too long."""
+    signal.signal(signal.SIGALRM, lambda *_: os.kill(process, signal.SIGKILL))
+    signal.alarm(LIMIT)
+    said = read_all(pipe)
+    _, status = os.waitpid(process, 0)
+    signal.alarm(0)
+    return os.waitstatus_to_exitcode(status), said
+
+
+def run(given, words, folder, environment=None, output=None, room=None):
+    """One run over a file. `output` is another file to write to, or False for none; `room` is how many bytes a file can hold."""
+    out = os.path.join(folder, "out")
+    reading, writing = os.pipe()
+    writes = os.O_WRONLY | os.O_CREAT | os.O_TRUNC
+    files = [
+        (os.POSIX_SPAWN_OPEN, 0, given, os.O_RDONLY, 0),
+        (os.POSIX_SPAWN_OPEN, 1, output or out, writes, 0o600),
+        (os.POSIX_SPAWN_DUP2, writing, 2),
+    ]
+    if output is False:
+        files.append((os.POSIX_SPAWN_CLOSE, 1))
+    before = resource.getrlimit(resource.RLIMIT_FSIZE)
+    if room is not None:
+        # A write past the room fails; Python ignores the signal for that, and so does what it starts.
+        resource.setrlimit(resource.RLIMIT_FSIZE, (room, before[1]))
+    process = os.posix_spawn(PROGRAM, [PROGRAM, *words], {**os.environ, **(environment or {})}, file_actions=files)
+    resource.setrlimit(resource.RLIMIT_FSIZE, before)
+    os.close(writing)
+    status, said = wait_for(process, reading)
+    return Run(status, content(out) if output is None else b"", said)
