@@ -3,10 +3,10 @@
 
 usage, at the top of the repository, once ./domserve has been built: bench/command_cost.py [WORD ..]
 
-A word leaves only the pairs whose name has it. For each pair two streams that make a scene are run under callgrind, and the same streams
-with the commands behind them; what they differ by, for one command (or one node copied or taken), is told, and the run fails where the
-larger is more than a tenth above the smaller. Counts are those of the whole program: reading the line, the edit and the reply.
-The tree has groups of a hundred leaves below element 1.
+A word leaves only the pairs whose name has it. For each pair two scenes are made under callgrind, uncounted, and then the commands are
+counted; what one command (or one node copied or taken) costs is told, and the run fails where the larger is more than a tenth above the
+smaller. Counts are those of the whole program: reading the line, the edit and the reply. The tree has groups of a hundred leaves below
+element 1.
 """
 import json
 import os
@@ -16,6 +16,8 @@ import tempfile
 
 PROGRAM = "crates/domserve/out/domserve"
 COMMANDS = 1000
+# so few lines that their replies fit into a pipe
+BATCH = 100
 GROUP = 101
 
 
@@ -104,6 +106,23 @@ def watched(nodes, observers):
     return list(tree(nodes)) + deep, [["setAttribute", nodes + 7, "a", "v"] for _ in range(COMMANDS)], COMMANDS
 
 
+def compared(nodes):
+    """Two live ranges in leaves of two groups are compared."""
+    first, last = groups(nodes)[0], groups(nodes)[-1]
+    ends = [["createRange", 0], ["createRange", 0], ["selectNodeContents", 0, first + 10], ["selectNodeContents", 1, last + 90]]
+    return list(tree(nodes)) + ends, [["compareBoundaryPoints", 0, k % 4, 1] for k in range(COMMANDS)], COMMANDS
+
+
+def steps(nodes):
+    """An iterator goes over the tree from its first nodes on."""
+    return list(tree(nodes)) + [["createIterator", 1, 4294967295, []]], [["nextNode", 0] for _ in range(900)], 900
+
+
+def walks(nodes):
+    """A walker goes over the tree from its first nodes on."""
+    return list(tree(nodes)) + [["createWalker", 1, 4294967295, []]], [["walk", 0, "nextNode"] for _ in range(900)], 900
+
+
 def cloned(nodes):
     """The whole tree is copied; counted for each node."""
     return list(tree(nodes)), [["cloneNode", 1, True]], nodes - 1
@@ -136,22 +155,46 @@ PAIRS = (
     ("insertData", ("with no range elsewhere", "with 10,000"), data_beside, (0, 10000)),
     ("a change that nobody watches", SIZES, lambda nodes: watched(nodes, 0), (1000, 100000)),
     ("a change that one observer watches", SIZES, lambda nodes: watched(nodes, 1), (1000, 100000)),
+    ("compareBoundaryPoints", SIZES, compared, (1000, 100000)),
+    ("nextNode of an iterator", SIZES, steps, (1000, 100000)),
+    ("nextNode of a walker", SIZES, walks, (1000, 100000)),
     ("cloneNode, for each node", SIZES, cloned, (1000, 100000)),
     ("deleteContents, for each node", ("in 100 paragraphs", "in 100,000"), contents_deleted, (100, 100000)),
 )
 
 
-def instructions(lines, work):
-    text = "".join(json.dumps(line, separators=(",", ":")) + "\n" for line in lines)
+def answered(program, lines):
+    """The program's replies to lines, each read as it is given: as many lines are under way as a pipe holds."""
+    for at in range(0, len(lines), BATCH):
+        batch = lines[at:at + BATCH]
+        text = "".join(json.dumps(line, separators=(",", ":")) + "\n" for line in batch)
+        program.stdin.write(text.encode())
+        program.stdin.flush()
+        for line in batch:
+            reply = program.stdout.readline()
+            if not reply.startswith(b'{"ok"'):
+                sys.exit(f"{json.dumps(line)} was answered {reply.decode()[:80]!r}")
+
+
+def counted(state, program):
+    """From here on instructions are counted, or not."""
+    subprocess.run(["callgrind_control", "--instr=" + state, str(program.pid)], stdout=subprocess.DEVNULL, stderr=subprocess.DEVNULL, check=True)
+
+
+def instructions(making, commands, work):
+    """The instructions of the commands, in the scene that the lines before them make; those are not counted."""
     out = os.path.join(work, "out")
-    run = subprocess.run(
-        ["valgrind", "-q", "--tool=callgrind", "--callgrind-out-file=" + out, PROGRAM],
-        input=text.encode(), stdout=subprocess.PIPE, stderr=subprocess.PIPE, check=True)
-    if b"error" in run.stdout:
-        sys.exit("a command was refused: " + run.stdout[run.stdout.index(b"error") - 20:][:80].decode())
+    words = ["valgrind", "-q", "--tool=callgrind", "--instr-atstart=no", "--callgrind-out-file=" + out, PROGRAM]
+    with subprocess.Popen(words, stdin=subprocess.PIPE, stdout=subprocess.PIPE, stderr=subprocess.DEVNULL) as program:
+        answered(program, making)
+        counted("on", program)
+        answered(program, commands)
+        counted("off", program)
+        program.stdin.close()
+        program.stdout.read()
     with open(out) as profile:
         for line in profile:
-            if line.startswith("summary:") or line.startswith("totals:"):
+            if line.startswith("totals:"):
                 return int(line.split()[1])
     sys.exit("no count")
 
@@ -165,7 +208,7 @@ def main():
             counts = []
             for size in sizes:
                 making, commands, count = scene(size)
-                counts.append((instructions(making + commands, work) - instructions(making, work)) / count)
+                counts.append(instructions(making, commands, work) / count)
             is_apart = max(counts) > 1.1 * min(counts)
             apart = apart or is_apart
             print(f"{name}: {counts[0]:.0f} {sides[0]}, {counts[1]:.0f} {sides[1]}{': more than a tenth apart' if is_apart else ''}", flush=True)
