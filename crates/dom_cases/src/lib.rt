@@ -1,5 +1,5 @@
 //! The tests that cross crates: dialogues from bytes to bytes, cut anywhere, with faults, refused growths and large inputs; token texts
-//! that are drawn; and the reader and the writer of stated pieces that they use.
+//! that are drawn; single layers by their public calls; and the reader and the writer of stated pieces that they use.
 #![tactic(auto)]
 
 #[cfg(test)]
@@ -15,6 +15,8 @@ mod faults;
 mod feeder;
 #[cfg(test)]
 mod large;
+#[cfg(test)]
+mod layers;
 #[cfg(test)]
 mod refusals;
 #[cfg(test)]

@@ -4,8 +4,6 @@
 mod copying;
 mod equality;
 mod standing;
-#[cfg(test)]
-mod tests;
 
 pub use copying::{clone_node, import};
 pub use equality::is_equal;

@@ -12,8 +12,6 @@ mod refusal;
 mod removing;
 mod replacing;
 mod surroundings;
-#[cfg(test)]
-mod tests;
 mod world;
 
 pub use checks::{check_insert, check_replace};

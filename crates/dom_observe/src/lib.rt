@@ -13,8 +13,6 @@ mod record;
 mod registration;
 mod table;
 mod telling;
-#[cfg(test)]
-mod tests;
 
 pub use dom_model::RecordType;
 pub use observer_id::ObserverId;

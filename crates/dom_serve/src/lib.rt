@@ -8,8 +8,6 @@ mod from_read;
 mod replies;
 mod server;
 mod streams;
-#[cfg(test)]
-mod tests;
 mod to_write;
 mod writing;
 

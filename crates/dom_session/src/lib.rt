@@ -18,8 +18,6 @@ mod reply;
 mod session;
 mod setting;
 mod statics;
-#[cfg(test)]
-mod tests;
 mod texts;
 mod traversing;
 

@@ -20,6 +20,3 @@ pub use dom_session::{Command, Ended, Limits, OwnError, Reply, Session};
 pub use error::ReadError;
 pub use printing::write_reply;
 pub use reading::read_line;
-
-#[cfg(test)]
-mod tests;

@@ -1,6 +1,6 @@
 //! A session at work, with ample memory.
 
-use super::*;
+use dom_session::{Answer, Command, DomError, Limits, NodeId, OwnError, Reply, Session, Units};
 use std::alloc::AllocError;
 use std::test::Fail;
 

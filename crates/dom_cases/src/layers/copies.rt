@@ -1,6 +1,6 @@
 //! The calls on a small tree and its copies.
-use crate::{contains, is_equal, position};
 use dom_attrs::Attrs;
+use dom_clone::{contains, is_equal, position};
 use dom_edit::Content;
 use dom_kinds::{Kind, Label};
 use dom_tree::{NodeId, Tree};

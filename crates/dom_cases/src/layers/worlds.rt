@@ -2,9 +2,8 @@
 
 ghost use Rattle.dom_edit.specs.Whole.{IsWhole};
 
-use super::{Content, Refusal, World};
-use crate::surroundings::is_of_kind;
 use dom_attrs::Attrs;
+use dom_edit::{Content, Refusal, World};
 use dom_kinds::{DomError, Kind, Label};
 use dom_tree::NodeId;
 use dom_units::Units;
@@ -64,7 +63,7 @@ fn made(
         None => world.make(alloc, label, content, None),
         Some(document) => {
             assert!(rt; world.tree.holds(document));
-            assert!(rt; is_of_kind(&world.tree, document, Kind::Document));
+            assert!(rt; world.tree.label(document).kind == Kind::Document);
             world.make(alloc, label, content, Some(document))
         }
     }
@@ -82,7 +81,7 @@ fn adopted(
     ensures { IsWhole world.new }
 {
     assert!(rt; world.tree.holds(document));
-    assert!(rt; is_of_kind(&world.tree, document, Kind::Document));
+    assert!(rt; world.tree.label(document).kind == Kind::Document);
     assert!(rt; world.tree.holds(node));
     world.adopt(alloc, document, node)?;
     assert!(rt; world.tree.holds(node));

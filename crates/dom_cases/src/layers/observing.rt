@@ -1,7 +1,6 @@
 //! Observers at work, with ample memory. The nodes are roots: what stands above a node is told by the contracts.
-use super::*;
-use dom_kinds::Label;
-use dom_model::{DomError, Kind, RecordType};
+use dom_kinds::{DomError, Kind, Label};
+use dom_observe::{Mutation, ObserverId, Observers, RawOptions, Record, RecordType, settle};
 use dom_tree::{NodeId, Tree};
 use dom_units::Units;
 use std::alloc::{AllocError, Global};

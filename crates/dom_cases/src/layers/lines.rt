@@ -1,14 +1,10 @@
 //! Lines that are refused, lines that are read, and printed replies.
 
-use super::{ReadError, read_line, write_reply};
-use crate::arguments::{Arguments, Shape};
-use crate::decoding::arguments_of;
-use dom_model::OwnError;
 use dom_session::{
-    Answer, Command, Content, Description, DomError, Kind, Label, Move, NodeId, ObserverId, Point,
-    Record, RecordType, Reply, Told, TreeRow, Units, Verdict,
+    Answer, Command, Content, Description, DomError, Kind, Label, Move, NodeId, ObserverId,
+    OwnError, Point, RawOptions, Record, RecordType, Reply, Told, TreeRow, Units, Verdict,
 };
-use serde_json::Value;
+use dom_wire::{ReadError, read_line, write_reply};
 use std::alloc::{AllocError, Global};
 use std::cmp::Ordering;
 use std::test::Fail;
@@ -105,9 +101,58 @@ fn numbers_of(alloc: Global, command: &Command) -> Result<Vec<u32>, AllocError> 
             told.extend_from_slice(&[3, parent.number(), child.number()])?;
         }
         Command::Tree(top) => told.extend_from_slice(&[4, top.number()])?,
-        _ => told.push(5)?,
+        other => last_argument(&mut told, other)?,
     }
     Ok(told)
+}
+
+// The number of a flag that may be missing.
+fn flag_number(flag: Option<bool>) -> u32 {
+    match flag {
+        None => 2,
+        Some(flag) => u32::from(flag),
+    }
+}
+
+// The last argument alone, for one command of each shape that the first five have not.
+fn last_argument(told: &mut Vec<u32>, command: &Command) -> Result<(), AllocError> {
+    told.push(5)?;
+    match command {
+        Command::InsertBefore(_, _, None) => {}
+        Command::InsertBefore(_, _, Some(child)) => told.push(child.number())?,
+        Command::SetTextContent(_, text) => {
+            for unit in text.units() {
+                told.push(u32::from(*unit))?;
+            }
+        }
+        Command::CloneNode(_, deep) => told.push(u32::from(*deep))?,
+        Command::ToggleAttribute(_, _, force) => told.push(flag_number(*force))?,
+        Command::Walk(_, course) => told.push(u32::from(*course == Move::PreviousSibling))?,
+        Command::CreateIterator(_, filter) => {
+            for rule in &filter.rules {
+                told.push(u32::from(rule.verdict == Verdict::Reject))?;
+            }
+        }
+        Command::Observe(_, _, options) => options_told(told, options)?,
+        _ => told.push(6)?,
+    }
+    Ok(())
+}
+
+// Whether children and what is below are watched, and the lengths of the names in the filter.
+fn options_told(told: &mut Vec<u32>, options: &RawOptions) -> Result<(), AllocError> {
+    told.extend_from_slice(&[
+        flag_number(options.child_list),
+        flag_number(options.subtree),
+    ])?;
+    if let Some(names) = &options.attribute_filter {
+        for name in names {
+            for byte in name.as_bytes() {
+                told.push(u32::from(*byte))?;
+            }
+        }
+    }
+    Ok(())
 }
 
 #[test]
@@ -192,55 +237,40 @@ fn printed_tree(rt: HostRuntime) -> Result<(), Fail> {
     Ok(())
 }
 
-// One argument of a shape, or none where it is refused.
-fn argument(alloc: Global, shape: Shape, text: &str) -> Result<Option<Arguments>, AllocError> {
-    let Ok(value) = Value::from_str(alloc, text) else {
-        return Err(AllocError);
-    };
-    match arguments_of(alloc, &[shape], &[value]) {
-        Ok(arguments) => Ok(Some(arguments)),
-        Err(ReadError::Own(_)) => Ok(None),
-        Err(ReadError::Memory) => Err(AllocError),
-    }
+// That the line is read as a command with this last argument.
+fn is_last(alloc: Global, line: &str, argument: &[u32]) -> Result<bool, AllocError> {
+    let told = told(alloc, line.as_bytes())?;
+    Ok(told.as_slice().strip_prefix(&[5]) == Some(argument))
 }
 
 #[test]
 fn arguments_of_each_shape(rt: HostRuntime) -> Result<(), Fail> {
     let alloc = rt.alloc();
-    let read = argument(alloc, Shape::NumberOrNull, "7")?;
-    assert_eq!(rt; read.and_then(|a| a.number), Some(7));
-    let read = argument(alloc, Shape::NumberOrNull, "null")?;
-    assert_eq!(rt; read.map(|a| a.number), Some(None));
-    let read = argument(alloc, Shape::TextOrNull, "null")?;
-    assert_eq!(rt; read.map(|a| a.text.len()), Some(0));
-    let read = argument(alloc, Shape::TextOrNull, "[97,98]")?;
-    assert_eq!(rt; read.map(|a| a.text.len()), Some(2));
-    let read = argument(alloc, Shape::Flag, "true")?;
-    assert_eq!(rt; read.map(|a| a.flag), Some(true));
-    assert!(rt; argument(alloc, Shape::Flag, "null")?.is_none());
-    let read = argument(alloc, Shape::FlagOrNull, "false")?;
-    assert_eq!(rt; read.and_then(|a| a.flag_or_null), Some(false));
-    let read = argument(alloc, Shape::Move, "\"previousSibling\"")?;
-    assert!(rt; read.map(|a| a.course == Move::PreviousSibling) == Some(true));
-    assert!(rt; argument(alloc, Shape::Move, "\"up\"")?.is_none());
-    let rules = "[[\"a\",\"skip\"],[\"*\",\"reject\"]]";
-    let read = argument(alloc, Shape::Filter, rules)?;
-    assert!(rt;
-        read.map(|a| a.rules.len() == 2 && a.rules[1].verdict == Verdict::Reject) == Some(true)
-    );
-    assert!(rt; argument(alloc, Shape::Filter, "[[\"a\"]]")?.is_none());
+    assert!(rt; is_last(alloc, "[\"insertBefore\",1,2,7]", &[7])?);
+    assert!(rt; is_last(alloc, "[\"insertBefore\",1,2,null]", &[])?);
+    assert!(rt; is_last(alloc, "[\"setTextContent\",1,null]", &[])?);
+    assert!(rt; is_last(alloc, "[\"setTextContent\",1,[97,98]]", &[97, 98])?);
+    assert!(rt; is_last(alloc, "[\"cloneNode\",1,true]", &[1])?);
+    assert!(rt; is_last(alloc, "[\"toggleAttribute\",1,\"a\",false]", &[0])?);
+    assert!(rt; is_last(alloc, "[\"toggleAttribute\",1,\"a\",null]", &[2])?);
+    assert!(rt; is_last(alloc, "[\"walk\",0,\"previousSibling\"]", &[1])?);
+    let filtered = "[\"createIterator\",1,1,[[\"a\",\"skip\"],[\"*\",\"reject\"]]]";
+    assert!(rt; is_last(alloc, filtered, &[0, 1])?);
     let given = "{\"subtree\":true,\"other\":1,\"attributeFilter\":[\"x\"]}";
-    let Some(read) = argument(alloc, Shape::Options, given)? else {
-        assert!(rt; false, "no options");
-        return Ok(());
-    };
-    assert_eq!(rt; read.options.subtree, Some(true));
-    assert_eq!(rt; read.options.child_list, None);
-    assert_eq!(rt;
-        read.options.attribute_filter.map(|names| names.len()),
-        Some(1)
-    );
-    assert!(rt; argument(alloc, Shape::Options, "{\"subtree\":1}")?.is_none());
+    let observed = format!(in alloc; "[\"observe\",0,1,{given}]")?;
+    assert!(rt; is_last(alloc, observed.as_str(), &[2, 1, 120])?);
+    Ok(())
+}
+
+#[test]
+fn refused_for_the_shape(rt: HostRuntime) -> Result<(), Fail> {
+    let alloc = rt.alloc();
+    assert!(rt; is_refused(alloc, b"[\"cloneNode\",1,null]", OwnError::BadArguments)?);
+    assert!(rt; is_refused(alloc, b"[\"walk\",0,\"up\"]", OwnError::BadArguments)?);
+    let lone = b"[\"createIterator\",1,1,[[\"a\"]]]";
+    assert!(rt; is_refused(alloc, lone, OwnError::BadArguments)?);
+    let counted = b"[\"observe\",0,1,{\"subtree\":1}]";
+    assert!(rt; is_refused(alloc, counted, OwnError::BadArguments)?);
     Ok(())
 }
 

@@ -1,6 +1,6 @@
 //! The reader and the writer made of std's.
 
-use crate::{Failed, FromRead, Sink, Source, ToWrite};
+use dom_serve::{Failed, FromRead, Sink, Source, ToWrite};
 use std::io::{self, Read, Write};
 use std::test::Fail;
 

@@ -1,0 +1,9 @@
+//! Single layers, by their public calls. They stand here and not in the crates that they test, since a crate with tests of its own is
+//! proved twice.
+
+mod copies;
+mod lines;
+mod observing;
+mod sessions;
+mod streams;
+mod worlds;
