@@ -1,5 +1,6 @@
 #!/usr/bin/env bash
-# Runs each test of the crates up to ranges and observers with its nth growth refused, for n = 1, 2, .. until a run meets no refusal.
+# Runs each test of a single crate with its nth growth refused, for n = 1, 2, .. until a run meets no refusal: those in the crates up to
+# ranges, and those under `layers` of dom_cases for the crates from observers to lines and streams.
 # usage, at the top of the repository: tools/refused_tests.sh [LAST]
 # It builds the tests by `rt test` first. A run may end in three ways:
 # - the test passes;
@@ -12,8 +13,8 @@ top=$PWD
 work=$(mktemp -d)
 trap 'rm -rf "$work"' EXIT
 cc -shared -fPIC -O2 -Wall -o "$work/refused.so" tools/refused_growths/refused_growths.c -ldl
-crates="dom_units dom_kinds dom_attrs dom_links dom_tree dom_point dom_traverse dom_ranges dom_observe"
-stands="dom_links:tests::a_refused_add_hands_the_value_back dom_ranges:tests::refused_room dom_observe:tests::a_hundred_nodes"
+crates="dom_units dom_kinds dom_attrs dom_links dom_tree dom_point dom_traverse dom_ranges dom_cases"
+stands="dom_links:tests::a_refused_add_hands_the_value_back dom_ranges:tests::refused_room dom_cases:layers::observing::a_hundred_nodes"
 runs=0
 cut=0
 
@@ -60,7 +61,7 @@ in_turn() {
 
 for crate in $crates; do
     (cd "crates/$crate" && rt test >"$work/built" 2>&1) || { cat "$work/built" >&2; exit 1; }
-    for test in $("crates/$crate/out/${crate}_tests" --list | sed -n 's/: test$//p'); do
+    for test in $("crates/$crate/out/${crate}_tests" --list | sed -n 's/: test$//p' | grep -E '^(tests|layers)::'); do
         in_turn "$crate" "$test"
     done
 done
@@ -70,7 +71,7 @@ run REFUSE_AFTER=7777 dom_ranges tests::adjusted_without_a_growth
 run REFUSE_AT=1 dom_ranges tests::refused_room
 [ "$status $growths $refused" = "0 2 1" ] || fail "room whose first growth is refused is not refused"
 for n in $(seq 1 100); do
-    run REFUSE_AT="$n" dom_observe tests::a_hundred_nodes
+    run REFUSE_AT="$n" dom_cases layers::observing::a_hundred_nodes
     [ "$status $refused" = "0 1" ] || fail "the first registrations on a hundred nodes, growth $n"
 done
 echo "$runs runs, each ended as its test says; $cut tests have more than $last growths"
