@@ -60,6 +60,11 @@ fn index(rt: &impl Abort, tree: &Tree<u32>, id: NodeId) -> usize {
     tree.index(id)
 }
 
+fn within(rt: &impl Abort, tree: &Tree<u32>, id: NodeId, steps: usize) -> Option<usize> {
+    assert!(rt; tree.holds(id));
+    tree.index_within(id, steps)
+}
+
 /// A document, and an element with four others in it, in the order in which they were made.
 fn four_children(rt: &impl Abort, alloc: Global) -> Result<(Tree<u32>, NodeId), AllocError> {
     let mut tree = Tree::new(alloc);
@@ -111,6 +116,26 @@ fn a_child_in_front_moves_the_others_on(rt: HostRuntime) -> Result<(), Fail> {
             Some(place as usize + 1)
         );
     }
+    Ok(())
+}
+
+#[test]
+fn an_index_is_found_within_steps(rt: HostRuntime) -> Result<(), Fail> {
+    let (mut tree, parent) = four_children(&rt, rt.alloc())?;
+    let document = Some(NodeId::new(0));
+    let first = made(&rt, rt.alloc(), &mut tree, Kind::Element, document)?;
+    put(&rt, &mut tree, parent, first, Some(NodeId::new(2)));
+    let last = NodeId::new(5);
+    assert_eq!(rt; kept(&rt, &tree, last), None);
+    assert_eq!(rt; within(&rt, &tree, last, 0), None);
+    assert_eq!(rt; within(&rt, &tree, last, 3), None);
+    assert_eq!(rt; within(&rt, &tree, last, 4), Some(4));
+    assert_eq!(rt; within(&rt, &tree, last, usize::MAX), Some(4));
+    assert_eq!(rt; within(&rt, &tree, first, 0), Some(0));
+    assert_eq!(rt; within(&rt, &tree, parent, 0), Some(0), "a root");
+    assert!(rt; tree.holds(parent));
+    tree.number_children(parent);
+    assert_eq!(rt; within(&rt, &tree, last, 0), Some(4));
     Ok(())
 }
 

@@ -1,6 +1,6 @@
 //! Walks over the tree: ancestors and tree order (DOM Standard, "Trees").
 
-ghost use Rattle.std.specs.Prelude.{◌≡◌, ℕ, ◌+◌, ◌-◌, ◌<◌, nat_lt, length, slice_get, Some, IsSome, IfSome, true};
+ghost use Rattle.std.specs.Prelude.{◌≡◌, ℕ, ◌+◌, ◌-◌, ◌<◌, ◌≤◌, nat_lt, length, slice_get, Some, IsSome, IfSome, true};
 ghost use Rattle.dom_model.specs.PlainLists.Lists.{among, after, last_of, place_in};
 ghost use Rattle.dom_model.specs.Forests.Arena.{siblings_in};
 ghost use Rattle.dom_model.specs.Forests.Forest.{HasNode, entry_in, parent_of, children_of, index_of, root_of, ancestors, numbers, inclusive_descendants, adopted};
@@ -236,19 +236,29 @@ impl<X> Tree<X> {
         requires { HasNode self.now.forest id }
         ensures { result ≡ index_of self.now.forest id }
     {
-        self.sound();
         let count = self.siblings(id);
+        self.index_within(id, count).unwrap()
+    }
+
+    /// The number of preceding siblings, where it is found in so many steps back: at the first child, or at a sibling whose index is kept; 0 for a root.
+    pub fn index_within(&self, id: NodeId, steps: usize) -> Option<usize>
+        requires { HasNode self.now.forest id }
+        ensures counted { IfSome result (λ i. i ≡ index_of self.now.forest id) }
+        ensures found { index_of self.now.forest id ≤ steps → IsSome result }
+    {
+        self.sound();
+        let most = steps.min(self.siblings(id));
         let mut here = id;
-        for passed in 0..count {
+        for passed in 0..=most {
             if let Some(index) = self.kept_index(here) {
-                return passed + index;
+                return Some(passed + index);
             }
             match self.prev(here) {
                 Some(prev) => here = prev,
-                None => return passed,
+                None => return Some(passed),
             }
         }
-        count
+        None
     }
 
     /// The child at an index. It walks from the nearer end.

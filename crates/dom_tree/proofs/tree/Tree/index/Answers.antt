@@ -1,21 +1,6 @@
--- Each step back counts one.
-use Rattle.std.proofs.Common.{sym, ◌∙◌, arith}
-use Rattle.dom_model.proofs.Forests.Siblings.{index-step, index-first, index-within}
+-- There are no more preceding siblings than siblings.
+use Rattle.dom_model.proofs.Forests.Siblings.{index-within}
 use Rattle.dom_tree.proofs.tree.Tree.index.Goals as goal
 
-pub returns-in-None : goal.returns-in-None
-returns-in-None g c =
-    omega (arith, c.loop-passed.invariant.counted, index-first c.sound.ensures c.loop-passed.here c.loop-passed.invariant.there (sym c.prev.ensures ∙ c.in-None.is))
-
-pub loop-passed-preserved : goal.loop-passed-preserved
-loop-passed-preserved g c =
-    let i = index-step c.sound.ensures c.loop-passed.here c.in-Some-prev.prev c.loop-passed.invariant.there (sym c.prev.ensures ∙ c.in-Some-prev.is) in
-    record { there = i.1.1; beside = i.1.0 ∙ c.loop-passed.invariant.beside; counted = omega (arith, i.0, c.loop-passed.invariant.counted) }
-
-pub returns : goal.returns
-returns g c =
-    omega (arith, c.loop-passed.invariant.counted, c.siblings-count.ensures, index-within c.args.self.now.forest c.args.id, c.loop-passed-test.false)
-
-pub overflow_add-result : goal.overflow_add-result
-overflow_add-result g c =
-    omega (arith, c.in-Some.ensures, c.loop-passed.invariant.counted, c.siblings-count.ensures, index-within c.args.self.now.forest c.args.id)
+pub unwrap-requires : goal.unwrap-requires
+unwrap-requires g c = c.index_within.ensures.found (rw c.siblings-count.ensures (index-within c.args.self.now.forest c.args.id))
