@@ -41,14 +41,17 @@ fn put_all(tree: &mut Tree<Content>, parent: NodeId, child: Option<NodeId>, node
     }
 }
 
-// The index of a child. Where it is not known all children of the parent are numbered.
+// How far back an index is looked for before all children are numbered.
+const NEAR: usize = 64;
+
+// The index of a child. Where it is not found near it all children of the parent are numbered.
 fn index_under(tree: &mut Tree<Content>, parent: NodeId, child: NodeId) -> usize
     requires { parent_of tree.old.forest child ≡ Some parent }
     ensures index { result ≡ index_of tree.old.forest child }
     ensures unchanged { tree.new ≡ tree.old }
 {
     tree.sound();
-    if let Some(index) = tree.kept_index(child) {
+    if let Some(index) = tree.index_within(child, NEAR) {
         return index;
     }
     tree.number_children(parent);
