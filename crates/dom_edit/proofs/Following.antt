@@ -4,7 +4,6 @@ use Rattle.std.proofs.lemmas.List.Elements.{All-nil}
 use Rattle.dom_model.specs.Forests.Forest.{IsForest}
 use Rattle.dom_model.specs.Forests.Documents.{HasOneDocument}
 use Rattle.dom_model.specs.Worlds.World as model
-use Rattle.dom_model.specs.Worlds.World.{Content, Range}
 use Rattle.dom_model.specs.Worlds.Sound.{IsRegistration, IsSound}
 use Rattle.dom_model.proofs.Worlds.Owners.{HasOwners}
 use Rattle.dom_edit.specs.declared.world.World.{World}

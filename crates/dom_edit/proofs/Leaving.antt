@@ -5,7 +5,7 @@ use Rattle.std.proofs.lemmas.List.Elements.{All-weaker}
 use Rattle.dom_model.specs.Forests.Forest.{HasNode, Forest, parent_of, previous_of, next_of, index_of, inclusive_descendants, ancestors, cut}
 use Rattle.dom_model.specs.Forests.Documents.{HasOneDocument}
 use Rattle.dom_model.specs.Worlds.World as model
-use Rattle.dom_model.specs.Worlds.World.{Content, Range, Registration, Observing}
+use Rattle.dom_model.specs.Worlds.World.{Content, Range, Observing}
 use Rattle.dom_model.specs.Worlds.Sound.{IsSound}
 use Rattle.dom_model.specs.BoundaryPoints.Points.{map_ranges, after_removal}
 use Rattle.dom_model.specs.MutationAlgorithms.PreRemoval.{pre_removed_all}

@@ -2,7 +2,7 @@
 use Rattle.std.proofs.Common.{◌≡◌, ℕ, ◌<◌, List, length, Option, ap, sym, ◌∙◌, subst}
 use Rattle.std.proofs.lemmas.List.Elements.{All-weaker}
 use Rattle.dom_model.specs.Forests.Forest.{Forest, Grove, HasNode}
-use Rattle.dom_model.specs.Worlds.World.{Content, Range}
+use Rattle.dom_model.specs.Worlds.World.{Content}
 use Rattle.dom_model.specs.Worlds.World as model
 use Rattle.dom_model.specs.MutationAlgorithms.Editing.{put_all, gap_before}
 use Rattle.dom_model.proofs.Forests.Entries.{HasNode-occurs, occurs-HasNode}

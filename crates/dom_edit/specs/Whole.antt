@@ -1,6 +1,6 @@
 -- What the code keeps of a world, and the worlds that it stands for.
 -- DOM Standard, "Nodes", "Live ranges", "Interface NodeIterator", "Interface TreeWalker", "Mutation observers".
-use Rattle.std.specs.Prelude.{◌≡◌, ℕ, ◌≤◌, List, [], Option, All, IfSome}
+use Rattle.std.specs.Prelude.{◌≡◌, ◌≤◌, [], Option, All, IfSome}
 use Rattle.dom_model.specs.Forests.Forest.{Forest, HasNode, IsForest}
 use Rattle.dom_model.specs.Forests.Documents.{HasOneDocument}
 use Rattle.dom_model.specs.Worlds.World.{Content, Range}

@@ -1,6 +1,6 @@
 //! The tree: making nodes, reading them, and changing where they stand.
 
-ghost use Rattle.std.specs.Prelude.{◌≡◌, ℕ, ◌+◌, ◌<◌, length, slice_get, Some, None, IsSome, is_some, option_map, unwrap_or, IfSome, IfOk, OnOk, OnErr, false, true};
+ghost use Rattle.std.specs.Prelude.{◌≡◌, ◌+◌, ◌<◌, length, Some, None, IsSome, is_some, option_map, unwrap_or, IfSome, IfOk, OnOk, OnErr, false};
 ghost use Rattle.std.specs.Borrow.{sem};
 ghost use Rattle.std.specs.Option.{ForSome};
 ghost use Rattle.dom_model.specs.PlainLists.Lists.{among, head_of, last_of};

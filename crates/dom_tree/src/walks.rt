@@ -1,6 +1,6 @@
 //! Walks over the tree: ancestors and tree order (DOM Standard, "Trees").
 
-ghost use Rattle.std.specs.Prelude.{◌≡◌, ℕ, ◌+◌, ◌-◌, ◌<◌, ◌≤◌, nat_lt, length, slice_get, Some, IsSome, IfSome, true};
+ghost use Rattle.std.specs.Prelude.{◌≡◌, ◌+◌, ◌-◌, ◌<◌, ◌≤◌, nat_lt, length, slice_get, Some, IsSome, IfSome, true};
 ghost use Rattle.dom_model.specs.PlainLists.Lists.{among, after, last_of, place_in};
 ghost use Rattle.dom_model.specs.Forests.Arena.{siblings_in};
 ghost use Rattle.dom_model.specs.Forests.Forest.{HasNode, entry_in, parent_of, children_of, index_of, root_of, ancestors, numbers, inclusive_descendants, adopted};
