@@ -6,5 +6,6 @@ pub mod Making
 pub mod Marking
 pub mod MarkingJoined
 pub mod Pairs
+pub mod Slots
 pub mod Steps
 pub mod Walking

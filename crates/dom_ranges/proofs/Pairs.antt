@@ -5,8 +5,9 @@ use Rattle.dom_model.specs.Worlds.World.{Point, Range}
 use Rattle.dom_model.specs.BoundaryPoints.Points.{moved_range, map_ranges}
 use Rattle.dom_ranges.specs.declared.chains.End.{End}
 use Rattle.dom_ranges.specs.Chained.{point_at, points_of}
-use Rattle.dom_ranges.specs.Tables.{RangeTable, range_in, both, paired, IsPaired, live_count, IsKept}
+use Rattle.dom_ranges.specs.Tables.{RangeTable, range_in, both, paired, IsPaired, live_count, in_slot, by_slot, slot_at, IsInOrder}
 use Rattle.dom_ranges.proofs.Steps.{points-at, some-within, point-kept}
+use Rattle.dom_ranges.proofs.Slots.{by_slot-at}
 
 abbrev pub twice : ℕ → ℕ
 twice zero = 0
@@ -86,6 +87,12 @@ live-set (None ∷ rs) zero x h = absurd (false≢true h)
 live-set (Some y ∷ rs) zero x h = omega arith
 live-set (y ∷ rs) (suc r) x h = omega (arith, live-set rs r x h)
 
+pub live-filled : (rs : List (Option Range)) (r : ℕ) (x : Range) → r < length rs → get_or rs r None ≡ None → live_count (set rs r (Some x)) ≡ suc (live_count rs)
+live-filled [] r x w h = absurd (omega arith)
+live-filled (None ∷ rs) zero x w h = omega arith
+live-filled (Some y ∷ rs) zero x w h = absurd (cc h)
+live-filled (y ∷ rs) (suc r) x w h = omega (arith, live-filled rs r x (omega arith) h)
+
 pub live-append : (rs : List (Option Range)) (x : Option Range) → live_count (rs ++ x ∷ []) ≡ (if is_some x then 1 else 0) + live_count rs
 live-append [] x = omega arith
 live-append (y ∷ rs) x = omega (arith, live-append rs x)
@@ -130,34 +137,75 @@ module _ (t t1 t2 : List End) (r : ℕ) (s e : Option Point) (first : points_of 
   pub written-live : IsSome (both (point_at t (r + r)) (point_at t (r + r + 1))) → suc (live_count (paired (points_of t2))) ≡ (if is_some (both s e) then 1 else 0) + live_count (paired (points_of t))
   written-live h = ap (λ rs. suc (live_count rs)) written-ranges ∙ live-set (paired (points_of t)) r (both s e) (rw (range-is t r) h)
 
--- a live range and its ends
-module _ (t : List End) (heads : List (Option ℕ)) (live : ℕ) (k : IsKept t heads live) (v : RangeTable) (view : record { ranges = paired (points_of t); covered = length heads } ≡ v) where
-  pub ranges-are : v.ranges ≡ paired (points_of t)
+-- the two ends of a range both stand somewhere, or neither does
+pub paired-pair : (ps : List (Option Point)) (r : ℕ) → IsPaired ps → is_some (get_or ps (twice r) None) ≡ is_some (get_or ps (suc (twice r)) None)
+paired-pair [] r h = refl
+paired-pair (s ∷ []) r h = absurd h
+paired-pair (s ∷ e ∷ rest) zero h = h.0
+paired-pair (s ∷ e ∷ rest) (suc r) h = paired-pair rest r h.1
+
+empty-both : (s e : Option Point) → is_some s ≡ is_some e → both s e ≡ None → (s ≡ None) × (e ≡ None)
+empty-both None None k h = (refl, refl)
+empty-both None (Some q) k h = absurd (false≢true k)
+empty-both (Some p) None k h = absurd (false≢true (sym k))
+empty-both (Some p) (Some q) k h = absurd (cc h)
+
+pub empty-ends : (t : List End) (r : ℕ) → IsPaired (points_of t) → get_or (paired (points_of t)) r None ≡ None → (point_at t (r + r) ≡ None) × (point_at t (r + r + 1) ≡ None)
+empty-ends t r k h =
+    empty-both (point_at t (r + r)) (point_at t (r + r + 1)) same (sym (range-is t r) ∙ h)
+  where
+    at : (i j : ℕ) → i ≡ j → get_or (points_of t) i None ≡ point_at t j
+    at i j q = ap (λ n. get_or (points_of t) n None) q ∙ points-at t j
+
+    same : is_some (point_at t (r + r)) ≡ is_some (point_at t (r + r + 1))
+    same = ap is_some (sym (at (twice r) (r + r) (twice-is r))) ∙ paired-pair (points_of t) r k ∙ ap is_some (at (suc (twice r)) (r + r + 1) (omega (arith, twice-is r)))
+
+-- a number whose range is live has a slot
+module _ (t : List End) (heads : List (Option ℕ)) (slots : List (Option ℕ)) (vacant : List ℕ) (live many room : ℕ) (k : IsInOrder t heads slots vacant live many room) (v : RangeTable) (view : record { ranges = by_slot (paired (points_of t)) slots; covered = length heads } ≡ v) where
+  pub ranges-are : v.ranges ≡ by_slot (paired (points_of t)) slots
   ranges-are = sym (ap (λ (x : RangeTable). x.ranges) view)
 
   pub covered-is : v.covered ≡ length heads
   covered-is = sym (ap (λ (x : RangeTable). x.covered) view)
 
-  pub range-found : (r : ℕ) → range_in v r ≡ both (point_at t (r + r)) (point_at t (r + r + 1))
-  range-found r = ap (λ rs. get_or rs r None) ranges-are ∙ range-is t r
+  range-in : (r : ℕ) → range_in v r ≡ in_slot (paired (points_of t)) (slot_at slots r)
+  range-in r = ap (λ rs. get_or rs r None) ranges-are ∙ by_slot-at (paired (points_of t)) slots r
 
-  module _ (r : ℕ) (held : IsSome (range_in v r)) where
-    pub both-held : IsSome (both (point_at t (r + r)) (point_at t (r + r + 1)))
-    both-held = subst (λ (x : Option Range). IsSome x) (range-found r) held
+  pub has-slot : (r : ℕ) → IsSome (range_in v r) → IsSome (slot_at slots r)
+  has-slot r h = go (slot_at slots r) (subst (λ (o : Option Range). IsSome o) (range-in r) h)
+    where
+      go : (o : Option ℕ) → IsSome (in_slot (paired (points_of t)) o) → IsSome o
+      go None q = absurd (false≢true q)
+      go (Some s) q = refl
 
-    pub start-live : IsSome (point_at t (r + r))
-    start-live = both-first (point_at t (r + r)) (point_at t (r + r + 1)) both-held
+  pub slot-tells : (r : ℕ) → is_some (slot_at slots r) ≡ is_some (range_in v r)
+  slot-tells r = go (slot_at slots r) refl ∙ ap is_some (sym (range-in r))
+    where
+      go : (o : Option ℕ) → slot_at slots r ≡ o → is_some (slot_at slots r) ≡ is_some (in_slot (paired (points_of t)) (slot_at slots r))
+      go None q = rw q refl
+      go (Some s) q = rw q (sym (k.numbered.full r s q))
 
-    pub end-live : IsSome (point_at t (r + r + 1))
-    end-live = both-second (point_at t (r + r)) (point_at t (r + r + 1)) both-held
+  -- the slot and its ends
+  module _ (r s : ℕ) (slot : slot_at slots r ≡ Some s) where
+    pub range-found : range_in v r ≡ both (point_at t (s + s)) (point_at t (s + s + 1))
+    range-found = range-in r ∙ ap (in_slot (paired (points_of t))) slot ∙ range-is t s
 
-    pub end-within : r + r + 1 < length t
-    end-within = some-within t (r + r + 1) end-live
+    pub both-held : IsSome (both (point_at t (s + s)) (point_at t (s + s + 1)))
+    both-held = subst (λ (x : Option Range). IsSome x) (range-is t s) (k.numbered.full r s slot)
 
-    pub id-small : r + r + 1 < 2 ^ 32
-    id-small = omega (arith, end-within, k.small)
+    pub start-live : IsSome (point_at t (s + s))
+    start-live = both-first (point_at t (s + s)) (point_at t (s + s + 1)) both-held
 
-    module _ (i j : ℕ) (first : i ≡ r + r) (second : j ≡ r + r + 1) where
+    pub end-live : IsSome (point_at t (s + s + 1))
+    end-live = both-second (point_at t (s + s)) (point_at t (s + s + 1)) both-held
+
+    pub end-within : s + s + 1 < length t
+    end-within = some-within t (s + s + 1) end-live
+
+    pub slot-small : s + s + 1 < 2 ^ 32
+    slot-small = omega (arith, end-within, k.ends.small)
+
+    module _ (i j : ℕ) (first : i ≡ s + s) (second : j ≡ s + s + 1) where
       pub first-live : IsSome (point_at t i)
       first-live = rw first start-live
 

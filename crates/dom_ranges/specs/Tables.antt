@@ -1,11 +1,11 @@
 -- The table of live ranges, and what it is to be in order. DOM Standard, "Live ranges".
-use Rattle.std.specs.Prelude.{◌≡◌, ℕ, ◌+◌, ◌^◌, ◌<◌, ◌≤◌, false, if◌then◌else◌, List, [], ◌∷◌, length, slice_index_or, Option, Some, None, IfSome, is_some, Result, Ok, Err}
+use Rattle.std.specs.Prelude.{◌≡◌, ℕ, ◌+◌, ◌^◌, ◌<◌, ◌≤◌, false, if◌then◌else◌, List, [], ◌∷◌, length, map, slice_index_or, Option, Some, None, IfSome, IsSome, is_some, Result, Ok, Err}
 use Rattle.std.specs.List.{All, flat_map}
 use Rattle.std.specs.declared.cmp.Ordering.TheVariants.{Greater}
 use Rattle.dom_model.specs.declared.Kind.TheVariants.{DocumentType}
 use Rattle.dom_model.specs.declared.DomError.{DomError}
 use Rattle.dom_model.specs.Worlds.World.{Point, Range}
-use Rattle.dom_model.specs.PlainLists.Lists.{among}
+use Rattle.dom_model.specs.PlainLists.Lists.{among, hits}
 use Rattle.dom_model.specs.Forests.Forest.{Forest, HasNode, root_of}
 use Rattle.dom_model.specs.BoundaryPoints.Points.{order_of}
 use Rattle.dom_model.specs.MutationAlgorithms.Checks.{is_of_kind}
@@ -88,9 +88,53 @@ abbrev pub live_count : List (Option Range) → ℕ
 live_count [] = 0
 live_count (r ∷ rs) = (if is_some r then 1 else 0) + live_count rs
 
+-- the range in a slot, none where there is no slot
+abbrev pub in_slot : List (Option Range) → Option ℕ → Option Range
+in_slot pairs None = None
+in_slot pairs (Some s) = slice_index_or pairs s None
+
+-- the ranges by number, of the ranges by slot and the slot of each number
+abbrev pub by_slot : List (Option Range) → List (Option ℕ) → List (Option Range)
+by_slot pairs slots = map (λ (o : Option ℕ). in_slot pairs o) slots
+
+abbrev pub slot_at : List (Option ℕ) → ℕ → Option ℕ
+slot_at slots r = slice_index_or slots r None
+
 -- what the live ranges keep of their ends
 pub record IsKept (t : List End) (heads : List (Option ℕ)) (live : ℕ) : Type 0 where
   pub chains : HasChains t heads
   pub pairs : IsPaired (points_of t)
   pub alive : live ≡ live_count (paired (points_of t))
   pub small : length t ≤ 2 ^ 32
+
+-- each vacant slot is listed once, and no range is in it
+pub record AreVacant (pairs : List (Option Range)) (vacant : List ℕ) : Type 0 where
+  pub once : (s : ℕ) → hits s vacant ≤ 1
+  pub there : (s : ℕ) → 0 < hits s vacant → s < length pairs
+  pub empty : (s : ℕ) → 0 < hits s vacant → slice_index_or pairs s None ≡ None
+
+-- each number that has a slot has one to itself, with a range in it, and each range is in the slot of a number
+pub record HaveSlots (pairs : List (Option Range)) (slots : List (Option ℕ)) : Type 0 where
+  pub number : ℕ → ℕ
+  pub named : (r s : ℕ) → slot_at slots r ≡ Some s → number s ≡ r
+  pub full : (r s : ℕ) → slot_at slots r ≡ Some s → IsSome (slice_index_or pairs s None)
+  pub held : (s : ℕ) → IsSome (slice_index_or pairs s None) → slot_at slots (number s) ≡ Some s
+
+-- there are as many slots as live ranges and vacant slots, and room to list them all as vacant
+pub record IsFilled (ends live vacant room : ℕ) : Type 0 where
+  pub filled : ends ≡ live + live + vacant + vacant
+  pub listed : live + vacant ≤ room
+
+-- what the live ranges keep of their ends, of the slots of their numbers, and of the vacant slots
+pub record IsInOrder (t : List End) (heads : List (Option ℕ)) (slots : List (Option ℕ)) (vacant : List ℕ) (live many room : ℕ) : Type 0 where
+  pub ends : IsKept t heads live
+  pub numbered : HaveSlots (paired (points_of t)) slots
+  pub empty : AreVacant (paired (points_of t)) vacant
+  pub filled : IsFilled (length t) live many room
+
+-- a range comes into an empty slot, and these slots are vacant then
+pub record Settles (s : ℕ) (x : Range) (pairs pairs' : List (Option Range)) (vacant : List ℕ) : Type 0 where
+  pub empty : slice_index_or pairs s None ≡ None
+  pub put : slice_index_or pairs' s None ≡ Some x
+  pub others : (k : ℕ) → (k ≡ s → ⊥) → slice_index_or pairs' k None ≡ slice_index_or pairs k None
+  pub left : AreVacant pairs' vacant

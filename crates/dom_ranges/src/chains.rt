@@ -56,14 +56,6 @@ impl Chains {
         self.table.len()
     }
 
-    /// Whether an end stands somewhere.
-    pub(crate) fn is_live(&self, id: EndId) -> bool
-        requires { id < length self.now.table.items }
-        ensures { result ≡ is_some (point_at self.now.table.items id) }
-    {
-        self.end(id).point.is_some()
-    }
-
     /// Where an end stands that stands somewhere.
     pub(crate) fn point(&self, id: EndId) -> Point
         requires within { id < length self.now.table.items }

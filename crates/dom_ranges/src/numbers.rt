@@ -1,6 +1,6 @@
-//! The numbers of live ranges, and of their ends.
+//! The numbers of live ranges, of their slots, and of their ends.
 
-ghost use Rattle.std.specs.Prelude.{◌≡◌};
+ghost use Rattle.std.specs.Prelude.{◌≡◌, ◌+◌, ◌<◌, ◌^◌};
 
 use std::marker::Model;
 
@@ -35,6 +35,48 @@ impl RangeId {
         ensures { result ≡ self }
     {
         self.number
+    }
+}
+
+/// The place of a live range's two ends in the table of ends. A slot is used again once its range was released.
+#[derive(Clone, Copy, Debug, PartialEq, Eq)]
+pub(crate) struct RangeSlot {
+    index: u32,
+}
+
+impl Model for RangeSlot {
+    ghost use Rattle.std.specs.Prelude.{ℕ, ◌<◌, ◌^◌};
+
+    ghost Value = { ℕ };
+
+    ghost view = { λ s. s.index };
+
+    ghost invariant = { λ s. s.index < 2 ^ 32 };
+
+    ghost inverse = { λ n. record { index = n } };
+}
+
+impl RangeSlot {
+    pub(crate) fn new(index: u32) -> RangeSlot
+        ensures { result ≡ index }
+    {
+        RangeSlot { index }
+    }
+
+    /// The end at which the range in the slot starts.
+    pub(crate) fn start(self) -> EndId
+        requires { self + self + 1 < 2 ^ 32 }
+        ensures { result ≡ self + self }
+    {
+        EndId::new(self.index + self.index)
+    }
+
+    /// The end at which it ends.
+    pub(crate) fn end(self) -> EndId
+        requires { self + self + 1 < 2 ^ 32 }
+        ensures { result ≡ self + self + 1 }
+    {
+        EndId::new(self.index + self.index + 1)
     }
 }
 

@@ -1,52 +1,86 @@
 //! Live ranges: making, reading and releasing them.
 
-ghost use Rattle.std.specs.Prelude.{◌≡◌, ◌+◌, ◌^◌, ◌<◌, ◌≤◌, max, [], ◌∷◌, ◌++◌, length, slice_set, Some, None, IsSome, is_some, true, IfOk, OnOk, OnErr};
+ghost use Rattle.std.specs.Prelude.{◌≡◌, ◌+◌, ◌<◌, ◌≤◌, max, [], ◌∷◌, ◌++◌, length, slice_set, Some, None, IsSome, is_some, true, IfOk, OnOk, OnErr};
 ghost use Rattle.std.specs.List.{list_any};
+ghost use Rattle.std.specs.Vec.{vec_len, vec_capacity};
 ghost use Rattle.dom_model.specs.PlainLists.Lists.{among};
 ghost use Rattle.dom_model.specs.Forests.Forest.{HasNode, inclusive_descendants};
 ghost use Rattle.dom_model.specs.Worlds.World.{Range};
-ghost use Rattle.dom_ranges.specs.Tables.{range_in, live_nodes, IsRangeIn};
+ghost use Rattle.dom_ranges.specs.Chained.{points_of};
+ghost use Rattle.dom_ranges.specs.Tables.{range_in, slot_at, live_nodes, paired, IsRangeIn, IsKept, AreVacant, IsFilled, Settles};
 
 use crate::chains::Chains;
-use crate::numbers::{EndId, RangeId};
+use crate::numbers::{RangeId, RangeSlot};
 use dom_point::Point;
 use dom_tree::{Body, NodeId, Tree};
 use std::alloc::{AllocError, Global};
 use std::marker::Model;
 
 /// The live ranges of a session (DOM Standard, "Live ranges"), with their ends found by node.
+///
+/// A number leads to a slot, which has the two ends, for as long as its range is live. A slot that was released is taken again first.
 #[derive(Drop)]
 pub struct Ranges {
     pub(crate) chains: Chains,
+    slots: Vec<Option<RangeSlot>>,
+    vacant: Vec<RangeSlot>,
     live: u64,
 }
 
 impl Model for Ranges {
     ghost use Rattle.std.specs.Prelude.{length};
+    ghost use Rattle.std.specs.Vec.{vec_len, vec_capacity};
     ghost use Rattle.dom_ranges.specs.Chained.{points_of};
-    ghost use Rattle.dom_ranges.specs.Tables.{RangeTable, paired, IsKept};
+    ghost use Rattle.dom_ranges.specs.Tables.{RangeTable, paired, by_slot, IsInOrder};
 
     ghost Value = { RangeTable };
 
-    ghost view = { λ a. record { ranges = paired (points_of a.chains.table.items); covered = length a.chains.heads.items } };
+    ghost view = { λ a. record { ranges = by_slot (paired (points_of a.chains.table.items)) a.slots.items; covered = length a.chains.heads.items } };
 
-    ghost invariant = { λ a. IsKept a.chains.table.items a.chains.heads.items a.live };
+    ghost invariant = { λ a. IsInOrder a.chains.table.items a.chains.heads.items a.slots.items a.vacant.items a.live (vec_len a.vacant) (vec_capacity a.vacant) };
 }
 
-// The end at which a range starts.
-fn start_of(r: RangeId) -> EndId
-    requires { r + r + 1 < 2 ^ 32 }
-    ensures { result ≡ r + r }
+// The slot of a number, where it has one.
+fn slot_of(slots: &[Option<RangeSlot>], r: RangeId) -> Option<RangeSlot>
+    ensures { result ≡ slot_at slots.now r }
 {
-    EndId::new(r.number() + r.number())
+    match slots.get(r.number() as usize) {
+        Some(slot) => *slot,
+        None => None,
+    }
 }
 
-// The end at which a range ends.
-fn end_of(r: RangeId) -> EndId
-    requires { r + r + 1 < 2 ^ 32 }
-    ensures { result ≡ r + r + 1 }
+// Puts two ends into a vacant slot, or into a new one where none is vacant. For a new one there is room among the vacant slots too.
+fn settle(
+    chains: &mut Chains,
+    vacant: &mut Vec<RangeSlot>,
+    live: u64,
+    start: Point,
+    end: Point,
+) -> Result<RangeSlot, AllocError>
+    requires start_covered { start.node < length chains.old.heads.items }
+    requires end_covered { end.node < length chains.old.heads.items }
+    requires kept { IsKept chains.old.table.items chains.old.heads.items live }
+    requires vacant { AreVacant (paired (points_of chains.old.table.items)) vacant.old.items }
+    requires filled { IsFilled (length chains.old.table.items) live (vec_len vacant.old) (vec_capacity vacant.old) }
+    ensures settled { IfOk result (λ s. Settles s (record { start = start; end = end }) (paired (points_of chains.old.table.items)) (paired (points_of chains.new.table.items)) vacant.new.items) }
+    ensures kept { OnOk result (IsKept chains.new.table.items chains.new.heads.items (live + 1)) }
+    ensures filled { OnOk result (IsFilled (length chains.new.table.items) (live + 1) (vec_len vacant.new) (vec_capacity vacant.new)) }
+    ensures covered { length chains.new.heads.items ≡ length chains.old.heads.items }
+    ensures err_points { OnErr result (points_of chains.new.table.items ≡ points_of chains.old.table.items) }
+    ensures err_kept { OnErr result (IsKept chains.new.table.items chains.new.heads.items live) }
+    ensures err_vacant { OnErr result (vacant.new.items ≡ vacant.old.items) }
+    ensures err_filled { OnErr result (IsFilled (length chains.new.table.items) live (vec_len vacant.new) (vec_capacity vacant.new)) }
 {
-    EndId::new(r.number() + r.number() + 1)
+    if let Some(slot) = vacant.pop() {
+        chains.put_first(slot.start(), start);
+        chains.put_first(slot.end(), end);
+        return Ok(slot);
+    }
+    vacant.reserve(live as usize + 1)?;
+    let slot = RangeSlot::new((chains.count() / 2) as u32);
+    chains.add(start, end)?;
+    Ok(slot)
 }
 
 impl Ranges {
@@ -56,6 +90,8 @@ impl Ranges {
     {
         Ranges {
             chains: Chains::new(alloc),
+            slots: Vec::new(alloc),
+            vacant: Vec::new(alloc),
             live: 0,
         }
     }
@@ -68,7 +104,7 @@ impl Ranges {
         self.chains.cover(made)
     }
 
-    /// Makes a live range. There is no memory for more than 2,147,483,648.
+    /// Makes a live range. There is no memory for more than 2,147,483,648 at once.
     pub fn make<X: Body>(
         &mut self,
         tree: &Tree<X>,
@@ -84,8 +120,10 @@ impl Ranges {
         ensures unchanged { OnErr result (self.new ≡ self.old) }
     {
         let _ = tree;
-        let r = RangeId::new((self.chains.count() / 2) as u32);
-        self.chains.add(start, end)?;
+        self.slots.reserve(1)?;
+        let slot = settle(&mut self.chains, &mut self.vacant, self.live, start, end)?;
+        let r = RangeId::new(self.slots.len() as u32);
+        self.slots.push_reserved(Some(slot));
         self.live += 1;
         Ok(r)
     }
@@ -94,15 +132,14 @@ impl Ranges {
     pub fn made(&self) -> u64
         ensures { result ≡ length self.now.ranges }
     {
-        (self.chains.count() / 2) as u64
+        self.slots.len() as u64
     }
 
     /// Whether there is such a range, and it was not released.
     pub fn holds(&self, r: RangeId) -> bool
         ensures { result ≡ is_some (range_in self.now r) }
     {
-        let index = r.number() as usize;
-        index < self.chains.count() / 2 && self.chains.is_live(start_of(r))
+        slot_of(&self.slots, r).is_some()
     }
 
     /// Where a range starts, and where it ends.
@@ -112,8 +149,9 @@ impl Ranges {
         ensures start_covered { result.0.node < self.now.covered }
         ensures end_covered { result.1.node < self.now.covered }
     {
-        let start = self.chains.point(start_of(r));
-        let end = self.chains.point(end_of(r));
+        let slot = slot_of(&self.slots, r).unwrap();
+        let start = self.chains.point(slot.start());
+        let end = self.chains.point(slot.end());
         (start, end)
     }
 
@@ -122,8 +160,11 @@ impl Ranges {
         requires { IsSome (range_in self.old r) }
         ensures { self.new ≡ record self.old { ranges = slice_set self.old.ranges r None } }
     {
-        self.chains.take_out(start_of(r));
-        self.chains.take_out(end_of(r));
+        let slot = slot_of(&self.slots, r).unwrap();
+        self.chains.take_out(slot.start());
+        self.chains.take_out(slot.end());
+        self.slots[r.number() as usize] = None;
+        self.vacant.push_reserved(slot);
         self.live -= 1;
     }
 
@@ -134,8 +175,9 @@ impl Ranges {
         requires end_covered { end.node < self.old.covered }
         ensures { self.new ≡ record self.old { ranges = slice_set self.old.ranges r (Some (record { start = start; end = end })) } }
     {
-        self.chains.place(start_of(r), start);
-        self.chains.place(end_of(r), end);
+        let slot = slot_of(&self.slots, r).unwrap();
+        self.chains.place(slot.start(), start);
+        self.chains.place(slot.end(), end);
     }
 
     /// Whether an end of a live range stands in a node.

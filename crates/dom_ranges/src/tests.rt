@@ -240,6 +240,54 @@ fn made_and_released(rt: HostRuntime) -> Result<(), Fail> {
     Ok(())
 }
 
+// A range is made and released over and over, beside one that stays. Each has the next number and ends of its own, and the table of ends
+// does not grow.
+#[test]
+fn made_again_and_again(rt: HostRuntime) -> Result<(), Fail> {
+    let tree = with_texts(&rt, rt.alloc())?;
+    let (root, t) = (NodeId::new(0), NodeId::new(3));
+    let mut ranges = Ranges::new(rt.alloc());
+    let stays = ranged(&rt, &mut ranges, &tree, at(root, 1), at(root, 2))?;
+    for n in 0..200_u32 {
+        let offset = n as usize % 10;
+        let r = ranged(&rt, &mut ranges, &tree, at(t, offset), at(t, 10))?;
+        assert_eq!(rt; r.number(), n + 1);
+        lies(&rt, &ranges, r, at(t, offset), at(t, 10));
+        lies(&rt, &ranges, stays, at(root, 1), at(root, 2));
+        assert!(rt; ranges.holds(r));
+        ranges.release(r);
+        assert!(rt; !ranges.holds(r));
+        assert!(rt; !ranges.stands_in(t));
+    }
+    assert_eq!(rt; ranges.made(), 201);
+    assert_eq!(rt; ranges.chains.count(), 4);
+    Ok(())
+}
+
+// Two ranges that were released, the first before the second: the next two take their slots, and a third gets a new one.
+#[test]
+fn made_in_released_slots(rt: HostRuntime) -> Result<(), Fail> {
+    let tree = with_texts(&rt, rt.alloc())?;
+    let (root, t, u) = (NodeId::new(0), NodeId::new(3), NodeId::new(4));
+    let mut ranges = Ranges::new(rt.alloc());
+    let a = ranged(&rt, &mut ranges, &tree, at(root, 1), at(root, 2))?;
+    let b = ranged(&rt, &mut ranges, &tree, at(t, 1), at(t, 2))?;
+    assert!(rt; ranges.holds(a));
+    ranges.release(a);
+    assert!(rt; ranges.holds(b));
+    ranges.release(b);
+    let c = ranged(&rt, &mut ranges, &tree, at(t, 3), at(t, 4))?;
+    let d = ranged(&rt, &mut ranges, &tree, at(u, 5), at(u, 6))?;
+    let e = ranged(&rt, &mut ranges, &tree, at(t, 7), at(u, 0))?;
+    assert!(rt; !ranges.holds(a));
+    assert!(rt; !ranges.holds(b));
+    lies(&rt, &ranges, c, at(t, 3), at(t, 4));
+    lies(&rt, &ranges, d, at(u, 5), at(u, 6));
+    lies(&rt, &ranges, e, at(t, 7), at(u, 0));
+    assert_eq!(rt; ranges.chains.count(), 6);
+    Ok(())
+}
+
 // The same; a leaves, and what was inside it goes to where it stood.
 #[test]
 fn removed(rt: HostRuntime) -> Result<(), Fail> {

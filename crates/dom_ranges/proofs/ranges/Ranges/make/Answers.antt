@@ -1,17 +1,11 @@
-use Rattle.std.proofs.Common.{ap, arith, length}
-use Rattle.dom_ranges.proofs.Pairs.{ranges-are}
-use Rattle.dom_ranges.proofs.Making.{half, live-small, IsKept-added, view-added}
+use Rattle.std.proofs.Common.{[], ◌∷◌, ◌++◌, Some, ap, ◌∙◌}
+use Rattle.dom_ranges.proofs.Making.{made-order, made-view}
 use Rattle.dom_ranges.proofs.ranges.Ranges.make.Goals as goal
-
-pub overflow_add-self : goal.overflow_add-self
-overflow_add-self g c = omega (arith, live-small _ _ _ c.self.invariant)
 
 pub invariant_of-self-2 : goal.invariant_of-self-2
 invariant_of-self-2 g c =
-    IsKept-added _ _ _ c.self.invariant _ _ c.args.start c.args.end c.in_ok-add.ensures.added c.add.ensures.chains c.in_ok-add.ensures.small
-
-pub returns-clause-number : goal.returns-clause-number
-returns-clause-number g c = omega (arith, half _ _ _ c.self.invariant, ap length (ranges-are _ _ _ c.self.invariant _ c.self.view_is), c.count.ensures, c.new-r.ensures)
+    made-order _ _ _ _ _ _ _ c.self.invariant _ c.self.view_is _ _ _ _ _ c.in_ok-slot.ensures.settled _ (c.push_reserved.ensures.items ∙ ap (λ xs. xs ++ Some c.in_ok-slot.slot ∷ []) c.reserve.ensures.items) _ _ _ c.in_ok-slot.ensures.kept c.in_ok-slot.ensures.filled
 
 pub returns-clause-made : goal.returns-clause-made
-returns-clause-made g c = view-added _ _ _ c.self.invariant _ c.self.view_is _ _ c.args.start c.args.end c.in_ok-add.ensures.added c.add.ensures.covered
+returns-clause-made g c =
+    made-view _ _ _ _ _ _ _ c.self.invariant _ c.self.view_is _ _ _ _ _ c.in_ok-slot.ensures.settled _ (c.push_reserved.ensures.items ∙ ap (λ xs. xs ++ Some c.in_ok-slot.slot ∷ []) c.reserve.ensures.items) c.settle.ensures.covered

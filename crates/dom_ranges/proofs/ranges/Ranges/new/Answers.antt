@@ -1,5 +1,6 @@
-use Rattle.dom_ranges.proofs.Making.{IsKept-empty}
+use Rattle.std.proofs.Common.{arith}
+use Rattle.dom_ranges.proofs.Making.{IsInOrder-empty}
 use Rattle.dom_ranges.proofs.ranges.Ranges.new.Goals as goal
 
 pub invariant_of-result : goal.invariant_of-result
-invariant_of-result c = IsKept-empty _ _ c.new.ensures.table c.new.ensures.heads
+invariant_of-result c = IsInOrder-empty _ _ _ _ _ _ c.new.ensures.table c.new.ensures.heads c.new-2.ensures.items c.new-3.ensures.items c.new-3.ensures.len

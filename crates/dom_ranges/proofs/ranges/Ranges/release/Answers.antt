@@ -1,35 +1,55 @@
-use Rattle.std.proofs.Common.{refl, ◌∙◌, arith}
+use Rattle.std.proofs.Common.{None, set, refl, ap, ◌∙◌, arith}
 use Rattle.dom_ranges.specs.Chained.{unchained}
 use Rattle.dom_ranges.proofs.Steps.{has-after}
-use Rattle.dom_ranges.proofs.Pairs.{id-small, first-live, second-kept}
+use Rattle.dom_ranges.proofs.Slots.{slot-read}
+use Rattle.dom_ranges.proofs.Pairs.{slot-small, first-live, second-kept}
 use Rattle.dom_ranges.proofs.Making.{fewer, kept-released, view-released}
 use Rattle.dom_ranges.proofs.ranges.Ranges.release.Goals as goal
 
-pub start_of-requires : goal.start_of-requires
-start_of-requires c = id-small _ _ _ c.self.invariant _ c.self.view_is _ c.requires
+pub start-requires : goal.start-requires
+start-requires c =
+    let slot = slot-read _ _ _ _ _ c.deref.ensures.value c.slot_of.ensures c.unwrap-slot.ensures in
+    slot-small _ _ _ _ _ _ _ c.self.invariant _ c.self.view_is _ _ slot
 
 pub take_out-requires-clause-live : goal.take_out-requires-clause-live
-take_out-requires-clause-live c = first-live _ _ _ c.self.invariant _ c.self.view_is _ c.requires _ _ c.start_of.ensures refl
+take_out-requires-clause-live c =
+    let slot = slot-read _ _ _ _ _ c.deref.ensures.value c.slot_of.ensures c.unwrap-slot.ensures in
+    first-live _ _ _ _ _ _ _ c.self.invariant _ c.self.view_is _ _ slot _ _ c.start.ensures refl
 
 pub take_out-requires-2-clause-live : goal.take_out-requires-2-clause-live
-take_out-requires-2-clause-live c = second-kept _ _ _ c.self.invariant _ c.self.view_is _ c.requires _ _ c.start_of.ensures c.end_of.ensures _ _ c.take_out.ensures.points
+take_out-requires-2-clause-live c =
+    let slot = slot-read _ _ _ _ _ c.deref.ensures.value c.slot_of.ensures c.unwrap-slot.ensures in
+    second-kept _ _ _ _ _ _ _ c.self.invariant _ c.self.view_is _ _ slot _ _ c.start.ensures c.end.ensures _ _ c.take_out.ensures.points
+
+pub push_reserved-requires : goal.push_reserved-requires
+push_reserved-requires c =
+    let slot = slot-read _ _ _ _ _ c.deref.ensures.value c.slot_of.ensures c.unwrap-slot.ensures in
+    let a = has-after (unchained c.start.result) _ _ _ _ c.self.invariant.ends.chains c.take_out.ensures.chains in
+    let b = has-after (unchained c.end.result) _ _ _ _ a c.take_out-2.ensures.chains in
+    let l = fewer _ _ _ _ _ _ _ c.self.invariant _ c.self.view_is _ _ _ _ slot c.start.ensures c.end.ensures _ _ _ b c.take_out.ensures.points c.take_out-2.ensures.points in
+    omega (arith, l, c.self.invariant.filled.listed)
 
 pub overflow_sub-self : goal.overflow_sub-self
 overflow_sub-self c =
-    let a = has-after (unchained c.start_of.result) _ _ _ _ c.self.invariant.chains c.take_out.ensures.chains in
-    let b = has-after (unchained c.end_of.result) _ _ _ _ a c.take_out-2.ensures.chains in
-    let l = fewer _ _ _ c.self.invariant _ c.self.view_is _ _ _ c.requires c.start_of.ensures c.end_of.ensures _ _ _ b c.take_out.ensures.points c.take_out-2.ensures.points in
+    let slot = slot-read _ _ _ _ _ c.deref.ensures.value c.slot_of.ensures c.unwrap-slot.ensures in
+    let a = has-after (unchained c.start.result) _ _ _ _ c.self.invariant.ends.chains c.take_out.ensures.chains in
+    let b = has-after (unchained c.end.result) _ _ _ _ a c.take_out-2.ensures.chains in
+    let l = fewer _ _ _ _ _ _ _ c.self.invariant _ c.self.view_is _ _ _ _ slot c.start.ensures c.end.ensures _ _ _ b c.take_out.ensures.points c.take_out-2.ensures.points in
     omega (arith, l)
 
 pub invariant_of-self : goal.invariant_of-self
 invariant_of-self c =
-    let a = has-after (unchained c.start_of.result) _ _ _ _ c.self.invariant.chains c.take_out.ensures.chains in
-    let b = has-after (unchained c.end_of.result) _ _ _ _ a c.take_out-2.ensures.chains in
-    let l = fewer _ _ _ c.self.invariant _ c.self.view_is _ _ _ c.requires c.start_of.ensures c.end_of.ensures _ _ _ b c.take_out.ensures.points c.take_out-2.ensures.points in
-    kept-released _ _ _ c.self.invariant _ c.self.view_is _ _ _ c.requires c.start_of.ensures c.end_of.ensures _ _ _ b c.take_out.ensures.points c.take_out-2.ensures.points _ (omega (arith, l))
+    let slot = slot-read _ _ _ _ _ c.deref.ensures.value c.slot_of.ensures c.unwrap-slot.ensures in
+    let a = has-after (unchained c.start.result) _ _ _ _ c.self.invariant.ends.chains c.take_out.ensures.chains in
+    let b = has-after (unchained c.end.result) _ _ _ _ a c.take_out-2.ensures.chains in
+    let l = fewer _ _ _ _ _ _ _ c.self.invariant _ c.self.view_is _ _ _ _ slot c.start.ensures c.end.ensures _ _ _ b c.take_out.ensures.points c.take_out-2.ensures.points in
+    kept-released _ _ _ _ _ _ _ c.self.invariant _ c.self.view_is _ _ _ _ slot c.start.ensures c.end.ensures _ _ _ b c.take_out.ensures.points c.take_out-2.ensures.points _ _ _ _ _
+    (ap (λ n. set c.self.inside.slots.items n None) c.number.ensures) c.push_reserved.ensures.items (omega (arith, l)) c.push_reserved.ensures.len c.push_reserved.ensures.capacity
 
 pub returns : goal.returns
 returns c =
-    let a = has-after (unchained c.start_of.result) _ _ _ _ c.self.invariant.chains c.take_out.ensures.chains in
-    let b = has-after (unchained c.end_of.result) _ _ _ _ a c.take_out-2.ensures.chains in
-    view-released _ _ _ c.self.invariant _ c.self.view_is _ _ _ c.requires c.start_of.ensures c.end_of.ensures _ _ _ b (c.take_out-2.ensures.covered ∙ c.take_out.ensures.covered) c.take_out.ensures.points c.take_out-2.ensures.points
+    let slot = slot-read _ _ _ _ _ c.deref.ensures.value c.slot_of.ensures c.unwrap-slot.ensures in
+    let a = has-after (unchained c.start.result) _ _ _ _ c.self.invariant.ends.chains c.take_out.ensures.chains in
+    let b = has-after (unchained c.end.result) _ _ _ _ a c.take_out-2.ensures.chains in
+    view-released _ _ _ _ _ _ _ c.self.invariant _ c.self.view_is _ _ _ _ slot c.start.ensures c.end.ensures _ _ _ b (c.take_out-2.ensures.covered ∙ c.take_out.ensures.covered) c.take_out.ensures.points c.take_out-2.ensures.points
+    _ (ap (λ n. set c.self.inside.slots.items n None) c.number.ensures)
