@@ -217,6 +217,26 @@ module _ {X : Type 0} (g : Grove X) (s : IsForest g) (top : ℕ) where
   pub gathered-end : (start v w : RangeTable) (to : Point) (here : ℕ) → IsGathered start v to here → after here (inclusive_descendants g.forest top) ≡ None → w ≡ record v { ranges = map_ranges (on_node here (λ _. to)) v.ranges } → w ≡ record start { ranges = map_ranges (moved_in (inclusive_descendants g.forest top) to) start.ranges }
   gathered-end start v w to here c e h = gathered-on start v w to here [] c (rest-end here c.at e) h
 
+  -- the rest is gathered at once
+  out-rest : (rest : List ℕ) (to p : Point) → moved_in (inclusive_descendants g.forest top) to (moved_out rest to p) ≡ moved_in (inclusive_descendants g.forest top) to p
+  out-rest rest to p =
+      ⊎_elim (λ (a : among p.node rest ≡ true). rw a refl)
+      (λ (a : among p.node rest ≡ false).
+      ⊎_elim (λ (b : among p.node (inclusive_descendants g.forest top) ≡ true). rw (a, b) (either (among to.node (inclusive_descendants g.forest top))))
+      (λ (b : among p.node (inclusive_descendants g.forest top) ≡ false). rw (a, b) (rw b refl)) (cases_Bool (among p.node (inclusive_descendants g.forest top)))) (cases_Bool (among p.node rest))
+    where
+      either : (v : Bool) → (if v then to else to) ≡ to
+      either true = refl
+      either false = refl
+
+  pub gathered-rest : (start v w : RangeTable) (to : Point) (here : ℕ) → IsGathered start v to here → w ≡ record v { ranges = map_ranges (moved_in (inclusive_descendants g.forest top) to) v.ranges }
+      → w ≡ record start { ranges = map_ranges (moved_in (inclusive_descendants g.forest top) to) start.ranges }
+  gathered-rest start v w to here c h =
+      let rest = from_first here (inclusive_descendants g.forest top) in
+      h ∙ ap (λ (x : RangeTable). record x { ranges = map_ranges (moved_in (inclusive_descendants g.forest top) to) x.ranges }) c.moved
+      ∙ ap (λ rs. record start { ranges = rs })
+      (ranges-twice (moved_out rest to) (moved_in (inclusive_descendants g.forest top) to) (moved_in (inclusive_descendants g.forest top) to) (out-rest rest to) start.ranges)
+
 -- the node leaves, where no end stands inside it
 pub removal-splice : (parent index : ℕ) (p : Point) → after_splice parent index 1 0 p ≡ (if (p.node == parent) && nat_lt index p.offset then record p { offset = p.offset - 1 } else p)
 removal-splice parent index p =

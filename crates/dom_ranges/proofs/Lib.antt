@@ -1,10 +1,11 @@
-pub mod Moving
 pub mod Chained
 pub mod Ends
+pub mod EndsAsked
 pub mod Inside
 pub mod Making
 pub mod Marking
 pub mod MarkingJoined
+pub mod Moving
 pub mod Pairs
 pub mod Slots
 pub mod Steps

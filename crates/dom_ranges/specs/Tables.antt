@@ -1,5 +1,5 @@
 -- The table of live ranges, and what it is to be in order. DOM Standard, "Live ranges".
-use Rattle.std.specs.Prelude.{◌≡◌, ℕ, ◌+◌, ◌^◌, ◌<◌, ◌≤◌, false, if◌then◌else◌, List, [], ◌∷◌, length, map, slice_index_or, Option, Some, None, IfSome, IsSome, is_some, Result, Ok, Err}
+use Rattle.std.specs.Prelude.{◌≡◌, ℕ, ◌+◌, ◌^◌, ◌<◌, ◌≤◌, Bool, false, if◌then◌else◌, List, [], ◌∷◌, length, map, slice_index_or, Option, Some, None, IfSome, IsSome, is_some, Result, Ok, Err}
 use Rattle.std.specs.List.{All, flat_map}
 use Rattle.std.specs.declared.cmp.Ordering.TheVariants.{Greater}
 use Rattle.dom_model.specs.declared.Kind.TheVariants.{DocumentType}
@@ -40,6 +40,17 @@ OffsetsFit move ranges = All (λ (r : Option Range). IfSome r (FitsMoved move)) 
 abbrev pub refused : Option DomError → Result (Unit {0}) DomError
 refused None = Ok tt
 refused (Some e) = Err e
+
+-- the nodes in which points stand
+abbrev pub nodes_at : List (Option Point) → List ℕ
+nodes_at [] = []
+nodes_at (None ∷ ps) = nodes_at ps
+nodes_at (Some p ∷ ps) = p.node ∷ nodes_at ps
+
+-- whether there is a point, and it stands in one of these nodes
+abbrev pub stands_among : List ℕ → Option Point → Bool
+stands_among inside None = false
+stands_among inside (Some p) = among p.node inside
 
 -- the points in any of these nodes go to one point
 abbrev pub moved_in : List ℕ → Point → Point → Point

@@ -100,7 +100,15 @@ impl Ranges {
         self.chains.shift(node, &Shift::Gather { to });
     }
 
-    // All ends inside a node go to one point.
+    // The same of all ends inside a node. It asks each end.
+    fn gather_ends<X>(&mut self, tree: &Tree<X>, top: NodeId, to: Point)
+        requires covered { to.node < self.old.covered }
+        ensures { self.new ≡ record self.old { ranges = map_ranges (moved_in (inclusive_descendants tree.now.forest top) to) self.old.ranges } }
+    {
+        self.chains.gather(tree, top, to);
+    }
+
+    // All ends inside a node go to one point. It walks the nodes inside, and where they are more than the ends it asks each end.
     fn gather<X>(&mut self, tree: &Tree<X>, top: NodeId, to: Point)
         requires held { HasNode tree.now.forest top }
         requires covered { to.node < self.old.covered }
@@ -109,13 +117,14 @@ impl Ranges {
     {
         tree.sound();
         let mut here = top;
-        loop {
+        for _step in 0..self.steps() {
             self.gather_at(here, to);
             match tree.next_inside(top, here) {
                 Some(next) => here = next,
                 None => return,
             }
         }
+        self.gather_ends(tree, top, to);
     }
 
     /// A node leaves its parent. It is called before the node is taken out.

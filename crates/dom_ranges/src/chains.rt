@@ -83,7 +83,7 @@ impl Chains {
     }
 
     // Where an end stands, and its neighbours.
-    fn end(&self, id: EndId) -> End
+    pub(crate) fn end(&self, id: EndId) -> End
         requires { id < length self.now.table.items }
         ensures { result ≡ end_at self.now.table.items id }
     {

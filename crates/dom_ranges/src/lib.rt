@@ -2,6 +2,7 @@
 #![tactic(auto)]
 
 mod adjusting;
+mod asking;
 mod chains;
 pub mod laws;
 mod numbers;

@@ -194,7 +194,14 @@ impl Ranges {
         self.live == 0
     }
 
+    // So many nodes are asked for the ends that stand in them, before each end is asked for its node instead.
+    pub(crate) fn steps(&self) -> usize {
+        self.chains.count() + 16
+    }
+
     /// Whether an end of a live range stands inside a node.
+    ///
+    /// It walks the nodes inside, and where they are more than the ends it asks each end.
     pub fn refers<X>(&self, tree: &Tree<X>, top: NodeId) -> bool
         requires { HasNode tree.now.forest top }
         ensures { result ≡ list_any (λ m. among m (inclusive_descendants tree.now.forest top)) (live_nodes self.now) }
@@ -204,7 +211,7 @@ impl Ranges {
             return false;
         }
         let mut here = top;
-        loop {
+        for _step in 0..self.steps() {
             if self.stands_in(here) {
                 return true;
             }
@@ -213,5 +220,6 @@ impl Ranges {
                 None => return false,
             }
         }
+        self.chains.refer(tree, top)
     }
 }

@@ -303,6 +303,38 @@ fn removed(rt: HostRuntime) -> Result<(), Fail> {
     Ok(())
 }
 
+// root [ a [ 99 children ] b ], where more nodes stand inside a than there are ends
+fn with_many(rt: &impl Abort, alloc: Global) -> Result<Tree<Units>, AllocError> {
+    let mut tree = Tree::new(alloc);
+    let root = made(rt, alloc, &mut tree)?;
+    let a = child(rt, alloc, &mut tree, root)?;
+    for _ in 0..99 {
+        let _ = child(rt, alloc, &mut tree, a)?;
+    }
+    let _ = child(rt, alloc, &mut tree, root)?;
+    Ok(tree)
+}
+
+// Of three ranges one stands in the last children of a, one from the first child to behind a, and one in b.
+#[test]
+fn removed_with_many_inside(rt: HostRuntime) -> Result<(), Fail> {
+    let tree = with_many(&rt, rt.alloc())?;
+    let (root, a, b) = (NodeId::new(0), NodeId::new(1), NodeId::new(101));
+    let (first, last) = (NodeId::new(2), NodeId::new(100));
+    let mut ranges = Ranges::new(rt.alloc());
+    let x = ranged(&rt, &mut ranges, &tree, at(NodeId::new(99), 0), at(last, 0))?;
+    assert!(rt; tree.holds(a));
+    assert!(rt; ranges.refers(&tree, a));
+    let y = ranged(&rt, &mut ranges, &tree, at(first, 0), at(root, 2))?;
+    let z = ranged(&rt, &mut ranges, &tree, at(b, 0), at(b, 0))?;
+    leaves(&rt, &mut ranges, &tree, a)?;
+    lies(&rt, &ranges, x, at(root, 0), at(root, 0));
+    lies(&rt, &ranges, y, at(root, 0), at(root, 1));
+    lies(&rt, &ranges, z, at(b, 0), at(b, 0));
+    assert!(rt; !ranges.refers(&tree, a));
+    Ok(())
+}
+
 // root [ a [ b ] t u ], with ten units in t and six in u
 fn with_texts(rt: &impl Abort, alloc: Global) -> Result<Tree<Units>, AllocError> {
     let mut tree = Tree::new(alloc);

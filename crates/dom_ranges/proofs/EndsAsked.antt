@@ -1,0 +1,88 @@
+-- Ends asked one by one whether they stand inside a node.
+use Rattle.std.proofs.Common.{◌≡◌, ℕ, zero, suc, ◌+◌, ◌<◌, ◌≤◌, true, false, Bool, cond, List, [], ◌∷◌, length, map, get_or, set, Option, Some, None, IsSome, is_some, option_map, refl, sym, ap, ◌∙◌, ⊎_elim, arith}
+use Rattle.std.specs.List.{list_any, flat_map}
+use Rattle.std.proofs.lemmas.Bool.{cases_eq, false≢true}
+use Rattle.std.proofs.lemmas.List.{ext_get_or, length-map}
+use Rattle.dom_model.specs.PlainLists.Lists.{among}
+use Rattle.dom_model.specs.Worlds.World.{Point}
+use Rattle.dom_model.specs.MutationAlgorithms.Discarding.{nodes_of_live}
+use Rattle.dom_ranges.specs.declared.chains.End.{End}
+use Rattle.dom_ranges.specs.Chained.{point_at, points_of, HasChains, Rechains, moved_first}
+use Rattle.dom_ranges.specs.Tables.{RangeTable, live_nodes, paired, IsPaired, by_slot, moved_in, nodes_at, stands_among, IsInOrder}
+use Rattle.dom_ranges.proofs.Steps.{points-at, points-length, same-length, point-written, point-kept, has-after}
+use Rattle.dom_ranges.proofs.Slots.{slots-any}
+use Rattle.dom_ranges.proofs.Pairs.{ranges-are}
+
+-- the nodes of the ends are those of the live ranges
+pub nodes-paired : (ps : List (Option Point)) → IsPaired ps → nodes_at ps ≡ flat_map nodes_of_live (paired ps)
+nodes-paired [] k = refl
+nodes-paired (s ∷ []) k = absurd k
+nodes-paired (None ∷ None ∷ rest) k = nodes-paired rest k.1
+nodes-paired (None ∷ Some q ∷ rest) k = absurd (false≢true k.0)
+nodes-paired (Some p ∷ None ∷ rest) k = absurd (false≢true (sym k.0))
+nodes-paired (Some p ∷ Some q ∷ rest) k = ap (λ ns. p.node ∷ q.node ∷ ns) (nodes-paired rest k.1)
+
+pub referred : (t : List End) (heads : List (Option ℕ)) (slots : List (Option ℕ)) (vacant : List ℕ) (live many room : ℕ) → IsInOrder t heads slots vacant live many room → (v : RangeTable)
+    → record { ranges = by_slot (paired (points_of t)) slots; covered = length heads } ≡ v → (p : ℕ → Bool) → list_any p (nodes_at (points_of t)) ≡ list_any p (live_nodes v)
+referred t heads slots vacant live many room k v view p =
+    ap (list_any p) (nodes-paired (points_of t) k.ends.pairs)
+    ∙ sym (slots-any p (paired (points_of t)) slots k.numbered)
+    ∙ ap (λ rs. list_any p (flat_map nodes_of_live rs)) (sym (ranges-are t heads slots vacant live many room k v view))
+
+-- an end that stands inside is moved, another stays
+pub moved-inside : (inside : List ℕ) (to : Point) (o : Option Point) → stands_among inside o ≡ true → Some to ≡ option_map (moved_in inside to) o
+moved-inside inside to None h = absurd (false≢true h)
+moved-inside inside to (Some p) h = rw h refl
+
+pub stays-outside : (inside : List ℕ) (to : Point) (o : Option Point) → stands_among inside o ≡ false → o ≡ option_map (moved_in inside to) o
+stays-outside inside to None h = refl
+stays-outside inside to (Some p) h = rw h refl
+
+-- how far the ends have been asked: those that were asked are moved, the others stand as they stood
+pub record AreAsked (move : Point → Point) (t0 : List End) (heads0 : List (Option ℕ)) (t : List End) (heads : List (Option ℕ)) (index : ℕ) : Type 0 where
+  pub chains : HasChains t heads
+  pub long : length t ≡ length t0
+  pub wide : length heads ≡ length heads0
+  pub asked : (e : ℕ) → e < index → point_at t e ≡ option_map move (point_at t0 e)
+  pub waits : (e : ℕ) → index ≤ e → point_at t e ≡ point_at t0 e
+
+module _ (move : Point → Point) (t0 : List End) (heads0 : List (Option ℕ)) (t : List End) (heads : List (Option ℕ)) (index : ℕ) (are : AreAsked move t0 heads0 t heads index) where
+  -- the next end stays
+  pub asked-stays : point_at t index ≡ option_map move (point_at t index) → AreAsked move t0 heads0 t heads (index + 1)
+  asked-stays h = record {
+    chains = are.chains;
+    long = are.long;
+    wide = are.wide;
+    asked = λ e l.
+        ⊎_elim (λ (q : e ≡ index). ap (point_at t) q ∙ h ∙ ap (option_map move) (are.waits index (omega arith)) ∙ ap (λ n. option_map move (point_at t0 n)) (sym q))
+        (λ (d : e ≡ index → ⊥). are.asked e (omega arith)) (cases_eq e index);
+    waits = λ e l. are.waits e (omega arith);
+  }
+
+  -- the next end is moved
+  pub asked-moves : (id : ℕ) (t' : List End) (heads' : List (Option ℕ)) (q : Point) → id ≡ index → index < length t → Some q ≡ option_map move (point_at t index) → points_of t' ≡ set (points_of t) id (Some q)
+      → Rechains (moved_first id q.node) t heads t' heads' → length heads' ≡ length heads → AreAsked move t0 heads0 t' heads' (index + 1)
+  asked-moves id t' heads' q same within h written rechained wide = record {
+    chains = has-after (moved_first id q.node) t heads t' heads' are.chains rechained;
+    long = same-length t t' id (Some q) written ∙ are.long;
+    wide = wide ∙ are.wide;
+    asked = λ e l.
+        ⊎_elim (λ (n : e ≡ id).
+        ap (point_at t') n ∙ point-written t t' id (Some q) (omega arith) written ∙ h ∙ ap (option_map move) (are.waits index (omega arith)) ∙ ap (λ n. option_map move (point_at t0 n)) (sym (n ∙ same)))
+        (λ (d : e ≡ id → ⊥). point-kept t t' id e (Some q) d written ∙ are.asked e (omega arith)) (cases_eq e id);
+    waits = λ e l. point-kept t t' id e (Some q) (λ n. omega arith) written ∙ are.waits e (omega arith);
+  }
+
+  pub all-asked : length t0 ≤ index → points_of t ≡ map (λ (o : Option Point). option_map move o) (points_of t0)
+  all-asked past =
+      ext_get_or None (points_of t) (map (λ (o : Option Point). option_map move o) (points_of t0))
+      (points-length t ∙ are.long ∙ sym (points-length t0) ∙ sym (length-map (points_of t0) (λ (o : Option Point). option_map move o)))
+      (λ e l. points-at t e ∙ are.asked e (omega (arith, points-length t, are.long)) ∙ ap (option_map move) (sym (points-at t0 e)) ∙ sym (mapped (points_of t0) e))
+    where
+      mapped : (ps : List (Option Point)) (e : ℕ) → get_or (map (λ (o : Option Point). option_map move o) ps) e None ≡ option_map move (get_or ps e None)
+      mapped [] e = refl
+      mapped (x ∷ xs) zero = refl
+      mapped (x ∷ xs) (suc e) = mapped xs e
+
+pub asked-none : (move : Point → Point) (t : List End) (heads : List (Option ℕ)) → HasChains t heads → AreAsked move t heads t heads 0
+asked-none move t heads has = record { chains = has; long = refl; wide = refl; asked = λ e l. absurd (omega arith); waits = λ e l. refl }

@@ -1,0 +1,25 @@
+-- Each step asks one end.
+use Rattle.std.proofs.Common.{◌≡◌, sym, ap, ◌∙◌, arith}
+use Rattle.dom_model.specs.Forests.Forest.{inclusive_descendants}
+use Rattle.dom_ranges.specs.declared.chains.End.{End}
+use Rattle.dom_ranges.specs.Chained.{end_at, point_at}
+use Rattle.dom_ranges.specs.Tables.{stands_among}
+use Rattle.dom_ranges.proofs.EndsAsked.{moved-inside, stays-outside, asked-stays, asked-moves, all-asked}
+use Rattle.dom_ranges.proofs.chains.Chains.gather.Goals as goal
+use Rattle.dom_ranges.proofs.chains.Chains.gather.Goals.{then-stands_inside, else-stands_inside}
+
+pub loop-index-preserved : goal.loop-index-preserved
+loop-index-preserved g c =
+    let inside = inclusive_descendants c.args.tree.now.forest c.args.top in
+    let told : stands_among inside (point_at c.loop-index.self.table.items c.loop-index.index) ≡ c.stands_inside.result =
+    sym (c.stands_inside.ensures ∙ ap (λ (x : End). stands_among inside x.point) (c.end.ensures ∙ ap (end_at c.loop-index.self.table.items) c.new-id.ensures)) in
+    elim c.if-stands_inside.branch [
+      | then-stands_inside w ↦
+          rw w.self-is
+          (asked-moves _ _ _ _ _ _ c.loop-index.invariant _ _ _ c.args.to c.new-id.ensures (omega (arith, c.loop-index-test.true, c.count-index-end.ensures, c.loop-index.invariant.long))
+          (moved-inside inside c.args.to _ (told ∙ w.if-stands_inside.true)) w.place.ensures.points w.place.ensures.chains w.place.ensures.covered)
+      | else-stands_inside w ↦ rw w.self-is (asked-stays _ _ _ _ _ _ c.loop-index.invariant (stays-outside inside c.args.to _ (told ∙ w.if-stands_inside.false)))
+    ]
+
+pub returns-clause-points : goal.returns-clause-points
+returns-clause-points g c = all-asked _ _ _ _ _ _ c.loop-index.invariant (omega (arith, c.loop-index-test.false, c.count-index-end.ensures))
