@@ -1,9 +1,8 @@
 -- Ends asked one by one whether they stand inside a node.
-use Rattle.std.proofs.Common.{◌≡◌, ℕ, zero, suc, ◌+◌, ◌<◌, ◌≤◌, true, false, Bool, cond, List, [], ◌∷◌, length, map, get_or, set, Option, Some, None, IsSome, is_some, option_map, refl, sym, ap, ◌∙◌, ⊎_elim, arith}
+use Rattle.std.proofs.Common.{◌≡◌, ℕ, zero, suc, ◌+◌, ◌<◌, ◌≤◌, true, false, Bool, List, [], ◌∷◌, length, map, get_or, set, Option, Some, None, option_map, refl, sym, ap, ◌∙◌, ⊎_elim, arith}
 use Rattle.std.specs.List.{list_any, flat_map}
 use Rattle.std.proofs.lemmas.Bool.{cases_eq, false≢true}
 use Rattle.std.proofs.lemmas.List.{ext_get_or, length-map}
-use Rattle.dom_model.specs.PlainLists.Lists.{among}
 use Rattle.dom_model.specs.Worlds.World.{Point}
 use Rattle.dom_model.specs.MutationAlgorithms.Discarding.{nodes_of_live}
 use Rattle.dom_ranges.specs.declared.chains.End.{End}
@@ -83,6 +82,3 @@ module _ (move : Point → Point) (t0 : List End) (heads0 : List (Option ℕ)) (
       mapped [] e = refl
       mapped (x ∷ xs) zero = refl
       mapped (x ∷ xs) (suc e) = mapped xs e
-
-pub asked-none : (move : Point → Point) (t : List End) (heads : List (Option ℕ)) → HasChains t heads → AreAsked move t heads t heads 0
-asked-none move t heads has = record { chains = has; long = refl; wide = refl; asked = λ e l. absurd (omega arith); waits = λ e l. refl }

@@ -11,7 +11,7 @@ use Rattle.dom_ranges.specs.Tables.{RangeTable, live_nodes, both, paired, IsPair
 use Rattle.dom_ranges.proofs.Chained.{has-head, head-there}
 use Rattle.dom_ranges.proofs.Steps.{points-at, points-length, same-length, point-kept}
 use Rattle.dom_ranges.proofs.Slots.{slots-none, vacant-none, slots-added, ranges-added, slots-written, vacant-written, ranges-written, slots-released, vacant-released, ranges-released, last-there, last-empty, last-settled, slots-any, idle-slots}
-use Rattle.dom_ranges.proofs.Pairs.{paired-length, paired-append, IsPaired-append, live-append, live-few, live-filled, written-ranges, written-paired, written-live, both-held, ranges-are, covered-is, empty-ends}
+use Rattle.dom_ranges.proofs.Pairs.{paired-length, paired-append, IsPaired-append, live-append, live-filled, written-ranges, written-paired, written-live, both-held, ranges-are, covered-is, empty-ends}
 
 pub IsKept-empty : (t : List End) (heads : List (Option ℕ)) → t ≡ [] → heads ≡ [] → IsKept t heads 0
 IsKept-empty t heads a b = rw (a, b) (record { chains = record { chain = λ n. []; chained = record { first = λ n. refl; counted = λ e n. refl; next = λ e n h. absurd (omega arith); prev = λ e n h. absurd (omega arith) } }; pairs = tt; alive = refl; small = omega arith })
@@ -19,9 +19,6 @@ IsKept-empty t heads a b = rw (a, b) (record { chains = record { chain = λ n. [
 module _ (t : List End) (heads : List (Option ℕ)) (live : ℕ) (k : IsKept t heads live) where
   pub half : length t / 2 ≡ length (paired (points_of t))
   half = omega (arith, paired-length (points_of t) k.pairs, points-length t)
-
-  pub live-small : live + 1 < 2 ^ 64
-  live-small = omega (arith, k.alive, live-few (paired (points_of t)), paired-length (points_of t) k.pairs, points-length t, k.small)
 
   -- a range made of two new ends
   pub IsKept-added : (t' : List End) (heads' : List (Option ℕ)) (s e : Point) → points_of t' ≡ points_of t ++ Some s ∷ Some e ∷ [] → HasChains t' heads' → length t' ≤ 2 ^ 32 → IsKept t' heads' (live + 1)

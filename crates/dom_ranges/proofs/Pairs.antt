@@ -76,11 +76,6 @@ paired-length (s ∷ []) k = absurd k
 paired-length (s ∷ e ∷ rest) k = omega (arith, paired-length rest k.1)
 
 -- the count of live ranges
-pub live-few : (rs : List (Option Range)) → live_count rs ≤ length rs
-live-few [] = omega arith
-live-few (None ∷ rs) = omega (arith, live-few rs)
-live-few (Some r ∷ rs) = omega (arith, live-few rs)
-
 pub live-set : (rs : List (Option Range)) (r : ℕ) (x : Option Range) → IsSome (get_or rs r None) → suc (live_count (set rs r x)) ≡ (if is_some x then 1 else 0) + live_count rs
 live-set [] r x h = absurd (false≢true h)
 live-set (None ∷ rs) zero x h = absurd (false≢true h)
@@ -160,7 +155,7 @@ empty-ends t r k h =
     same : is_some (point_at t (r + r)) ≡ is_some (point_at t (r + r + 1))
     same = ap is_some (sym (at (twice r) (r + r) (twice-is r))) ∙ paired-pair (points_of t) r k ∙ ap is_some (at (suc (twice r)) (r + r + 1) (omega (arith, twice-is r)))
 
--- a number whose range is live has a slot
+-- the ranges by number
 module _ (t : List End) (heads : List (Option ℕ)) (slots : List (Option ℕ)) (vacant : List ℕ) (live many room : ℕ) (k : IsInOrder t heads slots vacant live many room) (v : RangeTable) (view : record { ranges = by_slot (paired (points_of t)) slots; covered = length heads } ≡ v) where
   pub ranges-are : v.ranges ≡ by_slot (paired (points_of t)) slots
   ranges-are = sym (ap (λ (x : RangeTable). x.ranges) view)
@@ -170,20 +165,6 @@ module _ (t : List End) (heads : List (Option ℕ)) (slots : List (Option ℕ)) 
 
   range-in : (r : ℕ) → range_in v r ≡ in_slot (paired (points_of t)) (slot_at slots r)
   range-in r = ap (λ rs. get_or rs r None) ranges-are ∙ by_slot-at (paired (points_of t)) slots r
-
-  pub has-slot : (r : ℕ) → IsSome (range_in v r) → IsSome (slot_at slots r)
-  has-slot r h = go (slot_at slots r) (subst (λ (o : Option Range). IsSome o) (range-in r) h)
-    where
-      go : (o : Option ℕ) → IsSome (in_slot (paired (points_of t)) o) → IsSome o
-      go None q = absurd (false≢true q)
-      go (Some s) q = refl
-
-  pub slot-tells : (r : ℕ) → is_some (slot_at slots r) ≡ is_some (range_in v r)
-  slot-tells r = go (slot_at slots r) refl ∙ ap is_some (sym (range-in r))
-    where
-      go : (o : Option ℕ) → slot_at slots r ≡ o → is_some (slot_at slots r) ≡ is_some (in_slot (paired (points_of t)) (slot_at slots r))
-      go None q = rw q refl
-      go (Some s) q = rw q (sym (k.numbered.full r s q))
 
   -- the slot and its ends
   module _ (r s : ℕ) (slot : slot_at slots r ≡ Some s) where

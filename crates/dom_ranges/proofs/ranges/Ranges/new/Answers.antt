@@ -1,4 +1,3 @@
-use Rattle.std.proofs.Common.{arith}
 use Rattle.dom_ranges.proofs.Making.{IsInOrder-empty}
 use Rattle.dom_ranges.proofs.ranges.Ranges.new.Goals as goal
 
