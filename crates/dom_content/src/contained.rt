@@ -5,42 +5,13 @@ ghost use Rattle.dom_model.specs.PlainLists.Lists.{after};
 ghost use Rattle.dom_model.specs.Forests.Forest.{HasNode, root_of, inclusive_descendants};
 ghost use Rattle.dom_model.specs.Forests.Lengths.{unit_count, node_length};
 ghost use Rattle.dom_model.specs.Worlds.Sound.{IsRange};
-ghost use Rattle.dom_model.specs.RangesAndContents.Ranges.{is_before as comes_before, is_contained as has_contained};
+ghost use Rattle.dom_model.specs.RangesAndContents.Ranges.{is_before};
 ghost use Rattle.dom_content.specs.Contained.{is_top as stands_on_top, if_top, last_passed, tops_in};
 
 use dom_edit::Content;
-use dom_point::{Point, order};
+use dom_point::Point;
 use dom_tree::{NodeId, Tree};
 use std::alloc::{AllocError, Global};
-use std::cmp::Ordering;
-
-// Whether the first of two points of one root comes before the second.
-pub(crate) fn is_before(tree: &Tree<Content>, a: Point, b: Point) -> bool
-    requires a_held { HasNode tree.now.forest a.node }
-    requires b_held { HasNode tree.now.forest b.node }
-    requires one_root { root_of tree.now.forest a.node ≡ root_of tree.now.forest b.node }
-    ensures { result ≡ comes_before tree.now.forest a b }
-{
-    match order(tree, a, b) {
-        Ordering::Less => true,
-        Ordering::Equal | Ordering::Greater => false,
-    }
-}
-
-// Whether a node is contained in a range of its root.
-pub(crate) fn is_contained(tree: &Tree<Content>, start: Point, end: Point, node: NodeId) -> bool
-    requires held { HasNode tree.now.forest node }
-    requires range { IsRange tree.now.forest (record { start = start; end = end }) }
-    requires one_root { root_of tree.now.forest node ≡ root_of tree.now.forest start.node }
-    ensures { result ≡ has_contained unit_count tree.now.forest (record { start = start; end = end }) node }
-{
-    let front = Point { node, offset: 0 };
-    let back = Point {
-        node,
-        offset: tree.length(node),
-    };
-    is_before(tree, start, front) && is_before(tree, back, end)
-}
 
 // Whether a node that comes between the ends of a range of its root is contained, and its parent is not. All that is not above the end is
 // contained; a node that is contained has a parent that is not where that is above an end.
@@ -48,8 +19,8 @@ fn is_top(tree: &Tree<Content>, start: Point, end: Point, node: NodeId) -> bool
     requires held { HasNode tree.now.forest node }
     requires range { IsRange tree.now.forest (record { start = start; end = end }) }
     requires one_root { root_of tree.now.forest node ≡ root_of tree.now.forest start.node }
-    requires behind { comes_before tree.now.forest start (record { node = node; offset = 0 }) ≡ true }
-    requires not_past { comes_before tree.now.forest end (record { node = node; offset = 0 }) ≡ false }
+    requires behind { is_before tree.now.forest start (record { node = node; offset = 0 }) ≡ true }
+    requires not_past { is_before tree.now.forest end (record { node = node; offset = 0 }) ≡ false }
     ensures { result ≡ stands_on_top tree.now.forest (record { start = start; end = end }) node }
 {
     tree.sound();
@@ -74,8 +45,8 @@ fn append_top(
     requires held { HasNode tree.now.forest node }
     requires range { IsRange tree.now.forest (record { start = start; end = end }) }
     requires one_root { root_of tree.now.forest node ≡ root_of tree.now.forest start.node }
-    requires behind { comes_before tree.now.forest start (record { node = node; offset = 0 }) ≡ true }
-    requires not_past { comes_before tree.now.forest end (record { node = node; offset = 0 }) ≡ false }
+    requires behind { is_before tree.now.forest start (record { node = node; offset = 0 }) ≡ true }
+    requires not_past { is_before tree.now.forest end (record { node = node; offset = 0 }) ≡ false }
     ensures tops { OnOk result (tops.new.items ≡ tops.old.items ++ if_top tree.now.forest (record { start = start; end = end }) node) }
     ensures last { IfOk result (λ last. last_passed tree.now.forest (record { start = start; end = end }) node ≡ Some last) }
 {
@@ -92,9 +63,9 @@ pub(crate) fn last_ahead(tree: &Tree<Content>, point: Point) -> NodeId
     requires held { HasNode tree.now.forest point.node }
     ensures held { HasNode tree.now.forest result }
     ensures one_root { root_of tree.now.forest result ≡ root_of tree.now.forest point.node }
-    ensures ahead { comes_before tree.now.forest point (record { node = result; offset = 0 }) ≡ false }
+    ensures ahead { is_before tree.now.forest point (record { node = result; offset = 0 }) ≡ false }
     ensures behind { (root next : ℕ) → root_of tree.now.forest point.node ≡ Some root → point.offset ≤ node_length unit_count tree.now.forest point.node →
-        after result (inclusive_descendants tree.now.forest root) ≡ Some next → comes_before tree.now.forest point (record { node = next; offset = 0 }) ≡ true }
+        after result (inclusive_descendants tree.now.forest root) ≡ Some next → is_before tree.now.forest point (record { node = next; offset = 0 }) ≡ true }
 {
     tree.sound();
     let Point { node, offset } = point;

@@ -1,11 +1,12 @@
 //! The text in a live range (DOM Standard, "Interface Range", stringification).
 
-ghost use Rattle.std.specs.Prelude.{◌≡◌, ◌-◌, ◌≤◌, ◌++◌, length, true, IfOk, OnOk, IfSome, IsSome};
+ghost use Rattle.std.specs.Prelude.{◌≡◌, ◌-◌, ◌≤◌, ◌++◌, length, true, false, IfOk, OnOk, IfSome, IsSome};
 ghost use Rattle.dom_model.specs.declared.Kind.TheVariants.{Text};
 ghost use Rattle.dom_model.specs.Forests.Forest.{HasNode, entry_in, root_of};
 ghost use Rattle.dom_model.specs.Worlds.World.{Range};
 ghost use Rattle.dom_model.specs.Worlds.Sound.{IsRange};
 ghost use Rattle.dom_model.specs.MutationAlgorithms.Checks.{is_of_kind};
+ghost use Rattle.dom_model.specs.RangesAndContents.Ranges.{is_before};
 ghost use Rattle.dom_model.specs.RangesAndContents.Contents.{range_text};
 ghost use Rattle.dom_model.specs.DataAndCopies.Data.{content_in};
 ghost use Rattle.dom_model.specs.TokenText.Tokens.{texts_of};
@@ -15,7 +16,7 @@ ghost use Rattle.dom_ranges.specs.Tables.{range_in};
 ghost use Rattle.dom_edit.specs.Whole.{IsWhole, unwatched};
 ghost use Rattle.dom_content.specs.Texts.{part_of, text_within, texts_within};
 
-use crate::contained::{is_before, is_contained, last_ahead};
+use crate::contained::last_ahead;
 use dom_edit::{Content, World};
 use dom_kinds::Kind;
 use dom_point::Point;
@@ -63,7 +64,8 @@ fn append_tail(tree: &Tree<Content>, from: Point, text: &mut Units) -> Result<()
     append_part(tree, node, offset, length, text)
 }
 
-// Puts the data of a node behind a text, where the node is a Text that is contained in a range of its root.
+// Puts the data of a node that comes between the ends of a range behind a text, where it is a Text that is contained. A Text has no children, so
+// that no other one than the end's node is above the end.
 fn append_contained(
     tree: &Tree<Content>,
     start: Point,
@@ -74,17 +76,19 @@ fn append_contained(
     requires held { HasNode tree.now.forest node }
     requires range { IsRange tree.now.forest (record { start = start; end = end }) }
     requires one_root { root_of tree.now.forest node ≡ root_of tree.now.forest start.node }
+    requires behind { is_before tree.now.forest start (record { node = node; offset = 0 }) ≡ true }
+    requires not_past { is_before tree.now.forest end (record { node = node; offset = 0 }) ≡ false }
     ensures { OnOk result (text.new ≡ text.old ++ text_within tree.now.forest (record { start = start; end = end }) node) }
 {
-    if !is_text(tree, node) || !is_contained(tree, start, end, node) {
+    tree.sound();
+    if node == end.node {
         return Ok(());
     }
-    let length = text.len();
-    text.splice(length, 0, tree.body(node).text.units())
+    append_tail(tree, Point { node, offset: 0 }, text)
 }
 
-// Puts the data of the Texts that are contained in a range behind a text. It walks from the start on, up to the first node that does not come
-// before the end.
+// Puts the data of the Texts that are contained in a range behind a text. It walks from the last node ahead of the start to the last ahead of the
+// end.
 fn append_between(
     tree: &Tree<Content>,
     start: Point,
@@ -96,15 +100,10 @@ fn append_between(
 {
     tree.sound();
     let root = tree.root(start.node);
+    let stop = last_ahead(tree, end);
     let mut here = last_ahead(tree, start);
-    while let Some(next) = tree.next_inside(root, here) {
-        let front = Point {
-            node: next,
-            offset: 0,
-        };
-        if !is_before(tree, front, end) {
-            return Ok(());
-        }
+    while here != stop {
+        let next = tree.next_inside(root, here).unwrap();
         append_contained(tree, start, end, next, text)?;
         here = next;
     }

@@ -3,11 +3,13 @@ use Rattle.std.proofs.Common.{ℕ, ◌==◌, List, [], sym, ap, ◌∙◌, subst
 use Rattle.std.proofs.lemmas.Bool.{not-true, not-false, eqb-true}
 use Rattle.dom_model.specs.Forests.Forest.{root_of, numbers}
 use Rattle.dom_model.specs.Worlds.World.{Point, Range}
+use Rattle.dom_content.specs.Contained.{if_top}
 use Rattle.dom_model.proofs.Forests.Changes.{seen, nothing, just}
 use Rattle.dom_content.proofs.AlongGaps.{walk-at}
-use Rattle.dom_content.proofs.WalkedTops.{IsAlong, last-ahead, apart-from, along-start, along-end, along-found, next, next-not_past, along-next}
+use Rattle.dom_content.proofs.WalkedParts.{IsAlong, last-ahead, apart-from, along-start, along-end, along-found, next, next-not_past}
+use Rattle.dom_content.proofs.WalkedTops.{along-top}
 use Rattle.dom_content.proofs.ContainedInside.{passed-fewer}
-use Rattle.dom_content.proofs.ContainedTops.{tops-filtered}
+use Rattle.dom_content.proofs.ContainedTops.{tops-contained, tops-filtered}
 use Rattle.dom_content.proofs.contained.contained_tops.Goals as goal
 
 pub loop-start-init : goal.loop-start-init
@@ -19,8 +21,8 @@ loop-start-init c =
     (sym c.requires.range.one_root ∙ rooted) c.requires.range.ends.within in
     let first = last-ahead g c.root-root.result c.args.start c.last_ahead-here.result c.last_ahead-here.ensures.held c.last_ahead-here.ensures.one_root c.last_ahead-here.ensures.ahead c.last_ahead-here.ensures.behind
     rooted c.requires.range.starts.within in
-    subst (λ (ns : List ℕ). IsAlong g r c.root-root.result c.last_ahead-stop.result c.last_ahead-here.result ns) (sym c.new-tops.ensures.items)
-    (along-start g c.sound.ensures r c.requires.range c.root-root.result rooted c.last_ahead-stop.result stop c.last_ahead-here.result first)
+    subst (λ (ns : List ℕ). IsAlong g r (if_top g.forest r) c.root-root.result c.last_ahead-stop.result [] c.last_ahead-here.result ns) (sym c.new-tops.ensures.items)
+    (along-start g c.sound.ensures r c.requires.range c.root-root.result rooted c.last_ahead-stop.result stop (if_top g.forest r) (tops-contained g r) c.last_ahead-here.result [] first)
 
 pub next_inside-requires-clause-held : goal.next_inside-requires-clause-held
 next_inside-requires-clause-held c = c.loop-start.invariant.told.there
@@ -40,7 +42,7 @@ unwrap-next-requires c =
     (sym c.requires.range.one_root ∙ rooted) c.requires.range.ends.within in
     let ne = apart-from c.loop-start.here c.last_ahead-stop.result (not-true (c.loop-start.here == c.last_ahead-stop.result) (sym c.ne.ensures ∙ c.loop-start-test.true)) in
     elim (seen c.next_inside.result) [
-      | nothing e ↦ absurd (along-found g c.sound.ensures r c.requires.range c.root-root.result rooted c.last_ahead-stop.result stop c.loop-start.here c.loop-start.tops.items t ne (sym c.next_inside.ensures ∙ e))
+      | nothing e ↦ absurd (along-found g c.sound.ensures r c.requires.range c.root-root.result rooted c.last_ahead-stop.result stop (if_top g.forest r) (tops-contained g r) [] c.loop-start.here c.loop-start.tops.items t ne (sym c.next_inside.ensures ∙ e))
       | just m e ↦ rw e refl
     ]
 
@@ -54,7 +56,7 @@ append_top-requires-clause-held c =
     (sym c.requires.range.one_root ∙ rooted) c.requires.range.ends.within in
     let ne = apart-from c.loop-start.here c.last_ahead-stop.result (not-true (c.loop-start.here == c.last_ahead-stop.result) (sym c.ne.ensures ∙ c.loop-start-test.true)) in
     let e = sym c.next_inside.ensures ∙ c.unwrap-next.ensures in
-    (next g c.sound.ensures r c.requires.range c.root-root.result rooted c.last_ahead-stop.result stop c.loop-start.here c.loop-start.tops.items t ne c.unwrap-next.result e).1
+    (next g c.sound.ensures r c.requires.range c.root-root.result rooted c.last_ahead-stop.result stop (if_top g.forest r) (tops-contained g r) [] c.loop-start.here c.loop-start.tops.items t ne c.unwrap-next.result e).1
 
 pub append_top-requires-clause-one_root : goal.append_top-requires-clause-one_root
 append_top-requires-clause-one_root c =
@@ -66,7 +68,7 @@ append_top-requires-clause-one_root c =
     (sym c.requires.range.one_root ∙ rooted) c.requires.range.ends.within in
     let ne = apart-from c.loop-start.here c.last_ahead-stop.result (not-true (c.loop-start.here == c.last_ahead-stop.result) (sym c.ne.ensures ∙ c.loop-start-test.true)) in
     let e = sym c.next_inside.ensures ∙ c.unwrap-next.ensures in
-    (next g c.sound.ensures r c.requires.range c.root-root.result rooted c.last_ahead-stop.result stop c.loop-start.here c.loop-start.tops.items t ne c.unwrap-next.result e).0 ∙ sym rooted
+    (next g c.sound.ensures r c.requires.range c.root-root.result rooted c.last_ahead-stop.result stop (if_top g.forest r) (tops-contained g r) [] c.loop-start.here c.loop-start.tops.items t ne c.unwrap-next.result e).0 ∙ sym rooted
 
 pub append_top-requires-clause-behind : goal.append_top-requires-clause-behind
 append_top-requires-clause-behind c = c.loop-start.invariant.behind c.unwrap-next.result (sym c.next_inside.ensures ∙ c.unwrap-next.ensures)
@@ -81,7 +83,7 @@ append_top-requires-clause-not_past c =
     (sym c.requires.range.one_root ∙ rooted) c.requires.range.ends.within in
     let ne = apart-from c.loop-start.here c.last_ahead-stop.result (not-true (c.loop-start.here == c.last_ahead-stop.result) (sym c.ne.ensures ∙ c.loop-start-test.true)) in
     let e = sym c.next_inside.ensures ∙ c.unwrap-next.ensures in
-    next-not_past g c.sound.ensures r c.requires.range c.root-root.result rooted c.last_ahead-stop.result stop c.loop-start.here c.loop-start.tops.items t ne c.unwrap-next.result e
+    next-not_past g c.sound.ensures r c.requires.range c.root-root.result rooted c.last_ahead-stop.result stop (if_top g.forest r) (tops-contained g r) [] c.loop-start.here c.loop-start.tops.items t ne c.unwrap-next.result e
 
 pub loop-start-smaller : goal.loop-start-smaller
 loop-start-smaller c =
@@ -102,7 +104,7 @@ loop-start-preserved c =
     (sym c.requires.range.one_root ∙ rooted) c.requires.range.ends.within in
     let ne = apart-from c.loop-start.here c.last_ahead-stop.result (not-true (c.loop-start.here == c.last_ahead-stop.result) (sym c.ne.ensures ∙ c.loop-start-test.true)) in
     let e = sym c.next_inside.ensures ∙ c.unwrap-next.ensures in
-    along-next g c.sound.ensures r c.requires.range c.root-root.result rooted c.last_ahead-stop.result stop c.loop-start.here c.loop-start.tops.items t ne c.unwrap-next.result e c.in_ok-here.here c.append_top.new.tops.items c.in_ok-here.ensures.tops c.in_ok-here.ensures.last
+    along-top g c.sound.ensures r c.requires.range c.root-root.result rooted c.last_ahead-stop.result stop c.loop-start.here c.loop-start.tops.items t ne c.unwrap-next.result e c.in_ok-here.here c.append_top.new.tops.items c.in_ok-here.ensures.tops c.in_ok-here.ensures.last
 
 pub returns : goal.returns
 returns c =
@@ -113,4 +115,4 @@ returns c =
     let stop = last-ahead g c.root-root.result c.args.end c.last_ahead-stop.result c.last_ahead-stop.ensures.held c.last_ahead-stop.ensures.one_root c.last_ahead-stop.ensures.ahead c.last_ahead-stop.ensures.behind
     (sym c.requires.range.one_root ∙ rooted) c.requires.range.ends.within in
     let same = eqb-true c.loop-start.here c.last_ahead-stop.result (not-false (c.loop-start.here == c.last_ahead-stop.result) (sym c.ne.ensures ∙ c.loop-start-test.false)) in
-    along-end g c.sound.ensures r c.requires.range c.root-root.result rooted c.last_ahead-stop.result stop c.loop-start.here c.loop-start.tops.items t same ∙ tops-filtered g.forest r (numbers g.forest)
+    along-end g c.sound.ensures r c.requires.range c.root-root.result rooted c.last_ahead-stop.result stop (if_top g.forest r) (tops-contained g r) [] c.loop-start.here c.loop-start.tops.items t same ∙ tops-filtered g.forest r (numbers g.forest)

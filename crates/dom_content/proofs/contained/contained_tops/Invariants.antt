@@ -1,12 +1,13 @@
 -- What was gathered up to the node that the walk has come to.
-use Rattle.std.proofs.Common.{length}
+use Rattle.std.proofs.Common.{[], length}
 use Rattle.dom_model.specs.Forests.Forest.{inclusive_descendants}
 use Rattle.dom_model.proofs.PlainLists.FromFirst.{from_first}
-use Rattle.dom_content.proofs.WalkedTops.{IsAlong}
+use Rattle.dom_content.specs.Contained.{if_top}
+use Rattle.dom_content.proofs.WalkedParts.{IsAlong}
 use Rattle.dom_content.proofs.contained.contained_tops.Given as goal
 
 abbrev pub invariant-loop-start : goal.invariant-loop-start
-invariant-loop-start l = IsAlong l.tree (record { start = l.start; end = l.end }) l.root l.stop l.here l.tops.items
+invariant-loop-start l = IsAlong l.tree (record { start = l.start; end = l.end }) (if_top l.tree.forest (record { start = l.start; end = l.end })) l.root l.stop [] l.here l.tops.items
 
 abbrev pub decreases-loop-start : goal.decreases-loop-start
 decreases-loop-start l = length (from_first l.here (inclusive_descendants l.tree.forest l.root))

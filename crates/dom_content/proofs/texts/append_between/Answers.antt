@@ -1,81 +1,110 @@
--- Each step tells one node, up to the first that does not come before the end.
-use Rattle.std.proofs.Common.{sym, ap, ◌∙◌}
+-- Each step tells one node, up to the last that is ahead of the end.
+use Rattle.std.proofs.Common.{◌==◌, sym, ap, ◌∙◌, refl}
+use Rattle.std.proofs.lemmas.Bool.{not-true, not-false, eqb-true}
 use Rattle.dom_model.specs.Forests.Forest.{root_of}
 use Rattle.dom_model.specs.Worlds.World.{Point, Range}
+use Rattle.dom_model.proofs.Forests.Changes.{seen, nothing, just}
 use Rattle.dom_ranges.proofs.Inside.{smaller}
 use Rattle.dom_content.specs.Texts.{text_within}
-use Rattle.dom_content.proofs.PartsBetween.{told-start, told-next, told-stop, told-end, next-of}
 use Rattle.dom_content.proofs.AlongGaps.{walk-at}
 use Rattle.dom_content.proofs.RangeTexts.{texts-contained}
+use Rattle.dom_content.proofs.WalkedParts.{last-ahead, apart-from, along-start, along-end, along-found, next, next-not_past, along-next}
 use Rattle.dom_content.proofs.texts.append_between.Goals as goal
 
-pub loop-next-init : goal.loop-next-init
-loop-next-init c =
+pub loop-start-init : goal.loop-start-init
+loop-start-init c =
     let g = c.args.tree.now in
     let r : Range = record { start = c.args.start; end = c.args.end } in
     let rooted = ap (λ (p : Point). root_of g.forest p.node) (sym c.start.view_is) ∙ sym c.root-root.ensures in
-    told-start g c.sound.ensures r c.requires.range c.root-root.result rooted (text_within g.forest r) (texts-contained g r) c.last_ahead-here.result c.args.text.now c.last_ahead-here.ensures.held (c.last_ahead-here.ensures.one_root ∙ rooted) c.last_ahead-here.ensures.ahead
+    let stop = last-ahead g c.root-root.result c.args.end c.last_ahead-stop.result c.last_ahead-stop.ensures.held c.last_ahead-stop.ensures.one_root c.last_ahead-stop.ensures.ahead c.last_ahead-stop.ensures.behind
+    (sym c.requires.range.one_root ∙ rooted) c.requires.range.ends.within in
+    let first = last-ahead g c.root-root.result c.args.start c.last_ahead-here.result c.last_ahead-here.ensures.held c.last_ahead-here.ensures.one_root c.last_ahead-here.ensures.ahead c.last_ahead-here.ensures.behind
+    rooted c.requires.range.starts.within in
+    along-start g c.sound.ensures r c.requires.range c.root-root.result rooted c.last_ahead-stop.result stop (text_within g.forest r) (texts-contained g r) c.last_ahead-here.result c.args.text.now first
 
 pub next_inside-requires-clause-held : goal.next_inside-requires-clause-held
-next_inside-requires-clause-held c = c.loop-next.invariant.there
+next_inside-requires-clause-held c = c.loop-start.invariant.told.there
 
 pub next_inside-requires-clause-under : goal.next_inside-requires-clause-under
 next_inside-requires-clause-under c =
-    let g = c.args.tree.now in
-    let r : Range = record { start = c.args.start; end = c.args.end } in
-    let t = c.loop-next.invariant in
-    (walk-at g c.sound.ensures c.root-root.result c.loop-next.here t.there t.of_root).under
+    let t = c.loop-start.invariant.told in
+    (walk-at c.args.tree.now c.sound.ensures c.root-root.result c.loop-start.here t.there t.of_root).under
 
-pub is_before-requires-clause-a_held : goal.is_before-requires-clause-a_held
-is_before-requires-clause-a_held c =
+pub unwrap-next-requires : goal.unwrap-next-requires
+unwrap-next-requires c =
     let g = c.args.tree.now in
     let r : Range = record { start = c.args.start; end = c.args.end } in
-    let t = c.loop-next.invariant in
-    (next-of g c.sound.ensures r c.requires.range c.root-root.result t.rooted (text_within g.forest r) (texts-contained g r) c.loop-next.here c.in-Some.next t.there t.of_root (sym c.next_inside.ensures ∙ c.in-Some.is)).1
-
-pub is_before-requires-clause-one_root : goal.is_before-requires-clause-one_root
-is_before-requires-clause-one_root c =
-    let g = c.args.tree.now in
-    let r : Range = record { start = c.args.start; end = c.args.end } in
-    let t = c.loop-next.invariant in
-    (next-of g c.sound.ensures r c.requires.range c.root-root.result t.rooted (text_within g.forest r) (texts-contained g r) c.loop-next.here c.in-Some.next t.there t.of_root (sym c.next_inside.ensures ∙ c.in-Some.is)).0
-    ∙ sym t.rooted ∙ c.requires.range.one_root
-
-pub returns-then-not-is_before : goal.returns-then-not-is_before
-returns-then-not-is_before c =
-    let g = c.args.tree.now in
-    let r : Range = record { start = c.args.start; end = c.args.end } in
-    let t = c.loop-next.invariant in
-    told-stop g c.sound.ensures r c.requires.range c.root-root.result t.rooted (text_within g.forest r) (texts-contained g r) c.args.text.now c.loop-next.here c.in-Some.next c.loop-next.text t (sym c.next_inside.ensures ∙ c.in-Some.is) (sym c.if-not-is_before.ensures)
+    let t = c.loop-start.invariant in
+    let rooted = t.told.rooted in
+    let stop = last-ahead g c.root-root.result c.args.end c.last_ahead-stop.result c.last_ahead-stop.ensures.held c.last_ahead-stop.ensures.one_root c.last_ahead-stop.ensures.ahead c.last_ahead-stop.ensures.behind
+    (sym c.requires.range.one_root ∙ rooted) c.requires.range.ends.within in
+    let ne = apart-from c.loop-start.here c.last_ahead-stop.result (not-true (c.loop-start.here == c.last_ahead-stop.result) (sym c.ne.ensures ∙ c.loop-start-test.true)) in
+    elim (seen c.next_inside.result) [
+      | nothing e ↦ absurd (along-found g c.sound.ensures r c.requires.range c.root-root.result rooted c.last_ahead-stop.result stop (text_within g.forest r) (texts-contained g r) c.args.text.now c.loop-start.here c.loop-start.text t ne (sym c.next_inside.ensures ∙ e))
+      | just m e ↦ rw e refl
+    ]
 
 pub append_contained-requires-clause-held : goal.append_contained-requires-clause-held
 append_contained-requires-clause-held c =
     let g = c.args.tree.now in
     let r : Range = record { start = c.args.start; end = c.args.end } in
-    let t = c.loop-next.invariant in
-    (next-of g c.sound.ensures r c.requires.range c.root-root.result t.rooted (text_within g.forest r) (texts-contained g r) c.loop-next.here c.in-Some.next t.there t.of_root (sym c.next_inside.ensures ∙ c.in-Some.is)).1
+    let t = c.loop-start.invariant in
+    let rooted = t.told.rooted in
+    let stop = last-ahead g c.root-root.result c.args.end c.last_ahead-stop.result c.last_ahead-stop.ensures.held c.last_ahead-stop.ensures.one_root c.last_ahead-stop.ensures.ahead c.last_ahead-stop.ensures.behind
+    (sym c.requires.range.one_root ∙ rooted) c.requires.range.ends.within in
+    let ne = apart-from c.loop-start.here c.last_ahead-stop.result (not-true (c.loop-start.here == c.last_ahead-stop.result) (sym c.ne.ensures ∙ c.loop-start-test.true)) in
+    let e = sym c.next_inside.ensures ∙ c.unwrap-next.ensures in
+    (next g c.sound.ensures r c.requires.range c.root-root.result rooted c.last_ahead-stop.result stop (text_within g.forest r) (texts-contained g r) c.args.text.now c.loop-start.here c.loop-start.text t ne c.unwrap-next.result e).1
 
 pub append_contained-requires-clause-one_root : goal.append_contained-requires-clause-one_root
 append_contained-requires-clause-one_root c =
     let g = c.args.tree.now in
     let r : Range = record { start = c.args.start; end = c.args.end } in
-    let t = c.loop-next.invariant in
-    (next-of g c.sound.ensures r c.requires.range c.root-root.result t.rooted (text_within g.forest r) (texts-contained g r) c.loop-next.here c.in-Some.next t.there t.of_root (sym c.next_inside.ensures ∙ c.in-Some.is)).0
-    ∙ sym t.rooted
+    let t = c.loop-start.invariant in
+    let rooted = t.told.rooted in
+    let stop = last-ahead g c.root-root.result c.args.end c.last_ahead-stop.result c.last_ahead-stop.ensures.held c.last_ahead-stop.ensures.one_root c.last_ahead-stop.ensures.ahead c.last_ahead-stop.ensures.behind
+    (sym c.requires.range.one_root ∙ rooted) c.requires.range.ends.within in
+    let ne = apart-from c.loop-start.here c.last_ahead-stop.result (not-true (c.loop-start.here == c.last_ahead-stop.result) (sym c.ne.ensures ∙ c.loop-start-test.true)) in
+    let e = sym c.next_inside.ensures ∙ c.unwrap-next.ensures in
+    (next g c.sound.ensures r c.requires.range c.root-root.result rooted c.last_ahead-stop.result stop (text_within g.forest r) (texts-contained g r) c.args.text.now c.loop-start.here c.loop-start.text t ne c.unwrap-next.result e).0 ∙ sym rooted
 
-pub loop-next-smaller : goal.loop-next-smaller
-loop-next-smaller c = smaller c.args.tree.now c.sound.ensures c.root-root.result c.loop-next.here c.in-Some.next (sym c.next_inside.ensures ∙ c.in-Some.is)
+pub append_contained-requires-clause-behind : goal.append_contained-requires-clause-behind
+append_contained-requires-clause-behind c = c.loop-start.invariant.behind c.unwrap-next.result (sym c.next_inside.ensures ∙ c.unwrap-next.ensures)
 
-pub loop-next-preserved : goal.loop-next-preserved
-loop-next-preserved c =
+pub append_contained-requires-clause-not_past : goal.append_contained-requires-clause-not_past
+append_contained-requires-clause-not_past c =
     let g = c.args.tree.now in
     let r : Range = record { start = c.args.start; end = c.args.end } in
-    let t = c.loop-next.invariant in
-    told-next g c.sound.ensures r c.requires.range c.root-root.result t.rooted (text_within g.forest r) (texts-contained g r) c.args.text.now c.loop-next.here c.in-Some.next c.loop-next.text c.append_contained.new.text t (sym c.next_inside.ensures ∙ c.in-Some.is) c.in_ok-append_contained.ensures
+    let t = c.loop-start.invariant in
+    let rooted = t.told.rooted in
+    let stop = last-ahead g c.root-root.result c.args.end c.last_ahead-stop.result c.last_ahead-stop.ensures.held c.last_ahead-stop.ensures.one_root c.last_ahead-stop.ensures.ahead c.last_ahead-stop.ensures.behind
+    (sym c.requires.range.one_root ∙ rooted) c.requires.range.ends.within in
+    let ne = apart-from c.loop-start.here c.last_ahead-stop.result (not-true (c.loop-start.here == c.last_ahead-stop.result) (sym c.ne.ensures ∙ c.loop-start-test.true)) in
+    let e = sym c.next_inside.ensures ∙ c.unwrap-next.ensures in
+    next-not_past g c.sound.ensures r c.requires.range c.root-root.result rooted c.last_ahead-stop.result stop (text_within g.forest r) (texts-contained g r) c.args.text.now c.loop-start.here c.loop-start.text t ne c.unwrap-next.result e
+
+pub loop-start-smaller : goal.loop-start-smaller
+loop-start-smaller c = smaller c.args.tree.now c.sound.ensures c.root-root.result c.loop-start.here c.unwrap-next.result (sym c.next_inside.ensures ∙ c.unwrap-next.ensures)
+
+pub loop-start-preserved : goal.loop-start-preserved
+loop-start-preserved c =
+    let g = c.args.tree.now in
+    let r : Range = record { start = c.args.start; end = c.args.end } in
+    let t = c.loop-start.invariant in
+    let rooted = t.told.rooted in
+    let stop = last-ahead g c.root-root.result c.args.end c.last_ahead-stop.result c.last_ahead-stop.ensures.held c.last_ahead-stop.ensures.one_root c.last_ahead-stop.ensures.ahead c.last_ahead-stop.ensures.behind
+    (sym c.requires.range.one_root ∙ rooted) c.requires.range.ends.within in
+    let ne = apart-from c.loop-start.here c.last_ahead-stop.result (not-true (c.loop-start.here == c.last_ahead-stop.result) (sym c.ne.ensures ∙ c.loop-start-test.true)) in
+    let e = sym c.next_inside.ensures ∙ c.unwrap-next.ensures in
+    along-next g c.sound.ensures r c.requires.range c.root-root.result rooted c.last_ahead-stop.result stop (text_within g.forest r) (texts-contained g r) c.args.text.now c.loop-start.here c.loop-start.text t ne c.unwrap-next.result e c.append_contained.new.text c.in_ok-append_contained.ensures
 
 pub returns : goal.returns
 returns c =
     let g = c.args.tree.now in
     let r : Range = record { start = c.args.start; end = c.args.end } in
-    let t = c.loop-next.invariant in
-    told-end g c.sound.ensures r c.requires.range c.root-root.result t.rooted (text_within g.forest r) (texts-contained g r) c.args.text.now c.loop-next.here c.loop-next.text t (sym c.next_inside.ensures ∙ c.in_default.is)
+    let t = c.loop-start.invariant in
+    let rooted = t.told.rooted in
+    let stop = last-ahead g c.root-root.result c.args.end c.last_ahead-stop.result c.last_ahead-stop.ensures.held c.last_ahead-stop.ensures.one_root c.last_ahead-stop.ensures.ahead c.last_ahead-stop.ensures.behind
+    (sym c.requires.range.one_root ∙ rooted) c.requires.range.ends.within in
+    let same = eqb-true c.loop-start.here c.last_ahead-stop.result (not-false (c.loop-start.here == c.last_ahead-stop.result) (sym c.ne.ensures ∙ c.loop-start-test.false)) in
+    along-end g c.sound.ensures r c.requires.range c.root-root.result rooted c.last_ahead-stop.result stop (text_within g.forest r) (texts-contained g r) c.args.text.now c.loop-start.here c.loop-start.text t same

@@ -3,11 +3,11 @@ use Rattle.std.proofs.Common.{length}
 use Rattle.dom_model.specs.Forests.Forest.{inclusive_descendants}
 use Rattle.dom_model.proofs.PlainLists.FromFirst.{from_first}
 use Rattle.dom_content.specs.Texts.{text_within}
-use Rattle.dom_content.proofs.PartsBetween.{IsTold}
+use Rattle.dom_content.proofs.WalkedParts.{IsAlong}
 use Rattle.dom_content.proofs.texts.append_between.Given as goal
 
-abbrev pub invariant-loop-next : goal.invariant-loop-next
-invariant-loop-next l = IsTold l.tree (record { start = l.start; end = l.end }) (text_within l.tree.forest (record { start = l.start; end = l.end })) l.root l.fn.text l.here l.text
+abbrev pub invariant-loop-start : goal.invariant-loop-start
+invariant-loop-start l = IsAlong l.tree (record { start = l.start; end = l.end }) (text_within l.tree.forest (record { start = l.start; end = l.end })) l.root l.stop l.fn.text l.here l.text
 
-abbrev pub decreases-loop-next : goal.decreases-loop-next
-decreases-loop-next l = length (from_first l.here (inclusive_descendants l.tree.forest l.root))
+abbrev pub decreases-loop-start : goal.decreases-loop-start
+decreases-loop-start l = length (from_first l.here (inclusive_descendants l.tree.forest l.root))
