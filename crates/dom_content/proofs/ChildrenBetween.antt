@@ -183,19 +183,11 @@ module _ (f : Forest Content) (once : (m : ℕ) → occurs m f ≤ 1) (parent : 
   behind-some [] c w e = absurd (cc e)
   behind-some (d ∷ path) c w e = let i : d ≡ c = cc e in ap (next_of f) (sym i) ∙ sym (next-child f once d parent w.0 w.1)
 
-  pub behind-none : (path : List ℕ) → IsWay f parent path p.node → slice_get path 0 ≡ None → slice_get (children_of f p.node) p.offset ≡ slice_get (children_of f parent) (index_behind f p path)
-  behind-none [] w e = ap (λ m. slice_get (children_of f m) p.offset) (sym w)
-  behind-none (d ∷ path) w e = absurd (cc e)
-
   pub at-some : (path : List ℕ) (c : ℕ) → IsWay f parent path p.node → slice_get path 0 ≡ Some c → Some c ≡ slice_get (children_of f parent) (index_at f p path)
   at-some [] c w e = absurd (cc e)
   at-some (d ∷ path) c w e =
       let i : d ≡ c = cc e in
       ap Some (sym i) ∙ sym (get-place d (children_of f parent) (child-listed f once d parent w.0 w.1)) ∙ ap (slice_get (children_of f parent)) (sym (index-child f d parent w.1))
-
-  pub at-none : (path : List ℕ) → IsWay f parent path p.node → slice_get path 0 ≡ None → slice_get (children_of f p.node) p.offset ≡ slice_get (children_of f parent) (index_at f p path)
-  at-none [] w e = ap (λ m. slice_get (children_of f m) p.offset) (sym w)
-  at-none (d ∷ path) w e = absurd (cc e)
 
 pub common-is : (f : Forest Content) (n m a : ℕ) (p q : Point) → n ≡ p.node → m ≡ q.node → a ≡ common_ancestor f n m → a ≡ common_ancestor f p.node q.node
 common-is f n m a p q d e h = h ∙ ap (λ x. common_ancestor f x m) d ∙ ap (λ x. common_ancestor f p.node x) e

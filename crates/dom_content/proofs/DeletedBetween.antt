@@ -1,14 +1,15 @@
 -- What lies between two nodes is deleted, step by step: what each step finds, and what they come to. DOM Standard, "Interface Range".
-use Rattle.std.proofs.Common.{◌≡◌, ℕ, ◌-◌, ◌<◌, ◌==◌, Bool, true, false, ◌&&◌, if◌then◌else◌, List, [], Option, Some, length, is_some, refl, ap, sym, ◌∙◌, subst, arith}
+use Rattle.std.proofs.Common.{◌≡◌, ℕ, ◌-◌, ◌<◌, ◌==◌, Bool, true, false, not, ◌&&◌, if◌then◌else◌, List, [], filter, Option, Some, length, is_some, refl, ap, sym, ◌∙◌, subst, arith}
 use Rattle.std.proofs.lemmas.Bool.{false≢true}
 use Rattle.dom_model.specs.PlainLists.Lists.{hits}
 use Rattle.dom_model.specs.Forests.Kinds.{is_character_data}
-use Rattle.dom_model.specs.Forests.Forest.{Forest, HasNode, entry_in, numbers}
+use Rattle.dom_model.specs.Forests.Forest.{Forest, HasNode, entry_in, parent_of, numbers}
+use Rattle.dom_model.specs.Forests.Lengths.{unit_count}
 use Rattle.dom_model.specs.Worlds.World as model
 use Rattle.dom_model.specs.Worlds.World.{Content, Range}
 use Rattle.dom_model.specs.Worlds.Sound.{IsRange, IsSound}
-use Rattle.dom_model.specs.MutationAlgorithms.Checks.{kind_passes}
-use Rattle.dom_model.specs.RangesAndContents.Ranges.{is_collapsed, collapsed_at, with_range}
+use Rattle.dom_model.specs.MutationAlgorithms.Checks.{kind_passes, if_given}
+use Rattle.dom_model.specs.RangesAndContents.Ranges.{is_collapsed, is_contained, collapsed_at, with_range}
 use Rattle.dom_model.specs.RangesAndContents.Contents.{is_in_one_data, cut_from, cut_up_to, new_place, deleted_between, delete_contents}
 use Rattle.dom_model.specs.DataAndCopies.Data.{data_of, replace_data, remove_each}
 use Rattle.dom_model.proofs.Forests.Changes.{seen, nothing, just}
@@ -22,8 +23,14 @@ use Rattle.dom_edit.specs.Whole.{IsWhole, Keeps, Follows, unwatched}
 use Rattle.dom_edit.proofs.Following.{follows-then, keeps-unwatched}
 use Rattle.dom_data.proofs.StaysWhole.{sound-unwatched}
 use Rattle.dom_ranges.specs.Tables.{range_in}
-use Rattle.dom_content.specs.Contained.{is_top, tops_in}
 use Rattle.dom_content.proofs.Deleted.{follows-alike, range-deleted}
+
+-- the contained nodes whose parent is not contained, in tree order
+abbrev is_top : Forest Content → Range → ℕ → Bool
+is_top f r n = is_contained unit_count f r n && not (if_given (is_contained unit_count f r) (parent_of f n))
+
+abbrev pub tops_in : Forest Content → Range → List ℕ
+tops_in f r = filter (is_top f r) (numbers f)
 
 -- Nodes and live ranges that stay.
 

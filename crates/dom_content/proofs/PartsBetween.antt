@@ -195,9 +195,6 @@ module _ (g : Grove Content) (s : IsForest g) (range : Range) (is : IsRange g.fo
     grown = ap (λ us. text ++ us) (all-told ∙ start-told here h r early);
   }
 
-  pub next-of : (n m : ℕ) → HasNode g.forest n → root_of g.forest n ≡ Some root → after n all ≡ Some m → (root_of g.forest m ≡ Some root) × HasNode g.forest m
-  next-of n m h r e = step g s root n m h r e
-
   begins : (m : ℕ) → 0 < hits m all → told (from_first m all) ≡ part m ++ told (drop 1 (from_first m all))
   begins m h =
       let p = split m all h in

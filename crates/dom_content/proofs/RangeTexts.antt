@@ -1,22 +1,19 @@
 -- The text of a live range, put together of its pieces. DOM Standard, "Interface Range", stringification.
-use Rattle.std.proofs.Common.{◌≡◌, ℕ, ◌-◌, ◌<◌, ◌≤◌, ◌==◌, Bool, true, false, ◌&&◌, if◌then◌else◌, List, [], ◌∷◌, ◌++◌, length, filter, flat_map, Option, Some, refl, ap, sym, ◌∙◌, subst, append_assoc, cond, arith, ⊎_elim}
+use Rattle.std.proofs.Common.{◌≡◌, ℕ, ◌-◌, ◌<◌, ◌≤◌, ◌==◌, Bool, true, false, ◌&&◌, if◌then◌else◌, List, [], ◌∷◌, ◌++◌, length, filter, flat_map, Some, refl, ap, sym, ◌∙◌, subst, append_assoc, cond, arith, ⊎_elim}
 use Rattle.std.proofs.lemmas.Bool.{false≢true, cases_lt}
 use Rattle.dom_model.specs.declared.Kind.TheVariants.{Text}
-use Rattle.dom_model.specs.Forests.Arena.{Entry}
-use Rattle.dom_model.specs.Forests.Forest.{Node, Forest, Grove, numbers, entry_in}
-use Rattle.dom_model.specs.Forests.Lengths.{node_length, unit_count}
+use Rattle.dom_model.specs.Forests.Forest.{Forest, Grove, numbers, entry_in}
+use Rattle.dom_model.specs.Forests.Lengths.{unit_count}
 use Rattle.dom_model.specs.Worlds.World.{Content, Point, Range}
-use Rattle.dom_model.specs.Worlds.Sound.{IsRange, IsBoundary}
+use Rattle.dom_model.specs.Worlds.Sound.{IsRange}
 use Rattle.dom_model.specs.BoundaryPoints.Points.{order_of}
 use Rattle.dom_model.specs.MutationAlgorithms.Checks.{is_of_kind}
 use Rattle.dom_model.specs.RangesAndContents.Ranges.{is_contained}
 use Rattle.dom_model.specs.RangesAndContents.Contents.{contained_in, range_text, text_between}
 use Rattle.dom_model.specs.DataAndCopies.Data.{content_in, joined_data}
 use Rattle.dom_model.proofs.PlainLists.Numbers.{same_or, same, apart}
-use Rattle.dom_model.proofs.Forests.Changes.{seen, nothing, just}
 use Rattle.dom_model.proofs.BoundaryPoints.PointOrder.{nat_cmp-greater, order-one_node}
 use Rattle.dom_model.proofs.TokenText.EditsMade.EditsOfDrawnContents.{sound-range}
-use Rattle.dom_model.proofs.TokenText.Contents.TextTold.{text-kind}
 use Rattle.dom_ranges.specs.Tables.{range_in}
 use Rattle.dom_edit.specs.declared.world.World.{World}
 use Rattle.dom_edit.specs.Whole.{IsWhole, unwatched}
@@ -43,20 +40,6 @@ offsets-ordered f range is e =
     absurd (is.in_order (ap (λ m. order_of f range.start (record { node = m; offset = range.end.offset })) (sym e) ∙ order-one_node f range.start.node range.start.offset range.end.offset ∙ nat_cmp-greater range.start.offset range.end.offset lt)))
     (λ (le : range.start.offset ≤ range.end.offset). le)
     (cases_lt range.end.offset range.start.offset)
-
--- a point of a Text is within its data
-pub point-within : (f : Forest Content) (p : Point) → IsBoundary f p → is_of_kind Text f p.node ≡ true → p.offset ≤ length (content_in (entry_in f p.node)).text
-point-within f p b h =
-    elim (seen (entry_in f p.node)) [
-      | nothing z ↦ absurd (false≢true (rw z at h))
-      | just e z ↦
-          let k = rw z at h in
-          let kinds = text-kind e.value.label.kind k in
-          let d : node_length unit_count f p.node ≡ length e.value.body.text = rw z (rw (kinds.0, kinds.1) refl) in
-          let c : length (content_in (entry_in f p.node)).text ≡ length e.value.body.text = ap (λ (o : Option (Entry (Node Content))). length (content_in o).text) z in
-          let w = b.within in
-          omega arith
-    ]
 
 within-filtered : (v : World) (range : Range) (ns : List ℕ) → flat_map (text_within v.tree.forest range) ns ≡ joined_data (unwatched v) (filter (λ n. is_of_kind Text v.tree.forest n && contained_in (unwatched v) range n) ns)
 within-filtered v range [] = refl

@@ -35,7 +35,7 @@ one-from x y (n ∷ ns) h k =
     ]
 
 -- a number stands in what comes from it on
-pub own-from : (n : ℕ) (ns : List ℕ) → 0 < hits n ns → 0 < hits n (from_first n ns)
+own-from : (n : ℕ) (ns : List ℕ) → 0 < hits n ns → 0 < hits n (from_first n ns)
 own-from n [] h = absurd (omega arith)
 own-from n (m ∷ ns) h = elim (same_or m n) [ same _ t ↦ rw t h | apart ne t ↦ (let k = rw t at h in rw t (own-from n ns (omega arith))) ]
 
@@ -68,17 +68,17 @@ module _ (g : Grove Content) (s : IsForest g) (range : Range) (is : IsRange g.fo
   abbrev front : ℕ → Point
   front n = record { node = n; offset = 0 }
 
-  pub end_rooted : root_of g.forest range.end.node ≡ Some root
+  end_rooted : root_of g.forest range.end.node ≡ Some root
   end_rooted = sym is.one_root ∙ rooted
 
-  pub stop_rooted : root_of g.forest stop ≡ Some root
+  stop_rooted : root_of g.forest stop ≡ Some root
   stop_rooted = last.ahead_of.one_root ∙ end_rooted
 
-  pub listed : (n : ℕ) → root_of g.forest n ≡ Some root → 0 < hits n all
+  listed : (n : ℕ) → root_of g.forest n ≡ Some root → 0 < hits n all
   listed n r = let i = there g s root n r in omega (arith, hits-numbers n (tree_at root g.forest))
 
   -- a node whose front is not behind the end comes no later than the last one ahead of it
-  pub not-later : (x : ℕ) → HasNode g.forest x → root_of g.forest x ≡ Some root → is_before g.forest range.end (front x) ≡ false → 0 < hits stop (from_first x all)
+  not-later : (x : ℕ) → HasNode g.forest x → root_of g.forest x ≡ Some root → is_before g.forest range.end (front x) ≡ false → 0 < hits stop (from_first x all)
   not-later x hx rx early =
       ⊎_elim (λ (h : 0 < hits stop (from_first x all)). h) (λ (h : 0 < hits x (from_first stop all)). back h) (one-from x stop all (listed x rx) (listed stop stop_rooted))
     where
@@ -145,7 +145,7 @@ module _ (g : Grove Content) (s : IsForest g) (range : Range) (is : IsRange g.fo
         pub next : (root_of g.forest m ≡ Some root) × HasNode g.forest m
         next = step g s root here m t.told.there t.told.of_root e
 
-        pub to-come : 0 < hits stop (from_first m all)
+        to-come : 0 < hits stop (from_first m all)
         to-come =
             let w = rw (rest-next g s root here m e) at t.ahead in
             elim (same_or here stop) [ same d u ↦ absurd (ne d) | apart _ u ↦ (let k = rw u at w in omega arith) ]
@@ -160,23 +160,17 @@ module _ (g : Grove Content) (s : IsForest g) (range : Range) (is : IsRange g.fo
             let j = not-before g s root range.end (front stop) a c last.ahead_of.ahead in
             isnt-before g s root range.end (front m) a b (omega arith)
 
-        -- the walk goes on to a node that comes from the next one on, and from which the last one comes on
-        pub along-to : (passed_to : ℕ) (more : List ℕ) → IsTold g range part root start passed_to more → 0 < hits passed_to (from_first m all) → 0 < hits stop (from_first passed_to all) → IsAlong g range part root stop start passed_to more
-        along-to passed_to more told way rest = record {
-          told = told;
+        -- the walk goes on to it
+        pub along-next : (more : List ℕ) → more ≡ text ++ part m → IsAlong g range part root stop start m more
+        along-next more grown = record {
+          told = told-next g s range is root rooted part blank start here m text more t.told e grown;
           behind = λ x k.
-              let n = step g s root passed_to x told.there told.of_root k in
+              let n = step g s root m x next.1 next.0 k in
               let a = gap g s root range.start rooted is.starts.within in
               let b = gap g s root (front m) next.0 (omega arith) in
-              let c = gap g s root (front passed_to) told.of_root (omega arith) in
               let d = gap g s root (front x) n.0 (omega arith) in
               let l1 = before g s root range.start (front m) a b (t.behind m e) in
-              let l2 = later g s root (length (from_first m all)) m passed_to b.place c.place (omega arith) next.1 next.0 way b.is c.is in
-              let l3 = before g s root (front passed_to) (front x) c d (ap is_less (ahead-after g s root passed_to (occurs-HasNode g.forest passed_to told.there) (there g s root passed_to told.of_root) x k)) in
+              let l2 = before g s root (front m) (front x) b d (ap is_less (ahead-after g s root m (occurs-HasNode g.forest m next.1) (there g s root m next.0) x k)) in
               is-before g s root range.start (front x) a d (omega arith);
-          ahead = rest;
+          ahead = to-come;
         }
-
-        -- as to the next one itself
-        pub along-next : (more : List ℕ) → more ≡ text ++ part m → IsAlong g range part root stop start m more
-        along-next more grown = along-to m more (told-next g s range is root rooted part blank start here m text more t.told e grown) (own-from m all (listed m next.0)) to-come

@@ -21,7 +21,7 @@ use Rattle.dom_model.proofs.Soundness.SoundForests.{data-childless}
 use Rattle.dom_model.proofs.TokenText.Contents.TextTold.{text-kind}
 use Rattle.dom_content.specs.Texts.{part_of, text_within}
 use Rattle.dom_content.proofs.RangeTexts.{texts-contained}
-use Rattle.dom_content.proofs.TopsOfWays.{within-contained, above-not_contained}
+use Rattle.dom_content.proofs.ContainedBetween.{within-contained, above-not_contained}
 
 -- a Text has no children, so that it is above no other node
 text-above : (g : Grove Content) → IsForest g → (n m : ℕ) → HasNode g.forest m → is_of_kind Text g.forest n ≡ true → (n ≡ m → ⊥) → among n (ancestors m g.forest) ≡ false

@@ -1,60 +1,121 @@
 //! The nodes that a range contains (DOM Standard, "Interface Range", "contained").
 
-ghost use Rattle.std.specs.Prelude.{◌≡◌, ℕ, ◌≤◌, ◌++◌, true, false, Some, IfOk, OnOk};
+ghost use Rattle.std.specs.Prelude.{◌≡◌, ℕ, ◌≤◌, ◌∷◌, [], true, false, Some, IfOk};
 ghost use Rattle.dom_model.specs.PlainLists.Lists.{after};
 ghost use Rattle.dom_model.specs.Forests.Forest.{HasNode, root_of, inclusive_descendants};
 ghost use Rattle.dom_model.specs.Forests.Lengths.{unit_count, node_length};
 ghost use Rattle.dom_model.specs.Worlds.Sound.{IsRange};
 ghost use Rattle.dom_model.specs.RangesAndContents.Ranges.{is_before};
-ghost use Rattle.dom_content.specs.Contained.{is_top as stands_on_top, if_top, last_passed, tops_in};
+ghost use Rattle.dom_model.specs.RangesAndContents.Contents.{contained_tops};
+ghost use Rattle.dom_model.proofs.TokenText.Contents.PathTokens.{tail_nodes, head_nodes};
+ghost use Rattle.dom_edit.specs.Inserting.{AreThere};
+ghost use Rattle.dom_edit.specs.Whole.{IsWhole, unwatched};
 
-use dom_edit::Content;
+use crate::data::has_data;
+use crate::parts::parts_of;
+use crate::paths::{children_ahead, children_from, children_past, children_until};
+use dom_edit::{Content, World};
 use dom_point::Point;
 use dom_tree::{NodeId, Tree};
 use std::alloc::{AllocError, Global};
 
-// Whether a node that comes between the ends of a range of its root is contained, and its parent is not. All that is not above the end is
-// contained; a node that is contained has a parent that is not where that is above an end.
-fn is_top(tree: &Tree<Content>, start: Point, end: Point, node: NodeId) -> bool
-    requires held { HasNode tree.now.forest node }
-    requires range { IsRange tree.now.forest (record { start = start; end = end }) }
-    requires one_root { root_of tree.now.forest node ≡ root_of tree.now.forest start.node }
-    requires behind { is_before tree.now.forest start (record { node = node; offset = 0 }) ≡ true }
-    requires not_past { is_before tree.now.forest end (record { node = node; offset = 0 }) ≡ false }
-    ensures { result ≡ stands_on_top tree.now.forest (record { start = start; end = end }) node }
+// The children of a node from an offset on; none of a node with data.
+fn tail_of(
+    world: &World,
+    alloc: Global,
+    node: NodeId,
+    offset: usize,
+) -> Result<Vec<NodeId>, AllocError>
+    requires held { HasNode world.now.tree.forest node }
+    ensures { IfOk result (λ list. list.items ≡ tail_nodes (unwatched world.now) offset (node ∷ [])) }
 {
-    tree.sound();
-    if tree.is_ancestor(node, end.node) {
-        return false;
+    if has_data(&world.tree, node) {
+        return Ok(Vec::new(alloc));
     }
-    match tree.parent(node) {
-        Some(parent) => tree.is_ancestor(parent, start.node) || tree.is_ancestor(parent, end.node),
-        None => true,
-    }
+    children_from(&world.tree, alloc, node, offset)
 }
 
-// Puts a node that comes between the ends of a range last in a list, where it is contained and its parent is not. It answers the node behind which the next one is
-// to be looked for: what is inside a contained node need not be.
-fn append_top(
-    tree: &Tree<Content>,
+// The children of a node up to an offset; none of a node with data.
+fn head_of(
+    world: &World,
+    alloc: Global,
+    node: NodeId,
+    offset: usize,
+) -> Result<Vec<NodeId>, AllocError>
+    requires held { HasNode world.now.tree.forest node }
+    ensures { IfOk result (λ list. list.items ≡ head_nodes (unwatched world.now) offset (node ∷ [])) }
+{
+    if has_data(&world.tree, node) {
+        return Ok(Vec::new(alloc));
+    }
+    children_until(&world.tree, alloc, node, offset)
+}
+
+// The nodes that stand behind a path, from an offset of its last node on: the deepest first, as in tree order.
+fn tail_along(
+    world: &World,
+    alloc: Global,
+    offset: usize,
+    path: &[NodeId],
+) -> Result<Vec<NodeId>, AllocError>
+    requires held { AreThere world.now.tree.forest path.now }
+    ensures { IfOk result (λ list. list.items ≡ tail_nodes (unwatched world.now) offset path.now) }
+{
+    let mut left = path.len();
+    if left == 0 {
+        return Ok(Vec::new(alloc));
+    }
+    let mut list = tail_of(world, alloc, path[left - 1], offset)?;
+    while left > 1 {
+        left -= 1;
+        let mut behind = children_past(&world.tree, alloc, path[left - 1], path[left])?;
+        list.append(&mut behind)?;
+    }
+    Ok(list)
+}
+
+// The nodes that stand ahead of a path, up to an offset of its last node: the deepest last.
+fn head_along(
+    world: &World,
+    alloc: Global,
+    offset: usize,
+    path: &[NodeId],
+) -> Result<Vec<NodeId>, AllocError>
+    requires held { AreThere world.now.tree.forest path.now }
+    ensures { IfOk result (λ list. list.items ≡ head_nodes (unwatched world.now) offset path.now) }
+{
+    let count = path.len();
+    let mut list = Vec::new(alloc);
+    if count == 0 {
+        return Ok(list);
+    }
+    for k in 1..count {
+        let mut ahead = children_ahead(&world.tree, alloc, path[k - 1], path[k])?;
+        list.append(&mut ahead)?;
+    }
+    let mut ahead = head_of(world, alloc, path[count - 1], offset)?;
+    list.append(&mut ahead)?;
+    Ok(list)
+}
+
+// The nodes that a range contains without containing their parents, in tree order: those beside the paths down to its two nodes, and between them
+// the children of the common ancestor.
+pub(crate) fn contained_tops(
+    world: &World,
+    alloc: Global,
     start: Point,
     end: Point,
-    node: NodeId,
-    tops: &mut Vec<NodeId>,
-) -> Result<NodeId, AllocError>
-    requires held { HasNode tree.now.forest node }
-    requires range { IsRange tree.now.forest (record { start = start; end = end }) }
-    requires one_root { root_of tree.now.forest node ≡ root_of tree.now.forest start.node }
-    requires behind { is_before tree.now.forest start (record { node = node; offset = 0 }) ≡ true }
-    requires not_past { is_before tree.now.forest end (record { node = node; offset = 0 }) ≡ false }
-    ensures tops { OnOk result (tops.new.items ≡ tops.old.items ++ if_top tree.now.forest (record { start = start; end = end }) node) }
-    ensures last { IfOk result (λ last. last_passed tree.now.forest (record { start = start; end = end }) node ≡ Some last) }
+) -> Result<Vec<NodeId>, AllocError>
+    requires whole { IsWhole world.now }
+    requires range { IsRange world.now.tree.forest (record { start = start; end = end }) }
+    ensures { IfOk result (λ tops. tops.items ≡ contained_tops (unwatched world.now) (record { start = start; end = end })) }
 {
-    if !is_top(tree, start, end, node) {
-        return Ok(node);
-    }
-    tops.push(node)?;
-    Ok(tree.last_inside(node))
+    let mut parts = parts_of(&world.tree, alloc, start, end)?;
+    let mut tops = tail_along(world, alloc, start.offset, &parts.first)?;
+    let mut last = head_along(world, alloc, end.offset, &parts.last)?;
+    tops.append(&mut parts.contained)?;
+    tops.append(&mut last)?;
+    Ok(tops)
 }
 
 // The last node in tree order whose front does not come after a point: the point's node, or the last node inside the child ahead of the point. The
@@ -76,27 +137,4 @@ pub(crate) fn last_ahead(tree: &Tree<Content>, point: Point) -> NodeId
         Some(child) => tree.last_inside(child),
         None => node,
     }
-}
-
-// The nodes that a range contains without containing their parents, in tree order. It walks from the last node ahead of the start to the last
-// ahead of the end, past what is inside such a node.
-pub(crate) fn contained_tops(
-    tree: &Tree<Content>,
-    alloc: Global,
-    start: Point,
-    end: Point,
-) -> Result<Vec<NodeId>, AllocError>
-    requires range { IsRange tree.now.forest (record { start = start; end = end }) }
-    ensures { IfOk result (λ tops. tops.items ≡ tops_in tree.now.forest (record { start = start; end = end })) }
-{
-    tree.sound();
-    let mut tops = Vec::new(alloc);
-    let root = tree.root(start.node);
-    let stop = last_ahead(tree, end);
-    let mut here = last_ahead(tree, start);
-    while here != stop {
-        let next = tree.next_inside(root, here).unwrap();
-        here = append_top(tree, start, end, next, &mut tops)?;
-    }
-    Ok(tops)
 }

@@ -156,7 +156,7 @@ fn delete_between(
     ensures whole { IsWhole world.new }
 {
     let place = new_place(&world.tree, start, end);
-    let tops = contained_tops(&world.tree, alloc, start, end)?;
+    let tops = contained_tops(world, alloc, start, end)?;
     cut_from(world, alloc, start)?;
     remove_each(world, alloc, &tops)?;
     cut_up_to(world, alloc, end)?;

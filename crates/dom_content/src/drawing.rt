@@ -19,47 +19,17 @@ ghost use Rattle.dom_content.specs.Left.{IsLeftOf, HoldsBetween};
 ghost use Rattle.dom_content.specs.Paths.{HasRoom, StillHeld};
 ghost use Rattle.dom_content.specs.Drawing.{AreParts, in_one_data, parts_drawn, filled};
 
-use crate::children::contained_children;
 use crate::data::is_in_one_data;
 use crate::deleting::{new_place, stand_at};
-use crate::paths::{head_into, path_below, tail_into};
+use crate::parts::{Parts, parts_of};
+use crate::paths::{head_into, tail_into};
 use crate::pieces::{children_into, new_fragment, units_into};
 use dom_edit::{Content, Refusal, World};
 use dom_kinds::{DomError, Kind};
-use dom_point::{Point, common};
+use dom_point::Point;
 use dom_ranges::RangeId;
 use dom_tree::{NodeId, Tree};
 use std::alloc::{AllocError, Global};
-
-/// What of a range is drawn in part and what whole: the paths from the common ancestor of its two nodes down to them, and the children
-/// of that ancestor that are contained.
-#[derive(Drop)]
-struct Parts {
-    first: Vec<NodeId>,
-    contained: Vec<NodeId>,
-    last: Vec<NodeId>,
-}
-
-// The parts of a range.
-fn parts_of(
-    tree: &Tree<Content>,
-    alloc: Global,
-    start: Point,
-    end: Point,
-) -> Result<Parts, AllocError>
-    requires range { IsRange tree.now.forest (record { start = start; end = end }) }
-    ensures { IfOk result (λ parts. AreParts tree.now.forest (record { start = start; end = end }) parts.first.items parts.contained.items parts.last.items) }
-{
-    let parent = common(tree, start.node, end.node);
-    let first = path_below(tree, alloc, parent, start.node)?;
-    let last = path_below(tree, alloc, parent, end.node)?;
-    let contained = contained_children(tree, alloc, start, end, &first, &last)?;
-    Ok(Parts {
-        first,
-        contained,
-        last,
-    })
-}
 
 // Whether a node is a doctype.
 fn is_doctype(tree: &Tree<Content>, node: NodeId) -> bool

@@ -6,6 +6,7 @@ mod contained;
 mod data;
 mod deleting;
 mod drawing;
+mod parts;
 mod paths;
 mod pieces;
 mod texts;

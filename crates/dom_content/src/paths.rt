@@ -30,7 +30,7 @@ fn units_past(tree: &Tree<Content>, node: NodeId, offset: usize) -> usize
 }
 
 // The children of a node from an offset on.
-fn children_from(
+pub(crate) fn children_from(
     tree: &Tree<Content>,
     alloc: Global,
     parent: NodeId,
@@ -45,7 +45,7 @@ fn children_from(
 }
 
 // The children of a node that come after one of them; none where it is not there.
-fn children_past(
+pub(crate) fn children_past(
     tree: &Tree<Content>,
     alloc: Global,
     parent: NodeId,
@@ -64,7 +64,7 @@ fn children_past(
 }
 
 // The children of a node that come before one of them; all where it is not there.
-fn children_ahead(
+pub(crate) fn children_ahead(
     tree: &Tree<Content>,
     alloc: Global,
     parent: NodeId,
@@ -79,7 +79,7 @@ fn children_ahead(
 }
 
 // The children of a node up to an offset.
-fn children_until(
+pub(crate) fn children_until(
     tree: &Tree<Content>,
     alloc: Global,
     parent: NodeId,

@@ -1,118 +1,36 @@
--- Each step tells one node, up to the last that is ahead of the end.
-use Rattle.std.proofs.Common.{ℕ, ◌==◌, List, [], sym, ap, ◌∙◌, subst, refl}
-use Rattle.std.proofs.lemmas.Bool.{not-true, not-false, eqb-true}
-use Rattle.dom_model.specs.Forests.Forest.{root_of, numbers}
+-- What stands behind the first path, between the two, and ahead of the second.
+use Rattle.std.proofs.Common.{ℕ, List, ◌++◌, ap, sym, ◌∙◌, subst}
 use Rattle.dom_model.specs.Worlds.World.{Point, Range}
-use Rattle.dom_content.specs.Contained.{if_top}
-use Rattle.dom_model.proofs.Forests.Changes.{seen, nothing, just}
-use Rattle.dom_content.proofs.AlongGaps.{walk-at}
-use Rattle.dom_content.proofs.WalkedParts.{IsAlong, last-ahead, apart-from, along-start, along-end, along-found, next, next-not_past}
-use Rattle.dom_content.proofs.WalkedTops.{along-top}
-use Rattle.dom_content.proofs.ContainedInside.{passed-fewer}
-use Rattle.dom_content.proofs.ContainedTops.{tops-contained, tops-filtered}
+use Rattle.dom_model.proofs.TokenText.Contents.PathTokens.{tail_nodes, head_nodes}
+use Rattle.dom_edit.specs.Inserting.{AreThere}
+use Rattle.dom_edit.specs.Whole.{unwatched}
+use Rattle.dom_content.proofs.DrawnContents.{first-held, last-held}
+use Rattle.dom_content.proofs.TopsOfPaths.{tops-of_parts}
 use Rattle.dom_content.proofs.contained.contained_tops.Goals as goal
 
-pub loop-start-init : goal.loop-start-init
-loop-start-init c =
-    let g = c.args.tree.now in
+pub tail_along-requires : goal.tail_along-requires
+tail_along-requires c =
+    let v = c.args.world.now in
     let r : Range = record { start = c.args.start; end = c.args.end } in
-    let rooted = ap (λ (p : Point). root_of g.forest p.node) (sym c.start.view_is) ∙ sym c.root-root.ensures in
-    let stop = last-ahead g c.root-root.result c.args.end c.last_ahead-stop.result c.last_ahead-stop.ensures.held c.last_ahead-stop.ensures.one_root c.last_ahead-stop.ensures.ahead c.last_ahead-stop.ensures.behind
-    (sym c.requires.range.one_root ∙ rooted) c.requires.range.ends.within in
-    let first = last-ahead g c.root-root.result c.args.start c.last_ahead-here.result c.last_ahead-here.ensures.held c.last_ahead-here.ensures.one_root c.last_ahead-here.ensures.ahead c.last_ahead-here.ensures.behind
-    rooted c.requires.range.starts.within in
-    subst (λ (ns : List ℕ). IsAlong g r (if_top g.forest r) c.root-root.result c.last_ahead-stop.result [] c.last_ahead-here.result ns) (sym c.new-tops.ensures.items)
-    (along-start g c.sound.ensures r c.requires.range c.root-root.result rooted c.last_ahead-stop.result stop (if_top g.forest r) (tops-contained g r) c.last_ahead-here.result [] first)
+    let parts = c.in_ok-parts.parts in
+    record { held = subst (λ (ns : List ℕ). AreThere v.tree.forest ns) (sym c.deref.ensures.value) (first-held v c.requires.whole r c.requires.range parts.first.items parts.contained.items parts.last.items c.in_ok-parts.ensures) }
 
-pub next_inside-requires-clause-held : goal.next_inside-requires-clause-held
-next_inside-requires-clause-held c = c.loop-start.invariant.told.there
-
-pub next_inside-requires-clause-under : goal.next_inside-requires-clause-under
-next_inside-requires-clause-under c =
-    let t = c.loop-start.invariant.told in
-    (walk-at c.args.tree.now c.sound.ensures c.root-root.result c.loop-start.here t.there t.of_root).under
-
-pub unwrap-next-requires : goal.unwrap-next-requires
-unwrap-next-requires c =
-    let g = c.args.tree.now in
+pub head_along-requires : goal.head_along-requires
+head_along-requires c =
+    let v = c.args.world.now in
     let r : Range = record { start = c.args.start; end = c.args.end } in
-    let t = c.loop-start.invariant in
-    let rooted = t.told.rooted in
-    let stop = last-ahead g c.root-root.result c.args.end c.last_ahead-stop.result c.last_ahead-stop.ensures.held c.last_ahead-stop.ensures.one_root c.last_ahead-stop.ensures.ahead c.last_ahead-stop.ensures.behind
-    (sym c.requires.range.one_root ∙ rooted) c.requires.range.ends.within in
-    let ne = apart-from c.loop-start.here c.last_ahead-stop.result (not-true (c.loop-start.here == c.last_ahead-stop.result) (sym c.ne.ensures ∙ c.loop-start-test.true)) in
-    elim (seen c.next_inside.result) [
-      | nothing e ↦ absurd (along-found g c.sound.ensures r c.requires.range c.root-root.result rooted c.last_ahead-stop.result stop (if_top g.forest r) (tops-contained g r) [] c.loop-start.here c.loop-start.tops.items t ne (sym c.next_inside.ensures ∙ e))
-      | just m e ↦ rw e refl
-    ]
-
-pub append_top-requires-clause-held : goal.append_top-requires-clause-held
-append_top-requires-clause-held c =
-    let g = c.args.tree.now in
-    let r : Range = record { start = c.args.start; end = c.args.end } in
-    let t = c.loop-start.invariant in
-    let rooted = t.told.rooted in
-    let stop = last-ahead g c.root-root.result c.args.end c.last_ahead-stop.result c.last_ahead-stop.ensures.held c.last_ahead-stop.ensures.one_root c.last_ahead-stop.ensures.ahead c.last_ahead-stop.ensures.behind
-    (sym c.requires.range.one_root ∙ rooted) c.requires.range.ends.within in
-    let ne = apart-from c.loop-start.here c.last_ahead-stop.result (not-true (c.loop-start.here == c.last_ahead-stop.result) (sym c.ne.ensures ∙ c.loop-start-test.true)) in
-    let e = sym c.next_inside.ensures ∙ c.unwrap-next.ensures in
-    (next g c.sound.ensures r c.requires.range c.root-root.result rooted c.last_ahead-stop.result stop (if_top g.forest r) (tops-contained g r) [] c.loop-start.here c.loop-start.tops.items t ne c.unwrap-next.result e).1
-
-pub append_top-requires-clause-one_root : goal.append_top-requires-clause-one_root
-append_top-requires-clause-one_root c =
-    let g = c.args.tree.now in
-    let r : Range = record { start = c.args.start; end = c.args.end } in
-    let t = c.loop-start.invariant in
-    let rooted = t.told.rooted in
-    let stop = last-ahead g c.root-root.result c.args.end c.last_ahead-stop.result c.last_ahead-stop.ensures.held c.last_ahead-stop.ensures.one_root c.last_ahead-stop.ensures.ahead c.last_ahead-stop.ensures.behind
-    (sym c.requires.range.one_root ∙ rooted) c.requires.range.ends.within in
-    let ne = apart-from c.loop-start.here c.last_ahead-stop.result (not-true (c.loop-start.here == c.last_ahead-stop.result) (sym c.ne.ensures ∙ c.loop-start-test.true)) in
-    let e = sym c.next_inside.ensures ∙ c.unwrap-next.ensures in
-    (next g c.sound.ensures r c.requires.range c.root-root.result rooted c.last_ahead-stop.result stop (if_top g.forest r) (tops-contained g r) [] c.loop-start.here c.loop-start.tops.items t ne c.unwrap-next.result e).0 ∙ sym rooted
-
-pub append_top-requires-clause-behind : goal.append_top-requires-clause-behind
-append_top-requires-clause-behind c = c.loop-start.invariant.behind c.unwrap-next.result (sym c.next_inside.ensures ∙ c.unwrap-next.ensures)
-
-pub append_top-requires-clause-not_past : goal.append_top-requires-clause-not_past
-append_top-requires-clause-not_past c =
-    let g = c.args.tree.now in
-    let r : Range = record { start = c.args.start; end = c.args.end } in
-    let t = c.loop-start.invariant in
-    let rooted = t.told.rooted in
-    let stop = last-ahead g c.root-root.result c.args.end c.last_ahead-stop.result c.last_ahead-stop.ensures.held c.last_ahead-stop.ensures.one_root c.last_ahead-stop.ensures.ahead c.last_ahead-stop.ensures.behind
-    (sym c.requires.range.one_root ∙ rooted) c.requires.range.ends.within in
-    let ne = apart-from c.loop-start.here c.last_ahead-stop.result (not-true (c.loop-start.here == c.last_ahead-stop.result) (sym c.ne.ensures ∙ c.loop-start-test.true)) in
-    let e = sym c.next_inside.ensures ∙ c.unwrap-next.ensures in
-    next-not_past g c.sound.ensures r c.requires.range c.root-root.result rooted c.last_ahead-stop.result stop (if_top g.forest r) (tops-contained g r) [] c.loop-start.here c.loop-start.tops.items t ne c.unwrap-next.result e
-
-pub loop-start-smaller : goal.loop-start-smaller
-loop-start-smaller c =
-    let g = c.args.tree.now in
-    let r : Range = record { start = c.args.start; end = c.args.end } in
-    let t = c.loop-start.invariant in
-    let rooted = t.told.rooted in
-    let e = sym c.next_inside.ensures ∙ c.unwrap-next.ensures in
-    passed-fewer g c.sound.ensures r c.requires.range c.root-root.result rooted [] c.loop-start.here c.unwrap-next.result c.in_ok-here.here c.loop-start.tops.items c.append_top.new.tops.items t.told e c.in_ok-here.ensures.last
-
-pub loop-start-preserved : goal.loop-start-preserved
-loop-start-preserved c =
-    let g = c.args.tree.now in
-    let r : Range = record { start = c.args.start; end = c.args.end } in
-    let t = c.loop-start.invariant in
-    let rooted = t.told.rooted in
-    let stop = last-ahead g c.root-root.result c.args.end c.last_ahead-stop.result c.last_ahead-stop.ensures.held c.last_ahead-stop.ensures.one_root c.last_ahead-stop.ensures.ahead c.last_ahead-stop.ensures.behind
-    (sym c.requires.range.one_root ∙ rooted) c.requires.range.ends.within in
-    let ne = apart-from c.loop-start.here c.last_ahead-stop.result (not-true (c.loop-start.here == c.last_ahead-stop.result) (sym c.ne.ensures ∙ c.loop-start-test.true)) in
-    let e = sym c.next_inside.ensures ∙ c.unwrap-next.ensures in
-    along-top g c.sound.ensures r c.requires.range c.root-root.result rooted c.last_ahead-stop.result stop c.loop-start.here c.loop-start.tops.items t ne c.unwrap-next.result e c.in_ok-here.here c.append_top.new.tops.items c.in_ok-here.ensures.tops c.in_ok-here.ensures.last
+    let parts = c.in_ok-parts.parts in
+    record { held = subst (λ (ns : List ℕ). AreThere v.tree.forest ns) (sym c.deref-2.ensures.value) (last-held v c.requires.whole r c.requires.range parts.first.items parts.contained.items parts.last.items c.in_ok-parts.ensures) }
 
 pub returns : goal.returns
 returns c =
-    let g = c.args.tree.now in
+    let v = c.args.world.now in
+    let w = unwatched v in
     let r : Range = record { start = c.args.start; end = c.args.end } in
-    let t = c.loop-start.invariant in
-    let rooted = t.told.rooted in
-    let stop = last-ahead g c.root-root.result c.args.end c.last_ahead-stop.result c.last_ahead-stop.ensures.held c.last_ahead-stop.ensures.one_root c.last_ahead-stop.ensures.ahead c.last_ahead-stop.ensures.behind
-    (sym c.requires.range.one_root ∙ rooted) c.requires.range.ends.within in
-    let same = eqb-true c.loop-start.here c.last_ahead-stop.result (not-false (c.loop-start.here == c.last_ahead-stop.result) (sym c.ne.ensures ∙ c.loop-start-test.false)) in
-    along-end g c.sound.ensures r c.requires.range c.root-root.result rooted c.last_ahead-stop.result stop (if_top g.forest r) (tops-contained g r) [] c.loop-start.here c.loop-start.tops.items t same ∙ tops-filtered g.forest r (numbers g.forest)
+    let parts = c.in_ok-parts.parts in
+    let first = c.in_ok-tops.ensures ∙ ap (λ (p : Point). tail_nodes w p.offset c.deref.result.now) c.start.view_is ∙ ap (tail_nodes w c.args.start.offset) c.deref.ensures.value in
+    let last = c.in_ok-last.ensures ∙ ap (λ (p : Point). head_nodes w p.offset c.deref-2.result.now) c.end.view_is ∙ ap (head_nodes w c.args.end.offset) c.deref-2.ensures.value in
+    tops-of_parts v c.requires.whole r c.requires.range parts.first.items parts.contained.items parts.last.items c.append-2.new.self.items c.in_ok-parts.ensures
+    (c.in_ok-append-2.ensures.items
+    ∙ ap (λ ns. ns ++ c.in_ok-last.last.items) (c.in_ok-append.ensures.items ∙ ap (λ ns. ns ++ parts.contained.items) first)
+    ∙ ap (λ ns. (tail_nodes w c.args.start.offset parts.first.items ++ parts.contained.items) ++ ns) last)
