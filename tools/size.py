@@ -23,7 +23,7 @@ STACK = 1 << 20
 
 # How many bytes the program may keep of a number that is never used again: a node's, and a live range's.
 NODE_KEPT = 20
-RANGE_KEPT = 96
+RANGE_KEPT = 20
 
 # How many bytes it may grow by besides, while as much is made as is discarded.
 LEVEL = 1 << 18
