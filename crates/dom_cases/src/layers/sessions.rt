@@ -1,7 +1,8 @@
 //! A session at work, with ample memory.
 
 use dom_session::{Answer, Command, DomError, Limits, NodeId, OwnError, Reply, Session, Units};
-use std::alloc::AllocError;
+use std::alloc::{AllocError, Global};
+use std::process::Abort;
 use std::test::Fail;
 
 const LIMITS: Limits = Limits {
@@ -9,6 +10,17 @@ const LIMITS: Limits = Limits {
     line: 100,
 };
 
+// A session within those limits. What it stands for is left out, so that what a test asks of it stays cheap to prove.
+fn begun(alloc: Global) -> Result<Session, AllocError> {
+    Session::new(alloc, LIMITS)
+}
+
+// The reply to a command.
+fn replied(session: &mut Session, command: Command) -> Result<Reply, AllocError> {
+    session.apply(command).map_err(|_| AllocError)
+}
+
+// What of a reply is asked: a number, an error of the program's own, or one of the standard's.
 fn is_number(reply: &Reply, number: u32) -> bool {
     match reply {
         Reply::Done(Answer::Number(n)) => *n == number,
@@ -30,57 +42,83 @@ fn is_dom(reply: &Reply, error: DomError) -> bool {
     }
 }
 
+// Whether a command is answered by that number.
+fn gives(session: &mut Session, command: Command, number: u32) -> Result<bool, AllocError> {
+    let reply = replied(session, command)?;
+    Ok(is_number(&reply, number))
+}
+
+// Whether a command is refused with that error of the program's own.
+fn has_own(session: &mut Session, command: Command, error: OwnError) -> Result<bool, AllocError> {
+    let reply = replied(session, command)?;
+    Ok(is_own(&reply, error))
+}
+
+// An element of that name.
+fn element(alloc: Global, name: &str) -> Result<Command, AllocError> {
+    let name = String::from_str(alloc, name)?;
+    Ok(Command::CreateElement(NodeId::new(0), name))
+}
+
+// A Text of that data.
+fn text(alloc: Global, data: &str) -> Result<Command, AllocError> {
+    let data = Units::from_str(alloc, data)?;
+    Ok(Command::CreateText(NodeId::new(0), data))
+}
+
+// That a reply has two rows, the second a Text of two units below the first.
+fn has_a_text_below(reply: &Reply) -> bool {
+    match reply {
+        Reply::Done(Answer::Rows(rows)) => {
+            rows.len() == 2 && rows[1].depth == 1 && rows[1].body.text.len() == 2
+        }
+        _ => false,
+    }
+}
+
+// The steps of each test borrow the session, so that no early return has to let go of it.
+fn make_and_print(rt: &impl Abort, alloc: Global, session: &mut Session) -> Result<(), AllocError> {
+    assert!(rt; gives(session, element(alloc, "p")?, 1)?);
+    assert!(rt; gives(session, text(alloc, "hi")?, 2)?);
+    let moved = Command::AppendChild(NodeId::new(1), NodeId::new(2));
+    assert!(rt; gives(session, moved, 2)?);
+    let printed = replied(session, Command::Tree(NodeId::new(1)))?;
+    assert!(rt; has_a_text_below(&printed));
+    Ok(())
+}
+
 #[test]
 fn nodes_are_made_and_printed(rt: HostRuntime) -> Result<(), Fail> {
-    let alloc = rt.alloc();
-    let mut session = Session::new(alloc, LIMITS)?;
-    let document = NodeId::new(0);
-    let name = String::from_str(alloc, "p")?;
-    let made = session
-        .apply(Command::CreateElement(document, name))
-        .map_err(|_| AllocError)?;
-    assert!(rt; is_number(&made, 1));
-    let text = Units::from_str(alloc, "hi")?;
-    let made = session
-        .apply(Command::CreateText(document, text))
-        .map_err(|_| AllocError)?;
-    assert!(rt; is_number(&made, 2));
-    let moved = session
-        .apply(Command::AppendChild(NodeId::new(1), NodeId::new(2)))
-        .map_err(|_| AllocError)?;
-    assert!(rt; is_number(&moved, 2));
-    let printed = session
-        .apply(Command::Tree(NodeId::new(1)))
-        .map_err(|_| AllocError)?;
-    let Reply::Done(Answer::Rows(rows)) = printed else {
-        assert!(rt; false, "no rows");
-        return Ok(());
-    };
-    assert_eq!(rt; rows.len(), 2);
-    assert_eq!(rt; rows[1].depth, 1);
-    assert_eq!(rt; rows[1].body.text.len(), 2);
+    let mut session = begun(rt.alloc())?;
+    make_and_print(&rt, rt.alloc(), &mut session)?;
+    Ok(())
+}
+
+// Whether a command is refused with that error of the standard's.
+fn has_dom(session: &mut Session, command: Command, error: DomError) -> Result<bool, AllocError> {
+    let reply = replied(session, command)?;
+    Ok(is_dom(&reply, error))
+}
+
+fn spend_all_numbers(
+    rt: &impl Abort,
+    alloc: Global,
+    session: &mut Session,
+) -> Result<(), AllocError> {
+    let misnamed = element(alloc, "1a")?;
+    assert!(rt; has_dom(session, misnamed, DomError::InvalidCharacterError)?);
+    let unknown = Command::Tree(NodeId::new(1));
+    assert!(rt; has_own(session, unknown, OwnError::NoSuchObject)?);
+    for number in 1..4u32 {
+        assert!(rt; gives(session, Command::NewDocument, number)?);
+    }
+    assert!(rt; has_own(session, Command::NewDocument, OwnError::Limit)?);
     Ok(())
 }
 
 #[test]
 fn refusals_spend_no_number(rt: HostRuntime) -> Result<(), Fail> {
-    let alloc = rt.alloc();
-    let mut session = Session::new(alloc, LIMITS)?;
-    let document = NodeId::new(0);
-    let bad = String::from_str(alloc, "1a")?;
-    let refused = session
-        .apply(Command::CreateElement(document, bad))
-        .map_err(|_| AllocError)?;
-    assert!(rt; is_dom(&refused, DomError::InvalidCharacterError));
-    let refused = session
-        .apply(Command::Tree(NodeId::new(1)))
-        .map_err(|_| AllocError)?;
-    assert!(rt; is_own(&refused, OwnError::NoSuchObject));
-    for number in 1..4u32 {
-        let made = session.apply(Command::NewDocument).map_err(|_| AllocError)?;
-        assert!(rt; is_number(&made, number));
-    }
-    let refused = session.apply(Command::NewDocument).map_err(|_| AllocError)?;
-    assert!(rt; is_own(&refused, OwnError::Limit));
+    let mut session = begun(rt.alloc())?;
+    spend_all_numbers(&rt, rt.alloc(), &mut session)?;
     Ok(())
 }
