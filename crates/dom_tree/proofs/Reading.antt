@@ -39,46 +39,46 @@ module _ {X : Type 0} {a : Arena (Node X)} (l : IsSound a) where
       (hits-before None s (siblings_in (entry_at a) s) x (sym e ∙ h))
 
 module _ {X : Type 0} {a : Arena (Node X)} {table : List (Option ℕ)} {live : ℕ} (k : IsKept a table live) {w : Grove X} (v : record { forest = shown a table; made = length table } ≡ w) where
-  pub slot-held : (n : ℕ) → HasNode w.forest n → (t : List (Option ℕ)) → t ≡ table → IsSome (slot_in t n)
-  slot-held n h t e = rw e (slot-node k n (subst (λ (g : Grove X). HasNode g.forest n) (sym v) h))
+  pub slot-held : (n : ℕ) → HasNode w.forest n → IsSome (slot_in table n)
+  slot-held n h = slot-node k n (subst (λ (g : Grove X). HasNode g.forest n) (sym v) h)
 
-  pub slot-of_child : (n : ℕ) → IsSome (parent_of w.forest n) → (t : List (Option ℕ)) → t ≡ table → IsSome (slot_in t n)
-  slot-of_child n h t e = rw e (slot-parent k n (subst (λ (g : Grove X). IsSome (parent_of g.forest n)) (sym v) h))
+  pub slot-of_child : (n : ℕ) → IsSome (parent_of w.forest n) → IsSome (slot_in table n)
+  slot-of_child n h = slot-parent k n (subst (λ (g : Grove X). IsSome (parent_of g.forest n)) (sym v) h)
 
-  pub value-read : {B : Type 0} (p : Node X → B) (n s : ℕ) (t : List (Option ℕ)) → t ≡ table → slot_in t n ≡ Some s → (x y : Node X) → y ≡ x → IfSome (entry_at a s) (λ e. x ≡ e.value) → IfSome (entry_in w.forest n) (λ e. p y ≡ p e.value)
-  value-read p n s t e i x y yx h =
-      subst (λ (o : Option (Entry (Node X))). IfSome o (λ e. p y ≡ p e.value)) (sym (entry-slot k n s (ap (λ u. slot_in u n) (sym e) ∙ i)) ∙ ap (λ (g : Grove X). entry_in g.forest n) v) (go (entry_at a s) h)
+  pub value-read : {B : Type 0} (p : Node X → B) (n s : ℕ) → slot_in table n ≡ Some s → (x y : Node X) → y ≡ x → IfSome (entry_at a s) (λ e. x ≡ e.value) → IfSome (entry_in w.forest n) (λ e. p y ≡ p e.value)
+  value-read p n s i x y yx h =
+      subst (λ (o : Option (Entry (Node X))). IfSome o (λ e. p y ≡ p e.value)) (sym (entry-slot k n s i) ∙ ap (λ (g : Grove X). entry_in g.forest n) v) (go (entry_at a s) h)
     where
       go : (o : Option (Entry (Node X))) → IfSome o (λ e. x ≡ e.value) → IfSome (option_map (renumbered (entry_at a)) o) (λ e. p y ≡ p e.value)
       go None z = tt
       go (Some e) z = ap p (yx ∙ z)
 
-  pub parent-read : (n s : ℕ) (t : List (Option ℕ)) (o r : Option ℕ) → t ≡ table → slot_in t n ≡ Some s → o ≡ parent_in (entry_at a s) → r ≡ option_map (number_at (entry_at a)) o → r ≡ parent_of w.forest n
-  parent-read n s t o r e i h j =
-      j ∙ ap (option_map (number_at (entry_at a))) h ∙ sym (parent-slot k n s (ap (λ u. slot_in u n) (sym e) ∙ i)) ∙ ap (λ (g : Grove X). parent_of g.forest n) v
+  pub parent-read : (n s : ℕ) (o r : Option ℕ) → slot_in table n ≡ Some s → o ≡ parent_in (entry_at a s) → r ≡ option_map (number_at (entry_at a)) o → r ≡ parent_of w.forest n
+  parent-read n s o r i h j =
+      j ∙ ap (option_map (number_at (entry_at a))) h ∙ sym (parent-slot k n s i) ∙ ap (λ (g : Grove X). parent_of g.forest n) v
 
-  pub children-read : (n s : ℕ) (t : List (Option ℕ)) → t ≡ table → slot_in t n ≡ Some s → map (number_at (entry_at a)) (children_in (entry_at a s)) ≡ children_of w.forest n
-  children-read n s t e i = sym (children-slot k n s (ap (λ u. slot_in u n) (sym e) ∙ i)) ∙ ap (λ (g : Grove X). children_of g.forest n) v
+  pub children-read : (n s : ℕ) → slot_in table n ≡ Some s → map (number_at (entry_at a)) (children_in (entry_at a s)) ≡ children_of w.forest n
+  children-read n s i = sym (children-slot k n s i) ∙ ap (λ (g : Grove X). children_of g.forest n) v
 
-  pub first-read : (n s : ℕ) (t : List (Option ℕ)) (o r : Option ℕ) → t ≡ table → slot_in t n ≡ Some s → o ≡ head_of (children_in (entry_at a s)) → r ≡ option_map (number_at (entry_at a)) o → r ≡ head_of (children_of w.forest n)
-  first-read n s t o r e i h j =
-      j ∙ ap (option_map (number_at (entry_at a))) h ∙ sym (head_of-map (number_at (entry_at a)) (children_in (entry_at a s))) ∙ ap head_of (children-read n s t e i)
+  pub first-read : (n s : ℕ) (o r : Option ℕ) → slot_in table n ≡ Some s → o ≡ head_of (children_in (entry_at a s)) → r ≡ option_map (number_at (entry_at a)) o → r ≡ head_of (children_of w.forest n)
+  first-read n s o r i h j =
+      j ∙ ap (option_map (number_at (entry_at a))) h ∙ sym (head_of-map (number_at (entry_at a)) (children_in (entry_at a s))) ∙ ap head_of (children-read n s i)
 
-  pub last-read : (n s : ℕ) (t : List (Option ℕ)) (o r : Option ℕ) → t ≡ table → slot_in t n ≡ Some s → o ≡ last_of (children_in (entry_at a s)) → r ≡ option_map (number_at (entry_at a)) o → r ≡ last_of (children_of w.forest n)
-  last-read n s t o r e i h j =
-      j ∙ ap (option_map (number_at (entry_at a))) h ∙ sym (last_of-map (number_at (entry_at a)) (children_in (entry_at a s))) ∙ ap last_of (children-read n s t e i)
+  pub last-read : (n s : ℕ) (o r : Option ℕ) → slot_in table n ≡ Some s → o ≡ last_of (children_in (entry_at a s)) → r ≡ option_map (number_at (entry_at a)) o → r ≡ last_of (children_of w.forest n)
+  last-read n s o r i h j =
+      j ∙ ap (option_map (number_at (entry_at a))) h ∙ sym (last_of-map (number_at (entry_at a)) (children_in (entry_at a s))) ∙ ap last_of (children-read n s i)
 
-  pub count-read : (n s : ℕ) (t : List (Option ℕ)) (r : ℕ) → t ≡ table → slot_in t n ≡ Some s → r ≡ length (children_in (entry_at a s)) → r ≡ length (children_of w.forest n)
-  count-read n s t r e i h =
-      h ∙ sym (length-map (children_in (entry_at a s)) (number_at (entry_at a))) ∙ ap length (children-read n s t e i)
+  pub count-read : (n s : ℕ) (r : ℕ) → slot_in table n ≡ Some s → r ≡ length (children_in (entry_at a s)) → r ≡ length (children_of w.forest n)
+  count-read n s r i h =
+      h ∙ sym (length-map (children_in (entry_at a s)) (number_at (entry_at a))) ∙ ap length (children-read n s i)
 
-  pub next-read : IsSound a → (n s : ℕ) (t : List (Option ℕ)) (o r : Option ℕ) → t ≡ table → slot_in t n ≡ Some s → o ≡ next_in (entry_at a) s → r ≡ option_map (number_at (entry_at a)) o → r ≡ next_of w.forest n
-  next-read l n s t o r e i h j =
-      j ∙ ap (option_map (number_at (entry_at a))) h ∙ sym (next-slot k l n s (ap (λ u. slot_in u n) (sym e) ∙ i)) ∙ ap (λ (g : Grove X). next_of g.forest n) v
+  pub next-read : IsSound a → (n s : ℕ) (o r : Option ℕ) → slot_in table n ≡ Some s → o ≡ next_in (entry_at a) s → r ≡ option_map (number_at (entry_at a)) o → r ≡ next_of w.forest n
+  next-read l n s o r i h j =
+      j ∙ ap (option_map (number_at (entry_at a))) h ∙ sym (next-slot k l n s i) ∙ ap (λ (g : Grove X). next_of g.forest n) v
 
-  pub previous-read : IsSound a → (n s : ℕ) (t : List (Option ℕ)) (o r : Option ℕ) → t ≡ table → slot_in t n ≡ Some s → o ≡ previous_in (entry_at a) s → r ≡ option_map (number_at (entry_at a)) o → r ≡ previous_of w.forest n
-  previous-read l n s t o r e i h j =
-      j ∙ ap (option_map (number_at (entry_at a))) h ∙ sym (previous-slot k l n s (ap (λ u. slot_in u n) (sym e) ∙ i)) ∙ ap (λ (g : Grove X). previous_of g.forest n) v
+  pub previous-read : IsSound a → (n s : ℕ) (o r : Option ℕ) → slot_in table n ≡ Some s → o ≡ previous_in (entry_at a) s → r ≡ option_map (number_at (entry_at a)) o → r ≡ previous_of w.forest n
+  previous-read l n s o r i h j =
+      j ∙ ap (option_map (number_at (entry_at a))) h ∙ sym (previous-slot k l n s i) ∙ ap (λ (g : Grove X). previous_of g.forest n) v
 
   pub holds-read : (n : ℕ) → is_some (slot_in table n) ≡ is_some (entry_in w.forest n)
   holds-read n =
@@ -112,22 +112,21 @@ module _ {X : Type 0} {a : Arena (Node X)} {table : List (Option ℕ)} {live : �
   pub keeps-shown : {a' : Arena (Node X)} (change : Forest X → Forest X) → Keeps a' table live (change (shown a table)) → ◌≡◌ {A = Grove X} (record { forest = shown a' table; made = length table }) (record { forest = change w.forest; made = w.made })
   keeps-shown {a'} change h = changed-shown a' change h.same
 
-  pub parent-there : (n s : ℕ) (t : List (Option ℕ)) → t ≡ table → slot_in t n ≡ Some s → IsSome (parent_of w.forest n) → IsSome (parent_in (entry_at a s))
-  parent-there n s t e i h =
+  pub parent-there : (n s : ℕ) → slot_in table n ≡ Some s → IsSome (parent_of w.forest n) → IsSome (parent_in (entry_at a s))
+  parent-there n s i h =
       let j : IsSome (parent_of (shown a table) n) = subst (λ (g : Grove X). IsSome (parent_of g.forest n)) (sym v) h in
-      let d = parent-slot k n s (ap (λ u. slot_in u n) (sym e) ∙ i) in
+      let d = parent-slot k n s i in
       option_map-some (number_at (entry_at a)) (parent_in (entry_at a s)) (let j2 = rw d at j in j2)
 
-  pub parent-none : (n s : ℕ) (t : List (Option ℕ)) → t ≡ table → slot_in t n ≡ Some s → parent_of w.forest n ≡ None → parent_in (entry_at a s) ≡ None
-  parent-none n s t e i h =
-      option_map-none (number_at (entry_at a)) (parent_in (entry_at a s)) (sym (parent-slot k n s (ap (λ u. slot_in u n) (sym e) ∙ i)) ∙ ap (λ (g : Grove X). parent_of g.forest n) v ∙ h)
+  pub parent-none : (n s : ℕ) → slot_in table n ≡ Some s → parent_of w.forest n ≡ None → parent_in (entry_at a s) ≡ None
+  parent-none n s i h =
+      option_map-none (number_at (entry_at a)) (parent_in (entry_at a s)) (sym (parent-slot k n s i) ∙ ap (λ (g : Grove X). parent_of g.forest n) v ∙ h)
 
   -- the slot before which a child goes stands under the parent's slot
-  pub parent-same : IsSound a → (nb : Option ℕ) (np sp : ℕ) (sb : Option ℕ) (t u : List (Option ℕ)) → t ≡ table → u ≡ table → slot_in t np ≡ Some sp → slot_for u nb ≡ sb → ForSome nb (λ b. parent_of w.forest b ≡ Some np) → (x : ℕ) → sb ≡ Some x → parent_in (entry_at a x) ≡ Some sp
-  parent-same l None np sp sb t u e eu ep eb h x d = absurd (let z : None ≡ Some x = eb ∙ d in cc z)
-  parent-same l (Some n) np sp sb t u e eu ep eb h x d =
-      let i : slot_in table n ≡ Some x = ap (λ r. slot_in r n) (sym eu) ∙ eb ∙ d in
-      let ip : slot_in table np ≡ Some sp = ap (λ r. slot_in r np) (sym e) ∙ ep in
+  pub parent-same : IsSound a → (nb : Option ℕ) (np sp : ℕ) (sb : Option ℕ) → slot_in table np ≡ Some sp → slot_for table nb ≡ sb → ForSome nb (λ b. parent_of w.forest b ≡ Some np) → (x : ℕ) → sb ≡ Some x → parent_in (entry_at a x) ≡ Some sp
+  parent-same l None np sp sb ep eb h x d = absurd (let z : None ≡ Some x = eb ∙ d in cc z)
+  parent-same l (Some n) np sp sb ep eb h x d =
+      let i : slot_in table n ≡ Some x = eb ∙ d in
       let j : option_map (number_at (entry_at a)) (parent_in (entry_at a x)) ≡ Some np = sym (parent-slot k n x i) ∙ ap (λ (g : Grove X). parent_of g.forest n) v ∙ h n refl in
       elim (seen (parent_in (entry_at a x))) [
         | nothing z ↦ absurd (let j2 = rw z at j in cc j2)
@@ -135,47 +134,45 @@ module _ {X : Type 0} {a : Arena (Node X)} {table : List (Option ℕ)} {live : �
             let j2 = rw z at j in
             let m : number_at (entry_at a) q ≡ np = cc j2 in
             let hq = parent-held (entry_at a) l.linked x q z in
-            let hp = k.tabled.named np sp ip in
+            let hp = k.tabled.named np sp ep in
             z ∙ ap Some (one_slot (entry_at a) (slot_in table) k.tabled q sp hq hp.0 (m ∙ sym hp.1))
       ]
 
-  pub slots-held : (nb : Option ℕ) (t : List (Option ℕ)) → t ≡ table → (p : ℕ) → ForSome nb (λ b. parent_of w.forest b ≡ Some p) → (n : ℕ) → nb ≡ Some n → IsSome (slot_in t n)
-  slots-held nb t e p h n d = slot-of_child n (rw (h n d) refl) t e
+  pub slots-held : (nb : Option ℕ) (p : ℕ) → ForSome nb (λ b. parent_of w.forest b ≡ Some p) → (n : ℕ) → nb ≡ Some n → IsSome (slot_in table n)
+  slots-held nb p h n d = slot-of_child n (rw (h n d) refl)
 
-  pub no_cycle-slots : IsSound a → (np sp nc sc : ℕ) (t u : List (Option ℕ)) → t ≡ table → u ≡ table → slot_in t np ≡ Some sp → slot_in u nc ≡ Some sc → among nc (ancestors np w.forest) ≡ false → StandsUnder (entry_at a) sc sp → ⊥
-  no_cycle-slots l np sp nc sc t u e eu ep ec h st =
-      let i : slot_in table np ≡ Some sp = ap (λ r. slot_in r np) (sym e) ∙ ep in
-      let j : slot_in table nc ≡ Some sc = ap (λ r. slot_in r nc) (sym eu) ∙ ec in
-      let m = stands-among k l sc sp st np nc i j in
+  pub no_cycle-slots : IsSound a → (np sp nc sc : ℕ) → slot_in table np ≡ Some sp → slot_in table nc ≡ Some sc → among nc (ancestors np w.forest) ≡ false → StandsUnder (entry_at a) sc sp → ⊥
+  no_cycle-slots l np sp nc sc ep ec h st =
+      let m = stands-among k l sc sp st np nc ep ec in
       let z : hits nc (ancestors np (shown a table)) ≡ 0 = not_among-hits nc (ancestors np (shown a table)) (ap (λ (g : Grove X). among nc (ancestors np g.forest)) v ∙ h) in
       omega arith
 
-  pub cut-done : IsSound a → (n s : ℕ) (t : List (Option ℕ)) → t ≡ table → slot_in t n ≡ Some s → IsSome (parent_of w.forest n) → (a' : Arena (Node X)) → a' ≡ unlinked a s → Keeps a' table live (cut n (shown a table))
-  cut-done l n s t e i h a' ea = rw ea (cut-kept k l n s (ap (λ u. slot_in u n) (sym e) ∙ i) (parent-there n s t e i h))
+  pub cut-done : IsSound a → (n s : ℕ) → slot_in table n ≡ Some s → IsSome (parent_of w.forest n) → (a' : Arena (Node X)) → a' ≡ unlinked a s → Keeps a' table live (cut n (shown a table))
+  cut-done l n s i h a' ea = rw ea (cut-kept k l n s i (parent-there n s i h))
 
-  pub put-done : IsSound a → (np sp nc sc : ℕ) (nb sb : Option ℕ) (t u r : List (Option ℕ)) → t ≡ table → u ≡ table → r ≡ table → slot_in t np ≡ Some sp → slot_in u nc ≡ Some sc → slot_for r nb ≡ sb → parent_of w.forest nc ≡ None → among nc (ancestors np w.forest) ≡ false → ForSome nb (λ b. parent_of w.forest b ≡ Some np) → MayStand w.forest np nc → (a' : Arena (Node X)) → a' ≡ linked a sp sc sb → Keeps a' table live (put np nc nb (shown a table))
-  put-done l np sp nc sc nb sb t u r e eu er ep ec eb root cy under may a' ea =
-      rw ea (put-kept k l np sp nc sc nb sb (ap (λ y. slot_in y np) (sym e) ∙ ep) (ap (λ y. slot_in y nc) (sym eu) ∙ ec) (ap (λ y. slot_for y nb) (sym er) ∙ eb)
-      (λ n d. slots-held nb table refl np under n d)
-      (parent-none nc sc u eu ec root)
+  pub put-done : IsSound a → (np sp nc sc : ℕ) (nb sb : Option ℕ) → slot_in table np ≡ Some sp → slot_in table nc ≡ Some sc → slot_for table nb ≡ sb → parent_of w.forest nc ≡ None → among nc (ancestors np w.forest) ≡ false → ForSome nb (λ b. parent_of w.forest b ≡ Some np) → MayStand w.forest np nc → (a' : Arena (Node X)) → a' ≡ linked a sp sc sb → Keeps a' table live (put np nc nb (shown a table))
+  put-done l np sp nc sc nb sb ep ec eb root cy under may a' ea =
+      rw ea (put-kept k l np sp nc sc nb sb ep ec eb
+      (λ n d. slots-held nb np under n d)
+      (parent-none nc sc ec root)
       (ap (λ (g : Grove X). among nc (ancestors np g.forest)) v ∙ cy)
       (subst (λ (g : Grove X). MayStand g.forest np nc) (sym v) may))
 
   -- a node written to its slot, with the number and the label that stood there
-  pub write-done : (n s : ℕ) (t : List (Option ℕ)) → t ≡ table → slot_in t n ≡ Some s → (x y z : Node X) (h : Node X → Node X) → ((q : Node X) → (h q).number ≡ q.number) → ((q : Node X) → (h q).label ≡ q.label) → y ≡ x → z ≡ h y → IfSome (entry_at a s) (λ e. x ≡ e.value) → Keeps (altered (with_value z) a s) table live (with_node n h (shown a table))
-  write-done n s t e i x y z h hn hl yx zh j =
-      write-kept k n s h hn hl z (ap (λ u. slot_in u n) (sym e) ∙ i) (go (entry_at a s) j)
+  pub write-done : (n s : ℕ) → slot_in table n ≡ Some s → (x y z : Node X) (h : Node X → Node X) → ((q : Node X) → (h q).number ≡ q.number) → ((q : Node X) → (h q).label ≡ q.label) → y ≡ x → z ≡ h y → IfSome (entry_at a s) (λ e. x ≡ e.value) → Keeps (altered (with_value z) a s) table live (with_node n h (shown a table))
+  write-done n s i x y z h hn hl yx zh j =
+      write-kept k n s h hn hl z i (go (entry_at a s) j)
     where
       go : (o : Option (Entry (Node X))) → IfSome o (λ e. x ≡ e.value) → IfSome o (λ e. z ≡ h e.value)
       go None q = tt
       go (Some d) q = zh ∙ ap h (yx ∙ q)
 
-  pub alter-done : (n s : ℕ) (t : List (Option ℕ)) → t ≡ table → slot_in t n ≡ Some s → (h : Node X → Node X) → ((q : Node X) → (h q).number ≡ q.number) → ((q : Node X) → (h q).label ≡ q.label) → Keeps (altered (λ (e : Entry (Node X)). with_value (h e.value) e) a s) table live (with_node n h (shown a table))
-  alter-done n s t e i h hn hl = alter-kept k n s h hn hl (ap (λ u. slot_in u n) (sym e) ∙ i)
+  pub alter-done : (n s : ℕ) → slot_in table n ≡ Some s → (h : Node X → Node X) → ((q : Node X) → (h q).number ≡ q.number) → ((q : Node X) → (h q).label ≡ q.label) → Keeps (altered (λ (e : Entry (Node X)). with_value (h e.value) e) a s) table live (with_node n h (shown a table))
+  alter-done n s i h hn hl = alter-kept k n s h hn hl i
 
-  pub part-read : {B : Type 0} (p : Node X → B) (n s : ℕ) (t : List (Option ℕ)) → t ≡ table → slot_in t n ≡ Some s → (b : B) → IfSome (entry_at a s) (λ e. b ≡ p e.value) → IfSome (entry_in w.forest n) (λ e. b ≡ p e.value)
-  part-read p n s t e i b h =
-      subst (λ (o : Option (Entry (Node X))). IfSome o (λ e. b ≡ p e.value)) (sym (entry-slot k n s (ap (λ u. slot_in u n) (sym e) ∙ i)) ∙ ap (λ (g : Grove X). entry_in g.forest n) v) (go (entry_at a s) h)
+  pub part-read : {B : Type 0} (p : Node X → B) (n s : ℕ) → slot_in table n ≡ Some s → (b : B) → IfSome (entry_at a s) (λ e. b ≡ p e.value) → IfSome (entry_in w.forest n) (λ e. b ≡ p e.value)
+  part-read p n s i b h =
+      subst (λ (o : Option (Entry (Node X))). IfSome o (λ e. b ≡ p e.value)) (sym (entry-slot k n s i) ∙ ap (λ (g : Grove X). entry_in g.forest n) v) (go (entry_at a s) h)
     where
       go : (o : Option (Entry (Node X))) → IfSome o (λ e. b ≡ p e.value) → IfSome (option_map (renumbered (entry_at a)) o) (λ e. b ≡ p e.value)
       go None z = tt

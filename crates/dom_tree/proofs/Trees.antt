@@ -97,18 +97,18 @@ module _ {X : Type 0} where
       go (Some p) = assured-nodes a p _
 
 module _ {X : Type 0} {a : Arena (Kept X)} {table : List (Option ℕ)} {live : ℕ} (k : IsTree a table live) {w : Grove X} (v : record { forest = shown (nodes_of a) table; made = length table } ≡ w) where
-  pub slot-held : (n : ℕ) → HasNode w.forest n → (t : List (Option ℕ)) → t ≡ table → IsSome (slot_in t n)
+  pub slot-held : (n : ℕ) → HasNode w.forest n → IsSome (slot_in table n)
   slot-held = reading.slot-held k.kept v
 
-  pub slot-of_child : (n : ℕ) → IsSome (parent_of w.forest n) → (t : List (Option ℕ)) → t ≡ table → IsSome (slot_in t n)
+  pub slot-of_child : (n : ℕ) → IsSome (parent_of w.forest n) → IsSome (slot_in table n)
   slot-of_child = reading.slot-of_child k.kept v
 
-  pub slots-held : (nb : Option ℕ) (t : List (Option ℕ)) → t ≡ table → (p : ℕ) → ForSome nb (λ b. parent_of w.forest b ≡ Some p) → (n : ℕ) → nb ≡ Some n → IsSome (slot_in t n)
+  pub slots-held : (nb : Option ℕ) (p : ℕ) → ForSome nb (λ b. parent_of w.forest b ≡ Some p) → (n : ℕ) → nb ≡ Some n → IsSome (slot_in table n)
   slots-held = reading.slots-held k.kept v
 
   -- a slot of the table is held
-  pub held-slot : (n s : ℕ) (t : List (Option ℕ)) → t ≡ table → slot_in t n ≡ Some s → IsHeld a s
-  held-slot n s t e i = held-back a s (k.kept.tabled.named n s (ap (λ u. slot_in u n) (sym e) ∙ i)).0
+  pub held-slot : (n s : ℕ) → slot_in table n ≡ Some s → IsHeld a s
+  held-slot n s i = held-back a s (k.kept.tabled.named n s i).0
 
   -- a parent that is named is held
   pub parents-held : IsSound a → (s : ℕ) → (p : ℕ) → parent_in (entry_at a s) ≡ Some p → IsHeld a p
@@ -121,46 +121,46 @@ module _ {X : Type 0} {a : Arena (Kept X)} {table : List (Option ℕ)} {live : �
       go None i = tt
       go (Some e) i = i
 
-  pub value-read : {B : Type 0} (p : Node X → B) (n s : ℕ) (t : List (Option ℕ)) → t ≡ table → slot_in t n ≡ Some s → (x y : Kept X) → y ≡ x → IfSome (entry_at a s) (λ e. x ≡ e.value) → IfSome (entry_in w.forest n) (λ e. p y.node ≡ p e.value)
-  value-read p n s t e i x y yx h =
-      reading.value-read k.kept v p n s t e i x.node y.node (ap (λ (q : Kept X). q.node) yx) (nodes-some (λ q. x.node ≡ q) s (go (entry_at a s) h))
+  pub value-read : {B : Type 0} (p : Node X → B) (n s : ℕ) → slot_in table n ≡ Some s → (x y : Kept X) → y ≡ x → IfSome (entry_at a s) (λ e. x ≡ e.value) → IfSome (entry_in w.forest n) (λ e. p y.node ≡ p e.value)
+  value-read p n s i x y yx h =
+      reading.value-read k.kept v p n s i x.node y.node (ap (λ (q : Kept X). q.node) yx) (nodes-some (λ q. x.node ≡ q) s (go (entry_at a s) h))
     where
       go : (o : Option (Entry (Kept X))) → IfSome o (λ e. x ≡ e.value) → IfSome o (λ e. x.node ≡ e.value.node)
       go None j = tt
       go (Some d) j = ap (λ (q : Kept X). q.node) j
 
-  pub part-read : {B : Type 0} (p : Node X → B) (n s : ℕ) (t : List (Option ℕ)) → t ≡ table → slot_in t n ≡ Some s → (b : B) → IfSome (entry_at a s) (λ e. b ≡ p e.value.node) → IfSome (entry_in w.forest n) (λ e. b ≡ p e.value)
-  part-read p n s t e i b h = reading.part-read k.kept v p n s t e i b (nodes-some (λ q. b ≡ p q) s h)
+  pub part-read : {B : Type 0} (p : Node X → B) (n s : ℕ) → slot_in table n ≡ Some s → (b : B) → IfSome (entry_at a s) (λ e. b ≡ p e.value.node) → IfSome (entry_in w.forest n) (λ e. b ≡ p e.value)
+  part-read p n s i b h = reading.part-read k.kept v p n s i b (nodes-some (λ q. b ≡ p q) s h)
 
-  pub parent-read : (n s : ℕ) (t : List (Option ℕ)) (o r : Option ℕ) → t ≡ table → slot_in t n ≡ Some s → o ≡ parent_in (entry_at a s) → r ≡ option_map (number_at (entry_at (nodes_of a))) o → r ≡ parent_of w.forest n
-  parent-read n s t o r e i h = reading.parent-read k.kept v n s t o r e i (h ∙ sym (parent-nodes a s))
+  pub parent-read : (n s : ℕ) (o r : Option ℕ) → slot_in table n ≡ Some s → o ≡ parent_in (entry_at a s) → r ≡ option_map (number_at (entry_at (nodes_of a))) o → r ≡ parent_of w.forest n
+  parent-read n s o r i h = reading.parent-read k.kept v n s o r i (h ∙ sym (parent-nodes a s))
 
-  pub first-read : (n s : ℕ) (t : List (Option ℕ)) (o r : Option ℕ) → t ≡ table → slot_in t n ≡ Some s → o ≡ head_of (children_in (entry_at a s)) → r ≡ option_map (number_at (entry_at (nodes_of a))) o → r ≡ head_of (children_of w.forest n)
-  first-read n s t o r e i h = reading.first-read k.kept v n s t o r e i (h ∙ ap head_of (sym (children-nodes a s)))
+  pub first-read : (n s : ℕ) (o r : Option ℕ) → slot_in table n ≡ Some s → o ≡ head_of (children_in (entry_at a s)) → r ≡ option_map (number_at (entry_at (nodes_of a))) o → r ≡ head_of (children_of w.forest n)
+  first-read n s o r i h = reading.first-read k.kept v n s o r i (h ∙ ap head_of (sym (children-nodes a s)))
 
-  pub last-read : (n s : ℕ) (t : List (Option ℕ)) (o r : Option ℕ) → t ≡ table → slot_in t n ≡ Some s → o ≡ last_of (children_in (entry_at a s)) → r ≡ option_map (number_at (entry_at (nodes_of a))) o → r ≡ last_of (children_of w.forest n)
-  last-read n s t o r e i h = reading.last-read k.kept v n s t o r e i (h ∙ ap last_of (sym (children-nodes a s)))
+  pub last-read : (n s : ℕ) (o r : Option ℕ) → slot_in table n ≡ Some s → o ≡ last_of (children_in (entry_at a s)) → r ≡ option_map (number_at (entry_at (nodes_of a))) o → r ≡ last_of (children_of w.forest n)
+  last-read n s o r i h = reading.last-read k.kept v n s o r i (h ∙ ap last_of (sym (children-nodes a s)))
 
-  pub count-read : (n s : ℕ) (t : List (Option ℕ)) (r : ℕ) → t ≡ table → slot_in t n ≡ Some s → r ≡ length (children_in (entry_at a s)) → r ≡ length (children_of w.forest n)
-  count-read n s t r e i h = reading.count-read k.kept v n s t r e i (h ∙ ap length (sym (children-nodes a s)))
+  pub count-read : (n s : ℕ) (r : ℕ) → slot_in table n ≡ Some s → r ≡ length (children_in (entry_at a s)) → r ≡ length (children_of w.forest n)
+  count-read n s r i h = reading.count-read k.kept v n s r i (h ∙ ap length (sym (children-nodes a s)))
 
-  pub next-read : IsSound a → (n s : ℕ) (t : List (Option ℕ)) (o r : Option ℕ) → t ≡ table → slot_in t n ≡ Some s → o ≡ next_in (entry_at a) s → r ≡ option_map (number_at (entry_at (nodes_of a))) o → r ≡ next_of w.forest n
-  next-read l n s t o r e i h = reading.next-read k.kept v (sound-nodes l) n s t o r e i (h ∙ sym (next-nodes a s))
+  pub next-read : IsSound a → (n s : ℕ) (o r : Option ℕ) → slot_in table n ≡ Some s → o ≡ next_in (entry_at a) s → r ≡ option_map (number_at (entry_at (nodes_of a))) o → r ≡ next_of w.forest n
+  next-read l n s o r i h = reading.next-read k.kept v (sound-nodes l) n s o r i (h ∙ sym (next-nodes a s))
 
-  pub previous-read : IsSound a → (n s : ℕ) (t : List (Option ℕ)) (o r : Option ℕ) → t ≡ table → slot_in t n ≡ Some s → o ≡ previous_in (entry_at a) s → r ≡ option_map (number_at (entry_at (nodes_of a))) o → r ≡ previous_of w.forest n
-  previous-read l n s t o r e i h = reading.previous-read k.kept v (sound-nodes l) n s t o r e i (h ∙ sym (previous-nodes a s))
+  pub previous-read : IsSound a → (n s : ℕ) (o r : Option ℕ) → slot_in table n ≡ Some s → o ≡ previous_in (entry_at a) s → r ≡ option_map (number_at (entry_at (nodes_of a))) o → r ≡ previous_of w.forest n
+  previous-read l n s o r i h = reading.previous-read k.kept v (sound-nodes l) n s o r i (h ∙ sym (previous-nodes a s))
 
-  index-slots : IsSound a → (n s : ℕ) (t : List (Option ℕ)) → t ≡ table → slot_in t n ≡ Some s → index_of w.forest n ≡ place_in s (siblings_in (entry_at a) s)
-  index-slots l n s t e i =
-      ap (λ (g : Grove X). index_of g.forest n) (sym v) ∙ index-slot k.kept (sound-nodes l) n s (ap (λ u. slot_in u n) (sym e) ∙ i) ∙ ap (place_in s) (siblings-nodes a s)
+  index-slots : IsSound a → (n s : ℕ) → slot_in table n ≡ Some s → index_of w.forest n ≡ place_in s (siblings_in (entry_at a) s)
+  index-slots l n s i =
+      ap (λ (g : Grove X). index_of g.forest n) (sym v) ∙ index-slot k.kept (sound-nodes l) n s i ∙ ap (place_in s) (siblings-nodes a s)
 
   -- a kept index below the parent's count is right
-  pub kept-read : IsSound a → (n s p : ℕ) (t : List (Option ℕ)) → t ≡ table → slot_in t n ≡ Some s → parent_in (entry_at a s) ≡ Some p → (x y z u : Kept X) → z ≡ x → u ≡ y → IfSome (entry_at a s) (λ e. x ≡ e.value) → IfSome (entry_at a p) (λ e. y ≡ e.value) → z.index < u.sure → z.index ≡ index_of w.forest n
-  kept-read l n s p t e i ep x y z u zx uy hx hy lt =
+  pub kept-read : IsSound a → (n s p : ℕ) → slot_in table n ≡ Some s → parent_in (entry_at a s) ≡ Some p → (x y z u : Kept X) → z ≡ x → u ≡ y → IfSome (entry_at a s) (λ e. x ≡ e.value) → IfSome (entry_at a p) (λ e. y ≡ e.value) → z.index < u.sure → z.index ≡ index_of w.forest n
+  kept-read l n s p i ep x y z u zx uy hx hy lt =
       let listed : 0 < hits s (children_in (entry_at a p)) = omega (arith, l.linked p s, ap (λ o. names o p) ep, names-itself p) in
       let c = k.counted p s listed in
-      let place : index_of w.forest n ≡ place_in s (children_in (entry_at a p)) = index-slots l n s t e i ∙ ap (λ o. place_in s (list_under (entry_at a) o)) ep in
-      let zi : z.index ≡ index_in (entry_at a s) = ap (λ (q : Kept X). q.index) zx ∙ index_is (entry_at a s) (held-slot n s t e i) hx in
+      let place : index_of w.forest n ≡ place_in s (children_in (entry_at a p)) = index-slots l n s i ∙ ap (λ o. place_in s (list_under (entry_at a) o)) ep in
+      let zi : z.index ≡ index_in (entry_at a s) = ap (λ (q : Kept X). q.index) zx ∙ index_is (entry_at a s) (held-slot n s i) hx in
       let us : u.sure ≡ sure_in (entry_at a p) = ap (λ (q : Kept X). q.sure) uy ∙ sure_is (entry_at a p) (parents-held l s p ep) hy in
       omega (arith, place, c, zi, us, lt)
     where
@@ -188,19 +188,19 @@ module _ {X : Type 0} {a : Arena (Kept X)} {table : List (Option ℕ)} {live : �
   pub keeps-shown : {a' : Arena (Kept X)} (change : Forest X → Forest X) → Stays a' table live (change (shown (nodes_of a) table)) → ◌≡◌ {A = Grove X} (record { forest = shown (nodes_of a') table; made = length table }) (record { forest = change w.forest; made = w.made })
   keeps-shown {a'} change h = changed-shown a' change h.same
 
-  pub parent-there : (n s : ℕ) (t : List (Option ℕ)) → t ≡ table → slot_in t n ≡ Some s → IsSome (parent_of w.forest n) → IsSome (parent_in (entry_at a s))
-  parent-there n s t e i h = (let j = reading.parent-there k.kept v n s t e i h in subst IsSome (parent-nodes a s) j)
+  pub parent-there : (n s : ℕ) → slot_in table n ≡ Some s → IsSome (parent_of w.forest n) → IsSome (parent_in (entry_at a s))
+  parent-there n s i h = (let j = reading.parent-there k.kept v n s i h in subst IsSome (parent-nodes a s) j)
 
-  pub parent-none : (n s : ℕ) (t : List (Option ℕ)) → t ≡ table → slot_in t n ≡ Some s → parent_of w.forest n ≡ None → parent_in (entry_at a s) ≡ None
-  parent-none n s t e i h = sym (parent-nodes a s) ∙ reading.parent-none k.kept v n s t e i h
+  pub parent-none : (n s : ℕ) → slot_in table n ≡ Some s → parent_of w.forest n ≡ None → parent_in (entry_at a s) ≡ None
+  parent-none n s i h = sym (parent-nodes a s) ∙ reading.parent-none k.kept v n s i h
 
-  pub parent-same : IsSound a → (nb : Option ℕ) (np sp : ℕ) (sb : Option ℕ) (t u : List (Option ℕ)) → t ≡ table → u ≡ table → slot_in t np ≡ Some sp → slot_for u nb ≡ sb → ForSome nb (λ b. parent_of w.forest b ≡ Some np) → (x : ℕ) → sb ≡ Some x → parent_in (entry_at a x) ≡ Some sp
-  parent-same l nb np sp sb t u e eu ep eb h x d =
-      sym (parent-nodes a x) ∙ reading.parent-same k.kept v (sound-nodes l) nb np sp sb t u e eu ep eb h x d
+  pub parent-same : IsSound a → (nb : Option ℕ) (np sp : ℕ) (sb : Option ℕ) → slot_in table np ≡ Some sp → slot_for table nb ≡ sb → ForSome nb (λ b. parent_of w.forest b ≡ Some np) → (x : ℕ) → sb ≡ Some x → parent_in (entry_at a x) ≡ Some sp
+  parent-same l nb np sp sb ep eb h x d =
+      sym (parent-nodes a x) ∙ reading.parent-same k.kept v (sound-nodes l) nb np sp sb ep eb h x d
 
-  pub no_cycle-slots : IsSound a → (np sp nc sc : ℕ) (t u : List (Option ℕ)) → t ≡ table → u ≡ table → slot_in t np ≡ Some sp → slot_in u nc ≡ Some sc → among nc (ancestors np w.forest) ≡ false → StandsUnder (entry_at a) sc sp → ⊥
-  no_cycle-slots l np sp nc sc t u e eu ep ec h st =
-      reading.no_cycle-slots k.kept v (sound-nodes l) np sp nc sc t u e eu ep ec h (stands-nodes a sc sp st)
+  pub no_cycle-slots : IsSound a → (np sp nc sc : ℕ) → slot_in table np ≡ Some sp → slot_in table nc ≡ Some sc → among nc (ancestors np w.forest) ≡ false → StandsUnder (entry_at a) sc sp → ⊥
+  no_cycle-slots l np sp nc sc ep ec h st =
+      reading.no_cycle-slots k.kept v (sound-nodes l) np sp nc sc ep ec h (stands-nodes a sc sp st)
 
   -- the indices are kept first, and then the child is unlinked
   pub parent-still : (s : ℕ) (d : Arena (Kept X)) → d ≡ numbered_cut a s → IsSome (parent_in (entry_at a s)) → IsSome (parent_in (entry_at d s))
@@ -208,28 +208,28 @@ module _ {X : Type 0} {a : Arena (Kept X)} {table : List (Option ℕ)} {live : �
       let i : parent_in (entry_at d s) ≡ parent_in (entry_at a s) = ap (λ (b : Arena (Kept X)). parent_in (entry_at b s)) e ∙ sym (parent-nodes (numbered_cut a s) s) ∙ ap (λ (b : Arena (Node X)). parent_in (entry_at b s)) (cut-nodes a s) ∙ parent-nodes a s in
       rw i h
 
-  pub cut-done : IsSound a → (n s : ℕ) (t : List (Option ℕ)) → t ≡ table → slot_in t n ≡ Some s → IsSome (parent_of w.forest n) → (d a' : Arena (Kept X)) → d ≡ numbered_cut a s → a' ≡ unlinked d s → Stays a' table live (cut n (shown (nodes_of a) table))
-  cut-done l n s t e i h d a' ed ea =
+  pub cut-done : IsSound a → (n s : ℕ) → slot_in table n ≡ Some s → IsSome (parent_of w.forest n) → (d a' : Arena (Kept X)) → d ≡ numbered_cut a s → a' ≡ unlinked d s → Stays a' table live (cut n (shown (nodes_of a) table))
+  cut-done l n s i h d a' ed ea =
       let ee : a' ≡ unlinked (numbered_cut a s) s = ea ∙ ap (λ (b : Arena (Kept X)). unlinked b s) ed in
       rw ee (stays (unlinked (numbered_cut a s) s) (unlinked (nodes_of a) s) table live (cut n (shown (nodes_of a) table))
       (unlinked-nodes (numbered_cut a s) s ∙ ap (λ (b : Arena (Node X)). unlinked b s) (cut-nodes a s))
-      (reading.cut-done k.kept v (sound-nodes l) n s t e i h (unlinked (nodes_of a) s) refl)
+      (reading.cut-done k.kept v (sound-nodes l) n s i h (unlinked (nodes_of a) s) refl)
       (elim (seen (parent_in (entry_at a s))) [
-        | nothing z ↦ absurd (let j = parent-there n s t e i h in let j2 = rw z at j in cc j2)
+        | nothing z ↦ absurd (let j = parent-there n s i h in let j2 = rw z at j in cc j2)
         | just p z ↦ counted-cut l k.counted s p z (parents-held l s p z)
       ])
       (omega (arith, k.room, room-unlinked (numbered_cut a s) s, room-cut a s)))
 
   -- a child that was put in is there, and so is the one behind it
-  pub put-child : (np sp sc : ℕ) (sb : Option ℕ) (t : List (Option ℕ)) → t ≡ table → slot_in t np ≡ Some sp → (d : Arena (Kept X)) → d ≡ linked a sp sc sb → 0 < length (children_in (entry_at d sp))
-  put-child np sp sc sb t e ep d ed =
-      let n = linked-under a sp sc sb (held-slot np sp t e ep) in
+  pub put-child : (np sp sc : ℕ) (sb : Option ℕ) → slot_in table np ≡ Some sp → (d : Arena (Kept X)) → d ≡ linked a sp sc sb → 0 < length (children_in (entry_at d sp))
+  put-child np sp sc sb ep d ed =
+      let n = linked-under a sp sc sb (held-slot np sp ep) in
       let g : 0 < length (entered sb sc (children_in (entry_at a sp))) = entered-some sb sc (children_in (entry_at a sp)) in
       rw (ed, n) g
 
-  pub put-before : IsSound a → (nb : Option ℕ) (np sp sc : ℕ) (sb : Option ℕ) (t u : List (Option ℕ)) → t ≡ table → u ≡ table → slot_in t np ≡ Some sp → slot_for u nb ≡ sb → ForSome nb (λ b. parent_of w.forest b ≡ Some np) → (d : Arena (Kept X)) → d ≡ linked a sp sc sb → (q : ℕ) → sb ≡ Some q → IsHeld d q
-  put-before l nb np sp sc sb t u e eu ep eb h d ed q eq =
-      let i = parent-same l nb np sp sb t u e eu ep eb h q eq in
+  pub put-before : IsSound a → (nb : Option ℕ) (np sp sc : ℕ) (sb : Option ℕ) → slot_in table np ≡ Some sp → slot_for table nb ≡ sb → ForSome nb (λ b. parent_of w.forest b ≡ Some np) → (d : Arena (Kept X)) → d ≡ linked a sp sc sb → (q : ℕ) → sb ≡ Some q → IsHeld d q
+  put-before l nb np sp sc sb ep eb h d ed q eq =
+      let i = parent-same l nb np sp sb ep eb h q eq in
       let there : IsHeld a q = some_parent (entry_at a q) sp i in
       rw ed (held-linked a sp sc sb q there)
     where
@@ -237,27 +237,27 @@ module _ {X : Type 0} {a : Arena (Kept X)} {table : List (Option ℕ)} {live : �
       some_parent None p j = absurd (cc j)
       some_parent (Some c) p j = refl
 
-  pub put-done : IsSound a → (np sp nc sc : ℕ) (nb sb : Option ℕ) (t u r : List (Option ℕ)) → t ≡ table → u ≡ table → r ≡ table → slot_in t np ≡ Some sp → slot_in u nc ≡ Some sc → slot_for r nb ≡ sb → parent_of w.forest nc ≡ None → among nc (ancestors np w.forest) ≡ false → ForSome nb (λ b. parent_of w.forest b ≡ Some np) → MayStand w.forest np nc → (d a' : Arena (Kept X)) → d ≡ linked a sp sc sb → a' ≡ numbered_put d sp sc sb → Stays a' table live (put np nc nb (shown (nodes_of a) table))
-  put-done l np sp nc sc nb sb t u r e eu er ep ec eb root cy under may d a' ed ea =
+  pub put-done : IsSound a → (np sp nc sc : ℕ) (nb sb : Option ℕ) → slot_in table np ≡ Some sp → slot_in table nc ≡ Some sc → slot_for table nb ≡ sb → parent_of w.forest nc ≡ None → among nc (ancestors np w.forest) ≡ false → ForSome nb (λ b. parent_of w.forest b ≡ Some np) → MayStand w.forest np nc → (d a' : Arena (Kept X)) → d ≡ linked a sp sc sb → a' ≡ numbered_put d sp sc sb → Stays a' table live (put np nc nb (shown (nodes_of a) table))
+  put-done l np sp nc sc nb sb ep ec eb root cy under may d a' ed ea =
       let ee : a' ≡ numbered_put (linked a sp sc sb) sp sc sb = ea ∙ ap (λ (b : Arena (Kept X)). numbered_put b sp sc sb) ed in
       rw ee (stays (numbered_put (linked a sp sc sb) sp sc sb) (linked (nodes_of a) sp sc sb) table live (put np nc nb (shown (nodes_of a) table))
       (put-nodes (linked a sp sc sb) sp sc sb ∙ linked-nodes a sp sc sb)
-      (reading.put-done k.kept v (sound-nodes l) np sp nc sc nb sb t u r e eu er ep ec eb root cy under may (linked (nodes_of a) sp sc sb) refl)
-      (counted-put l k.counted sp sc sb (held-slot np sp t e ep) (held-slot nc sc u eu ec) (parent-none nc sc u eu ec root) (parent-same l nb np sp sb t r e er ep eb under))
+      (reading.put-done k.kept v (sound-nodes l) np sp nc sc nb sb ep ec eb root cy under may (linked (nodes_of a) sp sc sb) refl)
+      (counted-put l k.counted sp sc sb (held-slot np sp ep) (held-slot nc sc ec) (parent-none nc sc ec root) (parent-same l nb np sp sb ep eb under))
       (omega (arith, k.room, room-put (linked a sp sc sb) sp sc sb, room-linked a sp sc sb)))
 
-  pub alter-done : (n s : ℕ) (t : List (Option ℕ)) → t ≡ table → slot_in t n ≡ Some s → (h : Node X → Node X) → ((q : Node X) → (h q).number ≡ q.number) → ((q : Node X) → (h q).label ≡ q.label) → Stays (altered (λ (e : Entry (Kept X)). with_value (record e.value { node = h e.value.node }) e) a s) table live (with_node n h (shown (nodes_of a) table))
-  alter-done n s t e i h hn hl =
+  pub alter-done : (n s : ℕ) → slot_in table n ≡ Some s → (h : Node X → Node X) → ((q : Node X) → (h q).number ≡ q.number) → ((q : Node X) → (h q).label ≡ q.label) → Stays (altered (λ (e : Entry (Kept X)). with_value (record e.value { node = h e.value.node }) e) a s) table live (with_node n h (shown (nodes_of a) table))
+  alter-done n s i h hn hl =
       stays (altered (λ (d : Entry (Kept X)). with_value (record d.value { node = h d.value.node }) d) a s) (altered (λ (d : Entry (Node X)). with_value (h d.value) d) (nodes_of a) s) table live (with_node n h (shown (nodes_of a) table))
       (altered-nodes (λ (d : Entry (Kept X)). with_value (record d.value { node = h d.value.node }) d) (λ (d : Entry (Node X)). with_value (h d.value) d) (λ d. refl) a s)
-      (reading.alter-done k.kept v n s t e i h hn hl)
+      (reading.alter-done k.kept v n s i h hn hl)
       (counted-altered (λ (q : Kept X). record q { node = h q.node }) (λ q. refl) (λ q. refl) a s k.counted)
       (omega (arith, k.room, room-altered (λ (d : Entry (Kept X)). with_value (record d.value { node = h d.value.node }) d) a s))
 
   -- a node written to its slot, with the number and the label that stood there
-  pub write-done : (n s : ℕ) (t : List (Option ℕ)) → t ≡ table → slot_in t n ≡ Some s → (x y z : Kept X) (h : Node X → Node X) → ((q : Node X) → (h q).number ≡ q.number) → ((q : Node X) → (h q).label ≡ q.label) → y ≡ x → z ≡ record y { node = h y.node } → IfSome (entry_at a s) (λ e. x ≡ e.value) → Stays (altered (with_value z) a s) table live (with_node n h (shown (nodes_of a) table))
-  write-done n s t e i x y z h hn hl yx zh j =
-      subst (λ (b : Arena (Kept X)). Stays b table live (with_node n h (shown (nodes_of a) table))) (sym same_store) (alter-done n s t e i h hn hl)
+  pub write-done : (n s : ℕ) → slot_in table n ≡ Some s → (x y z : Kept X) (h : Node X → Node X) → ((q : Node X) → (h q).number ≡ q.number) → ((q : Node X) → (h q).label ≡ q.label) → y ≡ x → z ≡ record y { node = h y.node } → IfSome (entry_at a s) (λ e. x ≡ e.value) → Stays (altered (with_value z) a s) table live (with_node n h (shown (nodes_of a) table))
+  write-done n s i x y z h hn hl yx zh j =
+      subst (λ (b : Arena (Kept X)). Stays b table live (with_node n h (shown (nodes_of a) table))) (sym same_store) (alter-done n s i h hn hl)
     where
       each : (o : Option (Entry (Kept X))) → IfSome o (λ e. x ≡ e.value) → option_map (with_value z) o ≡ option_map (λ (d : Entry (Kept X)). with_value (record d.value { node = h d.value.node }) d) o
       each None q = refl
@@ -277,46 +277,43 @@ module _ {X : Type 0} {a : Arena (Kept X)} {table : List (Option ℕ)} {live : �
   pub numbered-shown : (d : Arena (Kept X)) (s : ℕ) → IsAllNumbered a d s → ◌≡◌ {A = Grove X} (record { forest = shown (nodes_of d) table; made = length table }) w
   numbered-shown d s n = (λ i. record { forest = shown (n.nodes i) table; made = length table }) ∙ v
 
-  pub children-none : (n s : ℕ) (t : List (Option ℕ)) → t ≡ table → slot_in t n ≡ Some s → children_of w.forest n ≡ [] → children_in (entry_at a s) ≡ []
-  children-none n s t e i h =
-      none (children_in (entry_at a s)) (omega (arith, length-map (children_in (entry_at (nodes_of a) s)) (number_at (entry_at (nodes_of a))), ap length (reading.children-read k.kept v n s t e i ∙ h), ap length (children-nodes a s)))
+  pub children-none : (n s : ℕ) → slot_in table n ≡ Some s → children_of w.forest n ≡ [] → children_in (entry_at a s) ≡ []
+  children-none n s i h =
+      none (children_in (entry_at a s)) (omega (arith, length-map (children_in (entry_at (nodes_of a) s)) (number_at (entry_at (nodes_of a))), ap length (reading.children-read k.kept v n s i ∙ h), ap length (children-nodes a s)))
     where
       none : (l : List ℕ) → length l ≡ 0 → l ≡ []
       none [] z = refl
       none (x ∷ xs) z = absurd (omega arith)
 
-  module _ (l : IsSound a) (n s : ℕ) (t : List (Option ℕ)) (e : t ≡ table) (i : slot_in t n ≡ Some s) (root : parent_of w.forest n ≡ None) (childless : children_of w.forest n ≡ []) (d : Arena (Kept X)) (ed : d ≡ taken a s) (ld : IsSound d) where
+  module _ (l : IsSound a) (n s : ℕ) (i : slot_in table n ≡ Some s) (root : parent_of w.forest n ≡ None) (childless : children_of w.forest n ≡ []) (d : Arena (Kept X)) (ed : d ≡ taken a s) (ld : IsSound d) where
     nodes_d : nodes_of d ≡ taken (nodes_of a) s
     nodes_d = ap nodes_of ed ∙ taken-nodes a s
 
     sound_d : IsSound (taken (nodes_of a) s)
     sound_d = subst IsSound nodes_d (sound-nodes ld)
 
-    i2 : slot_in table n ≡ Some s
-    i2 = ap (λ u. slot_in u n) (sym e) ∙ i
-
     root_s : parent_in (entry_at (nodes_of a) s) ≡ None
-    root_s = parent-nodes a s ∙ parent-none n s t e i root
+    root_s = parent-nodes a s ∙ parent-none n s i root
 
     bare_s : children_in (entry_at (nodes_of a) s) ≡ []
-    bare_s = children-nodes a s ∙ children-none n s t e i childless
+    bare_s = children-nodes a s ∙ children-none n s i childless
 
     pub take-live : 1 ≤ live
-    take-live = taken-live k.kept n s i2 sound_d root_s bare_s
+    take-live = taken-live k.kept n s i sound_d root_s bare_s
 
-    pub take-done : (m : ℕ) → m ≡ n → Stays d (slice_set table m None) (live - 1) (without n (shown (nodes_of a) table))
-    take-done m em =
-        rw em (stays d (taken (nodes_of a) s) (slice_set table n None) (live - 1) (without n (shown (nodes_of a) table))
+    pub take-done : (m : ℕ) (table' : List (Option ℕ)) → m ≡ n → table' ≡ slice_set table m None → Stays d table' (live - 1) (without n (shown (nodes_of a) table))
+    take-done m table' em et =
+        rw (et, em) (stays d (taken (nodes_of a) s) (slice_set table n None) (live - 1) (without n (shown (nodes_of a) table))
         nodes_d
-        (taken-kept k.kept n s i2 sound_d root_s bare_s (live - 1) (let z = take-live in omega arith))
-        (rw ed (counted-taken l k.counted s (parent-none n s t e i root)))
+        (taken-kept k.kept n s i sound_d root_s bare_s (live - 1) (let z = take-live in omega arith))
+        (rw ed (counted-taken l k.counted s (parent-none n s i root)))
         (let r = k.room in omega (arith, r, ap (λ (b : Arena (Kept X)). length b.slots) ed, length-set a.slots s None, length-set table n None)))
 
-    pub take-shown : (m : ℕ) → m ≡ n → ◌≡◌ {A = Grove X} (record { forest = shown (nodes_of d) (slice_set table m None); made = length (slice_set table m None) }) (record { forest = without n w.forest; made = w.made })
-    take-shown m em =
+    pub take-shown : (m : ℕ) (table' : List (Option ℕ)) → m ≡ n → table' ≡ slice_set table m None → ◌≡◌ {A = Grove X} (record { forest = shown (nodes_of d) table'; made = length table' }) (record { forest = without n w.forest; made = w.made })
+    take-shown m table' em et =
         λ j. record {
-          forest = ((take-done m em).same ∙ ap (λ (g : Grove X). without n g.forest) v) j;
-          made = (length-set table m None ∙ ap (λ (g : Grove X). g.made) v) j;
+          forest = ((take-done m table' em et).same ∙ ap (λ (g : Grove X). without n g.forest) v) j;
+          made = (ap length et ∙ length-set table m None ∙ ap (λ (g : Grove X). g.made) v) j;
         }
 
   pub made-is : length table ≡ w.made

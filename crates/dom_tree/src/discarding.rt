@@ -78,7 +78,7 @@ impl<X: Drop> Tree<X> {
         self.links.sound();
         let _item = self.links.take(slot);
         self.links.sound();
-        self.table[id.number() as usize] = None;
+        self.table.clear(id.number() as usize);
         self.live -= 1;
     }
 }

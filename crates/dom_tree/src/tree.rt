@@ -17,6 +17,7 @@ use crate::slot_number::SlotNumber;
 use crate::upkeep::{number_cut, number_put};
 use dom_kinds::Label;
 use dom_links::{Links, Slot};
+use dom_pages::Pages;
 use std::alloc::{AllocError, Global};
 use std::marker::Model;
 
@@ -24,7 +25,7 @@ use std::marker::Model;
 #[derive(Drop)]
 pub struct Tree<X> {
     pub(crate) links: Links<Item<X>>,
-    pub(crate) table: Vec<Option<SlotNumber>>,
+    pub(crate) table: Pages<SlotNumber>,
     pub(crate) live: u64,
 }
 
@@ -45,17 +46,17 @@ impl<X> Model for Tree<X> {
 }
 
 /// The slot of a number that the table has.
-pub(crate) fn slot_of(table: &[Option<SlotNumber>], id: NodeId) -> Slot
-    requires { IsSome (slot_in table.now id) }
-    ensures { slot_in table.now id ≡ Some result }
+pub(crate) fn slot_of(table: &Pages<SlotNumber>, id: NodeId) -> Slot
+    requires { IsSome (slot_in table.now.items id) }
+    ensures { slot_in table.now.items id ≡ Some result }
 {
-    table[id.number() as usize].unwrap().slot()
+    table.get(id.number() as usize).unwrap().slot()
 }
 
 // The slot of a number, where there is one.
-fn slot_of_any(table: &[Option<SlotNumber>], id: Option<NodeId>) -> Option<Slot>
-    requires { ForSome id (λ n. IsSome (slot_in table.now n)) }
-    ensures { slot_for table.now id ≡ result }
+fn slot_of_any(table: &Pages<SlotNumber>, id: Option<NodeId>) -> Option<Slot>
+    requires { ForSome id (λ n. IsSome (slot_in table.now.items n)) }
+    ensures { slot_for table.now.items id ≡ result }
 {
     match id {
         Some(id) => Some(slot_of(table, id)),
@@ -119,7 +120,7 @@ impl<X: Drop> Tree<X> {
         let Ok(slot) = self.links.add(item) else {
             return Err(AllocError);
         };
-        self.table.push(Some(SlotNumber::of(slot))).unwrap();
+        self.table.push_reserved(SlotNumber::of(slot));
         self.live += 1;
         Ok(id)
     }
@@ -134,7 +135,7 @@ impl<X> Tree<X> {
     {
         Tree {
             links: Links::new(alloc),
-            table: Vec::new(alloc),
+            table: Pages::new(alloc),
             live: 0,
         }
     }
@@ -157,10 +158,7 @@ impl<X> Tree<X> {
     pub fn holds(&self, id: NodeId) -> bool
         ensures { result ≡ is_some (entry_in self.now.forest id) }
     {
-        match self.table.get(id.number() as usize) {
-            Some(slot) => slot.is_some(),
-            None => false,
-        }
+        self.table.get(id.number() as usize).is_some()
     }
 
     /// A law: what every tree keeps.

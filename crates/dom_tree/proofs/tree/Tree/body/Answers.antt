@@ -4,8 +4,8 @@ use Rattle.dom_tree.proofs.Trees.{slot-held, value-read}
 use Rattle.dom_tree.proofs.tree.Tree.body.Goals as goal
 
 pub slot_of-requires : goal.slot_of-requires
-slot_of-requires g c = slot-held c.self.invariant c.self.view_is c.args.id c.requires c.deref.result.now c.deref.ensures.value
+slot_of-requires g c = slot-held c.self.invariant c.self.view_is c.args.id c.requires
 
 pub returns : goal.returns
 returns g c =
-    value-read c.self.invariant c.self.view_is (λ (x : Node g.row.X.Denot). x.body) c.args.id c.slot_of.result c.deref.result.now c.deref.ensures.value c.slot_of.ensures c.value-item.result.now _ c.item.view_is c.value-item.ensures
+    value-read c.self.invariant c.self.view_is (λ (x : Node g.row.X.Denot). x.body) c.args.id c.slot_of.result c.slot_of.ensures c.value-item.result.now _ c.item.view_is c.value-item.ensures

@@ -11,10 +11,9 @@ invariant_of-self-2 g c =
     let added_is : c.add.new.self ≡ added c.self.inside.links x = c.in-Ok.ensures.added in
     let fresh : entry_at c.self.inside.links c.in-Ok.slot ≡ None = c.in-Ok.ensures.fresh in
     let slot_is : c.in-Ok.slot ≡ next_slot c.self.inside.links = c.in-Ok.ensures.slot in
-    let pushed = c.push.ensures.items in
-    let table_is : c.push.new.self.items ≡ c.self.inside.table.items ++ Some c.in-Ok.slot ∷ [] = rw (c.unwrap.ensures, c.in_ok-reserve.ensures.items, c.of.ensures) at pushed in
-    let number_is : c.new-id.result ≡ length c.self.inside.table.items = c.new-id.ensures ∙ c.len.ensures ∙ c.in_ok-reserve.ensures.len ∙ c.self.inside.table.ok.0 in
-    let done = made-keeps c.self.invariant c.self.view_is c.sound.ensures x c.add.new.self c.push.new.self.items c.in-Ok.slot number_is fresh c.requires.room added_is slot_is table_is in
+    let table_is : c.push_reserved.new.self.items ≡ c.self.inside.table.items ++ Some c.in-Ok.slot ∷ [] = c.push_reserved.ensures.items ∙ (λ i. (c.reserve.ensures.items i) ++ Some (c.of.ensures i) ∷ []) in
+    let number_is : c.new-id.result ≡ length c.self.inside.table.items = c.new-id.ensures ∙ c.len.ensures ∙ ap length c.reserve.ensures.items in
+    let done = made-keeps c.self.invariant c.self.view_is c.sound.ensures x c.add.new.self c.push_reserved.new.self.items c.in-Ok.slot number_is fresh c.requires.room added_is slot_is table_is in
     done.kept
 
 pub returns-clause-made : goal.returns-clause-made
@@ -23,13 +22,12 @@ returns-clause-made g c =
     let added_is : c.add.new.self ≡ added c.self.inside.links x = c.in-Ok.ensures.added in
     let fresh : entry_at c.self.inside.links c.in-Ok.slot ≡ None = c.in-Ok.ensures.fresh in
     let slot_is : c.in-Ok.slot ≡ next_slot c.self.inside.links = c.in-Ok.ensures.slot in
-    let pushed = c.push.ensures.items in
-    let table_is : c.push.new.self.items ≡ c.self.inside.table.items ++ Some c.in-Ok.slot ∷ [] = rw (c.unwrap.ensures, c.in_ok-reserve.ensures.items, c.of.ensures) at pushed in
-    let number_is : c.new-id.result ≡ length c.self.inside.table.items = c.new-id.ensures ∙ c.len.ensures ∙ c.in_ok-reserve.ensures.len ∙ c.self.inside.table.ok.0 in
-    let done = made-keeps c.self.invariant c.self.view_is c.sound.ensures x c.add.new.self c.push.new.self.items c.in-Ok.slot number_is fresh c.requires.room added_is slot_is table_is in
+    let table_is : c.push_reserved.new.self.items ≡ c.self.inside.table.items ++ Some c.in-Ok.slot ∷ [] = c.push_reserved.ensures.items ∙ (λ i. (c.reserve.ensures.items i) ++ Some (c.of.ensures i) ∷ []) in
+    let number_is : c.new-id.result ≡ length c.self.inside.table.items = c.new-id.ensures ∙ c.len.ensures ∙ ap length c.reserve.ensures.items in
+    let done = made-keeps c.self.invariant c.self.view_is c.sound.ensures x c.add.new.self c.push_reserved.new.self.items c.in-Ok.slot number_is fresh c.requires.room added_is slot_is table_is in
     let m = number_is ∙ made-is c.self.invariant c.self.view_is in
     let y : Kept g.row.X.Denot = record { node = record { number = c.args.self.now.made; document = unwrap_or c.args.document c.args.self.now.made; label = c.args.label; body = c.args.body }; index = 0; sure = 0 } in
-    made-shown c.self.invariant c.self.view_is x y c.add.new.self c.push.new.self.items c.in-Ok.slot
+    made-shown c.self.invariant c.self.view_is x y c.add.new.self c.push_reserved.new.self.items c.in-Ok.slot
     (λ i. record { number = m i; document = (c.unwrap_or.ensures ∙ ap (λ n. unwrap_or c.args.document n) m) i; label = c.args.label; body = c.args.body }) table_is done
 
 pub of-requires : goal.of-requires

@@ -3,11 +3,11 @@ use Rattle.dom_tree.proofs.Trees.{slot-held, next-named, next-read}
 use Rattle.dom_tree.proofs.tree.Tree.next.Goals as goal
 
 pub slot_of-slot-requires : goal.slot_of-slot-requires
-slot_of-slot-requires g c = slot-held c.self.invariant c.self.view_is c.args.id c.requires c.deref.result.now c.deref.ensures.value
+slot_of-slot-requires g c = slot-held c.self.invariant c.self.view_is c.args.id c.requires
 
 pub named-requires : goal.named-requires
 named-requires g c = next-named c.sound.ensures c.slot_of-slot.result c.next.result c.next.ensures
 
 pub returns : goal.returns
 returns g c =
-    next-read c.self.invariant c.self.view_is c.sound.ensures c.args.id c.slot_of-slot.result c.deref.result.now c.next.result c.named.result c.deref.ensures.value c.slot_of-slot.ensures c.next.ensures c.named.ensures
+    next-read c.self.invariant c.self.view_is c.sound.ensures c.args.id c.slot_of-slot.result c.next.result c.named.result c.slot_of-slot.ensures c.next.ensures c.named.ensures
