@@ -81,6 +81,18 @@ module _ {X : Type 0} {g : Grove X} (s : IsForest g) where
       let lb = child-listed g.forest s.once b q (occurs-HasNode g.forest b hb) pb in
       omega (arith, index-child g.forest n q pn, index-child g.forest b q pb, place-last n (children_of g.forest q) ln k, place-there b (children_of g.forest q) lb)
 
+  -- a search from a to both sides that has come to the last sibling, with one still in front of where it stands on the other side
+  pub sides-end : (a k f m : ℕ) → previous_of g.forest k ≡ Some m → parent_of g.forest k ≡ parent_of g.forest a → HasNode g.forest f → parent_of g.forest f ≡ parent_of g.forest a → next_of g.forest f ≡ None → length (siblings_in (entry_in g.forest) a) ≡ 1 + index_of g.forest f
+  sides-end a k f m ek pk hf pf ef =
+      elim (seen (parent_of g.forest a)) [
+        | nothing d ↦ absurd (let pn = pk ∙ d in let e = rw pn at ek in let z : None ≡ Some m = e in cc z)
+        | just q d ↦
+            let pn = pf ∙ d in
+            let e = rw pn at ef in
+            let listed = child-listed g.forest s.once f q (occurs-HasNode g.forest f hf) pn in
+            rw d (omega (arith, index-child g.forest f q pn, place-last f (children_of g.forest q) listed e))
+      ]
+
   -- two siblings have two indices
   pub indices-apart : (m b : ℕ) → HasNode g.forest m → parent_of g.forest m ≡ parent_of g.forest b → IsSome (parent_of g.forest m) → (m ≡ b → ⊥) → index_of g.forest m ≡ index_of g.forest b → ⊥
   indices-apart m b h e i ne x =

@@ -125,17 +125,23 @@ fn an_index_is_found_within_steps(rt: HostRuntime) -> Result<(), Fail> {
     let document = Some(NodeId::new(0));
     let first = made(&rt, rt.alloc(), &mut tree, Kind::Element, document)?;
     put(&rt, &mut tree, parent, first, Some(NodeId::new(2)));
+    let middle = NodeId::new(3);
+    assert_eq!(rt; kept(&rt, &tree, middle), None);
+    assert_eq!(rt; within(&rt, &tree, middle, 0), None);
+    assert_eq!(rt; within(&rt, &tree, middle, 1), None);
+    assert_eq!(rt; within(&rt, &tree, middle, 2), Some(2));
+    assert_eq!(rt; within(&rt, &tree, middle, usize::MAX), Some(2));
+    assert_eq!(rt; within(&rt, &tree, first, 0), Some(0));
     let last = NodeId::new(5);
     assert_eq!(rt; kept(&rt, &tree, last), None);
-    assert_eq!(rt; within(&rt, &tree, last, 0), None);
-    assert_eq!(rt; within(&rt, &tree, last, 3), None);
-    assert_eq!(rt; within(&rt, &tree, last, 4), Some(4));
-    assert_eq!(rt; within(&rt, &tree, last, usize::MAX), Some(4));
-    assert_eq!(rt; within(&rt, &tree, first, 0), Some(0));
+    assert_eq!(rt; within(&rt, &tree, last, 0), Some(4));
+    let fourth = NodeId::new(4);
+    assert_eq!(rt; within(&rt, &tree, fourth, 0), None);
+    assert_eq!(rt; within(&rt, &tree, fourth, 1), Some(3));
     assert_eq!(rt; within(&rt, &tree, parent, 0), Some(0), "a root");
     assert!(rt; tree.holds(parent));
     tree.number_children(parent);
-    assert_eq!(rt; within(&rt, &tree, last, 0), Some(4));
+    assert_eq!(rt; within(&rt, &tree, middle, 0), Some(2));
     Ok(())
 }
 

@@ -231,7 +231,7 @@ impl<X> Tree<X> {
         }
     }
 
-    /// The number of preceding siblings; 0 for a root. It counts back to the nearest one whose index is kept.
+    /// The number of preceding siblings; 0 for a root. It counts to both sides in step, and stops at the nearest preceding one whose index is kept or at the nearer end.
     pub fn index(&self, id: NodeId) -> usize
         requires { HasNode self.now.forest id }
         ensures { result ≡ index_of self.now.forest id }
@@ -240,23 +240,29 @@ impl<X> Tree<X> {
         self.index_within(id, count).unwrap()
     }
 
-    /// The number of preceding siblings, where it is found in so many steps back: at the first child, or at a sibling whose index is kept; 0 for a root.
+    /// The number of preceding siblings, where it is found in so many steps to both sides: at the first child, at a preceding sibling whose index is kept, or at the last child; 0 for a root.
     pub fn index_within(&self, id: NodeId, steps: usize) -> Option<usize>
         requires { HasNode self.now.forest id }
         ensures counted { IfSome result (λ i. i ≡ index_of self.now.forest id) }
         ensures found { index_of self.now.forest id ≤ steps → IsSome result }
     {
         self.sound();
-        let most = steps.min(self.siblings(id));
-        let mut here = id;
+        let count = self.siblings(id);
+        let most = steps.min(count);
+        let mut backward = id;
+        let mut forward = id;
         for passed in 0..=most {
-            if let Some(index) = self.kept_index(here) {
+            if let Some(index) = self.kept_index(backward) {
                 return Some(passed + index);
             }
-            match self.prev(here) {
-                Some(prev) => here = prev,
-                None => return Some(passed),
-            }
+            let Some(prev) = self.prev(backward) else {
+                return Some(passed);
+            };
+            let Some(next) = self.next(forward) else {
+                return Some(count - 1 - passed);
+            };
+            backward = prev;
+            forward = next;
         }
         None
     }

@@ -1,26 +1,45 @@
--- Each step back counts one, so where all were made the index is more than the steps.
+-- Each step counts one on both sides, so where all were made the index is more than the steps.
 use Rattle.std.proofs.Common.{sym, ◌∙◌, arith}
 use Rattle.dom_model.proofs.Forests.Siblings.{index-step, index-first, index-within}
+use Rattle.dom_tree.proofs.Beside.{forward-step, sides-end}
 use Rattle.dom_tree.proofs.tree.Tree.index_within.Goals as goal
-
-pub returns-in-None-clause-counted : goal.returns-in-None-clause-counted
-returns-in-None-clause-counted g c =
-    omega (arith, c.loop-passed.invariant.counted, index-first c.sound.ensures c.loop-passed.here c.loop-passed.invariant.there (sym c.prev.ensures ∙ c.in-None.is))
-
-pub returns-in-Some-prev-clause-found : goal.returns-in-Some-prev-clause-found
-returns-in-Some-prev-clause-found g c =
-    let i = index-step c.sound.ensures c.loop-passed.here c.in-Some-prev.prev c.loop-passed.invariant.there (sym c.prev.ensures ∙ c.in-Some-prev.is) in
-    λ near. absurd (omega (arith, near, i.0, c.loop-passed.invariant.counted, c.siblings.ensures, c.min-most.ensures, index-within c.args.self.now.forest c.args.id))
-
-pub loop-passed-preserved : goal.loop-passed-preserved
-loop-passed-preserved g c =
-    let i = index-step c.sound.ensures c.loop-passed.here c.in-Some-prev.prev c.loop-passed.invariant.there (sym c.prev.ensures ∙ c.in-Some-prev.is) in
-    record { there = i.1.1; beside = i.1.0 ∙ c.loop-passed.invariant.beside; counted = omega (arith, i.0, c.loop-passed.invariant.counted) }
-
-pub returns-clause-found : goal.returns-clause-found
-returns-clause-found g c =
-    λ near. absurd (omega (arith, near, c.loop-passed.invariant.counted, c.siblings.ensures, c.min-most.ensures, index-within c.args.self.now.forest c.args.id, c.loop-passed-test.false))
 
 pub overflow_add-result : goal.overflow_add-result
 overflow_add-result g c =
-    omega (arith, c.in-Some.ensures, c.loop-passed.invariant.counted, c.siblings.ensures, index-within c.args.self.now.forest c.args.id)
+    omega (arith, c.in-Some.ensures, c.loop-passed.invariant.backward_counted, c.siblings-count.ensures, index-within c.args.self.now.forest c.args.id)
+
+pub returns-in_default-prev-clause-counted : goal.returns-in_default-prev-clause-counted
+returns-in_default-prev-clause-counted g c =
+    omega (arith, c.loop-passed.invariant.backward_counted, index-first c.sound.ensures c.loop-passed.backward c.loop-passed.invariant.backward_there (sym c.prev.ensures ∙ c.in_default-prev.is))
+
+pub overflow_sub-result-in_default-next : goal.overflow_sub-result-in_default-next
+overflow_sub-result-in_default-next g c =
+    let i = sides-end c.sound.ensures c.args.id c.loop-passed.backward c.loop-passed.forward c.in-Some-prev.prev (sym c.prev.ensures ∙ c.in-Some-prev.is) c.loop-passed.invariant.backward_beside c.loop-passed.invariant.forward_there c.loop-passed.invariant.forward_beside (sym c.next.ensures ∙ c.in_default-next.is) in
+    omega (arith, i, c.siblings-count.ensures, c.loop-passed.invariant.forward_counted)
+
+pub returns-in_default-next-clause-counted : goal.returns-in_default-next-clause-counted
+returns-in_default-next-clause-counted g c =
+    let i = sides-end c.sound.ensures c.args.id c.loop-passed.backward c.loop-passed.forward c.in-Some-prev.prev (sym c.prev.ensures ∙ c.in-Some-prev.is) c.loop-passed.invariant.backward_beside c.loop-passed.invariant.forward_there c.loop-passed.invariant.forward_beside (sym c.next.ensures ∙ c.in_default-next.is) in
+    omega (arith, i, c.siblings-count.ensures, c.loop-passed.invariant.forward_counted)
+
+pub loop-passed-preserved : goal.loop-passed-preserved
+loop-passed-preserved g c =
+    let i = index-step c.sound.ensures c.loop-passed.backward c.in-Some-prev.prev c.loop-passed.invariant.backward_there (sym c.prev.ensures ∙ c.in-Some-prev.is) in
+    let j = forward-step c.sound.ensures c.loop-passed.forward c.in-Some-next.next c.loop-passed.invariant.forward_there (sym c.next.ensures ∙ c.in-Some-next.is) in
+    record {
+      backward_there = i.1.1;
+      backward_beside = i.1.0 ∙ c.loop-passed.invariant.backward_beside;
+      backward_counted = omega (arith, i.0, c.loop-passed.invariant.backward_counted);
+      forward_there = j.1.1;
+      forward_beside = j.1.0 ∙ c.loop-passed.invariant.forward_beside;
+      forward_counted = omega (arith, j.0, c.loop-passed.invariant.forward_counted);
+    }
+
+pub returns-in-Some-next-clause-found : goal.returns-in-Some-next-clause-found
+returns-in-Some-next-clause-found g c =
+    let i = index-step c.sound.ensures c.loop-passed.backward c.in-Some-prev.prev c.loop-passed.invariant.backward_there (sym c.prev.ensures ∙ c.in-Some-prev.is) in
+    λ near. absurd (omega (arith, near, i.0, c.loop-passed.invariant.backward_counted, c.siblings-count.ensures, c.min-most.ensures, index-within c.args.self.now.forest c.args.id))
+
+pub returns-clause-found : goal.returns-clause-found
+returns-clause-found g c =
+    λ near. absurd (omega (arith, near, c.loop-passed.invariant.backward_counted, c.siblings-count.ensures, c.min-most.ensures, index-within c.args.self.now.forest c.args.id, c.loop-passed-test.false))
