@@ -1,0 +1,4 @@
+pub mod Cells
+pub mod Paging
+pub mod Taken
+pub mod Written

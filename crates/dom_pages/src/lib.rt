@@ -4,6 +4,7 @@
 //! very little for the numbers that went.
 #![tactic(auto)]
 
+mod page;
 mod pages;
 
 pub use pages::Pages;

@@ -1,8 +1,10 @@
 //! A table in pages.
 
-ghost use Rattle.std.specs.Prelude.{◌≡◌, ◌+◌, ◌<◌, ◌≤◌, ◌∷◌, ◌++◌, [], length, Some, None, IsSome, OnOk, slice_set};
+ghost use Rattle.std.specs.Prelude.{◌≡◌, ◌+◌, ◌<◌, ◌≤◌, ◌∷◌, ◌++◌, [], length, Some, None, IsSome, OnOk, OnErr, slice_set};
 ghost use Rattle.dom_pages.specs.Numbered.{item_at};
+ghost use Rattle.dom_pages.specs.Paged.{page_size};
 
+use crate::page::{PAGE, Page};
 use std::alloc::{AllocError, Global};
 use std::marker::Model;
 
@@ -12,21 +14,22 @@ const MOST: usize = 4294967296;
 /// What stands under each number that was given out.
 #[derive(Drop)]
 pub struct Pages<T> {
-    items: Vec<Option<T>>,
+    pages: Vec<Page<T>>,
+    len: usize,
 }
 
 impl<T> Model for Pages<T> {
-    ghost use Rattle.std.specs.Prelude.{◌≤◌, ◌^◌, ◌-◌, min, length};
-    ghost use Rattle.std.specs.Vec.{vec_len, vec_capacity};
+    ghost use Rattle.std.specs.Prelude.{◌*◌, ◌-◌, length};
     ghost use Rattle.dom_pages.specs.Numbered.{Numbered, numbered_code};
+    ghost use Rattle.dom_pages.specs.Paged.{page_size, cells_of, IsPaged};
 
     ghost Value = { Numbered T };
 
     ghost coded = { numbered_code T.code };
 
-    ghost view = { λ p. record { items = p.items.items; room = min (vec_capacity p.items) (2 ^ 32) - vec_len p.items } };
+    ghost view = { λ p. record { items = cells_of p.pages.items p.len; room = page_size * length p.pages.items - p.len } };
 
-    ghost invariant = { λ p. length p.items.items ≤ 2 ^ 32 };
+    ghost invariant = { λ p. IsPaged p.pages.items p.len };
 }
 
 impl<T: Copy> Pages<T> {
@@ -35,7 +38,8 @@ impl<T: Copy> Pages<T> {
         ensures { result ≡ record { items = []; room = 0 } }
     {
         Pages {
-            items: Vec::new(alloc),
+            pages: Vec::new(alloc),
+            len: 0,
         }
     }
 
@@ -43,17 +47,36 @@ impl<T: Copy> Pages<T> {
     pub fn len(&self) -> usize
         ensures { result ≡ length self.now.items }
     {
-        self.items.len()
+        self.len
     }
 
     /// What stands under a number; none where the number was taken back, or was never given out.
     pub fn get(&self, number: usize) -> Option<T>
         ensures { result ≡ item_at self.now.items number }
     {
-        match self.items.get(number) {
-            Some(item) => *item,
+        match self.pages.get(number / PAGE) {
+            Some(page) => page.get(number % PAGE),
             None => None,
         }
+    }
+
+    // How many more numbers have room.
+    fn room(&self) -> usize
+        ensures { result ≡ self.now.room }
+    {
+        self.pages.len() * PAGE - self.len
+    }
+
+    // Adds a page behind the others.
+    fn add_page(&mut self) -> Result<(), AllocError>
+        requires { length self.old.items + self.old.room < 4294967296 }
+        ensures room { OnOk result (self.new.room ≡ self.old.room + page_size) }
+        ensures items { self.new.items ≡ self.old.items }
+    {
+        let alloc = *self.pages.allocator();
+        let page = Page::blank(alloc)?;
+        self.pages.push(page)?;
+        Ok(())
     }
 
     /// Makes room for so many more numbers. Where that is more than 32 bits can tell apart there is no memory either.
@@ -61,10 +84,13 @@ impl<T: Copy> Pages<T> {
         ensures room { OnOk result (additional ≤ self.new.room) }
         ensures items { self.new.items ≡ self.old.items }
     {
-        if additional > MOST - self.items.len() {
+        if additional > MOST - self.len {
             return Err(AllocError);
         }
-        self.items.reserve(additional)
+        while self.room() < additional {
+            self.add_page()?;
+        }
+        Ok(())
     }
 
     /// Gives out the next number, for which there is room. It takes no memory.
@@ -73,7 +99,9 @@ impl<T: Copy> Pages<T> {
         ensures items { self.new.items ≡ self.old.items ++ Some item ∷ [] }
         ensures room { self.old.room ≤ self.new.room + 1 }
     {
-        self.items.push_reserved(Some(item));
+        let page = &mut self.pages[self.len / PAGE];
+        page.put(self.len % PAGE, item);
+        self.len += 1;
     }
 
     /// Puts something else under a number that was not taken back. It takes no memory.
@@ -82,7 +110,8 @@ impl<T: Copy> Pages<T> {
         ensures items { self.new.items ≡ slice_set self.old.items number (Some item) }
         ensures room { self.old.room ≤ self.new.room }
     {
-        self.items[number] = Some(item);
+        let page = &mut self.pages[number / PAGE];
+        page.put(number % PAGE, item);
     }
 
     /// Takes a number back: nothing stands under it from then on. It takes no memory.
@@ -91,6 +120,22 @@ impl<T: Copy> Pages<T> {
         ensures items { self.new.items ≡ slice_set self.old.items number None }
         ensures room { self.old.room ≤ self.new.room }
     {
-        self.items[number] = None;
+        let page = &mut self.pages[number / PAGE];
+        page.clear(number % PAGE);
+        self.give_back(number / PAGE);
+    }
+
+    // Gives back the memory of a page whose numbers were all given out, where all were taken back. The page of the next number stays, and
+    // so do those behind it: they are the room.
+    fn give_back(&mut self, at: usize)
+        ensures { self.new ≡ self.old }
+    {
+        if at >= self.len / PAGE {
+            return;
+        }
+        let page = &mut self.pages[at];
+        if page.is_vacant() {
+            page.give_back();
+        }
     }
 }

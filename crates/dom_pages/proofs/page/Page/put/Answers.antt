@@ -1,0 +1,11 @@
+-- While a cell is empty, fewer are counted than there are cells.
+use Rattle.std.proofs.Common.{◌≡◌, ◌<◌, length, false, not, sym, ap, ◌∙◌, arith}
+use Rattle.dom_pages.proofs.Taken.{empty_at, taken_in-lt}
+use Rattle.dom_pages.proofs.page.Page.put.Goals as goal
+
+pub overflow_add-self : goal.overflow_add-self
+overflow_add-self g c =
+    let cells = c.self.inside.cells.items in
+    let inside : c.args.cell < length cells = omega (arith, ap length c.self.view_is, c.requires) in
+    let empty = empty_at cells c.args.cell inside c.index.result.now c.index.ensures (c.is_none.ensures ∙ ap not c.if-is_none.true) in
+    omega (arith, taken_in-lt cells c.args.cell inside c.args.item empty, c.self.invariant, c.self.inside.cells.ok, c.self.inside.cells.small)

@@ -1,0 +1,17 @@
+-- The next cell is written, behind the others.
+use Rattle.std.proofs.Common.{◌≡◌, ◌<◌, ◌*◌, ◌+◌, ◌/◌, ◌∷◌, ◌++◌, [], Some, length, slice_set, ap, ◌∙◌, arith}
+use Rattle.dom_pages.specs.Paged.{cells_of}
+use Rattle.dom_pages.proofs.Cells.{cells_of-pushed}
+use Rattle.dom_pages.proofs.Paging.{has_next}
+use Rattle.dom_pages.proofs.Written.{cell_at-same, is_written}
+use Rattle.dom_pages.proofs.pages.Pages.push_reserved.Goals as goal
+
+pub returns-clause-items : goal.returns-clause-items
+returns-clause-items g c =
+    let pages = c.self.inside.pages.items in
+    let len = c.self.inside.len in
+    let room : len < 1024 * length pages = omega (arith, ap (λ v. v.room) c.self.view_is, c.requires) in
+    let next = has_next c.self.invariant room in
+    ap (λ p. cells_of p (len + 1)) (is_written pages len (Some c.args.item) c.index_mut-page.result.now c.put.new.self next.0 c.index_mut-page.ensures.value c.put.ensures)
+    ∙ cells_of-pushed pages len (Some c.args.item) (cell_at-same pages len (Some c.args.item) next.0 next.1)
+    ∙ ap (λ v. v.items ++ Some c.args.item ∷ []) c.self.view_is

@@ -1,0 +1,93 @@
+//! A page of a table: a cell for each of its numbers, or no memory at all.
+
+ghost use Rattle.std.specs.Prelude.{◌≡◌, ◌<◌, [], length, Some, None, IfOk, IsTrue, slice_index_or, slice_set};
+ghost use Rattle.dom_pages.specs.Paged.{page_size, AllVacant};
+
+use std::alloc::{AllocError, Global};
+use std::marker::Model;
+
+/// How many numbers a page is for.
+pub(crate) const PAGE: usize = 1024;
+
+/// The cells of a page, none where it gave its memory back.
+#[derive(Drop)]
+pub(crate) struct Page<T> {
+    cells: Vec<Option<T>>,
+    // In how many of the cells something stands.
+    count: usize,
+}
+
+impl<T> Model for Page<T> {
+    ghost use Rattle.std.specs.Prelude.{◌≡◌, List, Option};
+    ghost use Rattle.std.specs.Coded.{coded_list, coded_option};
+    ghost use Rattle.dom_pages.specs.Paged.{taken_in};
+
+    ghost Value = { List (Option T) };
+
+    ghost coded = { coded_list (coded_option T.code) };
+
+    ghost view = { λ p. p.cells.items };
+
+    ghost invariant = { λ p. p.count ≡ taken_in p.cells.items };
+}
+
+impl<T: Copy> Page<T> {
+    /// A page with nothing in its cells.
+    pub(crate) fn blank(alloc: Global) -> Result<Page<T>, AllocError>
+        ensures cells { IfOk result (λ p. length p ≡ page_size) }
+        ensures vacant { IfOk result (λ p. AllVacant p) }
+    {
+        let mut cells = Vec::with_capacity(alloc, PAGE)?;
+        for _ in 0..PAGE {
+            cells.push_reserved(None);
+        }
+        Ok(Page { cells, count: 0 })
+    }
+
+    /// What stands in a cell; none past the cells.
+    pub(crate) fn get(&self, cell: usize) -> Option<T>
+        ensures { result ≡ slice_index_or self.now cell None }
+    {
+        match self.cells.get(cell) {
+            Some(item) => *item,
+            None => None,
+        }
+    }
+
+    /// Writes a cell.
+    pub(crate) fn put(&mut self, cell: usize, item: T)
+        requires { cell < length self.old }
+        ensures { self.new ≡ slice_set self.old cell (Some item) }
+    {
+        if self.cells[cell].is_none() {
+            self.count += 1;
+        }
+        self.cells[cell] = Some(item);
+    }
+
+    /// Empties a cell, where there is one.
+    pub(crate) fn clear(&mut self, cell: usize)
+        ensures { self.new ≡ slice_set self.old cell None }
+    {
+        if self.get(cell).is_some() {
+            self.count -= 1;
+            self.cells[cell] = None;
+        }
+    }
+
+    /// Whether nothing stands in any cell.
+    pub(crate) fn is_vacant(&self) -> bool
+        ensures { IsTrue result → AllVacant self.now }
+    {
+        self.count == 0
+    }
+
+    /// Gives the memory back, with whatever stands in the cells.
+    pub(crate) fn give_back(&mut self)
+        ensures { self.new ≡ [] }
+    {
+        let alloc = *self.cells.allocator();
+        self.cells = Vec::new(alloc);
+        self.count = 0;
+    }
+}
