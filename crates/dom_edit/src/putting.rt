@@ -41,7 +41,7 @@ fn put_all(tree: &mut Tree<Content>, parent: NodeId, child: Option<NodeId>, node
     }
 }
 
-// How far back an index is looked for before all children are numbered.
+// How far an index is looked for before all children are numbered.
 const NEAR: usize = 64;
 
 // The index of a child. Where it is not found near it all children of the parent are numbered.
