@@ -6,5 +6,7 @@
 
 mod page;
 mod pages;
+#[cfg(test)]
+mod tests;
 
 pub use pages::Pages;

@@ -90,4 +90,10 @@ impl<T: Copy> Page<T> {
         self.cells = Vec::new(alloc);
         self.count = 0;
     }
+
+    /// Whether the page has its memory.
+    #[cfg(test)]
+    pub(crate) fn is_present(&self) -> bool {
+        self.cells.capacity() != 0
+    }
 }

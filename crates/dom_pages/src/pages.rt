@@ -138,4 +138,13 @@ impl<T: Copy> Pages<T> {
             page.give_back();
         }
     }
+
+    // Whether a page has its memory.
+    #[cfg(test)]
+    pub(crate) fn is_present(&self, at: usize) -> bool {
+        match self.pages.get(at) {
+            Some(page) => page.is_present(),
+            None => false,
+        }
+    }
 }

@@ -1,0 +1,143 @@
+//! Examples of tables: numbers over three pages, pages that give their memory back, and more numbers than there can be.
+use super::Pages;
+use std::alloc::AllocError;
+use std::process::Abort;
+use std::test::Fail;
+
+// Gives out the numbers of a range, each for itself.
+fn give_out(pages: &mut Pages<usize>, from: usize, to: usize) -> Result<(), AllocError> {
+    for number in from..to {
+        pages.reserve(1)?;
+        pages.push_reserved(number);
+    }
+    Ok(())
+}
+
+// Takes the numbers of a range back.
+fn take_back(rt: &impl Abort, pages: &mut Pages<usize>, from: usize, to: usize) {
+    for number in from..to {
+        assert!(rt; number < pages.len(), "no number {number}");
+        pages.clear(number);
+    }
+}
+
+// Puts something else under a number.
+fn put(rt: &impl Abort, pages: &mut Pages<usize>, number: usize, item: usize) {
+    assert!(rt; pages.get(number).is_some(), "nothing at {number}");
+    pages.set(number, item);
+}
+
+// That these items stand under these numbers.
+fn expect(rt: &impl Abort, pages: &Pages<usize>, items: &[(usize, Option<usize>)]) {
+    for (number, item) in items {
+        assert!(rt; pages.get(*number) == *item, "at {number}");
+    }
+}
+
+// That of the first pages these have their memory.
+fn expect_present(rt: &impl Abort, pages: &Pages<usize>, present: &[bool]) {
+    let mut at = 0;
+    for is_present in present {
+        assert!(rt; pages.is_present(at) == *is_present, "page {at}");
+        at = at.saturating_add(1);
+    }
+}
+
+#[test]
+fn none_at_first(rt: HostRuntime) {
+    let pages = Pages::new(rt.alloc());
+    assert!(rt; pages.len() == 0);
+    expect(&rt, &pages, &[(0, None), (1024, None)]);
+    expect_present(&rt, &pages, &[false]);
+}
+
+// The third page is in use in part; the first is emptied, and numbers are given out on into the fourth.
+#[test]
+fn over_pages(rt: HostRuntime) -> Result<(), Fail> {
+    let mut pages = Pages::new(rt.alloc());
+    give_out(&mut pages, 0, 2500)?;
+    assert!(rt; pages.len() == 2500);
+    put(&rt, &mut pages, 1023, 7);
+    put(&rt, &mut pages, 1024, 8);
+    expect(
+        &rt,
+        &pages,
+        &[
+            (0, Some(0)),
+            (1022, Some(1022)),
+            (1023, Some(7)),
+            (1024, Some(8)),
+            (1025, Some(1025)),
+            (2048, Some(2048)),
+            (2499, Some(2499)),
+            (2500, None),
+            (4000, None),
+        ],
+    );
+    take_back(&rt, &mut pages, 0, 1024);
+    give_out(&mut pages, 2500, 3100)?;
+    assert!(rt; pages.len() == 3100);
+    expect(
+        &rt,
+        &pages,
+        &[
+            (0, None),
+            (1023, None),
+            (1024, Some(8)),
+            (2499, Some(2499)),
+            (2500, Some(2500)),
+            (3099, Some(3099)),
+            (3100, None),
+        ],
+    );
+    Ok(())
+}
+
+// A page gives its memory back with the last of its numbers, and a number may be taken back twice.
+#[test]
+fn given_back(rt: HostRuntime) -> Result<(), Fail> {
+    let mut pages = Pages::new(rt.alloc());
+    give_out(&mut pages, 0, 2048)?;
+    take_back(&rt, &mut pages, 1, 1024);
+    take_back(&rt, &mut pages, 1, 1024);
+    expect_present(&rt, &pages, &[true, true, false]);
+    take_back(&rt, &mut pages, 0, 1);
+    expect_present(&rt, &pages, &[false, true, false]);
+    take_back(&rt, &mut pages, 0, 2047);
+    expect_present(&rt, &pages, &[false, true, false]);
+    expect(
+        &rt,
+        &pages,
+        &[(1023, None), (2046, None), (2047, Some(2047))],
+    );
+    Ok(())
+}
+
+// The page of the next number stays, so that giving out and taking back by turns asks for memory once a page.
+#[test]
+fn by_turns(rt: HostRuntime) -> Result<(), Fail> {
+    let mut pages = Pages::new(rt.alloc());
+    for number in 0..2000 {
+        give_out(&mut pages, number, number.saturating_add(1))?;
+        take_back(&rt, &mut pages, number, number.saturating_add(1));
+    }
+    assert!(rt; pages.len() == 2000);
+    expect_present(&rt, &pages, &[false, true, false]);
+    Ok(())
+}
+
+// Room for many numbers is made at once; for more than 32 bits can tell apart there is none.
+#[test]
+fn room(rt: HostRuntime) -> Result<(), Fail> {
+    let mut pages = Pages::new(rt.alloc());
+    give_out(&mut pages, 0, 1)?;
+    pages.reserve(1023)?;
+    expect_present(&rt, &pages, &[true, false]);
+    pages.reserve(2048)?;
+    expect_present(&rt, &pages, &[true, true, true, false]);
+    assert!(rt; pages.reserve(4294967296).is_err());
+    assert!(rt; pages.len() == 1);
+    expect(&rt, &pages, &[(0, Some(0)), (1, None)]);
+    expect_present(&rt, &pages, &[true, true, true, false]);
+    Ok(())
+}
