@@ -1,10 +1,10 @@
 -- What stands under each of the first numbers.
-use Rattle.std.proofs.Common.{◌≡◌, ◌≢◌, ℕ, ◌+◌, ◌/◌, ◌%◌, ◌<◌, ◌≤◌, List, [], ◌∷◌, ◌++◌, length, Option, Some, None, slice_index_or, slice_set, refl, ap, sym, ◌∙◌, arith, ⊎_elim}
-use Rattle.std.proofs.lemmas.Bool.{cases_eq, cases_lt}
-use Rattle.std.proofs.lemmas.List.{get_or_past, get_or-set_same, get_or-set_other, length-set}
+use Rattle.std.proofs.Common.{◌≡◌, ℕ, ◌+◌, ◌<◌, List, [], ◌∷◌, ◌++◌, length, Option, None, slice_index_or, slice_set, ap, sym, ◌∙◌, arith, ⊎_elim}
+use Rattle.std.proofs.lemmas.Bool.{cases_eq}
+use Rattle.std.proofs.lemmas.List.{get_or-set_same, get_or-set_other, length-set}
 use Rattle.std.proofs.lemmas.List.FromFn.{length-map-range_with_len, get_or-map-range_with_len, map-range_with_len_more, fill_by_all}
-use Rattle.dom_pages.specs.Paged.{page_at, cell_at, cells_of, AllVacant}
-use Rattle.dom_pages.proofs.Written.{written, cell_at-other, cell_at-same, cell_at-cleared}
+use Rattle.dom_pages.specs.Paged.{cell_at, cells_of}
+use Rattle.dom_pages.proofs.Written.{written, cell_at-other}
 
 module _ {T : Type 0} where
   pub length-cells_of : (pages : List (List (Option T))) (len : ℕ) → length (cells_of pages len) ≡ len

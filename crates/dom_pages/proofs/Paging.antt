@@ -1,21 +1,12 @@
 -- What stays true of the pages of a table.
-use Rattle.std.proofs.Common.{◌≡◌, ◌≢◌, ℕ, false, true, ◌+◌, ◌*◌, ◌/◌, ◌%◌, ◌<◌, ◌≤◌, List, [], ◌∷◌, ◌++◌, length, Option, Some, None, IsSome, slice_index_or, slice_set, refl, ap, sym, ◌∙◌, subst, arith, ⊎_elim}
-use Rattle.std.proofs.lemmas.Bool.{cases_eq, cases_lt}
-use Rattle.std.proofs.lemmas.List.{get_or_past, get_or_append_left, get_or_push, get_or-set_other, length-set, length-append}
-use Rattle.dom_pages.specs.Paged.{page_size, page_at, cell_at, cells_of, AllVacant, IsPaged}
+use Rattle.std.proofs.Common.{◌≡◌, ℕ, false, true, ◌+◌, ◌*◌, ◌/◌, ◌%◌, ◌<◌, ◌≤◌, List, [], ◌∷◌, ◌++◌, length, Option, None, IsSome, slice_index_or, ap, sym, ◌∙◌, subst, arith, ⊎_elim}
+use Rattle.std.proofs.lemmas.Bool.{cases_lt}
+use Rattle.std.proofs.lemmas.List.{get_or_past, get_or_append_left, get_or_push, length-set, length-append}
+use Rattle.dom_pages.specs.Paged.{page_at, cell_at, cells_of, AllVacant, IsPaged}
 use Rattle.dom_pages.proofs.Cells.{length-cells_of, get_or-cells_of}
-use Rattle.dom_pages.proofs.Written.{written, cell_at-other, cell_at-same, cell_at-cleared, cell_at-past, cell_at-added, cell_at-given_back, length-page_at-written}
+use Rattle.dom_pages.proofs.Written.{written, cell_at-other, cell_at-added, length-page_at-written}
 
 module _ {T : Type 0} where
-  -- no page
-  pub IsPaged-none : IsPaged {T = T} [] 0
-  IsPaged-none = record {
-    few = omega arith;
-    within = omega arith;
-    present = λ k _ lt. absurd (omega arith);
-    vacant = λ n _. refl;
-  }
-
   -- what a list has at a place stands before its end
   some_before : (xs : List (Option T)) (n : ℕ) → IsSome (slice_index_or xs n None) → n < length xs
   some_before xs n some =
@@ -59,17 +50,6 @@ module _ {T : Type 0} {pages : List (List (Option T))} {len : ℕ} (p : IsPaged 
         vacant = λ m le. cell_at-other pages n m x (λ e. omega arith) ∙ p.vacant m le;
       }
 
-  -- the next cell written
-  pub IsPaged-pushed : (x : Option T) → len < 1024 * length pages → IsPaged (written pages len x) (len + 1)
-  IsPaged-pushed x room =
-      let long : length (written pages len x) ≡ length pages = length-set pages (len / 1024) _ in
-      record {
-        few = omega (arith, long, p.few);
-        within = omega (arith, long);
-        present = λ k le lt. length-page_at-written pages len k x ∙ p.present k (omega arith) (omega (arith, long));
-        vacant = λ m le. cell_at-other pages len m x (λ e. omega arith) ∙ p.vacant m (omega arith);
-      }
-
   -- a new page behind the others
   pub IsPaged-added : (page : List (Option T)) → length page ≡ 1024 → AllVacant page → length pages < 4194304 → IsPaged (pages ++ page ∷ []) len
   IsPaged-added page full none few =
@@ -84,15 +64,4 @@ module _ {T : Type 0} {pages : List (List (Option T))} {len : ℕ} (p : IsPaged 
             (λ (new : length pages ≤ k). ap length (get_or_push pages page [] k (omega (arith, long))) ∙ full)
             (cases_lt k (length pages));
         vacant = λ m le. cell_at-added pages page none m ∙ p.vacant m le;
-      }
-
-  -- a page given back whose numbers were all given out
-  pub IsPaged-given_back : (k : ℕ) → k < len / 1024 → AllVacant (page_at pages k) → IsPaged (slice_set pages k []) len
-  IsPaged-given_back k below none =
-      let long : length (slice_set pages k []) ≡ length pages = length-set pages k [] in
-      record {
-        few = omega (arith, long, p.few);
-        within = omega (arith, long, p.within);
-        present = λ j le lt. ap length (get_or-set_other pages k j [] [] (λ e. omega arith)) ∙ p.present j le (omega (arith, long));
-        vacant = λ m le. cell_at-given_back pages k none m ∙ p.vacant m le;
       }

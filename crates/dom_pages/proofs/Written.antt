@@ -1,5 +1,5 @@
 -- A page replaced, or one cell written: what stands under the other numbers stays.
-use Rattle.std.proofs.Common.{◌≡◌, ◌≢◌, ℕ, zero, suc, ◌+◌, ◌-◌, ◌*◌, ◌/◌, ◌%◌, ◌<◌, ◌≤◌, List, [], ◌∷◌, ◌++◌, length, Option, Some, None, slice_index_or, slice_set, refl, ap, sym, ◌∙◌, arith, ⊎_elim}
+use Rattle.std.proofs.Common.{◌≡◌, ◌≢◌, ℕ, zero, suc, ◌-◌, ◌/◌, ◌%◌, ◌<◌, ◌≤◌, List, [], ◌∷◌, ◌++◌, length, Option, None, slice_index_or, slice_set, refl, ap, sym, ◌∙◌, arith, ⊎_elim}
 use Rattle.std.proofs.lemmas.Bool.{cases_eq, cases_lt}
 use Rattle.std.proofs.lemmas.List.{get_or_past, get_or_default, get_or_append_left, get_or-append_right, get_or-set_same, get_or-set_other, length-set, set_past}
 use Rattle.dom_pages.specs.Paged.{page_at, cell_at, AllVacant}
@@ -86,18 +86,6 @@ module _ {T : Type 0} (pages : List (List (Option T))) where
       ∙ read_alone page none (n / 1024 - length pages) (n % 1024)
       ∙ sym (cell_at-past n le))
       (cases_lt (n / 1024) (length pages))
-
-  -- a page in which nothing stands given back
-  pub cell_at-given_back : (k : ℕ) → AllVacant (page_at pages k) → (n : ℕ) → cell_at (slice_set pages k []) n ≡ cell_at pages n
-  cell_at-given_back k none n =
-      ⊎_elim
-      (λ (e : n / 1024 ≡ k).
-      ⊎_elim
-      (λ (lt : k < length pages). cell_at-inside k n [] e lt ∙ sym (ap (λ j. slice_index_or (page_at pages j) (n % 1024) None) e ∙ none (n % 1024)))
-      (λ (le : length pages ≤ k). ap (λ p. cell_at p n) (set_past pages k [] le))
-      (cases_lt k (length pages)))
-      (λ (apart : n / 1024 ≡ k → ⊥). cell_at-outside k n [] apart)
-      (cases_eq (n / 1024) k)
 
   -- a page that was read, changed at one cell and put back
   pub is_written : (n : ℕ) (x : Option T) (page after : List (Option T)) → n / 1024 < length pages → page ≡ slice_index_or pages (n / 1024) page → after ≡ slice_set page (n % 1024) x → slice_set pages (n / 1024) after ≡ written n x

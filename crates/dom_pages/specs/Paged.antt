@@ -1,5 +1,5 @@
 -- How the items of a table lie in pages.
-use Rattle.std.specs.Prelude.{◌≡◌, ℕ, ◌+◌, ◌-◌, ◌*◌, ◌/◌, ◌%◌, ◌<◌, ◌≤◌, List, [], length, map, Option, Some, None, slice_index_or}
+use Rattle.std.specs.Prelude.{◌≡◌, ℕ, ◌*◌, ◌/◌, ◌%◌, ◌<◌, ◌≤◌, List, [], length, map, Option, Some, None, slice_index_or}
 use Rattle.std.specs.List.{range_with_len, sum_by}
 
 -- how many numbers a page is for

@@ -1,6 +1,6 @@
 //! A table in pages.
 
-ghost use Rattle.std.specs.Prelude.{◌≡◌, ◌+◌, ◌<◌, ◌≤◌, ◌∷◌, ◌++◌, [], length, Some, None, IsSome, OnOk, OnErr, slice_set};
+ghost use Rattle.std.specs.Prelude.{◌≡◌, ◌+◌, ◌<◌, ◌≤◌, ◌∷◌, ◌++◌, [], length, Some, None, IsSome, OnOk, slice_set};
 ghost use Rattle.dom_pages.specs.Numbered.{item_at};
 ghost use Rattle.dom_pages.specs.Paged.{page_size};
 

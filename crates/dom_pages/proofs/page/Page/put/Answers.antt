@@ -1,5 +1,5 @@
 -- While a cell is empty, fewer are counted than there are cells.
-use Rattle.std.proofs.Common.{◌≡◌, ◌<◌, length, false, not, sym, ap, ◌∙◌, arith}
+use Rattle.std.proofs.Common.{◌<◌, length, not, ap, ◌∙◌, arith}
 use Rattle.dom_pages.proofs.Taken.{empty_at, taken_in-lt}
 use Rattle.dom_pages.proofs.page.Page.put.Goals as goal
 

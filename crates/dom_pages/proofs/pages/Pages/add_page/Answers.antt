@@ -1,5 +1,5 @@
 -- A page with nothing in it behind the others changes nothing that stands under a number.
-use Rattle.std.proofs.Common.{◌≡◌, ◌<◌, length, sym, ap, ◌∙◌, subst, arith}
+use Rattle.std.proofs.Common.{◌<◌, length, sym, ap, ◌∙◌, subst, arith}
 use Rattle.dom_pages.specs.Paged.{cells_of, IsPaged}
 use Rattle.dom_pages.proofs.Cells.{length-cells_of, cells_of-same}
 use Rattle.dom_pages.proofs.Paging.{IsPaged-added}

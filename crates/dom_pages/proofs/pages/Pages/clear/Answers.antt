@@ -1,5 +1,5 @@
 -- The cell of the number is emptied, and what the page gives back changes nothing that stands under a number.
-use Rattle.std.proofs.Common.{◌≡◌, ◌<◌, ◌/◌, ◌%◌, None, length, slice_set, sym, ap, ◌∙◌, subst, arith}
+use Rattle.std.proofs.Common.{◌<◌, None, length, slice_set, sym, ap, ◌∙◌, subst, arith}
 use Rattle.dom_pages.specs.Paged.{cells_of, IsPaged}
 use Rattle.dom_pages.proofs.Cells.{length-cells_of, cells_of-written}
 use Rattle.dom_pages.proofs.Paging.{has_page, IsPaged-written}

@@ -1,5 +1,5 @@
 -- What stands under a number is read through its page, where there is one.
-use Rattle.std.proofs.Common.{◌≡◌, ◌/◌, ◌%◌, ◌≤◌, List, [], Option, None, length, slice_index_or, sym, ap, ◌∙◌, arith}
+use Rattle.std.proofs.Common.{◌/◌, ◌%◌, ◌≤◌, [], None, length, slice_index_or, sym, ap, ◌∙◌, arith}
 use Rattle.dom_pages.proofs.Paging.{get_or-items}
 use Rattle.dom_pages.proofs.Written.{cell_at-past}
 use Rattle.dom_pages.proofs.pages.Pages.get.Goals as goal

@@ -1,6 +1,5 @@
 -- There are as many items as numbers.
-use Rattle.std.proofs.Common.{◌≡◌, length, sym, ap, ◌∙◌}
-use Rattle.dom_pages.specs.Numbered.{Numbered}
+use Rattle.std.proofs.Common.{length, sym, ap, ◌∙◌}
 use Rattle.dom_pages.proofs.Cells.{length-cells_of}
 use Rattle.dom_pages.proofs.pages.Pages.len.Goals as goal
 

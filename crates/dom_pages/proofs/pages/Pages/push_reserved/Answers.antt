@@ -1,5 +1,5 @@
 -- The next cell is written, behind the others.
-use Rattle.std.proofs.Common.{◌≡◌, ◌<◌, ◌*◌, ◌+◌, ◌/◌, ◌∷◌, ◌++◌, [], Some, length, slice_set, ap, ◌∙◌, arith}
+use Rattle.std.proofs.Common.{◌<◌, ◌*◌, ◌+◌, ◌∷◌, ◌++◌, [], Some, length, ap, ◌∙◌, arith}
 use Rattle.dom_pages.specs.Paged.{cells_of}
 use Rattle.dom_pages.proofs.Cells.{cells_of-pushed}
 use Rattle.dom_pages.proofs.Paging.{has_next}

@@ -1,5 +1,5 @@
 -- No more numbers are wanted than 32 bits can tell apart.
-use Rattle.std.proofs.Common.{◌≡◌, length, refl, ap, arith}
+use Rattle.std.proofs.Common.{length, refl, ap, arith}
 use Rattle.dom_pages.proofs.Cells.{length-cells_of}
 use Rattle.dom_pages.proofs.pages.Pages.reserve.Goals as goal
 

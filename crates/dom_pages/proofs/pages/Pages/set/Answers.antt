@@ -1,5 +1,5 @@
 -- The cell of the number is written.
-use Rattle.std.proofs.Common.{◌≡◌, ◌<◌, ◌/◌, ◌%◌, [], Some, None, IsSome, length, slice_index_or, slice_set, sym, ap, ◌∙◌, subst, arith}
+use Rattle.std.proofs.Common.{◌/◌, [], Some, None, IsSome, length, slice_index_or, slice_set, sym, ap, ◌∙◌, subst, arith}
 use Rattle.std.proofs.lemmas.List.{get_or_default}
 use Rattle.dom_pages.specs.Paged.{cells_of, IsPaged}
 use Rattle.dom_pages.proofs.Cells.{cells_of-written}
