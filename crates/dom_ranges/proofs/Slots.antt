@@ -16,8 +16,8 @@ by_slot-at pairs (o ∷ os) zero = refl
 by_slot-at pairs (o ∷ os) (suc r) = by_slot-at pairs os r
 
 -- the slot of a number, as it was read
-pub slot-read : (slots xs : List (Option ℕ)) (r s : ℕ) (o : Option ℕ) → xs ≡ slots → o ≡ slot_at xs r → o ≡ Some s → slot_at slots r ≡ Some s
-slot-read slots xs r s o same read is = ap (λ ys. slot_at ys r) (sym same) ∙ sym read ∙ is
+pub slot-read : (slots : List (Option ℕ)) (r s : ℕ) (o : Option ℕ) → o ≡ slot_at slots r → o ≡ Some s → slot_at slots r ≡ Some s
+slot-read slots r s o read is = sym read ∙ is
 
 -- the ranges of the same slots
 in-same : (pairs pairs' : List (Option Range)) (o : Option ℕ) → ((s : ℕ) → o ≡ Some s → get_or pairs' s None ≡ get_or pairs s None) → in_slot pairs' o ≡ in_slot pairs o

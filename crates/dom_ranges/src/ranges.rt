@@ -11,6 +11,7 @@ ghost use Rattle.dom_ranges.specs.Tables.{range_in, slot_at, live_nodes, paired,
 
 use crate::chains::Chains;
 use crate::numbers::{RangeId, RangeSlot};
+use dom_pages::Pages;
 use dom_point::Point;
 use dom_tree::{Body, NodeId, Tree};
 use std::alloc::{AllocError, Global};
@@ -18,11 +19,12 @@ use std::marker::Model;
 
 /// The live ranges of a session (DOM Standard, "Live ranges"), with their ends found by node.
 ///
-/// A number leads to a slot, which has the two ends, for as long as its range is live. A slot that was released is taken again first.
+/// A number leads to a slot, which has the two ends, for as long as its range is live. A slot that was released is taken again first, and
+/// the pages of the numbers give their memory back where no range is live.
 #[derive(Drop)]
 pub struct Ranges {
     pub(crate) chains: Chains,
-    slots: Vec<Option<RangeSlot>>,
+    slots: Pages<RangeSlot>,
     vacant: Vec<RangeSlot>,
     live: u64,
 }
@@ -41,13 +43,10 @@ impl Model for Ranges {
 }
 
 // The slot of a number, where it has one.
-fn slot_of(slots: &[Option<RangeSlot>], r: RangeId) -> Option<RangeSlot>
-    ensures { result ≡ slot_at slots.now r }
+fn slot_of(slots: &Pages<RangeSlot>, r: RangeId) -> Option<RangeSlot>
+    ensures { result ≡ slot_at slots.now.items r }
 {
-    match slots.get(r.number() as usize) {
-        Some(slot) => *slot,
-        None => None,
-    }
+    slots.get(r.number() as usize)
 }
 
 // Puts two ends into a vacant slot, or into a new one where none is vacant. For a new one there is room among the vacant slots too.
@@ -90,7 +89,7 @@ impl Ranges {
     {
         Ranges {
             chains: Chains::new(alloc),
-            slots: Vec::new(alloc),
+            slots: Pages::new(alloc),
             vacant: Vec::new(alloc),
             live: 0,
         }
@@ -123,7 +122,7 @@ impl Ranges {
         self.slots.reserve(1)?;
         let slot = settle(&mut self.chains, &mut self.vacant, self.live, start, end)?;
         let r = RangeId::new(self.slots.len() as u32);
-        self.slots.push_reserved(Some(slot));
+        self.slots.push_reserved(slot);
         self.live += 1;
         Ok(r)
     }
@@ -163,7 +162,7 @@ impl Ranges {
         let slot = slot_of(&self.slots, r).unwrap();
         self.chains.take_out(slot.start());
         self.chains.take_out(slot.end());
-        self.slots[r.number() as usize] = None;
+        self.slots.clear(r.number() as usize);
         self.vacant.push_reserved(slot);
         self.live -= 1;
     }

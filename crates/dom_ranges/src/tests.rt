@@ -264,6 +264,39 @@ fn made_again_and_again(rt: HostRuntime) -> Result<(), Fail> {
     Ok(())
 }
 
+// Ranges are made and released by turns, ten of them live at a time, over more numbers than a page has. Each starts where its number says.
+#[test]
+fn made_and_released_by_turns(rt: HostRuntime) -> Result<(), Fail> {
+    let tree = with_texts(&rt, rt.alloc())?;
+    let t = NodeId::new(3);
+    let mut ranges = Ranges::new(rt.alloc());
+    for n in 0..3_000_u32 {
+        let offset = n as usize % 10;
+        let r = ranged(&rt, &mut ranges, &tree, at(t, offset), at(t, 10))?;
+        assert_eq!(rt; r.number(), n);
+        if n >= 10 {
+            let first = RangeId::new(n - 10);
+            lies(&rt, &ranges, first, at(t, offset), at(t, 10));
+            assert!(rt; ranges.holds(first));
+            ranges.release(first);
+        }
+    }
+    assert!(rt; !ranges.holds(RangeId::new(0)));
+    assert!(rt; !ranges.holds(RangeId::new(2_989)));
+    for n in 2_990..3_000_u32 {
+        lies(
+            &rt,
+            &ranges,
+            RangeId::new(n),
+            at(t, n as usize % 10),
+            at(t, 10),
+        );
+    }
+    assert_eq!(rt; ranges.made(), 3_000);
+    assert_eq!(rt; ranges.chains.count(), 22);
+    Ok(())
+}
+
 // Two ranges that were released, the first before the second: the next two take their slots, and a third gets a new one.
 #[test]
 fn made_in_released_slots(rt: HostRuntime) -> Result<(), Fail> {
