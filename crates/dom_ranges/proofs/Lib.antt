@@ -8,5 +8,6 @@ pub mod MarkingJoined
 pub mod Moving
 pub mod Pairs
 pub mod Slots
+pub mod Standing
 pub mod Steps
 pub mod Walking

@@ -1,27 +1,26 @@
 -- What the calls that make, release and move ranges leave in order.
-use Rattle.std.proofs.Common.{◌≡◌, ℕ, zero, suc, ◌+◌, ◌≤◌, ◌<◌, ◌^◌, ◌/◌, ◌==◌, true, false, Bool, cond, List, [], ◌∷◌, ◌++◌, length, get_or, set, Option, Some, None, IsSome, is_some, refl, sym, ap, subst, ◌∙◌, ⊎_elim, arith}
+use Rattle.std.proofs.Common.{◌≡◌, ℕ, suc, ◌+◌, ◌≤◌, ◌<◌, ◌^◌, ◌/◌, ◌==◌, true, false, List, [], ◌∷◌, ◌++◌, length, get_or, set, Option, Some, None, IsSome, refl, sym, ap, subst, ◌∙◌, ⊎_elim, arith}
 use Rattle.std.specs.List.{flat_map, list_any}
-use Rattle.std.proofs.lemmas.Bool.{cases_Bool, cases_eq, false≢true, eqb-true}
-use Rattle.dom_model.specs.PlainLists.Lists.{among, hits, head_of}
+use Rattle.std.proofs.lemmas.Bool.{cases_Bool, eqb-true}
+use Rattle.dom_model.specs.PlainLists.Lists.{among}
 use Rattle.dom_model.specs.Worlds.World.{Point, Range}
 use Rattle.dom_model.specs.MutationAlgorithms.Discarding.{nodes_of_live}
 use Rattle.dom_ranges.specs.declared.chains.End.{End}
-use Rattle.dom_ranges.specs.Chained.{head_at, point_at, points_of, stands_at, HasChains}
+use Rattle.dom_ranges.specs.Chained.{Heads, point_at, points_of, HasChains}
 use Rattle.dom_ranges.specs.Tables.{RangeTable, live_nodes, both, paired, IsPaired, live_count, by_slot, slot_at, IsKept, AreVacant, HaveSlots, IsFilled, IsInOrder, Settles}
-use Rattle.dom_ranges.proofs.Chained.{has-head, head-there}
-use Rattle.dom_ranges.proofs.Steps.{points-at, points-length, same-length, point-kept}
-use Rattle.dom_ranges.proofs.Slots.{slots-none, vacant-none, slots-added, ranges-added, slots-written, vacant-written, ranges-written, slots-released, vacant-released, ranges-released, last-there, last-empty, last-settled, slots-any, idle-slots}
+use Rattle.dom_ranges.proofs.Steps.{points-length, same-length, point-kept}
+use Rattle.dom_ranges.proofs.Slots.{slots-none, vacant-none, slots-added, ranges-added, slots-written, vacant-written, ranges-written, slots-released, vacant-released, ranges-released, last-there, last-empty, last-settled, idle-slots}
 use Rattle.dom_ranges.proofs.Pairs.{paired-length, paired-append, IsPaired-append, live-append, live-filled, written-ranges, written-paired, written-live, both-held, ranges-are, covered-is, empty-ends}
 
-pub IsKept-empty : (t : List End) (heads : List (Option ℕ)) → t ≡ [] → heads ≡ [] → IsKept t heads 0
+pub IsKept-empty : (t : List End) (heads : Heads) → t ≡ [] → heads ≡ [] → IsKept t heads 0
 IsKept-empty t heads a b = rw (a, b) (record { chains = record { chain = λ n. []; chained = record { first = λ n. refl; counted = λ e n. refl; next = λ e n h. absurd (omega arith); prev = λ e n h. absurd (omega arith) } }; pairs = tt; alive = refl; small = omega arith })
 
-module _ (t : List End) (heads : List (Option ℕ)) (live : ℕ) (k : IsKept t heads live) where
+module _ (t : List End) (heads : Heads) (live : ℕ) (k : IsKept t heads live) where
   pub half : length t / 2 ≡ length (paired (points_of t))
   half = omega (arith, paired-length (points_of t) k.pairs, points-length t)
 
   -- a range made of two new ends
-  pub IsKept-added : (t' : List End) (heads' : List (Option ℕ)) (s e : Point) → points_of t' ≡ points_of t ++ Some s ∷ Some e ∷ [] → HasChains t' heads' → length t' ≤ 2 ^ 32 → IsKept t' heads' (live + 1)
+  pub IsKept-added : (t' : List End) (heads' : Heads) (s e : Point) → points_of t' ≡ points_of t ++ Some s ∷ Some e ∷ [] → HasChains t' heads' → length t' ≤ 2 ^ 32 → IsKept t' heads' (live + 1)
   IsKept-added t' heads' s e added chains small = record {
     chains = chains;
     pairs = subst IsPaired (sym added) (IsPaired-append (points_of t) (Some s) (Some e) refl k.pairs);
@@ -35,7 +34,7 @@ module _ (t : List End) (heads : List (Option ℕ)) (live : ℕ) (k : IsKept t h
   pub pairs-added : (t' : List End) (s e : Point) → points_of t' ≡ points_of t ++ Some s ∷ Some e ∷ [] → paired (points_of t') ≡ paired (points_of t) ++ Some (record { start = s; end = e }) ∷ []
   pairs-added t' s e added = ap paired added ∙ paired-append (points_of t) (Some s) (Some e) k.pairs
 
-  pub IsKept-same : (t' : List End) (heads' : List (Option ℕ)) → points_of t' ≡ points_of t → HasChains t' heads' → IsKept t' heads' live
+  pub IsKept-same : (t' : List End) (heads' : Heads) → points_of t' ≡ points_of t → HasChains t' heads' → IsKept t' heads' live
   IsKept-same t' heads' same chains = record {
     chains = chains;
     pairs = subst IsPaired (sym same) k.pairs;
@@ -43,7 +42,7 @@ module _ (t : List End) (heads : List (Option ℕ)) (live : ℕ) (k : IsKept t h
     small = omega (arith, points-length t, points-length t', ap length same, k.small);
   }
 
-  module _ (r : ℕ) (held : IsSome (both (point_at t (r + r)) (point_at t (r + r + 1)))) (t1 t2 : List End) (heads2 : List (Option ℕ)) (chains : HasChains t2 heads2) where
+  module _ (r : ℕ) (held : IsSome (both (point_at t (r + r)) (point_at t (r + r + 1)))) (t1 t2 : List End) (heads2 : Heads) (chains : HasChains t2 heads2) where
     lengths : (s e : Option Point) → points_of t1 ≡ set (points_of t) (r + r) s → points_of t2 ≡ set (points_of t1) (r + r + 1) e → length t2 ≡ length t
     lengths s e a b = same-length t1 t2 (r + r + 1) e b ∙ same-length t t1 (r + r) s a
 
@@ -66,78 +65,17 @@ module _ (t : List End) (heads : List (Option ℕ)) (live : ℕ) (k : IsKept t h
       small = omega (arith, lengths None None a b, k.small);
     }
 
-pub IsInOrder-empty : (t : List End) (heads : List (Option ℕ)) (slots : List (Option ℕ)) (vacant : List ℕ) (many room : ℕ) → t ≡ [] → heads ≡ [] → slots ≡ [] → vacant ≡ [] → many ≡ 0 → IsInOrder t heads slots vacant 0 many room
+pub IsInOrder-empty : (t : List End) (heads : Heads) (slots : List (Option ℕ)) (vacant : List ℕ) (many room : ℕ) → t ≡ [] → heads ≡ [] → slots ≡ [] → vacant ≡ [] → many ≡ 0 → IsInOrder t heads slots vacant 0 many room
 IsInOrder-empty t heads slots vacant many room a b c d e =
     rw a (record { ends = IsKept-empty [] heads refl b; numbered = slots-none slots c; empty = vacant-none vacant d; filled = record { filled = omega arith; listed = omega arith } })
-
--- what holds of the nodes of live ranges is what holds of the points
-or-true : (a b : Bool) → b ≡ true → (cond a true b) ≡ true
-or-true true b h = refl
-or-true false b h = h
-
-pub list_any-append : (p : ℕ → Bool) (xs ys : List ℕ) → list_any p xs ≡ false → list_any p (xs ++ ys) ≡ list_any p ys
-list_any-append p [] ys h = refl
-list_any-append p (x ∷ xs) ys h =
-    ⊎_elim (λ (a : p x ≡ true). let b : true ≡ false = rw a at h in absurd (false≢true (sym b))) (λ (a : p x ≡ false). let b : list_any p xs ≡ false = rw a at h in rw a (list_any-append p xs ys b)) (cases_Bool (p x))
 
 pub among-any : (n : ℕ) (xs : List ℕ) → among n xs ≡ list_any (λ m. m == n) xs
 among-any n [] = refl
 among-any n (x ∷ xs) = ⊎_elim (λ (a : (x == n) ≡ true). rw a refl) (λ (a : (x == n) ≡ false). rw a (among-any n xs)) (cases_Bool (x == n))
 
-pub none-live : (p : ℕ → Bool) (ps : List (Option Point)) → IsPaired ps → ((e : ℕ) (q : Point) → get_or ps e None ≡ Some q → p q.node ≡ false) → list_any p (flat_map nodes_of_live (paired ps)) ≡ false
-none-live p [] k h = refl
-none-live p (s ∷ []) k h = absurd k
-none-live p (None ∷ None ∷ rest) k h = none-live p rest k.1 (λ e. h (suc (suc e)))
-none-live p (None ∷ Some y ∷ rest) k h = absurd (false≢true k.0)
-none-live p (Some x ∷ None ∷ rest) k h = absurd (false≢true (sym k.0))
-none-live p (Some x ∷ Some y ∷ rest) k h = let a = h 0 x refl in let b = h 1 y refl in rw (a, b) (none-live p rest k.1 (λ e. h (suc (suc e))))
-
-pub one-live : (p : ℕ → Bool) (ps : List (Option Point)) → IsPaired ps → (e : ℕ) (q : Point) → get_or ps e None ≡ Some q → p q.node ≡ true → list_any p (flat_map nodes_of_live (paired ps)) ≡ true
-one-live p [] k e q h y = cc
-one-live p (s ∷ []) k e q h y = absurd k
-one-live p (None ∷ None ∷ rest) k zero q h y = cc
-one-live p (None ∷ None ∷ rest) k (suc zero) q h y = cc
-one-live p (None ∷ None ∷ rest) k (suc (suc e)) q h y = one-live p rest k.1 e q h y
-one-live p (None ∷ Some b ∷ rest) k e q h y = absurd (false≢true k.0)
-one-live p (Some a ∷ None ∷ rest) k e q h y = absurd (false≢true (sym k.0))
-one-live p (Some a ∷ Some b ∷ rest) k zero q h y = let z : a ≡ q = cc in let w : p a.node ≡ true = rw z y in rw w refl
-one-live p (Some a ∷ Some b ∷ rest) k (suc zero) q h y =
-    let z : b ≡ q = cc in let w : p b.node ≡ true = rw z y in ⊎_elim (λ (v : p a.node ≡ true). rw v refl) (λ (v : p a.node ≡ false). rw (v, w) refl) (cases_Bool (p a.node))
-one-live p (Some a ∷ Some b ∷ rest) k (suc (suc e)) q h y =
-    let w = one-live p rest k.1 e q h y in
-    ⊎_elim (λ (v : p a.node ≡ true). rw v refl)
-    (λ (v : p a.node ≡ false). ⊎_elim (λ (u : p b.node ≡ true). rw (v, u) refl) (λ (u : p b.node ≡ false). rw (v, u) w) (cases_Bool (p b.node))) (cases_Bool (p a.node))
-
--- a node has a head of a chain just where an end of a live range stands in it
-pub heads-tell : (t : List End) (heads : List (Option ℕ)) (live : ℕ) → IsKept t heads live → (node : ℕ) → is_some (head_at heads node) ≡ among node (flat_map nodes_of_live (paired (points_of t)))
-heads-tell t heads live k node = go (head_at heads node) refl ∙ sym (among-any node (flat_map nodes_of_live (paired (points_of t))))
-  where
-    standing : (q : Point) → stands_at node (Some q) ≡ 0 → (q.node == node) ≡ false
-    standing q h = ⊎_elim (λ (a : (q.node == node) ≡ true). let b : cond true 1 0 ≡ 0 = rw a at h in absurd (omega arith)) (λ (a : (q.node == node) ≡ false). a) (cases_Bool (q.node == node))
-
-    go : (o : Option ℕ) → head_at heads node ≡ o → is_some (head_at heads node) ≡ list_any (λ m. m == node) (flat_map nodes_of_live (paired (points_of t)))
-    go None h =
-        let none : head_of (k.chains.chain node) ≡ None = sym (k.chains.chained.first node) ∙ h in
-        rw h (sym (none-live (λ m. m == node) (points_of t) k.pairs (λ e q at.
-        let z : hits e (k.chains.chain node) ≡ 0 = ⊎_elim (λ (y : hits e (k.chains.chain node) ≡ 0). y) (λ (d : hits e (k.chains.chain node) ≡ 0 → ⊥). absurd (has-head e (k.chains.chain node) (omega arith) none)) (cases_eq (hits e (k.chains.chain node)) 0) in
-        let s : stands_at node (point_at t e) ≡ 0 = sym (k.chains.chained.counted e node) ∙ z in
-        let at' : point_at t e ≡ Some q = sym (points-at t e) ∙ at in
-        standing q (rw at' at s))))
-    go (Some e) h =
-        let there : 0 < hits e (k.chains.chain node) = head-there e (k.chains.chain node) (sym (k.chains.chained.first node) ∙ h) in
-        let s : 0 < stands_at node (point_at t e) = omega (arith, k.chains.chained.counted e node) in
-        rw h (found e (point_at t e) refl s)
-      where
-        found : (e : ℕ) (o : Option Point) → point_at t e ≡ o → 0 < stands_at node (point_at t e) → true ≡ list_any (λ m. m == node) (flat_map nodes_of_live (paired (points_of t)))
-        found e None a s = let z : 0 < stands_at node None = rw a at s in absurd (omega arith)
-        found e (Some q) a s =
-            let z : 0 < stands_at node (Some q) = rw a at s in
-            let y : (q.node == node) ≡ true = ⊎_elim (λ (y : (q.node == node) ≡ true). y) (λ (y : (q.node == node) ≡ false). let w : 0 < cond false 1 0 = rw y at z in absurd (omega arith)) (cases_Bool (q.node == node)) in
-            sym (one-live (λ m. m == node) (points_of t) k.pairs e q (points-at t e ∙ a) y)
-
 -- the calls at numbers of ends that were computed
-module _ (t : List End) (heads : List (Option ℕ)) (slots : List (Option ℕ)) (vacant : List ℕ) (live many room : ℕ) (k : IsInOrder t heads slots vacant live many room) (v : RangeTable) (view : record { ranges = by_slot (paired (points_of t)) slots; covered = length heads } ≡ v)
-    (r s i j : ℕ) (slot : slot_at slots r ≡ Some s) (first : i ≡ s + s) (second : j ≡ s + s + 1) (t1 t2 : List End) (heads2 : List (Option ℕ)) (chains : HasChains t2 heads2) where
+module _ (t : List End) (heads : Heads) (slots : List (Option ℕ)) (vacant : List ℕ) (live many room : ℕ) (k : IsInOrder t heads slots vacant live many room) (v : RangeTable) (view : record { ranges = by_slot (paired (points_of t)) slots; covered = length heads } ≡ v)
+    (r s i j : ℕ) (slot : slot_at slots r ≡ Some s) (first : i ≡ s + s) (second : j ≡ s + s + 1) (t1 t2 : List End) (heads2 : Heads) (chains : HasChains t2 heads2) where
   held : IsSome (both (point_at t (s + s)) (point_at t (s + s + 1)))
   held = both-held t heads slots vacant live many room k v view r s slot
 
@@ -191,7 +129,7 @@ module _ (t : List End) (heads : List (Option ℕ)) (slots : List (Option ℕ)) 
       rw (x, w, y, z) refl
 
 -- two ends put into a vacant slot
-module _ (t : List End) (heads : List (Option ℕ)) (live : ℕ) (k : IsKept t heads live) (vacant rest : List ℕ) (s : ℕ) (are : AreVacant (paired (points_of t)) vacant) (last : vacant ≡ rest ++ s ∷ []) where
+module _ (t : List End) (heads : Heads) (live : ℕ) (k : IsKept t heads live) (vacant rest : List ℕ) (s : ℕ) (are : AreVacant (paired (points_of t)) vacant) (last : vacant ≡ rest ++ s ∷ []) where
   within : s < length (paired (points_of t))
   within = last-there (paired (points_of t)) vacant rest s are last
 
@@ -228,7 +166,7 @@ module _ (t : List End) (heads : List (Option ℕ)) (live : ℕ) (k : IsKept t h
         pub reused-settles : Settles s (record { start = p; end = q }) (paired (points_of t)) (paired (points_of t2)) rest
         reused-settles = last-settled (paired (points_of t)) vacant rest s are last (record { start = p; end = q }) (paired (points_of t2)) reused
 
-        pub reused-kept : (heads2 : List (Option ℕ)) → HasChains t2 heads2 → IsKept t2 heads2 (live + 1)
+        pub reused-kept : (heads2 : Heads) → HasChains t2 heads2 → IsKept t2 heads2 (live + 1)
         reused-kept heads2 chains = record {
           chains = chains;
           pairs = written-paired t t1 t2 s (Some p) (Some q) a' b' refl k.pairs;
@@ -237,8 +175,8 @@ module _ (t : List End) (heads : List (Option ℕ)) (live : ℕ) (k : IsKept t h
         }
 
 -- a range made in a slot
-module _ (t : List End) (heads : List (Option ℕ)) (slots : List (Option ℕ)) (vacant : List ℕ) (live many room : ℕ) (k : IsInOrder t heads slots vacant live many room) (v : RangeTable) (view : record { ranges = by_slot (paired (points_of t)) slots; covered = length heads } ≡ v)
-    (s : ℕ) (x : Range) (t' : List End) (heads' : List (Option ℕ)) (vacant' : List ℕ) (settles : Settles s x (paired (points_of t)) (paired (points_of t')) vacant') (slots' : List (Option ℕ)) (added : slots' ≡ slots ++ Some s ∷ []) where
+module _ (t : List End) (heads : Heads) (slots : List (Option ℕ)) (vacant : List ℕ) (live many room : ℕ) (k : IsInOrder t heads slots vacant live many room) (v : RangeTable) (view : record { ranges = by_slot (paired (points_of t)) slots; covered = length heads } ≡ v)
+    (s : ℕ) (x : Range) (t' : List End) (heads' : Heads) (vacant' : List ℕ) (settles : Settles s x (paired (points_of t)) (paired (points_of t')) vacant') (slots' : List (Option ℕ)) (added : slots' ≡ slots ++ Some s ∷ []) where
   pub made-order : (live' many' room' : ℕ) → IsKept t' heads' live' → IsFilled (length t') live' many' room' → IsInOrder t' heads' slots' vacant' live' many' room'
   made-order live' many' room' kept filled = record {
     ends = kept;
@@ -256,8 +194,8 @@ module _ (t : List End) (heads : List (Option ℕ)) (slots : List (Option ℕ)) 
       rw (e, w, y, z) refl
 
 -- where the points stay
-pub order-kept : (t : List End) (heads : List (Option ℕ)) (slots : List (Option ℕ)) (vacant : List ℕ) (live many room : ℕ) → IsInOrder t heads slots vacant live many room
-    → (t' : List End) (heads' : List (Option ℕ)) → points_of t' ≡ points_of t → HasChains t' heads' → IsInOrder t' heads' slots vacant live many room
+pub order-kept : (t : List End) (heads : Heads) (slots : List (Option ℕ)) (vacant : List ℕ) (live many room : ℕ) → IsInOrder t heads slots vacant live many room
+    → (t' : List End) (heads' : Heads) → points_of t' ≡ points_of t → HasChains t' heads' → IsInOrder t' heads' slots vacant live many room
 order-kept t heads slots vacant live many room k t' heads' same chains = record {
   ends = IsKept-same t heads live k.ends t' heads' same chains;
   numbered = subst (λ ps. HaveSlots (paired ps) slots) (sym same) k.numbered;
@@ -265,17 +203,7 @@ order-kept t heads slots vacant live many room k t' heads' same chains = record 
   filled = subst (λ n. IsFilled n live many room) (sym (points-length t) ∙ ap length (sym same) ∙ points-length t') k.filled;
 }
 
-pub idle-nodes : (t : List End) (heads : List (Option ℕ)) (slots : List (Option ℕ)) (vacant : List ℕ) (live many room : ℕ) → IsInOrder t heads slots vacant live many room → (v : RangeTable)
+pub idle-nodes : (t : List End) (heads : Heads) (slots : List (Option ℕ)) (vacant : List ℕ) (live many room : ℕ) → IsInOrder t heads slots vacant live many room → (v : RangeTable)
     → record { ranges = by_slot (paired (points_of t)) slots; covered = length heads } ≡ v → (live == 0) ≡ true → live_nodes v ≡ []
 idle-nodes t heads slots vacant live many room k v view h =
     ap (flat_map nodes_of_live) (ranges-are t heads slots vacant live many room k v view) ∙ idle-slots (paired (points_of t)) slots (sym k.ends.alive ∙ eqb-true live 0 h)
-
--- whether an end stands in a node, told of the ranges by number
-pub stands-told : (t : List End) (heads : List (Option ℕ)) (slots : List (Option ℕ)) (vacant : List ℕ) (live many room : ℕ) → IsInOrder t heads slots vacant live many room → (v : RangeTable)
-    → record { ranges = by_slot (paired (points_of t)) slots; covered = length heads } ≡ v → (node : ℕ) → is_some (head_at heads node) ≡ among node (live_nodes v)
-stands-told t heads slots vacant live many room k v view node =
-    heads-tell t heads live k.ends node
-    ∙ among-any node (flat_map nodes_of_live (paired (points_of t)))
-    ∙ sym (slots-any (λ m. m == node) (paired (points_of t)) slots k.numbered)
-    ∙ sym (among-any node (flat_map nodes_of_live (by_slot (paired (points_of t)) slots)))
-    ∙ sym (ap (λ rs. among node (flat_map nodes_of_live rs)) (ranges-are t heads slots vacant live many room k v view))

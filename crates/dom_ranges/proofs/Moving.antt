@@ -6,9 +6,9 @@ use Rattle.std.proofs.lemmas.List.{length-map, get_or_past}
 use Rattle.dom_model.specs.Worlds.World.{Point, Range}
 use Rattle.dom_model.specs.BoundaryPoints.Points.{after_gap, after_splice, after_split, after_merge, moved_range, map_ranges}
 use Rattle.dom_ranges.specs.declared.chains.End.{End}
-use Rattle.dom_ranges.specs.Chained.{point_at, points_of, HasChains, on_node, MovesWithin, GoesElsewhere, StaysBeside}
+use Rattle.dom_ranges.specs.Chained.{Heads, point_at, points_of, HasChains, on_node, MovesWithin, GoesElsewhere, StaysBeside}
 use Rattle.dom_ranges.specs.Tables.{RangeTable, FitsMoved, OffsetsFit, paired, IsPaired, live_count, in_slot, by_slot, slot_at, IsKept, AreVacant, HaveSlots, IsFilled, IsInOrder}
-use Rattle.dom_ranges.proofs.Chained.{in-chain, covered}
+use Rattle.dom_ranges.proofs.Chained.{point-within}
 use Rattle.dom_ranges.proofs.Steps.{points-at, points-length}
 use Rattle.dom_ranges.proofs.Slots.{by_slot-at, by_slot-map, slots-same, vacant-same, map-some}
 use Rattle.dom_ranges.proofs.Pairs.{paired-map, IsPaired-map, live-map, ranges-are, covered-is}
@@ -66,7 +66,7 @@ second-within a b g t t1 n m away d h w within e p at there =
         (r.0, omega (arith, r.1, w))) (cases_eq x.node a)
 
 -- a shift of all ends
-module _ (t : List End) (heads : List (Option ℕ)) (live : ℕ) (k : IsKept t heads live) (g : Point → Point) (t' : List End) (heads' : List (Option ℕ)) (moved : points_of t' ≡ map (λ (o : Option Point). option_map g o) (points_of t)) (chains : HasChains t' heads') where
+module _ (t : List End) (heads : Heads) (live : ℕ) (k : IsKept t heads live) (g : Point → Point) (t' : List End) (heads' : Heads) (moved : points_of t' ≡ map (λ (o : Option Point). option_map g o) (points_of t)) (chains : HasChains t' heads') where
   pub IsKept-shifted : IsKept t' heads' live
   IsKept-shifted = record {
     chains = chains;
@@ -78,7 +78,7 @@ module _ (t : List End) (heads : List (Option ℕ)) (live : ℕ) (k : IsKept t h
   }
 
 -- the same of the ranges by number
-module _ (t : List End) (heads : List (Option ℕ)) (slots : List (Option ℕ)) (vacant : List ℕ) (live many room : ℕ) (k : IsInOrder t heads slots vacant live many room) (g : Point → Point) (t' : List End) (heads' : List (Option ℕ)) (moved : points_of t' ≡ map (λ (o : Option Point). option_map g o) (points_of t)) (chains : HasChains t' heads') where
+module _ (t : List End) (heads : Heads) (slots : List (Option ℕ)) (vacant : List ℕ) (live many room : ℕ) (k : IsInOrder t heads slots vacant live many room) (g : Point → Point) (t' : List End) (heads' : Heads) (moved : points_of t' ≡ map (λ (o : Option Point). option_map g o) (points_of t)) (chains : HasChains t' heads') where
   pairs-moved : paired (points_of t') ≡ map_ranges g (paired (points_of t))
   pairs-moved = ap paired moved ∙ paired-map g (points_of t)
 
@@ -122,7 +122,7 @@ fits-one g rs fit r range h =
     subst (λ (o : Option Range). IfSome o (FitsMoved g)) h a)
     (λ (past : length rs ≤ r). let z : None ≡ Some range = sym (get_or_past rs r None past) ∙ h in cc) (cases_lt r (length rs))
 
-module _ (t : List End) (heads : List (Option ℕ)) (slots : List (Option ℕ)) (vacant : List ℕ) (live many room : ℕ) (k : IsInOrder t heads slots vacant live many room) (v : RangeTable) (view : record { ranges = by_slot (paired (points_of t)) slots; covered = length heads } ≡ v) where
+module _ (t : List End) (heads : Heads) (slots : List (Option ℕ)) (vacant : List ℕ) (live many room : ℕ) (k : IsInOrder t heads slots vacant live many room) (v : RangeTable) (view : record { ranges = by_slot (paired (points_of t)) slots; covered = length heads } ≡ v) where
   fits-pair : (g : Point → Point) → OffsetsFit g v.ranges → (s : ℕ) (range : Range) → get_or (paired (points_of t)) s None ≡ Some range → FitsMoved g range
   fits-pair g fit s range at =
       let there : slot_at slots (k.numbered.number s) ≡ Some s = k.numbered.held s (ap is_some at) in
@@ -133,7 +133,7 @@ module _ (t : List End) (heads : List (Option ℕ)) (slots : List (Option ℕ)) 
   point-fits g fit e p h = fits-points g (points_of t) k.ends.pairs (fits-pair g fit) e p (points-at t e ∙ h)
 
   pub point-covered : (e : ℕ) (p : Point) → point_at t e ≡ Some p → p.node < length heads
-  point-covered e p h = let c = k.ends.chains in covered c.chain t heads c.chained e p.node (omega (arith, in-chain c.chain t heads c.chained e p h))
+  point-covered e p h = let c = k.ends.chains in point-within c.chain t heads c.chained e p h
 
   -- where the nodes of the moved points have chains
   pub moves-within : (g : Point → Point) → OffsetsFit g v.ranges → ((p : Point) → p.node < length heads → (g p).node < length heads) → (n : ℕ) → MovesWithin n g t (length heads)

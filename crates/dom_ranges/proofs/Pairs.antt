@@ -1,10 +1,10 @@
 -- Ranges are pairs of ends: what a change of the ends is to the ranges.
-use Rattle.std.proofs.Common.{◌≡◌, ℕ, zero, suc, ◌+◌, ◌≤◌, ◌<◌, ◌^◌, if◌then◌else◌, List, [], ◌∷◌, ◌++◌, length, map, get_or, set, Option, Some, None, IsSome, is_some, option_map, refl, sym, ap, subst, ◌∙◌, arith}
+use Rattle.std.proofs.Common.{◌≡◌, ℕ, zero, suc, ◌+◌, ◌<◌, ◌^◌, if◌then◌else◌, List, [], ◌∷◌, ◌++◌, length, map, get_or, set, Option, Some, None, IsSome, is_some, option_map, refl, sym, ap, subst, ◌∙◌, arith}
 use Rattle.std.proofs.lemmas.Bool.{false≢true}
 use Rattle.dom_model.specs.Worlds.World.{Point, Range}
 use Rattle.dom_model.specs.BoundaryPoints.Points.{moved_range, map_ranges}
 use Rattle.dom_ranges.specs.declared.chains.End.{End}
-use Rattle.dom_ranges.specs.Chained.{point_at, points_of}
+use Rattle.dom_ranges.specs.Chained.{Heads, point_at, points_of}
 use Rattle.dom_ranges.specs.Tables.{RangeTable, range_in, both, paired, IsPaired, live_count, in_slot, by_slot, slot_at, IsInOrder}
 use Rattle.dom_ranges.proofs.Steps.{points-at, some-within, point-kept}
 use Rattle.dom_ranges.proofs.Slots.{by_slot-at}
@@ -156,7 +156,7 @@ empty-ends t r k h =
     same = ap is_some (sym (at (twice r) (r + r) (twice-is r))) ∙ paired-pair (points_of t) r k ∙ ap is_some (at (suc (twice r)) (r + r + 1) (omega (arith, twice-is r)))
 
 -- the ranges by number
-module _ (t : List End) (heads : List (Option ℕ)) (slots : List (Option ℕ)) (vacant : List ℕ) (live many room : ℕ) (k : IsInOrder t heads slots vacant live many room) (v : RangeTable) (view : record { ranges = by_slot (paired (points_of t)) slots; covered = length heads } ≡ v) where
+module _ (t : List End) (heads : Heads) (slots : List (Option ℕ)) (vacant : List ℕ) (live many room : ℕ) (k : IsInOrder t heads slots vacant live many room) (v : RangeTable) (view : record { ranges = by_slot (paired (points_of t)) slots; covered = length heads } ≡ v) where
   pub ranges-are : v.ranges ≡ by_slot (paired (points_of t)) slots
   ranges-are = sym (ap (λ (x : RangeTable). x.ranges) view)
 

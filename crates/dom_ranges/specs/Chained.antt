@@ -1,5 +1,6 @@
--- The chains that a table of ends spells: for each node the ends that stand in it, each once.
-use Rattle.std.specs.Prelude.{◌≡◌, ℕ, ◌<◌, ◌^◌, ◌==◌, if◌then◌else◌, List, ◌∷◌, map, slice_index_or, slice_set, Option, Some, None}
+-- The chains that a table of ends spells: for each node the ends that stand in it, each once. A node that was forgotten has no chain, and
+-- an end that stands in it stands in the table alone.
+use Rattle.std.specs.Prelude.{◌≡◌, ℕ, ◌<◌, ◌^◌, ◌==◌, Bool, true, false, not, if◌then◌else◌, List, ◌∷◌, map, slice_index_or, slice_set, Option, Some, None, is_some}
 use Rattle.dom_model.specs.PlainLists.Lists.{hits, head_of, after, before, left_out}
 use Rattle.dom_model.specs.Worlds.World.{Point}
 use Rattle.dom_ranges.specs.declared.chains.End.{End}
@@ -18,23 +19,47 @@ point_at t e = (end_at t e).point
 abbrev pub points_of : List End → List (Option Point)
 points_of t = map (λ (e : End). e.point) t
 
+-- by number of a node the first end of its chain, nothing where the node was forgotten
+abbrev pub Heads : Type 0
+Heads = List (Option (Option ℕ))
+
+-- what is kept of a node; a node beyond the table has an empty chain
+abbrev pub kept_at : Heads → ℕ → Option (Option ℕ)
+kept_at heads n = slice_index_or heads n (Some None)
+
+abbrev pub is_forgotten : Heads → ℕ → Bool
+is_forgotten heads n = not (is_some (kept_at heads n))
+
+abbrev pub head_in : Option (Option ℕ) → Option ℕ
+head_in None = None
+head_in (Some first) = first
+
 -- the first end of a node's chain
-abbrev pub head_at : List (Option ℕ) → ℕ → Option ℕ
-head_at heads n = slice_index_or heads n None
+abbrev pub head_at : Heads → ℕ → Option ℕ
+head_at heads n = head_in (kept_at heads n)
 
 -- 1 where the point stands in the node
 abbrev pub stands_at : ℕ → Option Point → ℕ
 stands_at n None = 0
 stands_at n (Some p) = if p.node == n then 1 else 0
 
--- each node's chain is spelled in both directions, and has the ends that stand in the node, each once
-pub record IsChained (chain : ℕ → List ℕ) (t : List End) (heads : List (Option ℕ)) : Type 0 where
+-- whether the point stands in the node
+abbrev pub is_at : ℕ → Option Point → Bool
+is_at n None = false
+is_at n (Some p) = p.node == n
+
+-- 1 where an end at the point is in the chain of the node
+abbrev pub chained_at : Heads → ℕ → Option Point → ℕ
+chained_at heads n o = if is_forgotten heads n then 0 else stands_at n o
+
+-- each node's chain is spelled in both directions, and has the ends that stand in the node, each once; none where the node was forgotten
+pub record IsChained (chain : ℕ → List ℕ) (t : List End) (heads : Heads) : Type 0 where
   pub first : (n : ℕ) → head_at heads n ≡ head_of (chain n)
-  pub counted : (e n : ℕ) → hits e (chain n) ≡ stands_at n (point_at t e)
+  pub counted : (e n : ℕ) → hits e (chain n) ≡ chained_at heads n (point_at t e)
   pub next : (e n : ℕ) → 0 < hits e (chain n) → (end_at t e).next ≡ after e (chain n)
   pub prev : (e n : ℕ) → 0 < hits e (chain n) → (end_at t e).prev ≡ before e (chain n)
 
-pub record HasChains (t : List End) (heads : List (Option ℕ)) : Type 0 where
+pub record HasChains (t : List End) (heads : Heads) : Type 0 where
   pub chain : ℕ → List ℕ
   pub chained : IsChained chain t heads
 
@@ -49,8 +74,8 @@ led_on None next t = t
 led_on (Some p) next t = slice_set t p (record (end_at t p) { next = next })
 
 -- the chain of a node in which nothing comes before `next` begins with it
-abbrev pub heads_led : Option ℕ → ℕ → Option ℕ → List (Option ℕ) → List (Option ℕ)
-heads_led None n next heads = slice_set heads n next
+abbrev pub heads_led : Option ℕ → ℕ → Option ℕ → Heads → Heads
+heads_led None n next heads = slice_set heads n (Some next)
 heads_led (Some p) n next heads = heads
 
 -- what comes before `next` is `prev`
@@ -62,31 +87,32 @@ led_back (Some n) prev t = slice_set t n (record (end_at t n) { prev = prev })
 abbrev pub table_without : ℕ → List End → List End
 table_without e t = slice_set (led_back (end_at t e).next (end_at t e).prev (led_on (end_at t e).prev (end_at t e).next t)) e free_end
 
-abbrev pub heads_without : ℕ → ℕ → List End → List (Option ℕ) → List (Option ℕ)
+abbrev pub heads_without : ℕ → ℕ → List End → Heads → Heads
 heads_without e n t heads = heads_led (end_at t e).prev n (end_at t e).next heads
 
 -- the table, with a free end put at a point, first in the chain of its node
-abbrev pub table_with : ℕ → Point → List (Option ℕ) → List End → List End
+abbrev pub table_with : ℕ → Point → Heads → List End → List End
 table_with e p heads t =
     slice_set (led_back (head_at heads p.node) (Some e) t) e (record { point = Some p; prev = None; next = head_at heads p.node })
 
-abbrev pub heads_with : ℕ → Point → List (Option ℕ) → List (Option ℕ)
-heads_with e p heads = slice_set heads p.node (Some e)
+abbrev pub heads_with : ℕ → Point → Heads → Heads
+heads_with e p heads = slice_set heads p.node (Some (Some e))
 
 -- each node's chain without an end
 abbrev pub unchained : ℕ → (ℕ → List ℕ) → ℕ → List ℕ
 unchained e chain n = left_out e (chain n)
 
--- the chains, with an end first in the chain of a node
-abbrev pub chained_first : ℕ → ℕ → (ℕ → List ℕ) → ℕ → List ℕ
-chained_first e node chain n = if node == n then e ∷ chain n else chain n
+-- the chains, with an end first in the chain of a node; as they were where the node was forgotten
+abbrev pub chained_first : Bool → ℕ → ℕ → (ℕ → List ℕ) → ℕ → List ℕ
+chained_first true e node chain n = chain n
+chained_first false e node chain n = if node == n then e ∷ chain n else chain n
 
 -- the chains, with an end taken out of its chain and put first in that of a node
-abbrev pub moved_first : ℕ → ℕ → (ℕ → List ℕ) → ℕ → List ℕ
-moved_first e node chain n = chained_first e node (unchained e chain) n
+abbrev pub moved_first : Bool → ℕ → ℕ → (ℕ → List ℕ) → ℕ → List ℕ
+moved_first forgotten e node chain n = chained_first forgotten e node (unchained e chain) n
 
 -- what a change of chains does to whichever chains there are
-abbrev pub Rechains : ((ℕ → List ℕ) → ℕ → List ℕ) → List End → List (Option ℕ) → List End → List (Option ℕ) → Type 0
+abbrev pub Rechains : ((ℕ → List ℕ) → ℕ → List ℕ) → List End → Heads → List End → Heads → Type 0
 Rechains change t heads t' heads' = (chain : ℕ → List ℕ) → IsChained chain t heads → IsChained (change chain) t' heads'
 
 -- a map of the points of one node

@@ -12,7 +12,7 @@ use Rattle.dom_model.specs.MutationAlgorithms.Checks.{is_of_kind}
 use Rattle.dom_model.specs.Forests.Lengths.{node_length}
 use Rattle.dom_model.specs.MutationAlgorithms.Discarding.{nodes_of_live}
 use Rattle.dom_ranges.specs.declared.chains.End.{End}
-use Rattle.dom_ranges.specs.Chained.{points_of, HasChains}
+use Rattle.dom_ranges.specs.Chained.{Heads, points_of, HasChains}
 
 -- the live ranges by number, none where one was released, and how many nodes may have ends
 pub record RangeTable : Type 0 where
@@ -112,7 +112,7 @@ abbrev pub slot_at : List (Option ℕ) → ℕ → Option ℕ
 slot_at slots r = slice_index_or slots r None
 
 -- what the live ranges keep of their ends
-pub record IsKept (t : List End) (heads : List (Option ℕ)) (live : ℕ) : Type 0 where
+pub record IsKept (t : List End) (heads : Heads) (live : ℕ) : Type 0 where
   pub chains : HasChains t heads
   pub pairs : IsPaired (points_of t)
   pub alive : live ≡ live_count (paired (points_of t))
@@ -137,7 +137,7 @@ pub record IsFilled (ends live vacant room : ℕ) : Type 0 where
   pub listed : live + vacant ≤ room
 
 -- what the live ranges keep of their ends, of the slots of their numbers, and of the vacant slots
-pub record IsInOrder (t : List End) (heads : List (Option ℕ)) (slots : List (Option ℕ)) (vacant : List ℕ) (live many room : ℕ) : Type 0 where
+pub record IsInOrder (t : List End) (heads : Heads) (slots : List (Option ℕ)) (vacant : List ℕ) (live many room : ℕ) : Type 0 where
   pub ends : IsKept t heads live
   pub numbered : HaveSlots (paired (points_of t)) slots
   pub empty : AreVacant (paired (points_of t)) vacant

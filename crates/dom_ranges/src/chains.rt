@@ -2,15 +2,22 @@
 //!
 //! A node knows the first of its chain, an end the ones on both sides of it. So to take an end out or to put it elsewhere takes the
 //! same time however many there are, and a change at a node is felt by the ends of its chain alone.
+//!
+//! A node that was forgotten has no chain any more, since nothing is kept of it. An end may still come to stand in it: such an end has its
+//! point in the table of ends and no neighbours, and who wants the ends of a forgotten node asks each end of the table.
 
-ghost use Rattle.std.specs.Prelude.{◌≡◌, ℕ, ◌^◌, ◌<◌, ◌≤◌, [], ◌∷◌, ◌++◌, length, map, max, Option, option_map, Some, None, IsSome, is_some, OnOk, OnErr, slice_set};
+ghost use Rattle.std.specs.Prelude.{◌≡◌, ℕ, ◌^◌, ◌<◌, ◌≤◌, [], ◌∷◌, ◌++◌, length, map, max, Option, option_map, Some, None, IsSome, OnOk, OnErr, slice_set};
 ghost use Rattle.std.specs.Vec.{vec_len, vec_capacity};
+ghost use Rattle.dom_model.specs.PlainLists.Lists.{among};
 ghost use Rattle.dom_model.specs.Worlds.World.{Point as PointValue};
-ghost use Rattle.dom_ranges.specs.Chained.{free_end, end_at, head_at, point_at, points_of, ForLink, led_on, led_back, heads_led, HasChains, Rechains, unchained, chained_first, on_node, MovesWithin, GoesElsewhere, StaysBeside, moved_first};
+ghost use Rattle.dom_pages.specs.Numbered.{item_at};
+ghost use Rattle.dom_ranges.specs.Chained.{free_end, end_at, head_at, is_forgotten, point_at, points_of, ForLink, led_on, led_back, heads_led, HasChains, Rechains, unchained, chained_first, on_node, MovesWithin, GoesElsewhere, StaysBeside, moved_first};
 ghost use Rattle.dom_ranges.specs.Shifting.{shifted};
+ghost use Rattle.dom_ranges.specs.Tables.{nodes_at};
 
 use crate::numbers::EndId;
 use crate::shift::Shift;
+use dom_pages::Pages;
 use dom_point::Point;
 use dom_tree::NodeId;
 use std::alloc::{AllocError, Global};
@@ -23,11 +30,11 @@ pub(crate) struct End {
     pub(crate) next: Option<EndId>,
 }
 
-/// The table of all ends, and for each node the first end that stands in it.
+/// The table of all ends, and for each node that was not forgotten the first end of its chain.
 #[derive(Drop)]
 pub(crate) struct Chains {
     pub(crate) table: Vec<End>,
-    pub(crate) heads: Vec<Option<EndId>>,
+    pub(crate) heads: Pages<Option<EndId>>,
 }
 
 // The node of a point.
@@ -45,7 +52,7 @@ impl Chains {
     {
         Chains {
             table: Vec::new(alloc),
-            heads: Vec::new(alloc),
+            heads: Pages::new(alloc),
         }
     }
 
@@ -65,20 +72,29 @@ impl Chains {
         self.end(id).point.unwrap()
     }
 
-    // The first end that stands in a node.
+    // The first end of a node's chain.
     fn head(&self, node: NodeId) -> Option<EndId>
         ensures { result ≡ head_at self.now.heads.items node }
     {
-        match self.heads.get(node.number() as usize) {
-            Some(head) => *head,
-            None => None,
-        }
+        self.heads.get(node.number() as usize).flatten()
+    }
+
+    // Whether a node was forgotten.
+    fn forgot(&self, node: NodeId) -> bool
+        ensures { result ≡ is_forgotten self.now.heads.items node }
+    {
+        let index = node.number() as usize;
+        index < self.heads.len() && self.heads.get(index).is_none()
     }
 
     /// Whether an end stands in a node.
     pub(crate) fn stands_in(&self, node: NodeId) -> bool
-        ensures { result ≡ is_some (head_at self.now.heads.items node) }
+        requires { HasChains self.now.table.items self.now.heads.items }
+        ensures { result ≡ among node (nodes_at (points_of self.now.table.items)) }
     {
+        if self.forgot(node) {
+            return self.asked_in(node);
+        }
         self.head(node).is_some()
     }
 
@@ -92,7 +108,7 @@ impl Chains {
 
     // What follows `prev` in a chain of the node becomes `next`.
     fn lead_on(&mut self, node: NodeId, prev: Option<EndId>, next: Option<EndId>)
-        requires head { node < length self.old.heads.items }
+        requires head { IsSome (item_at self.old.heads.items node) }
         requires link { ForLink prev (length self.old.table.items) }
         ensures table { self.new.table.items ≡ led_on prev next self.old.table.items }
         ensures heads { self.new.heads.items ≡ heads_led prev node next self.old.heads.items }
@@ -102,7 +118,7 @@ impl Chains {
                 let end = &mut self.table[prev.index()];
                 end.next = next;
             }
-            None => self.heads[node.number() as usize] = next,
+            None => self.heads.set(node.number() as usize, next),
         }
     }
 
@@ -120,11 +136,11 @@ impl Chains {
 
     // The chain of a node begins with an end.
     fn begin(&mut self, node: NodeId, id: EndId)
-        requires { node < length self.old.heads.items }
+        requires { IsSome (item_at self.old.heads.items node) }
         ensures table { self.new.table.items ≡ self.old.table.items }
-        ensures heads { self.new.heads.items ≡ slice_set self.old.heads.items node (Some id) }
+        ensures heads { self.new.heads.items ≡ slice_set self.old.heads.items node (Some (Some id)) }
     {
-        self.heads[node.number() as usize] = Some(id);
+        self.heads.set(node.number() as usize, Some(id));
     }
 
     // Writes an end that stands nowhere.
@@ -140,7 +156,7 @@ impl Chains {
         };
     }
 
-    // Writes an end that comes before all that stand in its node.
+    // Writes an end that comes before all in the chain of its node.
     fn settle(&mut self, id: EndId, point: Point)
         requires { id < length self.old.table.items }
         ensures table { self.new.table.items ≡ slice_set self.old.table.items id (record { point = Some point; prev = None; next = head_at self.old.heads.items point.node }) }
@@ -154,7 +170,7 @@ impl Chains {
         };
     }
 
-    /// Takes an end out of the chain of its node. It stands nowhere then.
+    /// Takes an end out of its node. It stands nowhere then.
     pub(crate) fn take_out(&mut self, id: EndId)
         requires live { IsSome (point_at self.old.table.items id) }
         requires chains { HasChains self.old.table.items self.old.heads.items }
@@ -164,22 +180,30 @@ impl Chains {
     {
         let end = self.end(id);
         let point = end.point.unwrap();
+        if self.forgot(point.node) {
+            self.clear(id);
+            return;
+        }
         self.lead_on(point.node, end.prev, end.next);
         self.lead_back(end.next, end.prev);
         self.clear(id);
     }
 
-    /// Puts an end that stands nowhere at a point, first in the chain of its node.
+    /// Puts an end that stands nowhere at a point, first in the chain of its node where that was not forgotten.
     pub(crate) fn put_first(&mut self, id: EndId, point: Point)
         requires within { id < length self.old.table.items }
         requires free { point_at self.old.table.items id ≡ None }
         requires room { point.node < length self.old.heads.items }
         requires chains { HasChains self.old.table.items self.old.heads.items }
         ensures points { points_of self.new.table.items ≡ slice_set (points_of self.old.table.items) id (Some point) }
-        ensures chains { Rechains (chained_first id point.node) self.old.table.items self.old.heads.items self.new.table.items self.new.heads.items }
+        ensures chains { Rechains (chained_first (is_forgotten self.new.heads.items point.node) id point.node) self.old.table.items self.old.heads.items self.new.table.items self.new.heads.items }
         ensures covered { length self.new.heads.items ≡ length self.old.heads.items }
     {
         let node = node_of(&point);
+        if self.forgot(node) {
+            self.settle(id, point);
+            return;
+        }
         let next = self.head(node);
         self.lead_back(next, Some(id));
         self.settle(id, point);
@@ -192,21 +216,26 @@ impl Chains {
         requires room { point.node < length self.old.heads.items }
         requires chains { HasChains self.old.table.items self.old.heads.items }
         ensures points { points_of self.new.table.items ≡ slice_set (points_of self.old.table.items) id (Some point) }
-        ensures chains { Rechains (moved_first id point.node) self.old.table.items self.old.heads.items self.new.table.items self.new.heads.items }
+        ensures chains { Rechains (moved_first (is_forgotten self.new.heads.items point.node) id point.node) self.old.table.items self.old.heads.items self.new.table.items self.new.heads.items }
         ensures covered { length self.new.heads.items ≡ length self.old.heads.items }
     {
         self.take_out(id);
         self.put_first(id, point);
     }
 
-    /// Shifts the ends that stand in a node. It walks the chain of that node and no other.
+    /// Shifts the ends that stand in a node. It walks the chain of that node and no other; of a node that was forgotten it asks each end.
     pub(crate) fn shift(&mut self, node: NodeId, shift: &Shift)
+        requires small { length self.old.table.items ≤ 2 ^ 32 }
         requires chains { HasChains self.old.table.items self.old.heads.items }
         requires within { MovesWithin node (shifted shift.now) self.old.table.items (length self.old.heads.items) }
         ensures points { points_of self.new.table.items ≡ map (λ (o : Option PointValue). option_map (on_node node (shifted shift.now)) o) (points_of self.old.table.items) }
         ensures chains { HasChains self.new.table.items self.new.heads.items }
         ensures covered { length self.new.heads.items ≡ length self.old.heads.items }
     {
+        if self.forgot(node) {
+            self.shift_asked(node, shift);
+            return;
+        }
         let mut here = self.head(node);
         while let Some(id) = here {
             let end = self.end(id);
@@ -217,6 +246,7 @@ impl Chains {
 
     /// Shifts the ends that stand in two nodes, which may be one. No end of the first goes to the second.
     pub(crate) fn shift_both(&mut self, first: NodeId, second: NodeId, shift: &Shift)
+        requires small { length self.old.table.items ≤ 2 ^ 32 }
         requires chains { HasChains self.old.table.items self.old.heads.items }
         requires first_within { MovesWithin first (shifted shift.now) self.old.table.items (length self.old.heads.items) }
         requires second_within { MovesWithin second (shifted shift.now) self.old.table.items (length self.old.heads.items) }
@@ -287,5 +317,17 @@ impl Chains {
             self.heads.push_reserved(None);
         }
         Ok(())
+    }
+    /// Forgets a node in whose chain there is no end. Another stays as it is, and so does one that is not in the table.
+    pub(crate) fn forget(&mut self, node: NodeId)
+        requires { HasChains self.old.table.items self.old.heads.items }
+        ensures table { self.new.table.items ≡ self.old.table.items }
+        ensures chains { HasChains self.new.table.items self.new.heads.items }
+        ensures covered { length self.new.heads.items ≡ length self.old.heads.items }
+    {
+        let index = node.number() as usize;
+        if index < self.heads.len() && self.head(node).is_none() {
+            self.heads.clear(index);
+        }
     }
 }

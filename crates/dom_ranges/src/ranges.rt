@@ -103,6 +103,29 @@ impl Ranges {
         self.chains.cover(made)
     }
 
+    // Gives back what was kept for ends in a node.
+    fn forget_one(&mut self, node: NodeId)
+        ensures { self.new ≡ self.old }
+    {
+        self.chains.forget(node);
+    }
+
+    /// Gives back what was kept for ends in the nodes of a tree that is about to go. Ends that stand there keep standing.
+    pub fn forget<X>(&mut self, tree: &Tree<X>, top: NodeId)
+        requires { HasNode tree.now.forest top }
+        ensures { self.new ≡ self.old }
+    {
+        tree.sound();
+        let mut here = top;
+        loop {
+            self.forget_one(here);
+            match tree.next_inside(top, here) {
+                Some(next) => here = next,
+                None => return,
+            }
+        }
+    }
+
     /// Makes a live range. There is no memory for more than 2,147,483,648 at once.
     pub fn make<X: Body>(
         &mut self,

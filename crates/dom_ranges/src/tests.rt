@@ -180,6 +180,26 @@ fn alone(
     Ok(ranges)
 }
 
+// A live range alone, in nodes that were forgotten before.
+fn among_forgotten(
+    rt: &impl Abort,
+    alloc: Global,
+    tree: &Tree<Units>,
+    start: Point,
+    end: Point,
+) -> Result<Ranges, AllocError>
+    ensures ranges { IfOk result (λ ranges. ranges.ranges ≡ Some (record { start = start; end = end }) ∷ []) }
+    ensures covered { IfOk result (λ ranges. 1000 ≤ ranges.covered) }
+{
+    let mut ranges = Ranges::new(alloc);
+    ranges.cover(1000)?;
+    let root = NodeId::new(0);
+    assert!(rt; tree.holds(root));
+    ranges.forget(tree, root);
+    let _ = ranged(rt, &mut ranges, tree, start, end)?;
+    Ok(ranges)
+}
+
 #[test]
 fn room_for_nodes(rt: HostRuntime) -> Result<(), Fail> {
     let mut ranges = Ranges::new(rt.alloc());
@@ -415,6 +435,59 @@ fn set_anew(rt: HostRuntime) -> Result<(), Fail> {
     assert!(rt; !set(&rt, &mut ranges, &tree, false, at(t, 11)));
     assert!(rt; set(&rt, &mut ranges, &tree, false, at(t, 10)));
     lies(&rt, &ranges, r, at(t, 4), at(t, 10));
+    Ok(())
+}
+
+// Only the nodes with ends are kept, and those of other trees.
+#[test]
+fn forgotten(rt: HostRuntime) -> Result<(), Fail> {
+    let tree = with_texts(&rt, rt.alloc())?;
+    let (root, t, u) = (NodeId::new(0), NodeId::new(3), NodeId::new(4));
+    let mut ranges = alone(&rt, rt.alloc(), &tree, at(t, 2), at(u, 5))?;
+    assert!(rt; tree.holds(root));
+    ranges.forget(&tree, root);
+    ranges.forget(&tree, root);
+    for n in 0..6_u32 {
+        assert_eq!(rt; ranges.chains.heads.get(n as usize).is_some(), n >= 3);
+    }
+    assert!(rt; ranges.stands_in(t));
+    assert!(rt; ranges.stands_in(u));
+    assert!(rt; !ranges.stands_in(root));
+    lies(&rt, &ranges, RangeId::new(0), at(t, 2), at(u, 5));
+    Ok(())
+}
+
+// Ends that come to stand in forgotten nodes are found, moved, set anew and released like others.
+#[test]
+fn ends_in_forgotten_nodes(rt: HostRuntime) -> Result<(), Fail> {
+    let alloc = rt.alloc();
+    let tree = with_texts(&rt, alloc)?;
+    let (root, a, b, t) = (
+        NodeId::new(0),
+        NodeId::new(1),
+        NodeId::new(2),
+        NodeId::new(3),
+    );
+    let r = RangeId::new(0);
+    let mut gapped = among_forgotten(&rt, alloc, &tree, at(root, 1), at(root, 3))?;
+    let mut spliced = among_forgotten(&rt, alloc, &tree, at(t, 2), at(t, 8))?;
+    let mut removed = among_forgotten(&rt, alloc, &tree, at(b, 0), at(root, 2))?;
+    assert!(rt; gapped.stands_in(root));
+    assert!(rt; !gapped.stands_in(t));
+    assert!(rt; tree.holds(a));
+    assert!(rt; removed.refers(&tree, a));
+    gapped.gap(root, 1, 2);
+    spliced.spliced(t, 1, 3, 5);
+    leaves(&rt, &mut removed, &tree, a)?;
+    lies(&rt, &gapped, r, at(root, 1), at(root, 5));
+    lies(&rt, &spliced, r, at(t, 1), at(t, 10));
+    lies(&rt, &removed, r, at(root, 0), at(root, 1));
+    assert!(rt; set(&rt, &mut removed, &tree, true, at(t, 4)));
+    lies(&rt, &removed, r, at(t, 4), at(t, 4));
+    assert!(rt; spliced.holds(r));
+    spliced.release(r);
+    assert!(rt; !spliced.holds(r));
+    assert!(rt; !spliced.stands_in(t));
     Ok(())
 }
 

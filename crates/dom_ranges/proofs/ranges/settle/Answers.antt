@@ -1,6 +1,6 @@
 use Rattle.std.proofs.Common.{refl, sym, ◌∙◌, arith}
 use Rattle.std.proofs.lemmas.List.{append-nil}
-use Rattle.dom_ranges.specs.Chained.{chained_first}
+use Rattle.dom_ranges.specs.Chained.{is_forgotten, chained_first}
 use Rattle.dom_ranges.proofs.Steps.{has-after, same-length}
 use Rattle.dom_ranges.proofs.Slots.{new-settled}
 use Rattle.dom_ranges.proofs.Making.{half, IsKept-added, pairs-added, vacant-within, vacant-small, first-empty, second-empty, reused-length, reused-settles, reused-kept}
@@ -26,8 +26,8 @@ returns-in-Some-clause-settled c = reused-settles _ _ _ c.requires.kept _ _ _ c.
 
 pub returns-in-Some-clause-kept : goal.returns-in-Some-clause-kept
 returns-in-Some-clause-kept c =
-    let a = has-after (chained_first c.start.result c.args.start.node) _ _ _ _ c.requires.kept.chains c.put_first.ensures.chains in
-    let b = has-after (chained_first c.end.result c.args.end.node) _ _ _ _ a c.put_first-in-Some.ensures.chains in
+    let a = has-after (chained_first (is_forgotten c.put_first.new.self.heads.items c.args.start.node) c.start.result c.args.start.node) _ _ _ _ c.requires.kept.chains c.put_first.ensures.chains in
+    let b = has-after (chained_first (is_forgotten c.put_first-in-Some.new.self.heads.items c.args.end.node) c.end.result c.args.end.node) _ _ _ _ a c.put_first-in-Some.ensures.chains in
     reused-kept _ _ _ c.requires.kept _ _ _ c.requires.vacant c.in-Some.ensures.items _ _ c.start.ensures c.end.ensures _ c.args.start c.put_first.ensures.points _ c.args.end c.put_first-in-Some.ensures.points _ b
 
 pub returns-in-Some-clause-filled : goal.returns-in-Some-clause-filled

@@ -1,5 +1,5 @@
 use Rattle.std.proofs.Common.{◌∙◌}
-use Rattle.dom_ranges.proofs.Making.{stands-told}
+use Rattle.dom_ranges.proofs.EndsAsked.{stands-told}
 use Rattle.dom_ranges.proofs.ranges.Ranges.stands_in.Goals as goal
 
 pub returns : goal.returns

@@ -1,5 +1,5 @@
 use Rattle.std.proofs.Common.{refl, ◌∙◌}
-use Rattle.dom_ranges.specs.Chained.{moved_first}
+use Rattle.dom_ranges.specs.Chained.{is_forgotten, moved_first}
 use Rattle.dom_ranges.proofs.Steps.{has-after}
 use Rattle.dom_ranges.proofs.Slots.{slot-read}
 use Rattle.dom_ranges.proofs.Pairs.{slot-small, first-live, second-kept}
@@ -24,13 +24,13 @@ place-requires-2-clause-live c =
 pub invariant_of-self : goal.invariant_of-self
 invariant_of-self c =
     let slot = slot-read c.self.inside.slots.items c.args.r _ _ c.slot_of.ensures c.unwrap-slot.ensures in
-    let a = has-after (moved_first c.start.result c.args.start.node) _ _ _ _ c.self.invariant.ends.chains c.place.ensures.chains in
-    let b = has-after (moved_first c.end.result c.args.end.node) _ _ _ _ a c.place-2.ensures.chains in
+    let a = has-after (moved_first (is_forgotten c.place.new.self.heads.items c.args.start.node) c.start.result c.args.start.node) _ _ _ _ c.self.invariant.ends.chains c.place.ensures.chains in
+    let b = has-after (moved_first (is_forgotten c.place-2.new.self.heads.items c.args.end.node) c.end.result c.args.end.node) _ _ _ _ a c.place-2.ensures.chains in
     kept-written _ _ _ _ _ _ _ c.self.invariant _ c.self.view_is _ _ _ _ slot c.start.ensures c.end.ensures _ _ _ b c.args.start c.args.end c.place.ensures.points c.place-2.ensures.points
 
 pub returns : goal.returns
 returns c =
     let slot = slot-read c.self.inside.slots.items c.args.r _ _ c.slot_of.ensures c.unwrap-slot.ensures in
-    let a = has-after (moved_first c.start.result c.args.start.node) _ _ _ _ c.self.invariant.ends.chains c.place.ensures.chains in
-    let b = has-after (moved_first c.end.result c.args.end.node) _ _ _ _ a c.place-2.ensures.chains in
+    let a = has-after (moved_first (is_forgotten c.place.new.self.heads.items c.args.start.node) c.start.result c.args.start.node) _ _ _ _ c.self.invariant.ends.chains c.place.ensures.chains in
+    let b = has-after (moved_first (is_forgotten c.place-2.new.self.heads.items c.args.end.node) c.end.result c.args.end.node) _ _ _ _ a c.place-2.ensures.chains in
     view-written _ _ _ _ _ _ _ c.self.invariant _ c.self.view_is _ _ _ _ slot c.start.ensures c.end.ensures _ _ _ b (c.place-2.ensures.covered ∙ c.place.ensures.covered) c.args.start c.args.end c.place.ensures.points c.place-2.ensures.points
