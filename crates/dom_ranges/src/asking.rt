@@ -58,8 +58,8 @@ impl Chains {
         ensures chains { HasChains self.new.table.items self.new.heads.items }
         ensures covered { length self.new.heads.items ≡ length self.old.heads.items }
     {
-        for index in 0..self.count() {
-            let id = EndId::new(index as u32);
+        for number in 0..self.count() {
+            let id = EndId::new(number as u32);
             if stands_at(self.end(id), node) {
                 let point = self.point(id);
                 self.place(id, shift.apply(point));

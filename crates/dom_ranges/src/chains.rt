@@ -318,6 +318,7 @@ impl Chains {
         }
         Ok(())
     }
+
     /// Forgets a node in whose chain there is no end. Another stays as it is, and so does one that is not in the table.
     pub(crate) fn forget(&mut self, node: NodeId)
         requires { HasChains self.old.table.items self.old.heads.items }

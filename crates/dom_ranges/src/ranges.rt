@@ -119,10 +119,10 @@ impl Ranges {
         let mut here = top;
         loop {
             self.forget_one(here);
-            match tree.next_inside(top, here) {
-                Some(next) => here = next,
-                None => return,
-            }
+            let Some(next) = tree.next_inside(top, here) else {
+                return;
+            };
+            here = next;
         }
     }
 

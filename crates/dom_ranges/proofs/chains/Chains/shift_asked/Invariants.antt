@@ -4,5 +4,5 @@ use Rattle.dom_ranges.specs.Shifting.{shifted}
 use Rattle.dom_ranges.proofs.EndsAsked.{AreAsked}
 use Rattle.dom_ranges.proofs.chains.Chains.shift_asked.Given as goal
 
-abbrev pub invariant-loop-index : goal.invariant-loop-index
-invariant-loop-index l = AreAsked (on_node l.node (shifted l.shift)) l.fn.self.table.items l.fn.self.heads.items l.self.table.items l.self.heads.items l.index
+abbrev pub invariant-loop-number : goal.invariant-loop-number
+invariant-loop-number l = AreAsked (on_node l.node (shifted l.shift)) l.fn.self.table.items l.fn.self.heads.items l.self.table.items l.self.heads.items l.number

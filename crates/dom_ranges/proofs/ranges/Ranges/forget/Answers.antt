@@ -15,5 +15,5 @@ loop-next-smaller g c = smaller c.args.tree.now c.sound.ensures c.args.top c.loo
 pub loop-next-preserved : goal.loop-next-preserved
 loop-next-preserved g c = record { at = at-next c.args.tree.now c.sound.ensures c.args.top c.loop-next.here c.in-Some.next (sym c.next_inside.ensures ∙ c.in-Some.is); same = c.forget_one.ensures ∙ c.loop-next.invariant.same }
 
-pub returns-in-None : goal.returns-in-None
-returns-in-None g c = c.forget_one.ensures ∙ c.loop-next.invariant.same
+pub returns-in_default : goal.returns-in_default
+returns-in_default g c = c.forget_one.ensures ∙ c.loop-next.invariant.same
