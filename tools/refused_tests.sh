@@ -13,7 +13,7 @@ top=$PWD
 work=$(mktemp -d)
 trap 'rm -rf "$work"' EXIT
 cc -shared -fPIC -O2 -Wall -o "$work/refused.so" tools/refused_growths/refused_growths.c -ldl
-crates="dom_units dom_kinds dom_attrs dom_links dom_tree dom_point dom_traverse dom_ranges dom_cases"
+crates="dom_units dom_kinds dom_attrs dom_links dom_pages dom_tree dom_point dom_traverse dom_ranges dom_cases"
 stands="dom_links:tests::a_refused_add_hands_the_value_back dom_ranges:tests::refused_room dom_cases:layers::observing::a_hundred_nodes"
 runs=0
 cut=0

@@ -7,7 +7,7 @@ COUNT is how many elements the chain has, how many children the parent and how m
 Observers are a tenth of it, and commands whose memory is measured are ten times as many. The parts: a chain of elements that is made,
 printed, walked, copied, compared, normalized, discarded, and dropped at the end of the input; a parent with many children; many live
 ranges that are made, moved and released; many observers of which one is told; memory while nodes, ranges and records come and go, which
-stays level but for what is kept of each number given out; a line of 1 GiB in a small memory.
+stays level; a line of 1 GiB in a small memory.
 """
 import json
 import resource
@@ -21,11 +21,7 @@ COUNT = int(sys.argv[1]) if len(sys.argv) > 1 else 100_000
 
 STACK = 1 << 20
 
-# How many bytes the program may keep of a number that is never used again: a node's, and a live range's.
-NODE_KEPT = 20
-RANGE_KEPT = 20
-
-# How many bytes it may grow by besides, while as much is made as is discarded.
+# How many bytes the program may grow by while as much is made as is discarded, however often.
 LEVEL = 1 << 18
 
 # The address space that a line without an end is served in, and its bytes.
@@ -388,8 +384,8 @@ def round_of_copies(at):
     ]
 
 
-def stays_level(name, start, part, size, kept, commands):
-    """Memory while a round is run again and again: what it grows by after a tenth of the rounds, beside what is kept of each round."""
+def stays_level(name, start, part, size, commands):
+    """Memory while a round is run again and again: what it grows by after a tenth of the rounds."""
     session = Session(name)
     session.ask("begun", [('["tree",0]', ok([[0, 0, 9, "#document"]])), *start])
     rounds, levels = commands // size, []
@@ -399,14 +395,14 @@ def stays_level(name, start, part, size, kept, commands):
         levels.append(session.memory())
     session.end()
     grown, later = max(levels) - levels[0], rounds - rounds // 10
-    print(f"{name}: {levels[0]:,} bytes of memory after a tenth, {levels[-1]:,} at the end, {grown / later:.1f} a round", flush=True)
-    if grown > kept * later + LEVEL:
+    print(f"{name}: {levels[0]:,} bytes of memory after a tenth, {levels[-1]:,} at the end, {grown / later:.2f} a round", flush=True)
+    if grown > LEVEL:
         sys.exit(f"{name}: memory grew by {grown:,} bytes in {later:,} rounds")
 
 
 def level(commands):
-    stays_level("nodes that come and go", [], round_of_nodes, 10, 4 * NODE_KEPT, commands)
-    stays_level("ranges that come and go", [], round_of_ranges, 5, RANGE_KEPT, commands)
+    stays_level("nodes that come and go", [], round_of_nodes, 10, commands)
+    stays_level("ranges that come and go", [], round_of_ranges, 5, commands)
     start = [
         ('["createElement",0,"e"]', made(1)),
         ('["createText",0,"t"]', made(2)),
@@ -414,7 +410,7 @@ def level(commands):
         ('["createObserver"]', made(0)),
         ('["observe",0,2,{"characterData":true}]', NULL),
     ]
-    stays_level("copies and records that come and go", start, round_of_copies, 5, 2 * NODE_KEPT, commands)
+    stays_level("copies and records that come and go", start, round_of_copies, 5, commands)
 
 
 def line_without_end():

@@ -52,6 +52,7 @@ impl World {
         ensures discarded { Follows self.old self.new (discarded top) }
         ensures whole { IsWhole self.new }
     {
+        self.ranges.forget(&self.tree, top);
         self.tree.free(top);
     }
 }

@@ -6,7 +6,7 @@ use Rattle.dom_edit.proofs.world.World.discard.Goals as goal
 pub returns-clause-whole : goal.returns-clause-whole
 returns-clause-whole c =
     let v = c.args.self.now in
-    let new : World = record { tree = c.free.new.self; ranges = v.ranges; statics = v.statics; iters = v.iters; walkers = v.walkers; observers = v.observers } in
+    let new : World = record { tree = c.free.new.self; ranges = c.forget.new.self; statics = v.statics; iters = v.iters; walkers = v.walkers; observers = v.observers } in
     let w = c.requires.shown.stands_for in
     let s = c.requires.shown.shows in
-    whole-left v new w c.args.top s (c.requires.unused w s) c.free.ensures refl refl refl refl
+    whole-left v new w c.args.top s (c.requires.unused w s) c.free.ensures c.forget.ensures refl refl refl
