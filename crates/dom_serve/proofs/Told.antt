@@ -1,9 +1,9 @@
 -- What reads gave and what was written for them, one more read at a time.
-use Rattle.std.proofs.Common.{◌≡◌, ℕ, ◌+◌, ◌*◌, ◌<◌, true, false, List, [], ◌∷◌, ◌++◌, length, Option, Result, Ok, Err, IfOk, refl, sym, ap, ◌∙◌, subst, arith, take, ◌≤◌, append-nil, length-append, length-take, inr}
+use Rattle.std.proofs.Common.{◌≡◌, ℕ, ◌+◌, ◌*◌, ◌<◌, true, false, List, [], ◌∷◌, ◌++◌, length, Option, Result, Ok, Err, IfOk, OnOk, IfSome, refl, sym, ap, ◌∙◌, subst, arith, take, ◌≤◌, append-nil, length-append, length-take, inr}
 use Rattle.std.specs.List.{All}
 use Rattle.std.proofs.lemmas.List.Elements.{All-push}
-use Rattle.std.specs.Io.KnownBytes.{Appends, Consumes, Keeps}
-use Rattle.std.proofs.KnownBytes.{Appends-trans, Appends-nil, Consumes-nil, Consumes-trans, Consumes-kept}
+use Rattle.std.specs.Io.KnownBytes.{Appends, Consumes, IsAtEnd, Keeps}
+use Rattle.std.proofs.KnownBytes.{Appends-trans, Appends-nil, Consumes-nil, Consumes-trans, Consumes-kept, Consumes-whole}
 use Rattle.dom_model.specs.Commands.Answer.{Bounds}
 use Rattle.dom_model.specs.Commands.Table.{whole_table}
 use Rattle.dom_model.specs.Commands.Printed.{out_of_memory_line}
@@ -288,3 +288,22 @@ pub one-each : {R : Type 0} (gives : R → List ℕ → R → Type 0) (left : R 
 one-each gives left b turns old new taken taken' (Ok summary) t =
     let e = one-each-of b (joined t.pieces) t.text summary.lines t.tells.1 t.tells.2 in (t.text, t.written, e.0, e.1)
 one-each gives left b turns old new taken taken' (Err fault) t = tt
+
+-- ---- once the input ended
+
+-- what was written is the output for all of the input
+pub told-output : {R : Type 0} (gives : R → List ℕ → R → Type 0) (left : R → Option (List ℕ)) (b : Bounds) (turns : ℕ) (old new : R) (taken taken' : Option (List ℕ))
+    (result : Result Summary Fault) → IsTold gives left b turns old new taken taken' result → OnOk result (IsAtEnd (left new))
+    → OnOk result (IfSome (left old) (λ input. Appends taken taken' (output_of whole_table b input)))
+told-output gives left b turns old new taken taken' (Ok summary) t ended =
+    Consumes-whole (left old) (left new) (joined t.pieces) (λ input. Appends taken taken' (output_of whole_table b input)) t.consumed ended
+    (subst (λ l. Appends taken taken' l) t.tells.1 t.written)
+told-output gives left b turns old new taken taken' (Err fault) t ended = tt
+
+-- as many lines were counted as the input has
+pub told-lines : {R : Type 0} (gives : R → List ℕ → R → Type 0) (left : R → Option (List ℕ)) (b : Bounds) (turns : ℕ) (old new : R) (taken taken' : Option (List ℕ))
+    (result : Result Summary Fault) → IsTold gives left b turns old new taken taken' result → OnOk result (IsAtEnd (left new))
+    → IfOk result (λ summary. IfSome (left old) (λ input. summary.lines ≡ length (lines_of input)))
+told-lines gives left b turns old new taken taken' (Ok summary) t ended =
+    Consumes-whole (left old) (left new) (joined t.pieces) (λ input. summary.lines ≡ length (lines_of input)) t.consumed ended t.tells.2
+told-lines gives left b turns old new taken taken' (Err fault) t ended = tt

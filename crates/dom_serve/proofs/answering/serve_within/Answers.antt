@@ -1,6 +1,16 @@
 use Rattle.dom_wire.specs.Sessions.{bounds_of}
-use Rattle.dom_serve.proofs.Told.{told-none, one-each}
+use Rattle.dom_serve.proofs.Told.{told-none, told-output, told-lines, one-each}
 use Rattle.dom_serve.proofs.answering.serve_within.Goals as goal
+
+pub returns-in-Ok-clause-output : goal.returns-in-Ok-clause-output
+returns-in-Ok-clause-output g c =
+    let b = bounds_of c.args.limits in
+    told-output g.R.Source.gives g.R.Source.left b c.args.turns _ _ _ _ c.serve_all.result (c.serve_all.ensures.told b c.in-Ok.ensures.stands) c.serve_all.ensures.at_end
+
+pub returns-in-Ok-clause-lines : goal.returns-in-Ok-clause-lines
+returns-in-Ok-clause-lines g c =
+    let b = bounds_of c.args.limits in
+    told-lines g.R.Source.gives g.R.Source.left b c.args.turns _ _ _ _ c.serve_all.result (c.serve_all.ensures.told b c.in-Ok.ensures.stands) c.serve_all.ensures.at_end
 
 pub returns-in-Ok-clause-one_each : goal.returns-in-Ok-clause-one_each
 returns-in-Ok-clause-one_each g c =
