@@ -1,6 +1,6 @@
 //! Texts joined to those before them (DOM Standard, "Interface Node", normalize).
 
-ghost use Rattle.std.specs.Prelude.{◌≡◌, ℕ, ◌<◌, ◌+◌, ◌++◌, true, length, drop, if◌then◌else◌, Some, OnOk, IfOk};
+ghost use Rattle.std.specs.Prelude.{◌≡◌, ◌≤◌, ℕ, ◌<◌, ◌+◌, ◌++◌, true, length, drop, if◌then◌else◌, Some, OnOk, IfOk};
 ghost use Rattle.dom_model.specs.declared.Kind.TheVariants.{Text};
 ghost use Rattle.dom_model.specs.PlainLists.Lists.{hits, among};
 ghost use Rattle.dom_model.specs.Forests.Forest.{HasNode, parent_of, index_of, inclusive_descendants};
@@ -114,10 +114,11 @@ fn data_among(tree: &Tree<Content>, alloc: Global, nodes: &[NodeId]) -> Result<U
     Ok(data)
 }
 
-// The index of a child where an end stands in its parent; where none does, no end asks for it.
-fn index_if_asked(world: &World, parent: NodeId, child: NodeId) -> usize
+/// The index of a child where an end stands in its parent; where none does, no end asks for it.
+pub(crate) fn index_if_asked(world: &World, parent: NodeId, child: NodeId) -> usize
     requires held { HasNode world.now.tree.forest child }
-    ensures { among parent (live_nodes world.now.ranges) ≡ true → result ≡ index_of world.now.tree.forest child }
+    ensures asked { among parent (live_nodes world.now.ranges) ≡ true → result ≡ index_of world.now.tree.forest child }
+    ensures within { result ≤ index_of world.now.tree.forest child }
 {
     if world.ranges.stands_in(parent) {
         return world.tree.index(child);

@@ -14,6 +14,7 @@ ghost use Rattle.dom_data.specs.Tails.{IsTail};
 
 use crate::bodies::data_in;
 use crate::making::{document_in, make_text};
+use crate::normalizing::index_if_asked;
 use crate::replacing::replace_data;
 use dom_edit::{Content, Refusal, World};
 use dom_kinds::DomError;
@@ -50,7 +51,7 @@ fn put_behind(
     match world.insert_before(alloc, parent, new, next) {
         Ok(()) => {
             counted(&world.tree, parent);
-            let index = world.tree.index(node);
+            let index = index_if_asked(world, parent, node);
             world.ranges.was_split(node, offset, new, parent, index);
             Ok(())
         }

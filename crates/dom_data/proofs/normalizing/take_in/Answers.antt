@@ -19,8 +19,8 @@ merged-requires-clause-into_covered c =
 
 pub remove-requires-clause-whole : goal.remove-requires-clause-whole
 remove-requires-clause-whole c =
-    whole-merged c.args.world.now c.requires.whole c.args.node c.args.parent c.args.base c.args.next c.requires.next.rest c.requires.next.joinable c.merged.new.self c.index_if_asked-index.result c.index_if_asked-index.ensures c.merged.ensures
+    whole-merged c.args.world.now c.requires.whole c.args.node c.args.parent c.args.base c.args.next c.requires.next.rest c.requires.next.joinable c.merged.new.self c.index_if_asked-index.result c.index_if_asked-index.ensures.asked c.merged.ensures
 
 pub returns-clause-taken : goal.returns-clause-taken
 returns-clause-taken c =
-    follows-taken c.args.world.now c.requires.whole c.args.node c.args.parent c.args.base c.args.next c.requires.next.rest c.requires.next.joinable c.merged.new.self c.index_if_asked-index.result c.index_if_asked-index.ensures c.merged.ensures c.remove.new.self c.in_ok-remove.ensures.removed
+    follows-taken c.args.world.now c.requires.whole c.args.node c.args.parent c.args.base c.args.next c.requires.next.rest c.requires.next.joinable c.merged.new.self c.index_if_asked-index.result c.index_if_asked-index.ensures.asked c.merged.ensures c.remove.new.self c.in_ok-remove.ensures.removed

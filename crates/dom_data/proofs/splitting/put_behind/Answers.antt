@@ -23,11 +23,13 @@ counted-requires c =
     HasNode-occurs c.insert_before.new.self.tree.forest c.args.parent
     (parent-mid c.args.world.now c.args.node c.args.offset c.args.new c.args.parent c.requires.tail c.requires.parent c.insert_before.new.self inserted)
 
-pub index-index-requires : goal.index-index-requires
-index-index-requires c =
+pub index_if_asked-index-requires : goal.index_if_asked-index-requires
+index_if_asked-index-requires c =
     let inserted = subst (λ d. Follows c.args.world.now c.insert_before.new.self (pre_insert c.args.new c.args.parent d)) c.next-next.ensures c.in-Ok.ensures.inserted in
-    text-held c.insert_before.new.self.tree.forest c.args.node
-    (kind-mid c.args.world.now c.args.node c.args.offset c.args.new c.args.parent c.requires.tail c.requires.parent c.insert_before.new.self inserted)
+    record {
+      held = text-held c.insert_before.new.self.tree.forest c.args.node
+          (kind-mid c.args.world.now c.args.node c.args.offset c.args.new c.args.parent c.requires.tail c.requires.parent c.insert_before.new.self inserted);
+    }
 
 pub was_split-requires-clause-fit : goal.was_split-requires-clause-fit
 was_split-requires-clause-fit c =
@@ -35,8 +37,8 @@ was_split-requires-clause-fit c =
     let inserted = subst (λ d. Follows c.args.world.now mid (pre_insert c.args.new c.args.parent d)) c.next-next.ensures c.in-Ok.ensures.inserted in
     let room = room-mid c.args.world.now c.args.node c.args.offset c.args.new c.args.parent c.requires.tail c.requires.parent mid inserted in
     let small = c.counted.ensures in
-    let index_is = c.index-index.ensures in
-    split-fits mid.tree.forest c.args.node c.args.offset c.args.new c.args.parent c.index-index.result (omega (arith, room, small, index_is)) mid.ranges.ranges c.in-Ok.ensures.whole.ranges
+    let index_is = c.index_if_asked-index.ensures.within in
+    split-fits mid.tree.forest c.args.node c.args.offset c.args.new c.args.parent c.index_if_asked-index.result (omega (arith, room, small, index_is)) mid.ranges.ranges c.in-Ok.ensures.whole.ranges
 
 pub was_split-requires-clause-new_covered : goal.was_split-requires-clause-new_covered
 was_split-requires-clause-new_covered c =
@@ -53,7 +55,7 @@ was_split-requires-clause-parent_covered c =
 pub returns-in-Ok-clause-parted : goal.returns-in-Ok-clause-parted
 returns-in-Ok-clause-parted c =
     let inserted = subst (λ d. Follows c.args.world.now c.insert_before.new.self (pre_insert c.args.new c.args.parent d)) c.next-next.ensures c.in-Ok.ensures.inserted in
-    follows-new c.args.world.now c.args.node c.args.offset c.args.new c.args.parent c.requires.tail c.requires.parent c.insert_before.new.self inserted c.was_split.new.self c.index-index.result c.was_split.ensures c.index-index.ensures
+    follows-new c.args.world.now c.args.node c.args.offset c.args.new c.args.parent c.requires.tail c.requires.parent c.insert_before.new.self inserted c.was_split.new.self c.index_if_asked-index.result c.was_split.ensures c.index_if_asked-index.ensures.asked
 
 pub returns-in-Ok-clause-kind : goal.returns-in-Ok-clause-kind
 returns-in-Ok-clause-kind c =
@@ -63,4 +65,4 @@ returns-in-Ok-clause-kind c =
 pub returns-in-Ok-clause-whole : goal.returns-in-Ok-clause-whole
 returns-in-Ok-clause-whole c =
     let inserted = subst (λ d. Follows c.args.world.now c.insert_before.new.self (pre_insert c.args.new c.args.parent d)) c.next-next.ensures c.in-Ok.ensures.inserted in
-    whole-new c.args.world.now c.args.node c.args.offset c.args.new c.args.parent c.requires.tail c.requires.parent c.insert_before.new.self inserted c.was_split.new.self c.index-index.result c.was_split.ensures c.index-index.ensures c.in-Ok.ensures.whole
+    whole-new c.args.world.now c.args.node c.args.offset c.args.new c.args.parent c.requires.tail c.requires.parent c.insert_before.new.self inserted c.was_split.new.self c.index_if_asked-index.result c.was_split.ensures c.index_if_asked-index.ensures.asked c.in-Ok.ensures.whole
