@@ -5,7 +5,8 @@
 # It builds the tests by `rt test` first. A run may end in three ways:
 # - the test passes;
 # - its answer is AllocError, or AllocFailed;
-# - it stops at its assertion that memory was there: `is_ok()`, and for what is read through a pointer `Some`.
+# - it stops at its assertion that memory was there: `is_ok()`, for what is read through a pointer `Some`, and for what is written into a
+#   vector `Ok`, where the answer is `Err(Failed)`.
 # The tests under `stands` below meet a refusal and must pass. A test of more than LAST growths (3,000 where none is given) is left there, and said.
 set -euo pipefail
 last=${1:-3000}
@@ -38,7 +39,7 @@ run() {
 wants_memory() {
     case $status in
         101) grep -qhxE 'error: Alloc(Error|Failed \{ \.\. \})' "$work/out" "$work/err" ;;
-        134) grep -qhxE 'assertion failed: ([a-z_]+\.is_ok\(\)|through_a_pointer\(rt\.alloc\(\)\) == Some\(.*\))' "$work/out" "$work/err" ;;
+        134) grep -qhxE 'assertion failed: ([a-z_]+\.is_ok\(\)|through_a_pointer\(rt\.alloc\(\)\) == Some\(.*\))|  left: Err\(Failed\)' "$work/out" "$work/err" ;;
         *) return 1 ;;
     esac
 }
@@ -69,7 +70,7 @@ done
 run REFUSE_AFTER=7777 dom_ranges tests::adjusted_without_a_growth
 [ "$status $refused" = "0 1" ] || fail "each adjusting call with every growth refused"
 run REFUSE_AT=1 dom_ranges tests::refused_room
-[ "$status $growths $refused" = "0 2 1" ] || fail "room whose first growth is refused is not refused"
+[ "$status $growths $refused" = "0 3 1" ] || fail "room whose first growth is refused is not refused"
 for n in $(seq 1 100); do
     run REFUSE_AT="$n" dom_cases layers::observing::a_hundred_nodes
     [ "$status $refused" = "0 1" ] || fail "the first registrations on a hundred nodes, growth $n"
