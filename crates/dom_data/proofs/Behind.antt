@@ -18,14 +18,13 @@ use Rattle.dom_model.proofs.Soundness.SoundEditing.{next_child}
 use Rattle.dom_model.proofs.Forests.Indices.{parent-there}
 use Rattle.dom_model.proofs.Worlds.Measured.{parent-beside}
 use Rattle.dom_ranges.specs.Tables.{RangeTable, OffsetsFit, live_nodes}
-use Rattle.dom_ranges.proofs.Inside.{ranges-alike}
-use Rattle.dom_ranges.proofs.Making.{among-any}
 use Rattle.dom_edit.specs.declared.world.World.{World}
 use Rattle.dom_edit.specs.Whole.{IsWhole, Keeps, Follows, unwatched}
 use Rattle.dom_edit.proofs.Following.{keeps-unwatched}
 use Rattle.dom_data.specs.Tails.{IsTail}
 use Rattle.dom_data.proofs.StaysWhole.{sound-unwatched}
 use Rattle.dom_data.proofs.MovedOffsets.{offsets-fit}
+use Rattle.dom_data.proofs.UnfeltIndex.{unfelt}
 use Rattle.dom_data.proofs.Parting.{text-held}
 use Rattle.dom_data.proofs.SoundParting as parting
 
@@ -65,15 +64,6 @@ split-fits f n offset new parent index small = offsets-fit f (after_split n offs
 -- where no end stands in the parent, the index matters to none
 split-apart : (n offset new parent i j : ℕ) (q : Point) → (q.node == parent) ≡ false → after_split n offset new parent i q ≡ after_split n offset new parent j q
 split-apart n offset new parent i j q e = rw e refl
-
-split-alike : (v : RangeTable) (n offset new parent i j : ℕ) → (among parent (live_nodes v) ≡ true → i ≡ j) → map_ranges (after_split n offset new parent i) v.ranges ≡ map_ranges (after_split n offset new parent j) v.ranges
-split-alike v n offset new parent i j counted = go (among parent (live_nodes v)) refl
-  where
-    go : (b : Bool) → among parent (live_nodes v) ≡ b → map_ranges (after_split n offset new parent i) v.ranges ≡ map_ranges (after_split n offset new parent j) v.ranges
-    go true e = ap (λ k. map_ranges (after_split n offset new parent k) v.ranges) (counted e)
-    go false e =
-        ranges-alike (after_split n offset new parent i) (after_split n offset new parent j) (λ m. m == parent) (split-apart n offset new parent i j) v.ranges
-        (sym (among-any parent (live_nodes v)) ∙ e)
 
 module _ (v : World) (n offset id parent : ℕ) (t : IsTail v n offset id) (par : parent_of v.tree.forest n ≡ Some parent) where
   hn : 0 < occurs n t.before.forest
@@ -129,7 +119,8 @@ module _ (v : World) (n offset id parent : ℕ) (t : IsTail v n offset id) (par 
       behind_is : parting.behind n parent offset t.before t.sound hn t.text par-before t.within v mid t.keeps inserted-new ≡ record mid { ranges = ranges }
       behind_is =
           sym (ap (λ (r : RangeTable). record mid { ranges = r })
-          (e ∙ ap (λ rs. record mid.ranges { ranges = rs }) (split-alike mid.ranges n offset id parent index (index_of mid.tree.forest n) counted)
+          (e ∙ ap (λ rs. record mid.ranges { ranges = rs }) (unfelt (after_split n offset id parent) mid.ranges parent index (index_of mid.tree.forest n)
+          (split-apart n offset id parent index (index_of mid.tree.forest n)) counted)
           ∙ (λ i. record mid.ranges { ranges = map_ranges (after_split n offset (t.number i) parent (index_of mid.tree.forest n)) mid.ranges.ranges })))
 
       pub whole-new : IsWhole mid → IsWhole (record mid { ranges = ranges })

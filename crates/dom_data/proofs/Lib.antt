@@ -3,6 +3,7 @@ pub mod NewTexts
 pub mod Gathered
 pub mod Outcomes
 pub mod MovedOffsets
+pub mod UnfeltIndex
 pub mod ChangedBodies
 pub mod Unasked
 pub mod StaysWhole

@@ -21,14 +21,13 @@ use Rattle.dom_model.proofs.Soundness.SoundData.{length-data}
 use Rattle.dom_model.proofs.Soundness.SoundSplitting.{text_has_data}
 use Rattle.dom_model.proofs.Soundness.SoundJoining.{AreUpTo, AreJoinable, is_child, is_there, first_in, text_first, merged_is, moved, sound-merged_ranges, left, joinable_left}
 use Rattle.dom_ranges.specs.Tables.{RangeTable, OffsetsFit, live_nodes}
-use Rattle.dom_ranges.proofs.Inside.{ranges-alike}
-use Rattle.dom_ranges.proofs.Making.{among-any}
 use Rattle.dom_edit.specs.declared.world.World.{World}
 use Rattle.dom_edit.specs.Whole.{IsWhole, Keeps, Follows, unwatched}
 use Rattle.dom_edit.proofs.Following.{follows-none, follows-then, keeps-unwatched, whole-sound}
 use Rattle.dom_data.specs.Joining.{data_among, taken_in, each_taken_in}
 use Rattle.dom_data.proofs.StaysWhole.{sound-unwatched, follows-alike}
 use Rattle.dom_data.proofs.MovedOffsets.{offsets-fit}
+use Rattle.dom_data.proofs.UnfeltIndex.{unfelt}
 
 -- Texts that can be joined in a world can be in what the code keeps of it
 pub joinable-kept : (v : World) (w : model.World) (t p base : ℕ) (ts : List ℕ) → Keeps v w → IsWhole v → AreJoinable w t p base ts → AreJoinable (unwatched v) t p base ts
@@ -65,15 +64,6 @@ merge-fits f from into base parent index kind small = offsets-fit f (after_merge
 merge-apart : (from into base parent i j : ℕ) (q : Point) → (q.node == parent) ≡ false → after_merge from into base parent i q ≡ after_merge from into base parent j q
 merge-apart from into base parent i j q e = rw e refl
 
-merged-alike : (v : RangeTable) (from into base parent i j : ℕ) → (among parent (live_nodes v) ≡ true → i ≡ j) → map_ranges (after_merge from into base parent i) v.ranges ≡ map_ranges (after_merge from into base parent j) v.ranges
-merged-alike v from into base parent i j counted = go (among parent (live_nodes v)) refl
-  where
-    go : (b : Bool) → among parent (live_nodes v) ≡ b → map_ranges (after_merge from into base parent i) v.ranges ≡ map_ranges (after_merge from into base parent j) v.ranges
-    go true e = ap (λ k. map_ranges (after_merge from into base parent k) v.ranges) (counted e)
-    go false e =
-        ranges-alike (after_merge from into base parent i) (after_merge from into base parent j) (λ m. m == parent) (merge-apart from into base parent i j) v.ranges
-        (sym (among-any parent (live_nodes v)) ∙ e)
-
 module _ (old : World) (h : IsWhole old) (t p base first : ℕ) (ts : List ℕ) (j : AreJoinable (unwatched old) t p base (first ∷ ts)) where
   pub first-held : HasNode old.tree.forest first
   first-held = HasNode-occurs old.tree.forest first (is_there (unwatched old) t p base first ts j first (first_in (unwatched old) t p base first ts j))
@@ -94,7 +84,8 @@ module _ (old : World) (h : IsWhole old) (t p base first : ℕ) (ts : List ℕ) 
     merged = record old { ranges = ranges }
 
     ranges_are : ranges.ranges ≡ map_ranges (after_merge first t base p (index_of old.tree.forest first)) old.ranges.ranges
-    ranges_are = ap (λ (r : RangeTable). r.ranges) e ∙ merged-alike old.ranges first t base p index (index_of old.tree.forest first) counted
+    ranges_are = ap (λ (r : RangeTable). r.ranges) e ∙ unfelt (after_merge first t base p) old.ranges p index (index_of old.tree.forest first)
+        (merge-apart first t base p index (index_of old.tree.forest first)) counted
 
     pub whole-merged : IsWhole merged
     whole-merged =
