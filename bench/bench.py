@@ -1,8 +1,6 @@
 #!/usr/bin/env python3
 """Commands per second of the built program, beside the same lines through Python's json alone.
 
-Usage: bench/bench.py [--program PATH] [--sizes N N ..] [--nodes N]
-
 For each size N four streams are made: N nodes under the document's element, front to back; N nodes at random places; a
 chain of N elements from above (each new one goes into the one before it) and from below (the chain so far goes into each
 new one). Each tree is printed once at the end.
@@ -14,7 +12,6 @@ The program reads the stream from a file and writes its replies to a file. Pytho
 value of the reply's shape, with no tree at all. The ratio is the program's commands per second over Python's.
 """
 
-import argparse
 import json
 import os
 import random
@@ -23,7 +20,8 @@ import sys
 import tempfile
 import time
 
-ROOT = os.path.dirname(os.path.dirname(os.path.abspath(__file__)))
+sys.path.insert(0, os.path.join(os.path.dirname(os.path.dirname(os.path.abspath(__file__))), "tools"))
+from running import words_of
 
 
 def front_to_back(count):
@@ -217,14 +215,13 @@ def show_scene(program, name, scene, size):
     show(name, size, len(commands), *(max(late - early, 1e-9) for late, early in zip(after, before)))
 
 
+def takes_sizes(parser):
+    parser.add_argument("--sizes", type=int, nargs="+", default=[1000, 10000, 100000], metavar="N")
+    parser.add_argument("--nodes", type=int, default=10000, metavar="N")
+
+
 def main():
-    parser = argparse.ArgumentParser(description=__doc__, formatter_class=argparse.RawDescriptionHelpFormatter)
-    parser.add_argument("--program", default=os.path.join(ROOT, "crates/domserve/out/domserve"))
-    parser.add_argument("--sizes", type=int, nargs="+", default=[1000, 10000, 100000])
-    parser.add_argument("--nodes", type=int, default=10000)
-    given = parser.parse_args()
-    if not os.access(given.program, os.X_OK):
-        sys.exit(f"{given.program} is not built: run ./domserve once")
+    given = words_of(__doc__, takes_sizes)
     print(f"{'stream':>18} {'nodes':>8} {'commands':>9} {'program/s':>12} {'json/s':>12} {'ratio':>6}")
     for name, stream in STREAMS:
         for size in given.sizes:

@@ -1,8 +1,6 @@
 #!/usr/bin/env python3
 """Counts the instructions of commands of the built program, in pairs that should be equal but for a tenth.
 
-usage, at the top of the repository, once ./domserve has been built: bench/command_cost.py [WORD ..]
-
 A word leaves only the pairs whose name has it. For each pair two scenes are made under callgrind, uncounted, and then the commands are
 counted; what one command (or one node copied or taken) costs is told, and the run fails where the larger is more than a tenth above the
 smaller. Counts are those of the whole program: reading the line, the edit and the reply. The tree has groups of a hundred leaves below
@@ -14,7 +12,9 @@ import subprocess
 import sys
 import tempfile
 
-PROGRAM = "crates/domserve/out/domserve"
+sys.path.insert(0, os.path.join(os.path.dirname(os.path.dirname(os.path.abspath(__file__))), "tools"))
+from running import words_of
+
 COMMANDS = 1000
 # so few lines that their replies fit into a pipe
 BATCH = 100
@@ -181,10 +181,10 @@ def counted(state, program):
     subprocess.run(["callgrind_control", "--instr=" + state, str(program.pid)], stdout=subprocess.DEVNULL, stderr=subprocess.DEVNULL, check=True)
 
 
-def instructions(making, commands, work):
+def instructions(built, making, commands, work):
     """The instructions of the commands, in the scene that the lines before them make; those are not counted."""
     out = os.path.join(work, "out")
-    words = ["valgrind", "-q", "--tool=callgrind", "--instr-atstart=no", "--callgrind-out-file=" + out, PROGRAM]
+    words = ["valgrind", "-q", "--tool=callgrind", "--instr-atstart=no", "--callgrind-out-file=" + out, built]
     with subprocess.Popen(words, stdin=subprocess.PIPE, stdout=subprocess.PIPE, stderr=subprocess.DEVNULL) as program:
         answered(program, making)
         counted("on", program)
@@ -199,16 +199,20 @@ def instructions(making, commands, work):
     sys.exit("no count")
 
 
+def takes_words(parser):
+    parser.add_argument("words", nargs="*", metavar="WORD", help="only the pairs whose name has each of these words")
+
+
 def main():
-    apart = False
+    given, apart = words_of(__doc__, takes_words), False
     with tempfile.TemporaryDirectory() as work:
         for name, sides, scene, sizes in PAIRS:
-            if not all(word in name for word in sys.argv[1:]):
+            if not all(word in name for word in given.words):
                 continue
             counts = []
             for size in sizes:
                 making, commands, count = scene(size)
-                counts.append(instructions(making, commands, work) / count)
+                counts.append(instructions(given.program, making, commands, work) / count)
             is_apart = max(counts) > 1.1 * min(counts)
             apart = apart or is_apart
             print(f"{name}: {counts[0]:.0f} {sides[0]}, {counts[1]:.0f} {sides[1]}{': more than a tenth apart' if is_apart else ''}", flush=True)

@@ -3,6 +3,8 @@
 # usage, at the top of the repository, after `rt test` in crates/dom_traverse: bench/iterator_steps.sh
 # What is counted is the step with the questions that the test asks ahead of it, each a constant number of links.
 set -euo pipefail
+. "$(dirname "$0")/../tools/words.sh"
+takes 0 "$@"
 tests=$PWD/crates/dom_traverse/out/dom_traverse_tests
 work=$(mktemp -d)
 trap 'rm -rf "$work"' EXIT

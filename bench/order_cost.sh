@@ -4,6 +4,8 @@
 # - near: points of leaves three apart, of neighbouring groups, and of the root, eight calls;
 # - far: points of leaves half a group apart, and of their group, four calls. Both counts must be equal but for a tenth.
 set -euo pipefail
+. "$(dirname "$0")/../tools/words.sh"
+takes 0 "$@"
 tests=$PWD/crates/dom_point/out/dom_point_tests
 work=$(mktemp -d)
 trap 'rm -rf "$work"' EXIT

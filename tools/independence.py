@@ -1,8 +1,6 @@
 #!/usr/bin/env python3
 """Runs the built program over each dialogue that has observers, with fifty more observers made in front of its own.
 
-usage: tools/independence.py [FOLDER...]
-
 Each dialogue below the folders (tools/dialogues where none is given) that makes an observer is run twice: with the more observers made and
 not registered, and with each of them registered on every node, as soon as that is made, with every option. They are taken off while a tree
 is discarded, since a node that is observed is in use. The numbers of the dialogue's own observers are fifty higher then. All its replies
@@ -13,7 +11,7 @@ import json
 import subprocess
 import sys
 
-from running import PROGRAM, dialogues
+from running import dialogues, takes_folders, words_of
 
 MORE = 50
 
@@ -30,9 +28,9 @@ EVERYTHING = {
 class Session:
     """A run of the program that is asked line by line."""
 
-    def __init__(self, words):
+    def __init__(self, program, words):
         self.asked = 0
-        self.process = subprocess.Popen([PROGRAM, *words], stdin=subprocess.PIPE, stdout=subprocess.PIPE)
+        self.process = subprocess.Popen([program, *words], stdin=subprocess.PIPE, stdout=subprocess.PIPE)
 
     def reply(self, line):
         self.asked += 1
@@ -131,9 +129,9 @@ def own_reply(reply, name, crowd):
     return reply
 
 
-def run_beside(dialogue, lines, is_registered):
+def run_beside(program, dialogue, lines, is_registered):
     """How many replies were the same beside the more observers, how many commands were asked, and how often the more were told."""
-    session = Session(dialogue.words)
+    session = Session(program, dialogue.words)
     crowd = Crowd(session, is_registered)
     for line, due in zip(lines, dialogue.due.splitlines(keepends=True), strict=True):
         name = name_of(line)
@@ -155,7 +153,8 @@ def lines_of(dialogue):
 
 def main():
     seen = replies = asked = told = passed = 0
-    for dialogue in dialogues(sys.argv[1:]):
+    given = words_of(__doc__, takes_folders)
+    for dialogue in dialogues(given.folders):
         lines = lines_of(dialogue)
         if not any(name_of(line) == "createObserver" for line in lines):
             continue
@@ -164,7 +163,7 @@ def main():
             continue
         seen += 1
         for is_registered in (False, True):
-            same, commands, times = run_beside(dialogue, lines, is_registered)
+            same, commands, times = run_beside(given.program, dialogue, lines, is_registered)
             replies, asked, told = replies + same, asked + commands, told + times
     print(
         f"{seen} dialogues with observers, each run twice beside {MORE} more: {replies:,} replies were the same, {asked:,} commands asked;"

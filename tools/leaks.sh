@@ -1,11 +1,15 @@
 #!/usr/bin/env bash
 # Runs the built program under valgrind over every dialogue below a folder: no bad access, and nothing in use at the end.
-# usage, at the top of the repository: tools/leaks.sh [STEP [FOLDER]]
+# usage, at the top of the repository: tools/leaks.sh [--program PROGRAM] [STEP [FOLDER]]
 # Each dialogue is served whole, and then with one growth refused: growth 1, 1 + STEP, 1 + 2 * STEP, .. (37 where none is given), up to the
 # first run that meets no refusal. The statuses and the bytes written are looked at too. Two runs are made at a time.
 set -euo pipefail
+. "$(dirname "$0")/words.sh"
+program=$PWD/crates/domserve/out/domserve
+if [ "${1:-}" = --program ] && [ $# -ge 2 ]; then program=$2; shift 2; fi
+takes 2 "$@"
+export program
 export step=${1:-37}
-export program=${DOMSERVE:-$PWD/crates/domserve/out/domserve}
 work=$(mktemp -d)
 export work
 trap 'rm -rf "$work"' EXIT

@@ -5,6 +5,8 @@
 # - 1,000 adds with the Nth growth refused, for each N from 1 to LAST (1,000 where none is given), each run meeting one refusal;
 # - every test under valgrind: no bad access, nothing in use at the end.
 set -euo pipefail
+. "$(dirname "$0")/words.sh"
+takes 1 "$@"
 last=${1:-1000}
 tests=$PWD/crates/dom_links/out/dom_links_tests
 work=$(mktemp -d)

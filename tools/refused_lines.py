@@ -1,8 +1,6 @@
 #!/usr/bin/env python3
 """Runs the built program over dialogues under a malloc that refuses growths, from each growth on in turn.
 
-usage: tools/refused_lines.py [FOLDER...]
-
 For each dialogue below the folders (tools/dialogues where none is given) growth 1, 2, .. is refused, up to the first that is not asked for;
 each alone, and each with all later ones. Due is, where the want is met before the program serves, nothing, and status 1; else the first
 reply lines, never fewer than with an earlier growth refused, then the out-of-memory line, and status 1. Where one growth alone is refused
@@ -15,7 +13,7 @@ import sys
 import tempfile
 from collections import Counter
 
-from running import OUT_OF_MEMORY, dialogues, refusing_malloc, run
+from running import OUT_OF_MEMORY, dialogues, refusing_malloc, run, takes_folders, words_of
 
 WANTING = b"domserve: out of memory\n"
 UNWRITTEN = b"domserve: write failed\n"
@@ -56,12 +54,12 @@ def looked_at(dialogue, mode, found, lines):
     return "while serving", count
 
 
-def fails_to_write(dialogue, whole, setting, library, folder, growth):
+def fails_to_write(program, dialogue, whole, setting, library, folder, growth):
     """Makes the run anew with writers that fail; how many runs that was."""
     room = growth * 7919 % max(len(whole.out), 1)
     writers = [{"output": False}, {"output": "/dev/full"}, {"room": room}]
     for writer in writers:
-        found = run(dialogue.path, dialogue.words, folder, {**setting, "LD_PRELOAD": library}, **writer)
+        found = run(program, dialogue.path, dialogue.words, folder, {**setting, "LD_PRELOAD": library}, **writer)
         due = whole.out[: writer["room"]] if "room" in writer else b""
         words = UNWRITTEN if whole.out else told(whole.err)[0]
         status = 3 if whole.out else whole.status
@@ -70,17 +68,17 @@ def fails_to_write(dialogue, whole, setting, library, folder, growth):
     return len(writers)
 
 
-def refuse_in_turn(dialogue, mode, library, folder, count):
+def refuse_in_turn(program, dialogue, mode, library, folder, count):
     """The runs over one dialogue, with each growth refused alone or with all later ones."""
     lines, growth, became = None, 0, None
     while became != "whole":
         growth += 1
         setting = {mode: str(growth)}
-        found = run(dialogue.path, dialogue.words, folder, {**setting, "LD_PRELOAD": library})
+        found = run(program, dialogue.path, dialogue.words, folder, {**setting, "LD_PRELOAD": library})
         try:
             became, lines = looked_at(dialogue, mode, found, lines)
             count[became] += 1
-            count["failing writers"] += fails_to_write(dialogue, found, setting, library, folder, growth)
+            count["failing writers"] += fails_to_write(program, dialogue, found, setting, library, folder, growth)
         except Wrong as wrong:
             return f"{mode} {growth}: {wrong}: {found}"
     return None
@@ -88,19 +86,20 @@ def refuse_in_turn(dialogue, mode, library, folder, count):
 
 def refuse_each(work):
     """The runs over one dialogue, counted, and what was wrong."""
-    dialogue, library = work
+    program, dialogue, library = work
     count = Counter()
     with tempfile.TemporaryDirectory() as folder:
-        faults = [refuse_in_turn(dialogue, mode, library, folder, count) for mode in ("REFUSE_AT", "REFUSE_FROM")]
+        faults = [refuse_in_turn(program, dialogue, mode, library, folder, count) for mode in ("REFUSE_AT", "REFUSE_FROM")]
     return dialogue, count, [fault for fault in faults if fault]
 
 
 def main():
-    every = dialogues(sys.argv[1:])
+    given = words_of(__doc__, takes_folders)
+    every = dialogues(given.folders)
     total, wrong = Counter(), 0
     with tempfile.TemporaryDirectory() as folder, multiprocessing.Pool(2) as pool:
         library = refusing_malloc(folder)
-        for dialogue, count, faults in pool.imap(refuse_each, [(one, library) for one in every]):
+        for dialogue, count, faults in pool.imap(refuse_each, [(given.program, one, library) for one in every]):
             total += count
             wrong += len(faults)
             for fault in faults:

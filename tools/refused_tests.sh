@@ -9,6 +9,8 @@
 #   vector `Ok`, where the answer is `Err(Failed)`.
 # The tests under `stands` below meet a refusal and must pass. A test of more than LAST growths (3,000 where none is given) is left there, and said.
 set -euo pipefail
+. "$(dirname "$0")/words.sh"
+takes 1 "$@"
 last=${1:-3000}
 top=$PWD
 work=$(mktemp -d)

@@ -1,8 +1,6 @@
 #!/usr/bin/env python3
 """Writes the dialogues of tools/dialogues as theorems and as tests.
 
-usage: tools/rows.py
-
 tools/dialogues has a folder for each subject, with NAME.in, NAME.out and, where the session has options, NAME.opts (one line, as
 `--numbers 4`).
 
@@ -13,6 +11,7 @@ token text that its commands make leave the ends, texts and worlds that the comm
 Tests: for each subject a file in crates/dom_cases/src/dialogues, with its dialogues, each with a test that serves it whole, in pieces,
 with refused growths, with each read, write and flush failing in turn, and cut in two at each of its bytes.
 """
+import argparse
 import os
 import subprocess
 
@@ -194,6 +193,7 @@ def write_tests(subject, dialogues):
 
 
 def main():
+    argparse.ArgumentParser(description=__doc__, formatter_class=argparse.RawDescriptionHelpFormatter).parse_args()
     for subject in sorted(os.listdir(DIALOGUES)):
         folder = os.path.join(DIALOGUES, subject)
         names = sorted(entry[:-3] for entry in os.listdir(folder) if entry.endswith(".in"))

@@ -1,7 +1,8 @@
-"""The built program, the dialogues, and runs of the one over the other, for the scripts beside this file.
+"""The built program, the dialogues, and runs of the one over the other, for the scripts beside this file and those of bench.
 
-DOMSERVE, where it is set, names another program than crates/domserve/out/domserve.
+Each script takes --help, and --program for another program than crates/domserve/out/domserve, and refuses words that it does not know.
 """
+import argparse
 import os
 import resource
 import signal
@@ -10,7 +11,7 @@ import sys
 from collections import namedtuple
 
 ROOT = os.path.dirname(os.path.dirname(os.path.abspath(__file__)))
-PROGRAM = os.environ.get("DOMSERVE") or os.path.join(ROOT, "crates/domserve/out/domserve")
+PROGRAM = os.path.join(ROOT, "crates/domserve/out/domserve")
 DIALOGUES = os.path.join(ROOT, "tools/dialogues")
 
 # The longest that one run may take, in seconds.
@@ -23,6 +24,21 @@ Dialogue = namedtuple("Dialogue", "name path given words due")
 
 # How a run ended, and what it wrote.
 Run = namedtuple("Run", "status out err")
+
+
+def words_of(description, add=lambda parser: None):
+    """The words that a script was given: those that every script takes, and those that `add` adds."""
+    parser = argparse.ArgumentParser(description=description, formatter_class=argparse.RawDescriptionHelpFormatter)
+    parser.add_argument("--program", default=PROGRAM, help="the program that is run (crates/domserve/out/domserve)")
+    add(parser)
+    given = parser.parse_args()
+    if not os.access(given.program, os.X_OK):
+        sys.exit(f"{given.program} is not built: run ./domserve once")
+    return given
+
+
+def takes_folders(parser):
+    parser.add_argument("folders", nargs="*", metavar="FOLDER", help="the dialogues below these folders (tools/dialogues)")
 
 
 def content(path):
@@ -71,7 +87,7 @@ def wait_for(process, pipe):
     return os.waitstatus_to_exitcode(status), said
 
 
-def run(given, words, folder, environment=None, output=None, room=None):
+def run(program, given, words, folder, environment=None, output=None, room=None):
     """One run over a file. `output` is another file to write to, or False for none; `room` is how many bytes a file can hold."""
     out = os.path.join(folder, "out")
     reading, writing = os.pipe()
@@ -87,7 +103,7 @@ def run(given, words, folder, environment=None, output=None, room=None):
     if room is not None:
         # A write past the room fails; Python ignores the signal for that, and so does what it starts.
         resource.setrlimit(resource.RLIMIT_FSIZE, (room, before[1]))
-    process = os.posix_spawn(PROGRAM, [PROGRAM, *words], {**os.environ, **(environment or {})}, file_actions=files)
+    process = os.posix_spawn(program, [program, *words], {**os.environ, **(environment or {})}, file_actions=files)
     resource.setrlimit(resource.RLIMIT_FSIZE, before)
     os.close(writing)
     status, said = wait_for(process, reading)

@@ -1,8 +1,6 @@
 #!/usr/bin/env python3
 """Runs the built program on large inputs with a stack of 1 MiB, checks each reply by rule, and tells how long each part took.
 
-usage: tools/size.py [COUNT]
-
 COUNT is how many elements the chain has, how many children the parent and how many live ranges there are: 100,000 where it is not given.
 Observers are a tenth of it, and commands whose memory is measured are ten times as many. The parts: a chain of elements that is made,
 printed, walked, copied, compared, normalized, discarded, and dropped at the end of the input; a parent with many children; many live
@@ -15,9 +13,7 @@ import subprocess
 import sys
 import time
 
-from running import PROGRAM
-
-COUNT = int(sys.argv[1]) if len(sys.argv) > 1 else 100_000
+from running import PROGRAM, words_of
 
 STACK = 1 << 20
 
@@ -48,6 +44,7 @@ class Session:
     """A run of the program that is fed line by line."""
 
     seen = 0
+    program = PROGRAM
 
     def __init__(self, name, space=None):
         def limits():
@@ -56,7 +53,7 @@ class Session:
                 resource.setrlimit(resource.RLIMIT_AS, (space, space))
 
         self.name = name
-        self.process = subprocess.Popen([PROGRAM], stdin=subprocess.PIPE, stdout=subprocess.PIPE, preexec_fn=limits)
+        self.process = subprocess.Popen([self.program], stdin=subprocess.PIPE, stdout=subprocess.PIPE, preexec_fn=limits)
 
     def send(self, batch):
         """Sends lines, and compares each reply."""
@@ -428,12 +425,18 @@ def line_without_end():
         sys.exit("line of 1 GiB: memory grew")
 
 
+def takes_count(parser):
+    parser.add_argument("count", nargs="?", type=int, default=100_000, metavar="COUNT", help="how large the inputs are (100,000)")
+
+
 def main():
-    chain(COUNT)
-    children(COUNT)
-    ranges(COUNT)
-    observers(COUNT // 10)
-    level(COUNT * 10)
+    given = words_of(__doc__, takes_count)
+    Session.program = given.program
+    chain(given.count)
+    children(given.count)
+    ranges(given.count)
+    observers(given.count // 10)
+    level(given.count * 10)
     line_without_end()
     print(f"{Session.seen:,} replies were as they are due")
 

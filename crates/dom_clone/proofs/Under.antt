@@ -26,11 +26,12 @@ use Rattle.dom_model.proofs.Forests.ForestsBeside.{ancestors-older}
 use Rattle.dom_model.proofs.Worlds.Owners.{IsOwned, HasOwners-put}
 use Rattle.dom_model.proofs.Soundness.SoundForests.{may_stand_at}
 use Rattle.dom_model.proofs.Soundness.SoundPlacing.{IsPlaceable, sound-put_one}
-use Rattle.dom_tree.specs.Standing.{MayStand}
-use Rattle.dom_observe.specs.Watchers.{Watches}
-use Rattle.dom_edit.specs.declared.world.World.{World}
-use Rattle.dom_edit.specs.Whole.{IsWhole, AreHeld, Keeps, Follows, unwatched}
-use Rattle.dom_edit.proofs.Following.{follows-then, keeps-unwatched, sound-unwatched, whole-sound}
+use Rattle.dom_data.specs.dom_tree.Standing.{MayStand}
+use Rattle.dom_data.specs.dom_observe.Watchers.{Watches}
+use Rattle.dom_data.specs.dom_edit.declared.world.World.{World}
+use Rattle.dom_data.specs.dom_edit.Whole.{IsWhole, AreHeld, Keeps, Follows, unwatched}
+use Rattle.dom_data.specs.dom_edit.Covering.{covered-kept}
+use Rattle.dom_data.specs.dom_edit.Following.{follows-then, keeps-unwatched, sound-unwatched, whole-sound}
 use Rattle.dom_clone.specs.Growing.{made_under}
 
 -- what holds of each node holds of what an entry tells
@@ -143,7 +144,12 @@ module _ (v : World) (h : IsWhole v) (parent child d : ℕ) (m : MayGoUnder v.tr
       sound-put
       (HasOneDocument-put parent child d None v.tree.forest h.documents has_parent has_child)
       (HasOwners-put parent child None v.tree.forest h.forest.once hp hc m.root out h.owners)
-      h.covered
+      (covered-kept v.tree (put_last parent child v).tree v.ranges.covered (λ n.
+      let a = total-tree_at (one_at parent) child v.tree.forest in
+      let b = h.forest.once parent in
+      let one : occurs parent (without child v.tree.forest) ≡ 1 = omega (arith, out, hp) in
+      let t = total-put (one_at n) parent child None v.tree.forest one in
+      omega arith) refl h.covered)
       (All-weaker (AreHeld v.tree.forest) (AreHeld (put parent child None v.tree.forest)) (λ r k. record { start = there_put r.start.node k.start; end = there_put r.end.node k.end }) v.statics h.statics)
 
 -- A copy is made, and goes under a node.

@@ -10,12 +10,12 @@ use Rattle.dom_model.specs.RangesAndContents.Ranges.{start_set, collapsed, colla
 use Rattle.dom_model.proofs.Forests.Entries.{occurs-HasNode}
 use Rattle.dom_model.proofs.RangesAndContents.RangesSet.{boundary_checked, range_at_point}
 use Rattle.dom_model.proofs.Soundness.SoundRangeSteps.{sound-with_range}
-use Rattle.dom_ranges.specs.Tables.{RangeTable, range_in, refused}
-use Rattle.dom_edit.specs.declared.world.World.{World}
-use Rattle.dom_edit.specs.Whole.{IsWhole, Follows, unwatched}
-use Rattle.dom_edit.proofs.Following.{keeps-unwatched, whole-sound}
-use Rattle.dom_edit.proofs.Leaving.{it_is}
-use Rattle.dom_data.proofs.StaysWhole.{sound-unwatched}
+use Rattle.dom_clone.specs.dom_ranges.Tables.{RangeTable, range_in, refused}
+use Rattle.dom_clone.specs.dom_edit.declared.world.World.{World}
+use Rattle.dom_clone.specs.dom_edit.Whole.{AreCovered, IsWhole, Follows, unwatched}
+use Rattle.dom_clone.specs.dom_edit.Following.{keeps-unwatched, whole-sound}
+use Rattle.dom_clone.specs.dom_edit.Leaving.{it_is}
+use Rattle.dom_clone.specs.dom_data.StaysWhole.{sound-unwatched}
 
 -- nothing was set
 pub whole-unset : (v : World) (t : RangeTable) → t ≡ v.ranges → IsWhole v → IsWhole (record v { ranges = t })
@@ -67,6 +67,6 @@ module _ (v : World) (r : ℕ) (p : Point) (u : RangeTable) (is : u ≡ record v
   pub whole-standing : IsWhole v → HasNode v.tree.forest p.node → check_point unit_count v.tree.forest p ≡ None → IsWhole (record v { ranges = u })
   whole-standing h held passes =
       let b = boundary_checked v.tree.forest p (occurs-HasNode v.tree.forest p.node held) passes in
-      let covers : v.tree.made ≤ u.covered = subst (λ n. v.tree.made ≤ n) (sym (ap (λ (x : RangeTable). x.covered) is)) h.covered in
+      let covers : AreCovered v.tree u.covered = subst (AreCovered v.tree) (sym (ap (λ (x : RangeTable). x.covered) is)) h.covered in
       whole-sound (record v { ranges = u }) (with_range r (collapsed_at p) (unwatched v)) (follows-standing.keeps (unwatched v) (keeps-unwatched v))
       (sound-with_range r (collapsed_at p) (unwatched v) (sound-unwatched v h) (range_at_point v.tree.forest p b)) h.documents h.owners covers h.statics

@@ -11,7 +11,7 @@ use Rattle.dom_model.proofs.Forests.Totals.{total-tree_at}
 use Rattle.dom_model.proofs.Forests.ToTheRoot.{among-here, inside, inside-root}
 use Rattle.dom_model.proofs.Forests.TreeOrder.Flattened.{hits-numbers, numbers-without}
 use Rattle.dom_model.proofs.TokenText.AlikeTrees.TreesWithin.{tree_within}
-use Rattle.dom_ranges.proofs.Inside.{D-once, from-top}
+use Rattle.dom_clone.specs.dom_ranges.Inside.{D-once, from-top}
 use Rattle.dom_content.proofs.PartsBetween.{split}
 
 from-behind : (x : ℕ) (pre rest : List ℕ) → hits x pre ≡ 0 → from_first x (pre ++ x ∷ rest) ≡ x ∷ rest

@@ -9,11 +9,11 @@ use Rattle.dom_model.specs.MutationAlgorithms.Checks.{kind_passes, up_to}
 use Rattle.dom_model.specs.MutationAlgorithms.Editing.{append}
 use Rattle.dom_model.specs.RangesAndContents.Contents.{units_into, children_into, copy_into, head_into}
 use Rattle.dom_model.proofs.Counting.CountsOfContents.{units_into-grown}
-use Rattle.dom_edit.specs.declared.world.World.{World}
-use Rattle.dom_edit.specs.Inserting.{AreThere}
-use Rattle.dom_edit.specs.Whole.{IsWhole, Keeps, Follows}
-use Rattle.dom_edit.proofs.Following.{follows-then}
-use Rattle.dom_edit.proofs.InsertedNodes.{follows-as}
+use Rattle.dom_clone.specs.dom_edit.declared.world.World.{World}
+use Rattle.dom_clone.specs.dom_edit.Inserting.{AreThere}
+use Rattle.dom_clone.specs.dom_edit.Whole.{IsWhole, Keeps, Follows}
+use Rattle.dom_clone.specs.dom_edit.Following.{follows-then}
+use Rattle.dom_clone.specs.dom_edit.InsertedNodes.{follows-as}
 use Rattle.dom_content.specs.declared.paths.Partial.{Partial}
 use Rattle.dom_content.specs.Paths.{HasRoom, StillHeld, opened, inner_of, entered, closed_one}
 use Rattle.dom_content.proofs.PathLists.{up_to-there}

@@ -19,11 +19,11 @@ use Rattle.dom_model.proofs.Forests.Climbing.{hits-append, hits-first}
 use Rattle.dom_model.proofs.Forests.Entries.{occurs-HasNode, HasNode-occurs}
 use Rattle.dom_model.proofs.Counting.CountsKept.{append-kept}
 use Rattle.dom_model.proofs.Counting.CountsOfContents.{units_into-grown}
-use Rattle.dom_edit.specs.declared.world.World.{World}
-use Rattle.dom_edit.specs.Inserting.{AreThere}
-use Rattle.dom_edit.specs.Whole.{IsWhole, Keeps, Follows}
-use Rattle.dom_edit.proofs.Following.{follows-none, follows-then}
-use Rattle.dom_edit.proofs.InsertedNodes.{follows-as}
+use Rattle.dom_clone.specs.dom_edit.declared.world.World.{World}
+use Rattle.dom_clone.specs.dom_edit.Inserting.{AreThere}
+use Rattle.dom_clone.specs.dom_edit.Whole.{IsWhole, Keeps, Follows}
+use Rattle.dom_clone.specs.dom_edit.Following.{follows-none, follows-then}
+use Rattle.dom_clone.specs.dom_edit.InsertedNodes.{follows-as}
 use Rattle.dom_content.specs.declared.paths.Partial.{Partial}
 use Rattle.dom_content.specs.Paths.{HasRoom, StillHeld, KindsStay, opened, inner_of, closed_one, closed, IsUnfinished, AreUnfinished}
 use Rattle.dom_content.proofs.PathLists.{listed, none-left}

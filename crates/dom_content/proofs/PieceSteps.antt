@@ -22,12 +22,12 @@ use Rattle.dom_model.proofs.Soundness.SoundEditing.{may_come_in}
 use Rattle.dom_model.proofs.Soundness.SoundAppending.{clone_copy, clone_with_copy, fragment_made}
 use Rattle.dom_model.proofs.Counting.CountsKept.{append-kept}
 use Rattle.dom_model.proofs.Counting.CountsOfData.{replace_data-kept}
-use Rattle.dom_edit.specs.declared.world.World.{World}
-use Rattle.dom_edit.specs.Inserting.{AreThere}
-use Rattle.dom_edit.specs.Whole.{IsWhole, Keeps, Follows, unwatched}
-use Rattle.dom_edit.proofs.Following.{follows-none, follows-then}
-use Rattle.dom_edit.proofs.InsertedNodes.{follows-as, forest-after, item-hit}
-use Rattle.dom_edit.proofs.PlacedWorlds.{sound-unwatched}
+use Rattle.dom_clone.specs.dom_edit.declared.world.World.{World}
+use Rattle.dom_clone.specs.dom_edit.Inserting.{AreThere}
+use Rattle.dom_clone.specs.dom_edit.Whole.{IsWhole, Keeps, Follows, unwatched}
+use Rattle.dom_clone.specs.dom_edit.Following.{follows-none, follows-then}
+use Rattle.dom_clone.specs.dom_edit.InsertedNodes.{follows-as, forest-after, item-hit}
+use Rattle.dom_clone.specs.dom_edit.PlacedWorlds.{sound-unwatched}
 use Rattle.dom_content.specs.Paths.{HasRoom, StillHeld, KindsStay}
 
 -- Room.

@@ -8,12 +8,12 @@ ghost use Rattle.dom_model.specs.Worlds.Sound.{IsRange};
 ghost use Rattle.dom_model.specs.RangesAndContents.Ranges.{is_contained, common_ancestor};
 ghost use Rattle.dom_model.specs.RangesAndContents.Contents.{path_below};
 ghost use Rattle.dom_model.proofs.Forests.Chains.{IsWay};
-ghost use Rattle.dom_edit.specs.Places.{IsAmong, from_optional, ahead_of};
+ghost use Rattle.dom_clone.specs.dom_edit.Places.{IsAmong, from_optional, ahead_of};
 ghost use Rattle.dom_content.specs.Drawing.{index_behind, index_at};
 
-use dom_edit::Content;
-use dom_point::{Point, common};
-use dom_tree::{NodeId, Tree};
+use dom_clone::dom_edit::Content;
+use dom_clone::dom_point::{Point, common};
+use dom_clone::dom_tree::{NodeId, Tree};
 use std::alloc::{AllocError, Global};
 
 // The children of a node from one of them on, and ahead of another.

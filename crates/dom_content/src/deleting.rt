@@ -9,19 +9,19 @@ ghost use Rattle.dom_model.specs.MutationAlgorithms.Checks.{kind_passes};
 ghost use Rattle.dom_model.specs.DataAndCopies.Data.{data_of, replace_data, remove_each};
 ghost use Rattle.dom_model.specs.RangesAndContents.Ranges.{collapsed_at, with_range};
 ghost use Rattle.dom_model.specs.RangesAndContents.Contents.{is_in_one_data, cut_from, cut_up_to, new_place as place_left, deleted_between, delete_contents};
-ghost use Rattle.dom_ranges.specs.Tables.{range_in};
+ghost use Rattle.dom_clone.specs.dom_ranges.Tables.{range_in};
 ghost use Rattle.dom_model.specs.TokenText.Edits.{delete_contents_edits};
-ghost use Rattle.dom_edit.specs.Whole.{IsWhole, Follows, unwatched};
-ghost use Rattle.dom_edit.specs.Markers.{StandByEdits};
+ghost use Rattle.dom_clone.specs.dom_edit.Whole.{IsWhole, Follows, unwatched};
+ghost use Rattle.dom_clone.specs.dom_edit.Markers.{StandByEdits};
 ghost use Rattle.dom_content.specs.Left.{IsLeftOf};
 
 use crate::contained::contained_tops;
 use crate::data::{has_data, is_in_one_data};
-use dom_data::replace_data;
-use dom_edit::{Content, World};
-use dom_point::{Point, common};
-use dom_ranges::RangeId;
-use dom_tree::{NodeId, Tree};
+use dom_clone::dom_data::replace_data;
+use dom_clone::dom_edit::{Content, World};
+use dom_clone::dom_point::{Point, common};
+use dom_clone::dom_ranges::RangeId;
+use dom_clone::dom_tree::{NodeId, Tree};
 use std::alloc::{AllocError, Global};
 
 // Takes units of a node's data out. An offset within the data is not refused, so that only memory can be wanting.

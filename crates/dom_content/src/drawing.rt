@@ -9,13 +9,13 @@ ghost use Rattle.dom_model.specs.Worlds.Sound.{IsRange};
 ghost use Rattle.dom_model.specs.MutationAlgorithms.Checks.{kind_passes, is_of_kind, has_kind};
 ghost use Rattle.dom_model.specs.RangesAndContents.Ranges.{is_collapsed as ends_meet};
 ghost use Rattle.dom_model.specs.RangesAndContents.Contents.{units_into, contents_drawn, check_draw, check_extract, extracted, extract, clone_contents};
-ghost use Rattle.dom_ranges.specs.Tables.{range_in};
-ghost use Rattle.dom_edit.specs.Inserting.{AreThere};
+ghost use Rattle.dom_clone.specs.dom_ranges.Tables.{range_in};
+ghost use Rattle.dom_clone.specs.dom_edit.Inserting.{AreThere};
 ghost use Rattle.dom_model.specs.TokenText.Edits.{extract_edits, clone_contents_edits};
-ghost use Rattle.dom_edit.specs.Whole.{IsWhole, Follows, unwatched};
-ghost use Rattle.dom_edit.specs.Markers.{StandByEdits};
-ghost use Rattle.dom_edit.specs.Refusals.{IsRefused};
-ghost use Rattle.dom_content.specs.Left.{IsLeftOf, HoldsBetween};
+ghost use Rattle.dom_clone.specs.dom_edit.Whole.{IsWhole, Follows, unwatched};
+ghost use Rattle.dom_clone.specs.dom_edit.Markers.{StandByEdits};
+ghost use Rattle.dom_clone.specs.dom_edit.Refusals.{IsRefused};
+ghost use Rattle.dom_content.specs.Left.{IsLeftOf, HoldsBetween, MovesBetween, CopiesBetween};
 ghost use Rattle.dom_content.specs.Paths.{HasRoom, StillHeld};
 ghost use Rattle.dom_content.specs.Drawing.{AreParts, in_one_data, parts_drawn, filled};
 
@@ -24,11 +24,11 @@ use crate::deleting::{new_place, stand_at};
 use crate::parts::{Parts, parts_of};
 use crate::paths::{head_into, tail_into};
 use crate::pieces::{children_into, new_fragment, units_into};
-use dom_edit::{Content, Refusal, World};
-use dom_kinds::{DomError, Kind};
-use dom_point::Point;
-use dom_ranges::RangeId;
-use dom_tree::{NodeId, Tree};
+use dom_clone::dom_edit::{Content, Refusal, World};
+use dom_clone::dom_kinds::{DomError, Kind};
+use dom_clone::dom_point::Point;
+use dom_clone::dom_ranges::RangeId;
+use dom_clone::dom_tree::{NodeId, Tree};
 use std::alloc::{AllocError, Global};
 
 // Whether a node is a doctype.
@@ -211,6 +211,7 @@ pub fn extract(world: &mut World, alloc: Global, range: RangeId) -> Result<NodeI
     ensures markers { OnOk result (StandByEdits world.old world.new (extract_edits range)) }
     ensures left { OnOk result (IsLeftOf world.old world.new range) }
     ensures held { IfOk result (λ id. HoldsBetween world.old world.new range id) }
+    ensures moved { IfOk result (λ id. MovesBetween world.old world.new range id) }
     ensures refused { IfErr result (λ e. IsRefused e (check_extract range (unwatched world.old)) world.old world.new) }
     ensures whole { IsWhole world.new }
 {
@@ -235,6 +236,7 @@ pub fn clone_contents(world: &mut World, alloc: Global, range: RangeId) -> Resul
     ensures cloned { OnOk result (Follows world.old world.new (clone_contents range)) }
     ensures markers { OnOk result (StandByEdits world.old world.new (clone_contents_edits range)) }
     ensures held { IfOk result (λ id. HoldsBetween world.old world.new range id) }
+    ensures copied { IfOk result (λ id. CopiesBetween world.old world.new range id) }
     ensures refused { IfErr result (λ e. IsRefused e (check_extract range (unwatched world.old)) world.old world.new) }
     ensures whole { IsWhole world.new }
 {

@@ -12,5 +12,10 @@ mod pieces;
 mod texts;
 
 pub use deleting::delete_contents;
+pub use dom_clone;
+pub use dom_clone::{
+    dom_attrs, dom_data, dom_edit, dom_kinds, dom_links, dom_observe, dom_pages, dom_point,
+    dom_ranges, dom_traverse, dom_tree, dom_units,
+};
 pub use drawing::{clone_contents, extract};
 pub use texts::range_text;

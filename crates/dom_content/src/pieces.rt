@@ -13,17 +13,17 @@ ghost use Rattle.dom_model.specs.MutationAlgorithms.Editing.{append};
 ghost use Rattle.dom_model.specs.DataAndCopies.Data.{content_in};
 ghost use Rattle.dom_model.specs.DataAndCopies.Clones.{clone_node};
 ghost use Rattle.dom_model.specs.RangesAndContents.Contents.{new_fragment, clone_with, cut_if, units_into, child_into, children_into};
-ghost use Rattle.dom_edit.specs.Inserting.{AreThere};
-ghost use Rattle.dom_edit.specs.Whole.{IsWhole, Follows};
+ghost use Rattle.dom_clone.specs.dom_edit.Inserting.{AreThere};
+ghost use Rattle.dom_clone.specs.dom_edit.Whole.{IsWhole, Follows};
 ghost use Rattle.dom_content.specs.Paths.{HasRoom, StillHeld, KindsStay};
 
-use dom_attrs::Attrs;
 use dom_clone::clone_node;
-use dom_data::replace_data;
-use dom_edit::{Content, World};
-use dom_kinds::{Kind, Label};
-use dom_tree::{NodeId, Tree};
-use dom_units::Units;
+use dom_clone::dom_attrs::Attrs;
+use dom_clone::dom_data::replace_data;
+use dom_clone::dom_edit::{Content, World};
+use dom_clone::dom_kinds::{Kind, Label};
+use dom_clone::dom_tree::{NodeId, Tree};
+use dom_clone::dom_units::Units;
 use std::alloc::{AllocError, Global};
 
 // The node document of a node.

@@ -12,17 +12,17 @@ ghost use Rattle.dom_model.specs.DataAndCopies.Data.{content_in};
 ghost use Rattle.dom_model.specs.TokenText.Tokens.{texts_of};
 ghost use Rattle.dom_model.specs.TokenText.Gaps.{text_among};
 ghost use Rattle.dom_model.specs.TokenText.Between.{text_of_range};
-ghost use Rattle.dom_ranges.specs.Tables.{range_in};
-ghost use Rattle.dom_edit.specs.Whole.{IsWhole, unwatched};
+ghost use Rattle.dom_clone.specs.dom_ranges.Tables.{range_in};
+ghost use Rattle.dom_clone.specs.dom_edit.Whole.{IsWhole, unwatched};
 ghost use Rattle.dom_content.specs.Texts.{part_of, text_within, texts_within};
 
 use crate::contained::last_ahead;
-use dom_edit::{Content, World};
-use dom_kinds::Kind;
-use dom_point::Point;
-use dom_ranges::RangeId;
-use dom_tree::{NodeId, Tree};
-use dom_units::Units;
+use dom_clone::dom_edit::{Content, World};
+use dom_clone::dom_kinds::Kind;
+use dom_clone::dom_point::Point;
+use dom_clone::dom_ranges::RangeId;
+use dom_clone::dom_tree::{NodeId, Tree};
+use dom_clone::dom_units::Units;
 use std::alloc::{AllocError, Global};
 
 // Whether a node is a Text.

@@ -17,7 +17,7 @@ use Rattle.dom_model.proofs.Soundness.SoundSplitting.{new_text}
 use Rattle.dom_model.proofs.Soundness.SoundEditing.{next_child}
 use Rattle.dom_model.proofs.Forests.Indices.{parent-there}
 use Rattle.dom_model.proofs.Worlds.Measured.{parent-beside}
-use Rattle.dom_ranges.specs.Tables.{RangeTable, OffsetsFit, live_nodes}
+use Rattle.dom_edit.specs.dom_ranges.Tables.{RangeTable, IsCovered, OffsetsFit, live_nodes}
 use Rattle.dom_edit.specs.declared.world.World.{World}
 use Rattle.dom_edit.specs.Whole.{IsWhole, Keeps, Follows, unwatched}
 use Rattle.dom_edit.proofs.Following.{keeps-unwatched}
@@ -42,12 +42,8 @@ is-tail old v n offset d id tail h text within document number units f = record 
 }
 
 -- a node of a whole world is covered
-pub covered-there : (v : World) → IsWhole v → (n : ℕ) → 0 < occurs n v.tree.forest → n < v.ranges.covered
-covered-there v h n k = go (nat_lt n v.tree.made) refl
-  where
-    go : (b : Bool) → nat_lt n v.tree.made ≡ b → n < v.ranges.covered
-    go true e = let c = h.covered in grind (arith, nat_tests)
-    go false e = let z = h.forest.small n (grind (arith, nat_tests)) in absurd (omega arith)
+pub covered-there : (v : World) → IsWhole v → (n : ℕ) → 0 < occurs n v.tree.forest → IsCovered v.ranges n
+covered-there v h n k = h.covered.held n (HasNode-occurs v.tree.forest n k)
 
 -- a map of two cases fits
 pub split-fits : (f : Forest Content) (n offset new parent index : ℕ) → index + 2 < 2 ^ 64 → (ranges : List (Option Range)) → All (λ (r : Option Range). IfSome r (IsRange f)) ranges → OffsetsFit (after_split n offset new parent index) ranges

@@ -3,7 +3,7 @@ use Rattle.std.proofs.Common.{◌≡◌, ℕ, ◌+◌, ◌-◌, ◌≤◌, min, 
 use Rattle.std.proofs.lemmas.List.Elements.{All-weaker}
 use Rattle.dom_model.specs.declared.Kind.TheVariants.{Document}
 use Rattle.dom_model.specs.Forests.Kinds.{is_kind, is_character_data}
-use Rattle.dom_model.specs.Forests.Forest.{Node, Forest, Grove, empty, node, entry_in, with_node}
+use Rattle.dom_model.specs.Forests.Forest.{Node, Forest, Grove, empty, node, occurs, entry_in, with_node}
 use Rattle.dom_model.specs.Forests.Documents.{HasOneDocument, IsInDocument}
 use Rattle.dom_model.specs.Worlds.World as model
 use Rattle.dom_model.specs.Worlds.World.{Content, Range}
@@ -14,17 +14,18 @@ use Rattle.dom_model.specs.MutationAlgorithms.Checks.{kind_passes, is_of_kind}
 use Rattle.dom_model.specs.DataAndCopies.Data.{content_in, data_of, with_data, replace_units, cut_count, data_record, replace_data, set_data, attributes_of, with_attributes, set_attribute, has_attribute, remove_attribute_if}
 use Rattle.dom_model.specs.Forests.Attributes.{Attribute, with_attribute, without_attribute}
 use Rattle.dom_model.proofs.Soundness.SoundData.{sound-replace_units, sound-set_attribute, sound-remove_attribute}
-use Rattle.dom_ranges.specs.Tables.{RangeTable}
+use Rattle.dom_edit.specs.dom_ranges.Tables.{RangeTable}
 use Rattle.dom_model.proofs.PlainLists.Numbers.{same_or, same, apart}
 use Rattle.dom_model.proofs.Worlds.Owners.{HasOwners, IsOwned}
-use Rattle.dom_model.proofs.Worlds.SameShape.{bare_node, with_node-alike, kind-alike}
+use Rattle.dom_model.proofs.Worlds.SameShape.{bare_node, with_node-alike, kind-alike, occurs-alike}
 use Rattle.dom_model.proofs.RangesAndContents.RangesSpliced.{there-alike}
 use Rattle.dom_edit.specs.declared.world.World.{World}
-use Rattle.dom_edit.specs.Whole.{AreHeld, IsWhole, Keeps, Follows, unwatched}
-use Rattle.dom_observe.specs.Watchers.{Watches}
+use Rattle.dom_edit.specs.Whole.{AreHeld, AreCovered, IsWhole, Keeps, Follows, unwatched}
+use Rattle.dom_edit.specs.dom_observe.Watchers.{Watches}
 use Rattle.std.proofs.lemmas.Bool.Decides.{nat_tests}
 pub use Rattle.dom_edit.proofs.Following.{sound-unwatched}
 use Rattle.dom_edit.proofs.Following.{whole-sound}
+use Rattle.dom_edit.proofs.Covering.{covered-kept}
 use Rattle.dom_data.proofs.ChangedBodies.{EachNode-with_node}
 
 -- other observers
@@ -56,7 +57,8 @@ module _ (n : ℕ) (change : Node Content → Node Content) (keeps : (x : Node C
       whole-sound new w k s
       (subst HasOneDocument (sym forest) (documents-with_node old.tree.forest h.documents))
       (subst HasOwners (sym forest) (owners-with_node old.tree.forest h.owners))
-      (omega (arith, h.covered, made, covered))
+      (subst (AreCovered new.tree) (sym covered)
+      (covered-kept old.tree new.tree old.ranges.covered (λ m. let z : occurs m new.tree.forest ≡ occurs m old.tree.forest = ap (occurs m) forest ∙ occurs-alike a m in omega arith) made h.covered))
       (rw (forest, statics) (All-weaker (AreHeld old.tree.forest) (AreHeld (with_node n change old.tree.forest)) (λ r k. record { start = there-alike a r.start.node k.start; end = there-alike a r.end.node k.end }) old.statics h.statics))
 
 -- units are replaced, and ends move

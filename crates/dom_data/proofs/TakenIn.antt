@@ -20,9 +20,9 @@ use Rattle.dom_model.proofs.Soundness.SoundWorlds.{Lives}
 use Rattle.dom_model.proofs.Soundness.SoundData.{length-data}
 use Rattle.dom_model.proofs.Soundness.SoundSplitting.{text_has_data}
 use Rattle.dom_model.proofs.Soundness.SoundJoining.{AreUpTo, AreJoinable, is_child, is_there, first_in, text_first, merged_is, moved, sound-merged_ranges, left, joinable_left}
-use Rattle.dom_ranges.specs.Tables.{RangeTable, OffsetsFit, live_nodes}
+use Rattle.dom_edit.specs.dom_ranges.Tables.{RangeTable, OffsetsFit, live_nodes}
 use Rattle.dom_edit.specs.declared.world.World.{World}
-use Rattle.dom_edit.specs.Whole.{IsWhole, Keeps, Follows, unwatched}
+use Rattle.dom_edit.specs.Whole.{AreCovered, IsWhole, Keeps, Follows, unwatched}
 use Rattle.dom_edit.proofs.Following.{follows-none, follows-then, keeps-unwatched, whole-sound}
 use Rattle.dom_data.specs.Joining.{data_among, taken_in, each_taken_in}
 use Rattle.dom_data.proofs.StaysWhole.{sound-unwatched, follows-alike}
@@ -92,7 +92,7 @@ module _ (old : World) (h : IsWhole old) (t p base first : ℕ) (ts : List ℕ) 
         whole-sound merged (moved (unwatched old) t p base first ts j)
         (record { forest = refl; made = refl; ranges = sym ranges_are; static_ranges = refl; iterators = refl; walkers = refl })
         (sound-merged_ranges (unwatched old) t p base first ts j)
-        h.documents h.owners (let c = ap (λ (r : RangeTable). r.covered) e in let d = h.covered in omega arith) h.statics
+        h.documents h.owners (subst (AreCovered old.tree) (sym (ap (λ (r : RangeTable). r.covered) e)) h.covered) h.statics
 
     follows-merged : Follows old merged (λ w. merged_ends first t base (parent_of w.forest first) w)
     follows-merged =

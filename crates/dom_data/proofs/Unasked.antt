@@ -12,9 +12,9 @@ use Rattle.dom_model.specs.Commands.Reply.{Record}
 use Rattle.dom_model.proofs.PlainLists.Numbers.{same_or, same, apart}
 use Rattle.std.proofs.lemmas.Bool.{false≢true}
 use Rattle.dom_model.proofs.MutationObservers.Queues.{with_all_last, IsTimely, queue-noted, pending-noted, timely-noted}
-use Rattle.dom_observe.specs.Watchers.{Watchers, Watches}
-use Rattle.dom_observe.specs.Asking.{IsAbout}
-use Rattle.dom_observe.proofs.Watching.{watches-unheard}
+use Rattle.dom_edit.specs.dom_observe.Watchers.{Watchers, Watches}
+use Rattle.dom_edit.specs.dom_observe.Asking.{IsAbout}
+use Rattle.dom_edit.specs.dom_observe.Watching.{watches-unheard}
 use Rattle.dom_edit.specs.declared.world.World.{World}
 use Rattle.dom_edit.specs.Whole.{Follows}
 use Rattle.dom_data.specs.Changes.{change_of, Tells, Serves}

@@ -15,10 +15,10 @@ ghost use Rattle.dom_data.specs.Gathering.{text_at, gathered};
 use crate::bodies::{data_in, kind_in};
 use crate::making::{document_in, make_text};
 use crate::replacing::set_data;
+use dom_edit::dom_kinds::Kind;
+use dom_edit::dom_tree::{NodeId, Tree};
+use dom_edit::dom_units::Units;
 use dom_edit::{Content, World};
-use dom_kinds::Kind;
-use dom_tree::{NodeId, Tree};
-use dom_units::Units;
 use std::alloc::{AllocError, Global};
 
 // Puts the data of a node behind a text, where the node is a Text.

@@ -9,11 +9,11 @@ ghost use Rattle.dom_model.specs.MutationAlgorithms.Editing.{document_in};
 ghost use Rattle.dom_model.proofs.Worlds.Owners.{HasOwners};
 ghost use Rattle.dom_edit.specs.Whole.{IsWhole, Follows};
 
-use dom_attrs::Attrs;
+use dom_edit::dom_attrs::Attrs;
+use dom_edit::dom_kinds::{Kind, Label};
+use dom_edit::dom_tree::{NodeId, Tree};
+use dom_edit::dom_units::Units;
 use dom_edit::{Content, World};
-use dom_kinds::{Kind, Label};
-use dom_tree::{NodeId, Tree};
-use dom_units::Units;
 use std::alloc::{AllocError, Global};
 
 // The node document of a node.

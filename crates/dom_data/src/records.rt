@@ -5,16 +5,16 @@ ghost use Rattle.dom_model.specs.declared.RecordType.TheVariants.{Attributes, Ch
 ghost use Rattle.dom_model.specs.Forests.Attributes.{attribute_value};
 ghost use Rattle.dom_model.specs.Forests.Forest.{HasNode, entry_in};
 ghost use Rattle.dom_model.specs.DataAndCopies.Data.{content_in, data_record, attribute_record};
-ghost use Rattle.dom_observe.specs.Names.{name_of};
+ghost use Rattle.dom_edit.specs.dom_observe.Names.{name_of};
 ghost use Rattle.dom_edit.specs.Whole.{Follows};
 ghost use Rattle.dom_data.specs.Changes.{Tells, Serves};
 
 use crate::bodies::data_in;
 use dom_edit::World;
+use dom_edit::dom_observe::Mutation;
+use dom_edit::dom_tree::NodeId;
+use dom_edit::dom_units::Units;
 use dom_model::RecordType;
-use dom_observe::Mutation;
-use dom_tree::NodeId;
-use dom_units::Units;
 use std::alloc::{AllocError, Global};
 
 // Queues a mutation without lists of nodes.

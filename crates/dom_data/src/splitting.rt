@@ -16,10 +16,10 @@ use crate::bodies::data_in;
 use crate::making::{document_in, make_text};
 use crate::normalizing::index_if_asked;
 use crate::replacing::replace_data;
+use dom_edit::dom_kinds::DomError;
+use dom_edit::dom_tree::{NodeId, Tree};
+use dom_edit::dom_units::Units;
 use dom_edit::{Content, Refusal, World};
-use dom_kinds::DomError;
-use dom_tree::{NodeId, Tree};
-use dom_units::Units;
 use std::alloc::{AllocError, Global};
 
 // A law: the count of the children fits a number of the machine.

@@ -1,15 +1,15 @@
 -- A node is adopted: what follows, and that the world stays whole.
-use Rattle.std.proofs.Common.{◌≡◌, ℕ, Bool, true, false, None, IfSome, refl, ap, sym, ◌∙◌, subst}
+use Rattle.std.proofs.Common.{◌≡◌, ℕ, Bool, true, false, None, IfSome, refl, ap, sym, ◌∙◌, subst, arith}
 use Rattle.dom_model.specs.declared.Kind.TheVariants.{Document}
 use Rattle.dom_model.specs.Forests.Kinds.{is_kind}
-use Rattle.dom_model.specs.Forests.Forest.{HasNode, entry_in, parent_of, cut, adopted, in_document}
+use Rattle.dom_model.specs.Forests.Forest.{HasNode, occurs, entry_in, parent_of, cut, adopted, in_document}
 use Rattle.dom_model.specs.Forests.Documents.{HasOneDocument, HasDocument}
 use Rattle.dom_model.specs.MutationAlgorithms.Checks.{is_of_kind}
 use Rattle.dom_model.specs.MutationAlgorithms.Editing.{remove, adopt}
 use Rattle.dom_model.proofs.PlainLists.Numbers.{same_or, same, apart}
 use Rattle.dom_model.proofs.Forests.Entries.{occurs-HasNode, parent-cut}
 use Rattle.dom_model.proofs.Forests.Documents.{HasDocument-entry, HasOneDocument-adopted, adopted-same}
-use Rattle.dom_model.proofs.Worlds.SameShape.{with_tree-alike}
+use Rattle.dom_model.proofs.Worlds.SameShape.{with_tree-alike, occurs-alike}
 use Rattle.dom_model.proofs.Worlds.Measured.{kind-cut}
 use Rattle.dom_model.proofs.Worlds.Owners.{HasOwners, HasOwners-adopted}
 use Rattle.dom_model.proofs.RangesAndContents.RangesSpliced.{there-alike}
@@ -19,6 +19,7 @@ use Rattle.dom_model.proofs.MutationAlgorithms.Loosened.{forest-remove}
 use Rattle.dom_edit.specs.declared.world.World.{World}
 use Rattle.dom_edit.specs.Whole.{IsWhole, Keeps, Follows, unwatched}
 use Rattle.dom_edit.proofs.Following.{keeps-unwatched, whole-sound}
+use Rattle.dom_edit.proofs.Covering.{covered-kept}
 use Rattle.dom_edit.proofs.Leaving.{sound-unwatched, statics-held}
 
 -- what a removal leaves of the trees
@@ -54,7 +55,9 @@ whole-adopted v new n d h root document tree ranges statics iters walkers =
     whole-sound new (record (unwatched v) { forest = g }) keeps (sound-adopted n d (unwatched v) (sound-unwatched v h))
     (subst HasOneDocument forest (HasOneDocument-adopted n d f h.forest.once root h.documents))
     (subst HasOwners forest (HasOwners-adopted n d f document h.owners))
-    (rw (tree, ranges) h.covered)
+    (rw ranges
+    (covered-kept v.tree new.tree v.ranges.covered
+    (λ m. let z : occurs m new.tree.forest ≡ occurs m f = ap (occurs m) (sym forest) ∙ occurs-alike (with_tree-alike (in_document d) (λ x. refl) n f) m in omega arith) (ap (λ t. t.made) tree) h.covered))
     (rw (forest, sym statics) at held)
 
 -- a node whose node document it is already

@@ -26,7 +26,7 @@ nobody-watches o e = subst (λ p. Watches p bare.observing) (sym e) (record {
 })
 
 pub shows-first : (v new : World) (made : ℕ) (label : Label) (body : Content)
-    → v.tree ≡ record { forest = empty; made = 0 } → v.ranges ≡ record { ranges = []; covered = 0 } → v.statics ≡ [] → v.iters ≡ [] → v.walkers ≡ []
+    → v.tree ≡ record { forest = empty; made = 0 } → v.ranges ≡ record { ranges = []; covered = [] } → v.statics ≡ [] → v.iters ≡ [] → v.walkers ≡ []
     → v.observers ≡ record { nodes = []; queues = []; pending = [] }
     → made ≡ 0 → label ≡ document_label → body ≡ no_content → Follows v new (made_node made label body) → IsWhole new → Shows new first_world
 shows-first v new made label body tree ranges statics iters walkers observers number labelled bodied f whole =

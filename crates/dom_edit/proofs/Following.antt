@@ -1,5 +1,5 @@
 -- Steps of the definitions that follow one another, and what a world of the code shows after one.
-use Rattle.std.proofs.Common.{◌≤◌, refl, All, subst}
+use Rattle.std.proofs.Common.{refl, All, subst}
 use Rattle.std.proofs.lemmas.List.Elements.{All-nil}
 use Rattle.dom_model.specs.Forests.Forest.{IsForest}
 use Rattle.dom_model.specs.Forests.Documents.{HasOneDocument}
@@ -7,7 +7,7 @@ use Rattle.dom_model.specs.Worlds.World as model
 use Rattle.dom_model.specs.Worlds.Sound.{IsRegistration, IsSound}
 use Rattle.dom_model.proofs.Worlds.Owners.{HasOwners}
 use Rattle.dom_edit.specs.declared.world.World.{World}
-use Rattle.dom_edit.specs.Whole.{AreHeld, IsWhole, Keeps, Shows, Follows, unwatched}
+use Rattle.dom_edit.specs.Whole.{AreHeld, AreCovered, IsWhole, Keeps, Shows, Follows, unwatched}
 
 -- no step
 pub follows-none : (v : World) → Follows v v (λ w. w)
@@ -33,7 +33,7 @@ pub keeps-unwatched : (v : World) → Keeps v (unwatched v)
 keeps-unwatched v = record { forest = refl; made = refl; ranges = refl; static_ranges = refl; iterators = refl; walkers = refl }
 
 -- a world of the code is whole where it keeps a sound world, each node document is where it should be, and all nodes are covered
-pub whole-sound : (v : World) (w : model.World) → Keeps v w → IsSound w → HasOneDocument v.tree.forest → HasOwners v.tree.forest → v.tree.made ≤ v.ranges.covered → All (AreHeld v.tree.forest) v.statics → IsWhole v
+pub whole-sound : (v : World) (w : model.World) → Keeps v w → IsSound w → HasOneDocument v.tree.forest → HasOwners v.tree.forest → AreCovered v.tree v.ranges.covered → All (AreHeld v.tree.forest) v.statics → IsWhole v
 whole-sound v w k s documents owners covered statics = record {
   forest = subst (λ g. IsForest g) (rw (k.forest, k.made) refl) s.forest;
   documents = documents;

@@ -1,8 +1,7 @@
 -- A node leaves its parent: what follows, and that the world stays whole.
-use Rattle.std.proofs.Common.{◌≡◌, ◌<◌, ◌≤◌, ℕ, Bool, true, List, [], ◌∷◌, Option, Some, None, IfSome, All, refl, ap, sym, ◌∙◌, subst, arith, ⊎_elim}
-use Rattle.std.proofs.lemmas.Bool.{cases_lt}
+use Rattle.std.proofs.Common.{◌≡◌, ◌<◌, ◌≤◌, ℕ, Bool, true, List, [], ◌∷◌, Option, Some, None, IfSome, All, refl, ap, sym, ◌∙◌, subst, arith}
 use Rattle.std.proofs.lemmas.List.Elements.{All-weaker}
-use Rattle.dom_model.specs.Forests.Forest.{HasNode, Forest, parent_of, previous_of, next_of, index_of, inclusive_descendants, ancestors, cut}
+use Rattle.dom_model.specs.Forests.Forest.{HasNode, Forest, one_at, occurs, parent_of, previous_of, next_of, index_of, inclusive_descendants, ancestors, cut}
 use Rattle.dom_model.specs.Forests.Documents.{HasOneDocument}
 use Rattle.dom_model.specs.Worlds.World as model
 use Rattle.dom_model.specs.Worlds.World.{Content, Range, Observing}
@@ -14,15 +13,18 @@ use Rattle.dom_model.specs.MutationObservers.Observing.{standing_on}
 use Rattle.dom_model.proofs.Forests.Entries.{HasNode-occurs, occurs-HasNode}
 use Rattle.dom_model.proofs.Forests.Indices.{parent-there}
 use Rattle.dom_model.proofs.Forests.Paths.{parent-path}
+use Rattle.dom_model.proofs.Forests.Totals.{total-cut}
 use Rattle.dom_model.proofs.Worlds.Owners.{HasOwners}
 use Rattle.dom_model.proofs.Soundness.SoundWorlds.{there_after_cut, sound-remove}
 use Rattle.dom_model.proofs.MutationAlgorithms.OwnersKept.{IsOwnedWell, owned-cut}
+use Rattle.dom_ranges.specs.Tables.{IsCovered}
 use Rattle.dom_observe.specs.Watchers.{Watches}
 use Rattle.dom_observe.proofs.Watching.{watches-unstood}
 use Rattle.dom_edit.specs.declared.world.World.{World}
-use Rattle.dom_edit.specs.Whole.{AreHeld, IsWhole, Keeps, Follows, unwatched}
+use Rattle.dom_edit.specs.Whole.{AreHeld, AreCovered, IsWhole, Keeps, Follows, unwatched}
 pub use Rattle.dom_edit.proofs.Following.{sound-unwatched}
 use Rattle.dom_edit.proofs.Following.{keeps-unwatched, whole-sound}
+use Rattle.dom_edit.proofs.Covering.{covered-kept}
 use Rattle.dom_edit.proofs.Queuing.{tree_mutation}
 
 -- what holds of what is there
@@ -37,14 +39,8 @@ pub well_owned : (v : World) → IsWhole v → IsOwnedWell v.tree.forest
 well_owned v h = record { documents = h.documents; owners = h.owners }
 
 -- a node that is held is covered
-pub held-covered : (v : World) → IsWhole v → (n : ℕ) → HasNode v.tree.forest n → n < v.ranges.covered
-held-covered v h n held =
-    let there = occurs-HasNode v.tree.forest n held in
-    let covered = h.covered in
-    ⊎_elim
-    (λ (lt : n < v.tree.made). omega arith)
-    (λ (le : v.tree.made ≤ n). absurd (let z = h.forest.small n le in omega arith))
-    (cases_lt n v.tree.made)
+pub held-covered : (v : World) → IsWhole v → (n : ℕ) → HasNode v.tree.forest n → IsCovered v.ranges n
+held-covered v h n held = h.covered.held n held
 
 pub parent-held : (v : World) → IsWhole v → (n p : ℕ) → parent_of v.tree.forest n ≡ Some p → HasNode v.tree.forest p
 parent-held v h n p e =
@@ -79,12 +75,12 @@ whole-taken v new n p h e f covered =
     let sound = subst (λ q. IsSound (removed_from true n q (unwatched v))) e (sound-remove true n (unwatched v) (sound-unwatched v h)) in
     let owned = owned-cut n v.tree.forest h.forest.once (well_owned v h) in
     let held = statics-held v.tree.forest (cut n v.tree.forest) (there_after_cut v.tree.forest n) v.statics h.statics in
-    let before = h.covered in
-    let same_made = k.made in
     whole-sound new (transients_made n p (taken_out n p (unwatched v)))
     (record { forest = k.forest; made = k.made; ranges = k.ranges; static_ranges = k.static_ranges; iterators = k.iterators; walkers = k.walkers })
     sound (subst HasOneDocument k.forest owned.documents) (subst HasOwners k.forest owned.owners)
-    (omega arith)
+    (subst (AreCovered new.tree) (sym covered)
+    (covered-kept v.tree new.tree v.ranges.covered
+    (λ m. let z : occurs m new.tree.forest ≡ occurs m v.tree.forest = ap (occurs m) (sym k.forest) ∙ total-cut (one_at m) n v.tree.forest in omega arith) (sym k.made) h.covered))
     (rw (k.forest, k.static_ranges) at held)
 
 -- Transient registrations.

@@ -2,6 +2,7 @@ pub mod AmongChildren
 pub mod Leaves
 pub mod Placing
 pub mod Following
+pub mod Covering
 pub mod Queuing
 pub mod Leaving
 pub mod PlacedRoots

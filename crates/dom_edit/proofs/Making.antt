@@ -1,25 +1,29 @@
 -- A node is made: what follows, and that the world stays whole.
 use Rattle.std.specs.Prelude.{unwrap_or, IsSome, []}
 use Rattle.std.specs.Option.{ForSome}
-use Rattle.std.proofs.Common.{◌≡◌, ◌+◌, ◌≤◌, ℕ, true, Option, Some, None, refl, ap, sym, ◌∙◌, subst, arith}
+use Rattle.std.proofs.Common.{◌≡◌, ◌+◌, ◌==◌, ℕ, true, false, Option, Some, None, refl, ap, sym, ◌∙◌, subst, arith}
+use Rattle.std.proofs.lemmas.Bool.{ne_eqb}
 use Rattle.dom_model.specs.declared.Kind.TheVariants.{Document}
 use Rattle.dom_model.specs.PlainLists.Lists.{or_else}
 use Rattle.dom_model.specs.Forests.Kinds.{Label, is_kind}
-use Rattle.dom_model.specs.Forests.Forest.{Forest, Node, empty, node, occurs, beside, entry_under, HasNode}
+use Rattle.dom_model.specs.Forests.Forest.{Forest, Node, empty, node, one_at, occurs, beside, entry_under, HasNode}
 use Rattle.dom_model.specs.Forests.Documents.{HasOneDocument}
 use Rattle.dom_model.specs.Worlds.World.{Content}
 use Rattle.dom_model.specs.Commands.Making.{made_node}
 use Rattle.dom_model.specs.MutationAlgorithms.Checks.{entry_has, is_of_kind}
 use Rattle.dom_model.proofs.PlainLists.Numbers.{same_or, same, apart}
 use Rattle.dom_model.proofs.Forests.Entries.{entry_under-absent, occurs-HasNode}
+use Rattle.dom_model.proofs.Forests.Totals.{total-beside}
 use Rattle.dom_model.proofs.Forests.Documents.{HasOneDocument-new_root}
 use Rattle.dom_model.proofs.Worlds.Measured.{entry-joined, entry-beside, kind-beside}
 use Rattle.dom_model.proofs.Worlds.Owners.{IsOwned, HasOwners, HasOwners-new_root, kind-there}
 use Rattle.dom_model.proofs.Soundness.SoundMaking.{sound-made_node}
+use Rattle.dom_ranges.specs.Chained.{covered_to}
 use Rattle.dom_observe.specs.Watchers.{Watches}
 use Rattle.dom_edit.specs.declared.world.World.{World}
-use Rattle.dom_edit.specs.Whole.{IsWhole, Follows, unwatched}
+use Rattle.dom_edit.specs.Whole.{AreCovered, IsWhole, Follows, unwatched}
 use Rattle.dom_edit.proofs.Following.{keeps-unwatched, whole-sound}
+use Rattle.dom_edit.proofs.Covering.{covered-more, covered-made}
 use Rattle.dom_edit.proofs.Leaving.{sound-unwatched, statics-held}
 
 abbrev pub new_node : ℕ → Option ℕ → Label → Content → Node Content
@@ -57,7 +61,7 @@ follows-made v new document label body tree ranges statics iters walkers observe
 }
 
 pub whole-made : (v new : World) (document : Option ℕ) (label : Label) (body : Content) → IsWhole v → ForSome document (λ d. is_of_kind Document v.tree.forest d ≡ true)
-    → (document ≡ None → is_kind Document label.kind ≡ true) → Follows v new (made_node (unwrap_or document v.tree.made) label body) → v.tree.made + 1 ≤ new.ranges.covered → IsWhole new
+    → (document ≡ None → is_kind Document label.kind ≡ true) → Follows v new (made_node (unwrap_or document v.tree.made) label body) → new.ranges.covered ≡ covered_to (v.tree.made + 1) v.ranges.covered → IsWhole new
 whole-made v new document label body h given own follows covered =
     let f = v.tree.forest in
     let x = new_node v.tree.made document label body in
@@ -70,16 +74,28 @@ whole-made v new document label body h given own follows covered =
     (sound-made_node (unwrap_or document v.tree.made) label body (unwatched v) (sound-unwatched v h))
     (subst HasOneDocument k.forest (HasOneDocument-new_root f x h.documents))
     (subst HasOwners k.forest (HasOwners-new_root f x owned h.owners))
-    (omega arith)
+    (subst (AreCovered new.tree) (sym covered)
+    (covered-made v.tree new.tree v.ranges.covered (v.tree.made + 1)
+    (λ m before.
+    let z : occurs m new.tree.forest ≡ occurs m (beside f (node x empty empty)) = ap (occurs m) (sym k.forest) in
+    let t = total-beside (one_at m) f (node x empty empty) in
+    let u : (v.tree.made == m) ≡ false = ne_eqb v.tree.made m (λ q. omega arith) in
+    let o : occurs m (node x empty empty) ≡ 0 = rw u refl in
+    omega arith)
+    (λ m past.
+    let s = sound-made_node (unwrap_or document v.tree.made) label body (unwatched v) (sound-unwatched v h) in
+    let z : occurs m new.tree.forest ≡ occurs m (beside f (node x empty empty)) = ap (occurs m) (sym k.forest) in
+    z ∙ s.forest.small m (omega arith))
+    refl (sym made) h.covered))
     (rw (k.forest, k.static_ranges) at held)
 
 -- more nodes are covered
-pub whole-covered : (v new : World) → IsWhole v → new.tree ≡ v.tree → new.ranges.ranges ≡ v.ranges.ranges → v.ranges.covered ≤ new.ranges.covered → new.statics ≡ v.statics → new.iters ≡ v.iters → new.walkers ≡ v.walkers → IsWhole new
-whole-covered v new h tree ranges covered statics iters walkers = record {
+pub whole-covered : (v new : World) (made : ℕ) → IsWhole v → new.tree ≡ v.tree → new.ranges.ranges ≡ v.ranges.ranges → new.ranges.covered ≡ covered_to made v.ranges.covered → new.statics ≡ v.statics → new.iters ≡ v.iters → new.walkers ≡ v.walkers → IsWhole new
+whole-covered v new made h tree ranges covered statics iters walkers = record {
   forest = rw tree h.forest;
   documents = rw tree h.documents;
   owners = rw tree h.owners;
-  covered = let before = h.covered in rw tree (omega arith);
+  covered = rw (tree, covered) (covered-more v.tree v.ranges.covered made h.covered);
   ranges = rw (tree, ranges) h.ranges;
   statics = rw (tree, statics) h.statics;
   iterators = rw (tree, iters) h.iterators;

@@ -9,7 +9,7 @@ use Rattle.dom_model.specs.declared.Kind.{Kind}
 use Rattle.dom_model.specs.declared.Kind.TheVariants.{Element, Text, ProcessingInstruction, Comment, Document, DocumentType, DocumentFragment}
 use Rattle.dom_model.specs.PlainLists.Lists.{among}
 use Rattle.dom_model.specs.Forests.Kinds.{is_kind, may_stand_in}
-use Rattle.dom_model.specs.Forests.Forest.{Row, Forest, empty, node, HasNode, IsForest, one_at, rows, tree_at, parent_of, ancestors, without, inclusive_descendants}
+use Rattle.dom_model.specs.Forests.Forest.{Row, Forest, empty, node, occurs, HasNode, IsForest, one_at, rows, tree_at, parent_of, ancestors, without, inclusive_descendants}
 use Rattle.dom_model.specs.Forests.Documents.{HasOneDocument}
 use Rattle.dom_model.specs.Forests.EachNode.{EachNode}
 use Rattle.dom_model.specs.Worlds.World as model
@@ -29,9 +29,12 @@ use Rattle.dom_model.proofs.Forests.TreeOrder.Flattened.{hits-numbers}
 use Rattle.dom_model.proofs.Worlds.Owners.{IsOwned, HasOwners, EachNode-each, HasOwners-discarded, kind-there}
 use Rattle.dom_model.proofs.Soundness.SoundForests.{entry_there, child-fits}
 use Rattle.dom_model.proofs.Soundness.SoundDiscarding.{sound-without}
+use Rattle.dom_ranges.specs.Chained.{uncovered}
+use Rattle.dom_ranges.specs.Tables.{live_nodes}
 use Rattle.dom_edit.specs.declared.world.World.{World}
-use Rattle.dom_edit.specs.Whole.{AreHeld, IsWhole, Keeps, Shows}
+use Rattle.dom_edit.specs.Whole.{AreHeld, AreCovered, IsWhole, Keeps, Shows}
 use Rattle.dom_edit.proofs.Following.{whole-sound}
+use Rattle.dom_edit.proofs.Covering.{covered-left}
 
 five : (a b c d e : Bool) → ((((a || b) || c) || d) || e) ≡ (a || (b || (c || (d || e))))
 five true b c d e = refl
@@ -155,8 +158,22 @@ statics-left f rest p stays (r ∷ rs) h k =
     All-cons (AreHeld rest) r rs (record { start = stays r.start.node start.0 first.start; end = stays r.end.node end.0 first.end })
     (statics-left f rest p stays rs (All-tail (AreHeld f) r rs h) end.1)
 
+-- no end of a live range stands in it either
+pub no-end-inside : (v : World) (w : model.World) (n : ℕ) → Shows v w → is_in_use w n ≡ false → list_any (λ m. among m (inclusive_descendants v.tree.forest n)) (live_nodes v.ranges) ≡ false
+no-end-inside v w n s free =
+    let f = v.tree.forest in
+    let k = s.keeps in
+    let p : ℕ → Bool = λ m. among m (inclusive_descendants f n) in
+    let unnamed = (neither (is_held_outside w.forest n) (list_any (λ m. among m (inclusive_descendants w.forest n)) (named_nodes w)) free).1 in
+    let parted = named-parts v w n k p refl ∙ unnamed in
+    let a = list_any p (flat_map nodes_of_live v.ranges.ranges) in
+    let b = list_any p (flat_map nodes_of_range v.statics) in
+    let c = list_any p (flat_map nodes_of_iterator v.iters) in
+    let d = list_any p (flat_map nodes_of_walker v.walkers) in
+    (neither a b (neither (a || b) c (neither ((a || b) || c) d (neither (((a || b) || c) || d) (list_any p (observed_nodes w.observing)) parted).0).0).0).0
+
 pub whole-left : (v new : World) (w : model.World) (n : ℕ) → Shows v w → is_in_use w n ≡ false
-    → new.tree ≡ record { forest = without n v.tree.forest; made = v.tree.made } → new.ranges ≡ v.ranges → new.statics ≡ v.statics → new.iters ≡ v.iters → new.walkers ≡ v.walkers → IsWhole new
+    → new.tree ≡ record { forest = without n v.tree.forest; made = v.tree.made } → new.ranges ≡ record v.ranges { covered = uncovered (inclusive_descendants v.tree.forest n) v.ranges.covered } → new.statics ≡ v.statics → new.iters ≡ v.iters → new.walkers ≡ v.walkers → IsWhole new
 whole-left v new w n s free tree ranges statics iters walkers =
     let h = s.whole in
     let k = s.keeps in
@@ -190,5 +207,11 @@ whole-left v new w n s free tree ranges statics iters walkers =
     whole-sound new (discarded n w) keeps (sound-without n w s.sound free)
     (subst HasOneDocument forest (HasOneDocument-without n f h.documents))
     (subst HasOwners forest (HasOwners-discarded n f h.forest.once (unheld v w n k free) h.owners))
-    (rw (tree, ranges) h.covered)
+    (subst (AreCovered new.tree) (sym (ap (λ r. r.covered) ranges))
+    (covered-left v.tree new.tree v.ranges.covered (inclusive_descendants f n) h.forest
+    (λ m.
+    let j = hits-numbers m (tree_at n f) in
+    let t = total-tree_at (one_at m) n f in
+    let z : occurs m new.tree.forest ≡ occurs m rest = ap (occurs m) (sym forest) in
+    omega arith) (sym made) h.covered))
     (rw (forest, sym statics) at left)

@@ -1,5 +1,5 @@
 -- The world of the code once roots have come in under a parent.
-use Rattle.std.proofs.Common.{◌≡◌, ℕ, ◌<◌, List, length, Option, ap, sym, ◌∙◌, subst}
+use Rattle.std.proofs.Common.{◌≡◌, ℕ, ◌<◌, List, length, Option, refl, ap, sym, ◌∙◌, subst, arith}
 use Rattle.std.proofs.lemmas.List.Elements.{All-weaker}
 use Rattle.dom_model.specs.Forests.Forest.{Forest, Grove, HasNode}
 use Rattle.dom_model.specs.Worlds.World.{Content}
@@ -13,6 +13,7 @@ use Rattle.dom_edit.specs.Whole.{AreHeld, IsWhole, Keeps, Follows, unwatched}
 use Rattle.dom_edit.specs.Inserting.{all_placed, with_room, IsOpen}
 pub use Rattle.dom_edit.proofs.Following.{sound-unwatched}
 use Rattle.dom_edit.proofs.Following.{keeps-unwatched, whole-sound}
+use Rattle.dom_edit.proofs.Covering.{covered-kept}
 use Rattle.dom_edit.proofs.PlacedRoots.{placed-world, placed-all}
 
 -- the world with room made, and the roots in
@@ -50,7 +51,8 @@ whole-placed parent child nodes v h ready =
     let there : (m : ℕ) → HasNode v.tree.forest m → HasNode new.tree.forest m = λ m i. HasNode-occurs new.tree.forest m (subst (λ x. 0 < x) (sym (placed.numbers m)) (occurs-HasNode v.tree.forest m i)) in
     whole-sound new (placing parent child nodes (unwatched v)) ((follows-placing parent child nodes v).keeps (unwatched v) (keeps-unwatched v))
     (sound-put_all parent child nodes (unwatched v) (sound-unwatched v h) ready.parent_there ready.placeable ready.before_child)
-    placed.owned.documents placed.owned.owners h.covered
+    placed.owned.documents placed.owned.owners
+    (covered-kept v.tree new.tree v.ranges.covered (λ m. let z = placed.numbers m in omega arith) refl h.covered)
     (All-weaker (AreHeld v.tree.forest) (AreHeld new.tree.forest) (λ r i. record { start = there r.start.node i.start; end = there r.end.node i.end }) v.statics h.statics)
 
 -- room is made, and then the tree changes

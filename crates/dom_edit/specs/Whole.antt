@@ -1,12 +1,13 @@
 -- What the code keeps of a world, and the worlds that it stands for.
 -- DOM Standard, "Nodes", "Live ranges", "Interface NodeIterator", "Interface TreeWalker", "Mutation observers".
-use Rattle.std.specs.Prelude.{◌≡◌, ◌≤◌, [], Option, All, IfSome}
-use Rattle.dom_model.specs.Forests.Forest.{Forest, HasNode, IsForest}
+use Rattle.std.specs.Prelude.{◌≡◌, ℕ, ◌<◌, ◌≤◌, Bool, true, List, [], length, Option, All, IfSome}
+use Rattle.dom_model.specs.Forests.Forest.{Forest, Grove, HasNode, IsForest}
 use Rattle.dom_model.specs.Forests.Documents.{HasOneDocument}
 use Rattle.dom_model.specs.Worlds.World.{Content, Range}
 use Rattle.dom_model.specs.Worlds.World as model
 use Rattle.dom_model.specs.Worlds.Sound.{IsRange, IsIterator, IsWalker, IsSound}
 use Rattle.dom_model.proofs.Worlds.Owners.{HasOwners}
+use Rattle.dom_ranges.specs.Chained.{covers}
 use Rattle.dom_observe.specs.Watchers.{Watches}
 use Rattle.dom_edit.specs.declared.world.World.{World}
 
@@ -15,12 +16,17 @@ pub record AreHeld (f : Forest Content) (r : Range) : Type 0 where
   pub start : HasNode f r.start.node
   pub end : HasNode f r.end.node
 
+-- each held node is covered, and of the numbers that are still to be given out none was forgotten
+pub record AreCovered (g : Grove Content) (covered : List Bool) : Type 0 where
+  pub held : (n : ℕ) → HasNode g.forest n → covers covered n ≡ true
+  pub ahead : (n : ℕ) → g.made ≤ n → n < length covered → covers covered n ≡ true
+
 -- what holds of a world of the code at every time, also where memory was wanting half-way; nothing of queues
 pub record IsWhole (v : World) : Type 0 where
   pub forest : IsForest v.tree
   pub documents : HasOneDocument v.tree.forest
   pub owners : HasOwners v.tree.forest
-  pub covered : v.tree.made ≤ v.ranges.covered
+  pub covered : AreCovered v.tree v.ranges.covered
   pub ranges : All (λ (r : Option Range). IfSome r (IsRange v.tree.forest)) v.ranges.ranges
   pub statics : All (AreHeld v.tree.forest) v.statics
   pub iterators : All (IsIterator v.tree.forest) v.iters

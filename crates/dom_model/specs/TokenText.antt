@@ -4,3 +4,4 @@ pub mod Edits
 pub mod CommandEdits
 pub mod Gaps
 pub mod Between
+pub mod Originals

@@ -1,2 +1,6 @@
 pub mod Boundary
 pub mod Ways
+-- what crates above name of those below
+pub mod dom_links
+pub mod dom_pages
+pub mod dom_tree

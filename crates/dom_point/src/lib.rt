@@ -9,6 +9,8 @@ mod point;
 mod tests;
 
 pub use ancestors::common;
+pub use dom_tree;
+pub use dom_tree::{dom_kinds, dom_links, dom_pages};
 pub use laws::{one_gap_each, points_as_gaps};
 pub use ordering::order;
 pub use point::Point;

@@ -5,10 +5,11 @@ use Rattle.std.proofs.lemmas.Bool.Decides.{nat_tests}
 use Rattle.std.proofs.lemmas.List.{get_or_past}
 use Rattle.dom_model.specs.PlainLists.Lists.{hits, is_number, head_of, after, before_from, before, left_out}
 use Rattle.dom_model.specs.Worlds.World.{Point}
-use Rattle.dom_links.specs.Wiring.{link_unless}
-use Rattle.dom_links.proofs.Neighbours.{is_number-true, head_of-none, after-none, before_from-none, left_out-none, hits-left_out_same, hits-left_out_other, head_of-left_out, after-left_out, before_from-left_out, meets, first_of}
+use Rattle.dom_point.specs.dom_links.Wiring.{link_unless}
+use Rattle.dom_point.specs.dom_links.Neighbours.{is_number-true, head_of-none, after-none, before_from-none, left_out-none, hits-left_out_same, hits-left_out_other, head_of-left_out, after-left_out, before_from-left_out, meets, first_of}
 use Rattle.dom_ranges.specs.declared.chains.End.{End}
-use Rattle.dom_ranges.specs.Chained.{Heads, free_end, end_at, point_at, is_forgotten, head_in, head_at, stands_at, chained_at, IsChained, ForLink, led_on, heads_led, led_back, table_without, heads_without, table_with, heads_with}
+use Rattle.dom_ranges.specs.Chained.{Heads, free_end, end_at, point_at, covers, cover_of, head_in, head_at, stands_at, IsChained, ForLink, led_on, heads_led, led_back, table_without, heads_without, table_with, heads_with}
+use Rattle.dom_ranges.proofs.Covers as Covers
 
 -- a point stands in one node
 pub stands-both : (n m : ℕ) (o : Option Point) → 0 < stands_at n o → 0 < stands_at m o → n ≡ m
@@ -60,71 +61,24 @@ pub has-head : (e : ℕ) (xs : List ℕ) → 0 < hits e xs → head_of xs ≡ No
 has-head e [] h n = omega arith
 has-head e (x ∷ xs) h n = cc
 
--- what a node's chain counts of a point
-pub chained-kept : (heads : Heads) (n : ℕ) (o : Option Point) → is_forgotten heads n ≡ false → chained_at heads n o ≡ stands_at n o
-chained-kept heads n o h = ap (λ (b : Bool). if b then 0 else stands_at n o) h
-
-pub chained-forgotten : (heads : Heads) (n : ℕ) (o : Option Point) → is_forgotten heads n ≡ true → chained_at heads n o ≡ 0
-chained-forgotten heads n o h = ap (λ (b : Bool). if b then 0 else stands_at n o) h
-
-pub chained-none : (heads : Heads) (n : ℕ) → chained_at heads n None ≡ 0
-chained-none heads n = ⊎_elim (chained-forgotten heads n None) (chained-kept heads n None) (cases_Bool (is_forgotten heads n))
-
-pub chained-stands : (heads : Heads) (n : ℕ) (o : Option Point) → 0 < chained_at heads n o → 0 < stands_at n o
-chained-stands heads n o h =
-    ⊎_elim (λ (f : is_forgotten heads n ≡ true). absurd (omega (arith, chained-forgotten heads n o f))) (λ (f : is_forgotten heads n ≡ false). omega (arith, chained-kept heads n o f)) (cases_Bool (is_forgotten heads n))
-
--- a point in a forgotten node is counted in no chain
-pub chained-nowhere : (heads : Heads) (p : Point) → is_forgotten heads p.node ≡ true → (n : ℕ) → chained_at heads n (Some p) ≡ 0
-chained-nowhere heads p f n =
-    ⊎_elim (λ (q : p.node ≡ n). chained-forgotten heads n (Some p) (ap (is_forgotten heads) (sym q) ∙ f))
-    (λ (d : p.node ≡ n → ⊥).
-    let z : stands_at n (Some p) ≡ 0 = (let y : (p.node == n) ≡ false = ne_eqb p.node n d in rw y refl) in
-    ⊎_elim (chained-forgotten heads n (Some p)) (λ (k : is_forgotten heads n ≡ false). chained-kept heads n (Some p) k ∙ z) (cases_Bool (is_forgotten heads n))) (cases_eq p.node n)
-
--- a node beyond the table was not forgotten, and has no head
-pub past-kept : (heads : Heads) (n : ℕ) → length heads ≤ n → is_forgotten heads n ≡ false
-past-kept heads n past = ap (λ (o : Option (Option ℕ)). not (is_some o)) (get_or_past heads n (Some None) past)
-
-pub past-head : (heads : Heads) (n : ℕ) → length heads ≤ n → head_at heads n ≡ None
-past-head heads n past = ap head_in (get_or_past heads n (Some None) past)
-
--- a node whose head is written is kept, and the others are as they were
+-- a node whose head is written has it, and the others are as they were
 pub written-head : (heads : Heads) (n : ℕ) (o : Option ℕ) → n < length heads → head_at (set heads n (Some o)) n ≡ o
-written-head heads n o w = ap head_in (get_or-set_same heads n (Some o) (Some None) w)
+written-head heads n o w = ap head_in (get_or-set_same heads n (Some o) None w)
 
 pub written-other : (heads : Heads) (n m : ℕ) (o : Option (Option ℕ)) → (m ≡ n → ⊥) → head_at (set heads n o) m ≡ head_at heads m
-written-other heads n m o d = ap head_in (get_or-set_other heads n m o (Some None) d)
-
-pub written-kept : (heads : Heads) (n : ℕ) (o : Option ℕ) → n < length heads → is_forgotten heads n ≡ false → (m : ℕ) → is_forgotten (set heads n (Some o)) m ≡ is_forgotten heads m
-written-kept heads n o w k m =
-    ⊎_elim (λ (q : m ≡ n). ap (is_forgotten (set heads n (Some o))) q ∙ ap (λ (x : Option (Option ℕ)). not (is_some x)) (get_or-set_same heads n (Some o) (Some None) w) ∙ sym (ap (is_forgotten heads) q ∙ k))
-    (λ (d : m ≡ n → ⊥). ap (λ (x : Option (Option ℕ)). not (is_some x)) (get_or-set_other heads n m (Some o) (Some None) d)) (cases_eq m n)
-
-pub led-kept : (o : Option ℕ) (n : ℕ) (next : Option ℕ) (heads : Heads) → n < length heads → is_forgotten heads n ≡ false → (m : ℕ) → is_forgotten (heads_led o n next heads) m ≡ is_forgotten heads m
-led-kept None n next heads w k m = written-kept heads n next w k m
-led-kept (Some b) n next heads w k m = refl
-
--- the same count, where the same nodes are forgotten
-pub chained-same : (heads heads' : Heads) (n : ℕ) (o : Option Point) → is_forgotten heads' n ≡ is_forgotten heads n → chained_at heads' n o ≡ chained_at heads n o
-chained-same heads heads' n o h = ap (λ (b : Bool). if b then 0 else stands_at n o) h
+written-other heads n m o d = ap head_in (get_or-set_other heads n m o None d)
 
 module _ (c : ℕ → List ℕ) (t : List End) (heads : Heads) (ok : IsChained c t heads) where
   pub in-stands : (e n : ℕ) → 0 < hits e (c n) → 0 < stands_at n (point_at t e)
-  in-stands e n h = chained-stands heads n (point_at t e) (omega (arith, ok.counted e n))
-
-  pub kept-count : (e n : ℕ) → is_forgotten heads n ≡ false → hits e (c n) ≡ stands_at n (point_at t e)
-  kept-count e n k = ok.counted e n ∙ chained-kept heads n (point_at t e) k
+  in-stands e n h = omega (arith, ok.counted e n)
 
   pub once : (e n : ℕ) → hits e (c n) ≤ 1
-  once e n =
-      ⊎_elim (λ (f : is_forgotten heads n ≡ true). omega (arith, ok.counted e n, chained-forgotten heads n (point_at t e) f))
-      (λ (k : is_forgotten heads n ≡ false). omega (arith, kept-count e n k, stands-once n (point_at t e))) (cases_Bool (is_forgotten heads n))
+  once e n = omega (arith, ok.counted e n, stands-once n (point_at t e))
 
-  pub in-chain : (e : ℕ) (p : Point) → point_at t e ≡ Some p → is_forgotten heads p.node ≡ false → hits e (c p.node) ≡ 1
-  in-chain e p h k =
+  pub in-chain : (e : ℕ) (p : Point) → point_at t e ≡ Some p → hits e (c p.node) ≡ 1
+  in-chain e p h =
       let a : stands_at p.node (point_at t e) ≡ 1 = rw h (stands-itself p) in
-      kept-count e p.node k ∙ a
+      ok.counted e p.node ∙ a
 
   pub one-chain : (e n m : ℕ) → 0 < hits e (c n) → 0 < hits e (c m) → n ≡ m
   one-chain e n m a b = stands-both n m (point_at t e) (in-stands e n a) (in-stands e m b)
@@ -136,17 +90,19 @@ module _ (c : ℕ → List ℕ) (t : List End) (heads : Heads) (ok : IsChained c
       go None q s = let z : 0 < stands_at n None = rw q at s in absurd (omega arith)
       go (Some p) q s = live-within t e p q
 
-  pub covered : (e n : ℕ) → 0 < hits e (c n) → n < length heads
-  covered e n h =
-      ⊎_elim (λ (w : n < length heads). w) (λ (past : length heads ≤ n).
-      let a : head_at heads n ≡ None = past-head heads n past in
-      absurd (has-head e (c n) h (sym (ok.first n) ∙ a))) (cases_lt n (length heads))
+  -- a node in whose chain an end is, and so one in which an end stands, is covered
+  pub covered : (e n : ℕ) → 0 < hits e (c n) → covers (cover_of heads) n ≡ true
+  covered e n h = go (head_at heads n) refl
+    where
+      go : (o : Option ℕ) → head_at heads n ≡ o → covers (cover_of heads) n ≡ true
+      go None q = absurd (has-head e (c n) h (sym (ok.first n) ∙ q))
+      go (Some k) q = Covers.head-covers heads n k q
 
-  -- an end stands in a node of the table, also in one that was forgotten
-  pub point-within : (e : ℕ) (p : Point) → point_at t e ≡ Some p → p.node < length heads
-  point-within e p h =
-      ⊎_elim (λ (w : p.node < length heads). w)
-      (λ (past : length heads ≤ p.node). covered e p.node (omega (arith, in-chain e p h (past-kept heads p.node past)))) (cases_lt p.node (length heads))
+  pub within-heads : (e n : ℕ) → 0 < hits e (c n) → n < length heads
+  within-heads e n h = Covers.head-within heads n (covered e n h)
+
+  pub point-covered : (e : ℕ) (p : Point) → point_at t e ≡ Some p → covers (cover_of heads) p.node ≡ true
+  point-covered e p h = covered e p.node (omega (arith, in-chain e p h))
 
   pub link-within : (o : Option ℕ) (n : ℕ) → ((k : ℕ) → o ≡ Some k → 0 < hits k (c n)) → ForLink o (length t)
   link-within None n h = tt
@@ -193,9 +149,9 @@ led_back-length None prev t = refl
 led_back-length (Some p) prev t = length-set t p (record (end_at t p) { prev = prev })
 
 -- the end that is taken out, and the others
-module _ (c : ℕ → List ℕ) (t : List End) (heads : Heads) (ok : IsChained c t heads) (e : ℕ) (p : Point) (at : point_at t e ≡ Some p) (keeps : is_forgotten heads p.node ≡ false) where
+module _ (c : ℕ → List ℕ) (t : List End) (heads : Heads) (ok : IsChained c t heads) (e : ℕ) (p : Point) (at : point_at t e ≡ Some p) where
   here : 0 < hits e (c p.node)
-  here = omega (arith, in-chain c t heads ok e p at keeps)
+  here = omega (arith, in-chain c t heads ok e p at)
 
   within : e < length t
   within = live-within t e p at
@@ -251,12 +207,12 @@ module _ (c : ℕ → List ℕ) (t : List End) (heads : Heads) (ok : IsChained c
   first-here = go (end_at t e).prev (ok.prev e p.node here) ∙ sym (head_of-left_out e (c p.node) (once c t heads ok e p.node))
     where
       starts : is_number (link_unless (before e (c p.node)) 0) 0 ≡ is_number (head_of (c p.node)) e
-      starts = first_of e 0 (c p.node) (in-chain c t heads ok e p at keeps)
+      starts = first_of e 0 (c p.node) (in-chain c t heads ok e p at)
 
       go : (o : Option ℕ) → o ≡ before e (c p.node) → head_at (heads_led o p.node (end_at t e).next heads) p.node ≡ cond (is_number (head_of (c p.node)) e) (after e (c p.node)) (head_of (c p.node))
       go None q =
           let a : true ≡ is_number (head_of (c p.node)) e = rw (← q) at starts in
-          let w : p.node < length heads = covered c t heads ok e p.node here in
+          let w : p.node < length heads = within-heads c t heads ok e p.node here in
           rw (← a) (written-head heads p.node (end_at t e).next w ∙ ok.next e p.node here)
       go (Some b) q = let a : false ≡ is_number (head_of (c p.node)) e = rw (← q) at starts in rw (← a) (ok.first p.node)
 
@@ -272,13 +228,10 @@ module _ (c : ℕ → List ℕ) (t : List End) (heads : Heads) (ok : IsChained c
           ⊎_elim (λ (z : hits e (c n) ≡ 0). first-there n (apart n z) (end_at t e).prev ∙ ok.first n ∙ sym (ap head_of (left_out-none e (c n) z)))
           (λ (d : hits e (c n) ≡ 0 → ⊥). let q : n ≡ p.node = one-chain c t heads ok e n p.node (omega arith) here in rw q first-here) (cases_eq (hits e (c n)) 0)
 
-      counted : (k n : ℕ) → hits k (left_out e (c n)) ≡ chained_at (heads_without e p.node t heads) n (point_at (table_without e t) k)
+      counted : (k n : ℕ) → hits k (left_out e (c n)) ≡ stands_at n (point_at (table_without e t) k)
       counted k n =
-          ⊎_elim (λ (q : k ≡ e). rw q (hits-left_out_same e (c n) ∙ sym (ap (λ (x : End). chained_at (heads_without e p.node t heads) n x.point) without-itself ∙ chained-none (heads_without e p.node t heads) n)))
-          (λ (d : k ≡ e → ⊥).
-          hits-left_out_other k e (c n) (λ q. d (sym q)) ∙ ok.counted k n
-          ∙ sym (ap (λ (x : End). chained_at (heads_without e p.node t heads) n x.point) (without-end k d)
-          ∙ chained-same heads (heads_without e p.node t heads) n (point_at t k) (led-kept (end_at t e).prev p.node (end_at t e).next heads (covered c t heads ok e p.node here) keeps n))) (cases_eq k e)
+          ⊎_elim (λ (q : k ≡ e). rw q (hits-left_out_same e (c n) ∙ sym (ap (λ (x : End). stands_at n x.point) without-itself)))
+          (λ (d : k ≡ e → ⊥). hits-left_out_other k e (c n) (λ q. d (sym q)) ∙ ok.counted k n ∙ sym (ap (λ (x : End). stands_at n x.point) (without-end k d))) (cases_eq k e)
 
       other : (k n : ℕ) → 0 < hits k (left_out e (c n)) → k ≡ e → ⊥
       other k n h q = let a : 0 < hits e (left_out e (c n)) = rw q at h in omega (arith, hits-left_out_same e (c n))
@@ -309,15 +262,15 @@ module _ (c : ℕ → List ℕ) (t : List End) (heads : Heads) (ok : IsChained c
           rw (ok.prev e n inside, ok.next e n inside, ok.prev k n there, ← m) (sym (before_from-left_out None k e (c n) d (once c t heads ok e n) refl))) (cases_eq (hits e (c n)) 0)
 
 -- a free end is put first in the chain of a node
-module _ (c : ℕ → List ℕ) (t : List End) (heads : Heads) (ok : IsChained c t heads) (e : ℕ) (p : Point) (within : e < length t) (free : point_at t e ≡ None) (room : p.node < length heads) (keeps : is_forgotten heads p.node ≡ false) where
+module _ (c : ℕ → List ℕ) (t : List End) (heads : Heads) (ok : IsChained c t heads) (e : ℕ) (p : Point) (within : e < length t) (free : point_at t e ≡ None) (covers-it : covers (cover_of heads) p.node ≡ true) where
+  room : p.node < length heads
+  room = Covers.head-within heads p.node covers-it
+
   abbrev pub entered_first : ℕ → List ℕ
   entered_first n = if p.node == n then e ∷ c n else c n
 
   absent : (n : ℕ) → hits e (c n) ≡ 0
-  absent n = ok.counted e n ∙ ap (chained_at heads n) free ∙ chained-none heads n
-
-  same-kept : (n : ℕ) (o : Option Point) → chained_at (heads_with e p heads) n o ≡ chained_at heads n o
-  same-kept n o = chained-same heads (heads_with e p heads) n o (written-kept heads p.node (Some e) room keeps n)
+  absent n = ok.counted e n ∙ ap (stands_at n) free
 
   pub with-length : length (table_with e p heads t) ≡ length t
   with-length = length-set (led_back (head_at heads p.node) (Some e) t) e (record { point = Some p; prev = None; next = head_at heads p.node }) ∙ led_back-length (head_at heads p.node) (Some e) t
@@ -350,32 +303,22 @@ module _ (c : ℕ → List ℕ) (t : List End) (heads : Heads) (ok : IsChained c
           ⊎_elim (λ (q : p.node ≡ n). let y : (p.node == n) ≡ true = eq-eqb p.node n q in rw y (rw (← q) (written-head heads p.node (Some e) room)))
           (λ (d : p.node ≡ n → ⊥). let y : (p.node == n) ≡ false = ne_eqb p.node n d in rw y (written-other heads p.node n (Some (Some e)) (λ q. d (sym q)) ∙ ok.first n)) (cases_eq p.node n)
 
-      counted : (k n : ℕ) → hits k (entered_first n) ≡ chained_at (heads_with e p heads) n (point_at (table_with e p heads t) k)
+      counted : (k n : ℕ) → hits k (entered_first n) ≡ stands_at n (point_at (table_with e p heads t) k)
       counted k n = ⊎_elim (λ (q : k ≡ e). itself q) (λ (d : k ≡ e → ⊥). others d) (cases_eq k e)
         where
-          entered : hits e (entered_first n) ≡ chained_at heads n (Some p)
+          entered : hits e (entered_first n) ≡ stands_at n (Some p)
           entered =
               let z = absent n in
-              ⊎_elim (λ (q : p.node ≡ n).
-              let y : (p.node == n) ≡ true = eq-eqb p.node n q in
-              let k' : is_forgotten heads n ≡ false = ap (is_forgotten heads) (sym q) ∙ keeps in
-              let a : stands_at n (Some p) ≡ 1 = rw y refl in
-              let b : hits e (entered_first n) ≡ 1 = rw (y, eq-eqb e e refl) (omega arith) in
-              b ∙ sym (chained-kept heads n (Some p) k' ∙ a))
-              (λ (d : p.node ≡ n → ⊥).
-              let y : (p.node == n) ≡ false = ne_eqb p.node n d in
-              let a : stands_at n (Some p) ≡ 0 = rw y refl in
-              let b : hits e (entered_first n) ≡ 0 = rw y z in
-              b ∙ sym (⊎_elim (chained-forgotten heads n (Some p)) (λ (k' : is_forgotten heads n ≡ false). chained-kept heads n (Some p) k' ∙ a) (cases_Bool (is_forgotten heads n)))) (cases_eq p.node n)
+              ⊎_elim (λ (y : (p.node == n) ≡ true). rw (y, eq-eqb e e refl) (omega arith)) (λ (y : (p.node == n) ≡ false). rw y z) (cases_Bool (p.node == n))
 
-          itself : k ≡ e → hits k (entered_first n) ≡ chained_at (heads_with e p heads) n (point_at (table_with e p heads t) k)
-          itself q = rw q (entered ∙ sym (ap (λ (x : End). chained_at (heads_with e p heads) n x.point) with-itself ∙ same-kept n (Some p)))
+          itself : k ≡ e → hits k (entered_first n) ≡ stands_at n (point_at (table_with e p heads t) k)
+          itself q = rw q (entered ∙ sym (ap (λ (x : End). stands_at n x.point) with-itself))
 
-          others : (k ≡ e → ⊥) → hits k (entered_first n) ≡ chained_at (heads_with e p heads) n (point_at (table_with e p heads t) k)
+          others : (k ≡ e → ⊥) → hits k (entered_first n) ≡ stands_at n (point_at (table_with e p heads t) k)
           others d =
               let f : (e == k) ≡ false = ne_eqb e k (λ q. d (sym q)) in
               let a : hits k (entered_first n) ≡ hits k (c n) = ⊎_elim (λ (y : (p.node == n) ≡ true). rw (y, f) (omega arith)) (λ (y : (p.node == n) ≡ false). rw y refl) (cases_Bool (p.node == n)) in
-              a ∙ ok.counted k n ∙ sym (ap (λ (x : End). chained_at (heads_with e p heads) n x.point) (with-end k d) ∙ same-kept n (point_at t k))
+              a ∙ ok.counted k n ∙ sym (ap (λ (x : End). stands_at n x.point) (with-end k d))
 
       next : (k n : ℕ) → 0 < hits k (entered_first n) → (end_at (table_with e p heads t) k).next ≡ after k (entered_first n)
       next k n h = ⊎_elim (λ (q : k ≡ e). itself q) (λ (d : k ≡ e → ⊥). others d) (cases_eq k e)
@@ -419,30 +362,3 @@ module _ (c : ℕ → List ℕ) (t : List End) (heads : Heads) (ok : IsChained c
               let h' : 0 < hits k (c n) = rw y at h in
               let z : is_number (head_at heads p.node) k ≡ false = not-head k n h' dn in
               rw (y, z) (ok.prev k n h')) (cases_eq p.node n))
-
--- an end that is in no chain is written, and is in none then
-module _ (c : ℕ → List ℕ) (t : List End) (heads : Heads) (ok : IsChained c t heads) (e : ℕ) (x : End) (within : e < length t) (out : (n : ℕ) → hits e (c n) ≡ 0) (nowhere : (n : ℕ) → chained_at heads n x.point ≡ 0) where
-  beside-end : (k : ℕ) → (k ≡ e → ⊥) → end_at (set t e x) k ≡ end_at t k
-  beside-end k d = get_or-set_other t e k x free_end d
-
-  apart-from : (k n : ℕ) → 0 < hits k (c n) → k ≡ e → ⊥
-  apart-from k n h q = let h' : 0 < hits e (c n) = rw q at h in omega (arith, out n)
-
-  pub IsChained-beside : IsChained c (set t e x) heads
-  IsChained-beside = record {
-    first = ok.first;
-    counted = λ k n.
-        ⊎_elim (λ (q : k ≡ e). rw q (out n ∙ sym (ap (λ (y : End). chained_at heads n y.point) (get_or-set_same t e x free_end within) ∙ nowhere n)))
-        (λ (d : k ≡ e → ⊥). ok.counted k n ∙ sym (ap (λ (y : End). chained_at heads n y.point) (beside-end k d))) (cases_eq k e);
-    next = λ k n h. ap (λ (y : End). y.next) (beside-end k (apart-from k n h)) ∙ ok.next k n h;
-    prev = λ k n h. ap (λ (y : End). y.prev) (beside-end k (apart-from k n h)) ∙ ok.prev k n h;
-  }
-
--- chains that are equal node by node
-pub IsChained-alike : (c c' : ℕ → List ℕ) (t : List End) (heads : Heads) → ((n : ℕ) → c' n ≡ c n) → IsChained c t heads → IsChained c' t heads
-IsChained-alike c c' t heads same ok = record {
-  first = λ n. ok.first n ∙ sym (ap head_of (same n));
-  counted = λ e n. ap (hits e) (same n) ∙ ok.counted e n;
-  next = λ e n h. ok.next e n (omega (arith, ap (hits e) (same n))) ∙ sym (ap (after e) (same n));
-  prev = λ e n h. ok.prev e n (omega (arith, ap (hits e) (same n))) ∙ sym (ap (before e) (same n));
-}

@@ -7,7 +7,7 @@ use Rattle.dom_model.specs.PlainLists.Lists.{among}
 use Rattle.dom_model.specs.Worlds.World.{Point}
 use Rattle.dom_model.specs.MutationAlgorithms.Discarding.{nodes_of_live}
 use Rattle.dom_ranges.specs.declared.chains.End.{End}
-use Rattle.dom_ranges.specs.Chained.{Heads, point_at, points_of, is_at, on_node, HasChains, Rechains, moved_first}
+use Rattle.dom_ranges.specs.Chained.{Heads, point_at, points_of, cover_of, HasChains, Rechains, moved_first}
 use Rattle.dom_ranges.specs.Tables.{RangeTable, live_nodes, paired, IsPaired, by_slot, moved_in, nodes_at, stands_among, IsInOrder}
 use Rattle.dom_ranges.proofs.Steps.{points-at, points-length, same-length, point-written, point-kept, has-after}
 use Rattle.dom_ranges.proofs.Slots.{slots-any}
@@ -24,7 +24,7 @@ nodes-paired (Some p ∷ None ∷ rest) k = absurd (false≢true (sym k.0))
 nodes-paired (Some p ∷ Some q ∷ rest) k = ap (λ ns. p.node ∷ q.node ∷ ns) (nodes-paired rest k.1)
 
 pub referred : (t : List End) (heads : Heads) (slots : List (Option ℕ)) (vacant : List ℕ) (live many room : ℕ) → IsInOrder t heads slots vacant live many room → (v : RangeTable)
-    → record { ranges = by_slot (paired (points_of t)) slots; covered = length heads } ≡ v → (p : ℕ → Bool) → list_any p (nodes_at (points_of t)) ≡ list_any p (live_nodes v)
+    → record { ranges = by_slot (paired (points_of t)) slots; covered = cover_of heads } ≡ v → (p : ℕ → Bool) → list_any p (nodes_at (points_of t)) ≡ list_any p (live_nodes v)
 referred t heads slots vacant live many room k v view p =
     ap (list_any p) (nodes-paired (points_of t) k.ends.pairs)
     ∙ sym (slots-any p (paired (points_of t)) slots k.numbered)
@@ -32,24 +32,9 @@ referred t heads slots vacant live many room k v view p =
 
 -- whether an end stands in a node, told of the ranges by number
 pub stands-told : (t : List End) (heads : Heads) (slots : List (Option ℕ)) (vacant : List ℕ) (live many room : ℕ) → IsInOrder t heads slots vacant live many room → (v : RangeTable)
-    → record { ranges = by_slot (paired (points_of t)) slots; covered = length heads } ≡ v → (node : ℕ) → among node (nodes_at (points_of t)) ≡ among node (live_nodes v)
+    → record { ranges = by_slot (paired (points_of t)) slots; covered = cover_of heads } ≡ v → (node : ℕ) → among node (nodes_at (points_of t)) ≡ among node (live_nodes v)
 stands-told t heads slots vacant live many room k v view node =
     among-any node (nodes_at (points_of t)) ∙ referred t heads slots vacant live many room k v view (λ m. m == node) ∙ sym (among-any node (live_nodes v))
-
--- an end that stands in a node is shifted, another stays
-pub shifted-at : (node : ℕ) (move : Point → Point) (p q : Point) (o : Option Point) → o ≡ Some p → is_at node o ≡ true → q ≡ move p → Some q ≡ option_map (on_node node move) o
-shifted-at node move p q o is h m = rw is (let y : (p.node == node) ≡ true = rw is at h in rw y (ap Some m))
-
-pub stays-apart : (node : ℕ) (move : Point → Point) (o : Option Point) → is_at node o ≡ false → o ≡ option_map (on_node node move) o
-stays-apart node move None h = refl
-stays-apart node move (Some p) h = rw h refl
-
-pub is_at-node : (node : ℕ) (p : Point) (o : Option Point) → o ≡ Some p → is_at node o ≡ true → p.node ≡ node
-is_at-node node p o is h = let y : (p.node == node) ≡ true = rw is at h in eqb-true p.node node y
-
-pub is_at-some : (node : ℕ) (o : Option Point) → is_at node o ≡ true → IsSome o
-is_at-some node None h = absurd (false≢true h)
-is_at-some node (Some p) h = refl
 
 -- an end that stands inside is moved, another stays
 pub moved-inside : (inside : List ℕ) (to : Point) (o : Option Point) → stands_among inside o ≡ true → Some to ≡ option_map (moved_in inside to) o
@@ -64,7 +49,7 @@ stays-outside inside to (Some p) h = rw h refl
 pub record AreAsked (move : Point → Point) (t0 : List End) (heads0 : Heads) (t : List End) (heads : Heads) (index : ℕ) : Type 0 where
   pub chains : HasChains t heads
   pub long : length t ≡ length t0
-  pub wide : length heads ≡ length heads0
+  pub wide : cover_of heads ≡ cover_of heads0
   pub asked : (e : ℕ) → e < index → point_at t e ≡ option_map move (point_at t0 e)
   pub waits : (e : ℕ) → index ≤ e → point_at t e ≡ point_at t0 e
 
@@ -82,10 +67,10 @@ module _ (move : Point → Point) (t0 : List End) (heads0 : Heads) (t : List End
   }
 
   -- the next end is moved
-  pub asked-moves : (id : ℕ) (f : Bool) (t' : List End) (heads' : Heads) (q : Point) → id ≡ index → index < length t → Some q ≡ option_map move (point_at t index) → points_of t' ≡ set (points_of t) id (Some q)
-      → Rechains (moved_first f id q.node) t heads t' heads' → length heads' ≡ length heads → AreAsked move t0 heads0 t' heads' (index + 1)
-  asked-moves id f t' heads' q same within h written rechained wide = record {
-    chains = has-after (moved_first f id q.node) t heads t' heads' are.chains rechained;
+  pub asked-moves : (id : ℕ) (t' : List End) (heads' : Heads) (q : Point) → id ≡ index → index < length t → Some q ≡ option_map move (point_at t index) → points_of t' ≡ set (points_of t) id (Some q)
+      → Rechains (moved_first id q.node) t heads t' heads' → cover_of heads' ≡ cover_of heads → AreAsked move t0 heads0 t' heads' (index + 1)
+  asked-moves id t' heads' q same within h written rechained wide = record {
+    chains = has-after (moved_first id q.node) t heads t' heads' are.chains rechained;
     long = same-length t t' id (Some q) written ∙ are.long;
     wide = wide ∙ are.wide;
     asked = λ e l.

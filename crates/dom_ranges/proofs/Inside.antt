@@ -1,5 +1,5 @@
 -- Walks through the nodes inside a node, and what stands there.
-use Rattle.std.proofs.Common.{◌≡◌, ℕ, ◌+◌, ◌-◌, ◌^◌, ◌≤◌, ◌<◌, ◌==◌, nat_lt, nat_le, ◌&&◌, true, false, Bool, if◌then◌else◌, List, [], ◌∷◌, length, Option, Some, None, is_some, IfSome, refl, sym, ap, subst, ◌∙◌, ⊎_elim, arith}
+use Rattle.std.proofs.Common.{◌≡◌, ℕ, ◌+◌, ◌-◌, ◌^◌, ◌≤◌, ◌<◌, ◌==◌, nat_lt, nat_le, ◌&&◌, true, false, Bool, if◌then◌else◌, List, [], ◌∷◌, length, set, Option, Some, None, is_some, IfSome, refl, sym, ap, subst, ◌∙◌, ⊎_elim, arith}
 use Rattle.std.specs.List.{list_any, flat_map}
 use Rattle.std.proofs.lemmas.Bool.{cases_Bool, cases_eq, false≢true, eq-eqb, ne_eqb}
 use Rattle.std.proofs.lemmas.Bool.Decides.{nat_tests}
@@ -18,7 +18,7 @@ use Rattle.dom_model.proofs.Forests.TreeOrder.Ordering.{Single, single, tree_at-
 use Rattle.dom_model.proofs.Forests.ToTheRoot.{inside, inside-among}
 use Rattle.dom_model.proofs.Forests.TreeOrder.Stepping.{after-inside}
 use Rattle.dom_model.proofs.Forests.Climbing.{hits-among}
-use Rattle.dom_ranges.specs.Chained.{on_node}
+use Rattle.dom_ranges.specs.Chained.{uncovered, on_node}
 use Rattle.dom_ranges.specs.Tables.{RangeTable, live_nodes, moved_in}
 use Rattle.dom_ranges.proofs.Walking.{hits-first, hits-rest, among-first, among-rest, among-absent, among-there, absent-among}
 use Rattle.dom_ranges.proofs.Moving.{splice-node}
@@ -158,6 +158,35 @@ module _ {X : Type 0} (g : Grove X) (s : IsForest g) (top : ℕ) where
   pub found-inside : (live : List ℕ) (here : ℕ) → IsAt g.forest top here → among here live ≡ true → true ≡ list_any (λ m. among m (inclusive_descendants g.forest top)) live
   found-inside live here a h =
       sym (list_any-true (λ m. among m (inclusive_descendants g.forest top)) live here (among-there here live h) (hits-among here (inclusive_descendants g.forest top) (here-inside here a)))
+
+  -- how far the nodes have been forgotten
+  pub record IsForgetting (start v : RangeTable) (here : ℕ) : Type 0 where
+    pub at : IsAt g.forest top here
+    pub ranges : v.ranges ≡ start.ranges
+    pub covered : uncovered (from_first here (inclusive_descendants g.forest top)) v.covered ≡ uncovered (inclusive_descendants g.forest top) start.covered
+
+  pub forgetting-top : (v : RangeTable) → HasNode g.forest top → IsForgetting v v top
+  forgetting-top v h = record { at = at-top h; ranges = refl; covered = ap (λ ns. uncovered ns v.covered) (from-top h) }
+
+  pub forgetting-empty : (start v : RangeTable) (here : ℕ) → IsForgetting start v here → list_any (λ m. among m (inclusive_descendants g.forest top)) (live_nodes start) ≡ false → among here (live_nodes v) ≡ false
+  forgetting-empty start v here c n =
+      let same : live_nodes v ≡ live_nodes start = ap (flat_map nodes_of_live) c.ranges in
+      ⊎_elim (λ (a : among here (live_nodes v) ≡ true). absurd (false≢true (sym n ∙ sym (found-inside (live_nodes start) here c.at (ap (among here) (sym same) ∙ a)))))
+      (λ (a : among here (live_nodes v) ≡ false). a) (cases_Bool (among here (live_nodes v)))
+
+  pub forgetting-next : (start v w : RangeTable) (here m : ℕ) → IsForgetting start v here → after here (inclusive_descendants g.forest top) ≡ Some m → w ≡ record v { covered = set v.covered here false } → IsForgetting start w m
+  forgetting-next start v w here m c e h = record {
+    at = at-next here m e;
+    ranges = ap (λ (x : RangeTable). x.ranges) h ∙ c.ranges;
+    covered =
+        ap (λ (x : RangeTable). uncovered (from_first m (inclusive_descendants g.forest top)) x.covered) h ∙ ap (λ ns. uncovered ns v.covered) (sym (rest-next here m e)) ∙ c.covered;
+  }
+
+  pub forgetting-end : (start v w : RangeTable) (here : ℕ) → IsForgetting start v here → after here (inclusive_descendants g.forest top) ≡ None → w ≡ record v { covered = set v.covered here false }
+      → w ≡ record start { covered = uncovered (inclusive_descendants g.forest top) start.covered }
+  forgetting-end start v w here c e h =
+      let a : set v.covered here false ≡ uncovered (inclusive_descendants g.forest top) start.covered = ap (λ ns. uncovered ns v.covered) (sym (rest-end here c.at e)) ∙ c.covered in
+      h ∙ ap (λ rs. record { ranges = rs; covered = set v.covered here false }) c.ranges ∙ ap (λ cs. record { ranges = start.ranges; covered = cs }) a
 
   -- the points that were passed go to one point, the rest stay
   abbrev pub moved_out : List ℕ → Point → Point → Point

@@ -1,10 +1,12 @@
 pub mod Chained
+pub mod Covers
 pub mod Ends
 pub mod EndsAsked
 pub mod Inside
 pub mod Making
 pub mod Marking
 pub mod MarkingJoined
+pub mod MarkingSet
 pub mod Moving
 pub mod Pairs
 pub mod Slots

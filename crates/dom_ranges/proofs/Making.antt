@@ -1,12 +1,12 @@
 -- What the calls that make, release and move ranges leave in order.
-use Rattle.std.proofs.Common.{◌≡◌, ℕ, suc, ◌+◌, ◌≤◌, ◌<◌, ◌^◌, ◌/◌, ◌==◌, true, false, List, [], ◌∷◌, ◌++◌, length, get_or, set, Option, Some, None, IsSome, refl, sym, ap, subst, ◌∙◌, ⊎_elim, arith}
+use Rattle.std.proofs.Common.{◌≡◌, ℕ, suc, ◌+◌, ◌≤◌, ◌<◌, ◌^◌, ◌/◌, ◌==◌, true, false, List, [], ◌∷◌, ◌++◌, length, get_or, set, Option, Some, None, IsSome, refl, sym, ap, subst, ◌∙◌, ⊎_elim, arith, length-append, length-set}
 use Rattle.std.specs.List.{flat_map, list_any}
 use Rattle.std.proofs.lemmas.Bool.{cases_Bool, eqb-true}
 use Rattle.dom_model.specs.PlainLists.Lists.{among}
 use Rattle.dom_model.specs.Worlds.World.{Point, Range}
 use Rattle.dom_model.specs.MutationAlgorithms.Discarding.{nodes_of_live}
 use Rattle.dom_ranges.specs.declared.chains.End.{End}
-use Rattle.dom_ranges.specs.Chained.{Heads, point_at, points_of, HasChains}
+use Rattle.dom_ranges.specs.Chained.{Heads, cover_of, point_at, points_of, HasChains}
 use Rattle.dom_ranges.specs.Tables.{RangeTable, live_nodes, both, paired, IsPaired, live_count, by_slot, slot_at, IsKept, AreVacant, HaveSlots, IsFilled, IsInOrder, Settles}
 use Rattle.dom_ranges.proofs.Steps.{points-length, same-length, point-kept}
 use Rattle.dom_ranges.proofs.Slots.{slots-none, vacant-none, slots-added, ranges-added, slots-written, vacant-written, ranges-written, slots-released, vacant-released, ranges-released, last-there, last-empty, last-settled, idle-slots}
@@ -20,7 +20,7 @@ module _ (t : List End) (heads : Heads) (live : ℕ) (k : IsKept t heads live) w
   half = omega (arith, paired-length (points_of t) k.pairs, points-length t)
 
   -- a range made of two new ends
-  pub IsKept-added : (t' : List End) (heads' : Heads) (s e : Point) → points_of t' ≡ points_of t ++ Some s ∷ Some e ∷ [] → HasChains t' heads' → length t' ≤ 2 ^ 32 → IsKept t' heads' (live + 1)
+  pub IsKept-added : (t' : List End) (heads' : Heads) (s e : Point) → points_of t' ≡ points_of t ++ Some s ∷ Some e ∷ [] → HasChains t' heads' → length t' ≤ 2 ^ 33 → IsKept t' heads' (live + 1)
   IsKept-added t' heads' s e added chains small = record {
     chains = chains;
     pairs = subst IsPaired (sym added) (IsPaired-append (points_of t) (Some s) (Some e) refl k.pairs);
@@ -67,14 +67,14 @@ module _ (t : List End) (heads : Heads) (live : ℕ) (k : IsKept t heads live) w
 
 pub IsInOrder-empty : (t : List End) (heads : Heads) (slots : List (Option ℕ)) (vacant : List ℕ) (many room : ℕ) → t ≡ [] → heads ≡ [] → slots ≡ [] → vacant ≡ [] → many ≡ 0 → IsInOrder t heads slots vacant 0 many room
 IsInOrder-empty t heads slots vacant many room a b c d e =
-    rw a (record { ends = IsKept-empty [] heads refl b; numbered = slots-none slots c; empty = vacant-none vacant d; filled = record { filled = omega arith; listed = omega arith } })
+    rw a (record { ends = IsKept-empty [] heads refl b; numbered = slots-none slots c; empty = vacant-none vacant d; filled = record { filled = omega arith; listed = omega arith }; few = omega arith })
 
 pub among-any : (n : ℕ) (xs : List ℕ) → among n xs ≡ list_any (λ m. m == n) xs
 among-any n [] = refl
 among-any n (x ∷ xs) = ⊎_elim (λ (a : (x == n) ≡ true). rw a refl) (λ (a : (x == n) ≡ false). rw a (among-any n xs)) (cases_Bool (x == n))
 
 -- the calls at numbers of ends that were computed
-module _ (t : List End) (heads : Heads) (slots : List (Option ℕ)) (vacant : List ℕ) (live many room : ℕ) (k : IsInOrder t heads slots vacant live many room) (v : RangeTable) (view : record { ranges = by_slot (paired (points_of t)) slots; covered = length heads } ≡ v)
+module _ (t : List End) (heads : Heads) (slots : List (Option ℕ)) (vacant : List ℕ) (live many room : ℕ) (k : IsInOrder t heads slots vacant live many room) (v : RangeTable) (view : record { ranges = by_slot (paired (points_of t)) slots; covered = cover_of heads } ≡ v)
     (r s i j : ℕ) (slot : slot_at slots r ≡ Some s) (first : i ≡ s + s) (second : j ≡ s + s + 1) (t1 t2 : List End) (heads2 : Heads) (chains : HasChains t2 heads2) where
   held : IsSome (both (point_at t (s + s)) (point_at t (s + s + 1)))
   held = both-held t heads slots vacant live many room k v view r s slot
@@ -94,15 +94,16 @@ module _ (t : List End) (heads : Heads) (slots : List (Option ℕ)) (vacant : Li
         numbered = subst (λ ps. HaveSlots ps slots) (sym x) (slots-written (paired (points_of t)) slots k.numbered r s slot (record { start = p; end = q }));
         empty = subst (λ ps. AreVacant ps vacant) (sym x) (vacant-written (paired (points_of t)) slots k.numbered r s slot (record { start = p; end = q }) vacant k.empty);
         filled = subst (λ m. IsFilled m live many room) (sym n) k.filled;
+        few = omega (arith, n, k.few);
       }
 
-  pub view-written : length heads2 ≡ length heads → (p q : Point) → points_of t1 ≡ set (points_of t) i (Some p) → points_of t2 ≡ set (points_of t1) j (Some q)
-      → record { ranges = by_slot (paired (points_of t2)) slots; covered = length heads2 } ≡ record v { ranges = set v.ranges r (Some (record { start = p; end = q })) }
+  pub view-written : cover_of heads2 ≡ cover_of heads → (p q : Point) → points_of t1 ≡ set (points_of t) i (Some p) → points_of t2 ≡ set (points_of t1) j (Some q)
+      → record { ranges = by_slot (paired (points_of t2)) slots; covered = cover_of heads2 } ≡ record v { ranges = set v.ranges r (Some (record { start = p; end = q })) }
   view-written w p q a b =
       let x : by_slot (paired (points_of t2)) slots ≡ set (by_slot (paired (points_of t)) slots) r (Some (record { start = p; end = q })) =
       ap (λ ps. by_slot ps slots) (written-ranges t t1 t2 s (Some p) (Some q) (at-first (Some p) a) (at-second (Some q) b)) ∙ ranges-written (paired (points_of t)) slots k.numbered r s slot (Some (record { start = p; end = q })) in
       let y : v.ranges ≡ by_slot (paired (points_of t)) slots = ranges-are t heads slots vacant live many room k v view in
-      let z : v.covered ≡ length heads = covered-is t heads slots vacant live many room k v view in
+      let z : v.covered ≡ cover_of heads = covered-is t heads slots vacant live many room k v view in
       rw (x, w, y, z) refl
 
   pub fewer : points_of t1 ≡ set (points_of t) i None → points_of t2 ≡ set (points_of t1) j None → suc (live_count (paired (points_of t2))) ≡ live
@@ -117,15 +118,16 @@ module _ (t : List End) (heads : Heads) (slots : List (Option ℕ)) (vacant : Li
         numbered = rw (e, x) (slots-released (paired (points_of t)) slots k.numbered r s slot);
         empty = rw (f, x) (vacant-released (paired (points_of t)) slots k.numbered r s slot vacant k.empty);
         filled = record { filled = omega (arith, k.filled.filled, same-length t1 t2 j None b, same-length t t1 i None a); listed = omega (arith, k.filled.listed) };
+        few = omega (arith, k.few, same-length t1 t2 j None b, same-length t t1 i None a, ap length e, length-set slots r None);
       }
 
-  pub view-released : length heads2 ≡ length heads → points_of t1 ≡ set (points_of t) i None → points_of t2 ≡ set (points_of t1) j None → (slots' : List (Option ℕ)) → slots' ≡ set slots r None
-      → record { ranges = by_slot (paired (points_of t2)) slots'; covered = length heads2 } ≡ record v { ranges = set v.ranges r None }
+  pub view-released : cover_of heads2 ≡ cover_of heads → points_of t1 ≡ set (points_of t) i None → points_of t2 ≡ set (points_of t1) j None → (slots' : List (Option ℕ)) → slots' ≡ set slots r None
+      → record { ranges = by_slot (paired (points_of t2)) slots'; covered = cover_of heads2 } ≡ record v { ranges = set v.ranges r None }
   view-released w a b slots' e =
       let x : by_slot (paired (points_of t2)) slots' ≡ set (by_slot (paired (points_of t)) slots) r None =
       ap (λ ps. by_slot ps slots') (written-ranges t t1 t2 s None None (at-first None a) (at-second None b)) ∙ ap (by_slot (set (paired (points_of t)) s None)) e ∙ ranges-released (paired (points_of t)) slots k.numbered r s slot in
       let y : v.ranges ≡ by_slot (paired (points_of t)) slots = ranges-are t heads slots vacant live many room k v view in
-      let z : v.covered ≡ length heads = covered-is t heads slots vacant live many room k v view in
+      let z : v.covered ≡ cover_of heads = covered-is t heads slots vacant live many room k v view in
       rw (x, w, y, z) refl
 
 -- two ends put into a vacant slot
@@ -138,9 +140,6 @@ module _ (t : List End) (heads : Heads) (live : ℕ) (k : IsKept t heads live) (
 
   pub vacant-within : s + s + 1 < length t
   vacant-within = omega (arith, within, paired-length (points_of t) k.pairs, points-length t)
-
-  pub vacant-small : s + s + 1 < 2 ^ 32
-  vacant-small = omega (arith, vacant-within, k.small)
 
   module _ (i j : ℕ) (first : i ≡ s + s) (second : j ≡ s + s + 1) where
     pub first-empty : point_at t i ≡ None
@@ -175,22 +174,23 @@ module _ (t : List End) (heads : Heads) (live : ℕ) (k : IsKept t heads live) (
         }
 
 -- a range made in a slot
-module _ (t : List End) (heads : Heads) (slots : List (Option ℕ)) (vacant : List ℕ) (live many room : ℕ) (k : IsInOrder t heads slots vacant live many room) (v : RangeTable) (view : record { ranges = by_slot (paired (points_of t)) slots; covered = length heads } ≡ v)
+module _ (t : List End) (heads : Heads) (slots : List (Option ℕ)) (vacant : List ℕ) (live many room : ℕ) (k : IsInOrder t heads slots vacant live many room) (v : RangeTable) (view : record { ranges = by_slot (paired (points_of t)) slots; covered = cover_of heads } ≡ v)
     (s : ℕ) (x : Range) (t' : List End) (heads' : Heads) (vacant' : List ℕ) (settles : Settles s x (paired (points_of t)) (paired (points_of t')) vacant') (slots' : List (Option ℕ)) (added : slots' ≡ slots ++ Some s ∷ []) where
-  pub made-order : (live' many' room' : ℕ) → IsKept t' heads' live' → IsFilled (length t') live' many' room' → IsInOrder t' heads' slots' vacant' live' many' room'
-  made-order live' many' room' kept filled = record {
+  pub made-order : (live' many' room' : ℕ) → IsKept t' heads' live' → IsFilled (length t') live' many' room' → length t' ≤ length t + 2 → IsInOrder t' heads' slots' vacant' live' many' room'
+  made-order live' many' room' kept filled more = record {
     ends = kept;
     numbered = rw added (slots-added s x (paired (points_of t)) (paired (points_of t')) slots vacant' k.numbered settles);
     empty = settles.left;
     filled = filled;
+    few = omega (arith, more, k.few, ap length added, length-append slots (Some s ∷ []));
   }
 
-  pub made-view : length heads' ≡ length heads → record { ranges = by_slot (paired (points_of t')) slots'; covered = length heads' } ≡ record v { ranges = v.ranges ++ Some x ∷ [] }
+  pub made-view : cover_of heads' ≡ cover_of heads → record { ranges = by_slot (paired (points_of t')) slots'; covered = cover_of heads' } ≡ record v { ranges = v.ranges ++ Some x ∷ [] }
   made-view w =
       let e : by_slot (paired (points_of t')) slots' ≡ by_slot (paired (points_of t)) slots ++ Some x ∷ [] =
       ap (by_slot (paired (points_of t'))) added ∙ ranges-added s x (paired (points_of t)) (paired (points_of t')) slots vacant' k.numbered settles in
       let y : v.ranges ≡ by_slot (paired (points_of t)) slots = ranges-are t heads slots vacant live many room k v view in
-      let z : v.covered ≡ length heads = covered-is t heads slots vacant live many room k v view in
+      let z : v.covered ≡ cover_of heads = covered-is t heads slots vacant live many room k v view in
       rw (e, w, y, z) refl
 
 -- where the points stay
@@ -201,9 +201,10 @@ order-kept t heads slots vacant live many room k t' heads' same chains = record 
   numbered = subst (λ ps. HaveSlots (paired ps) slots) (sym same) k.numbered;
   empty = subst (λ ps. AreVacant (paired ps) vacant) (sym same) k.empty;
   filled = subst (λ n. IsFilled n live many room) (sym (points-length t) ∙ ap length (sym same) ∙ points-length t') k.filled;
+  few = omega (arith, k.few, points-length t, points-length t', ap length same);
 }
 
 pub idle-nodes : (t : List End) (heads : Heads) (slots : List (Option ℕ)) (vacant : List ℕ) (live many room : ℕ) → IsInOrder t heads slots vacant live many room → (v : RangeTable)
-    → record { ranges = by_slot (paired (points_of t)) slots; covered = length heads } ≡ v → (live == 0) ≡ true → live_nodes v ≡ []
+    → record { ranges = by_slot (paired (points_of t)) slots; covered = cover_of heads } ≡ v → (live == 0) ≡ true → live_nodes v ≡ []
 idle-nodes t heads slots vacant live many room k v view h =
     ap (flat_map nodes_of_live) (ranges-are t heads slots vacant live many room k v view) ∙ idle-slots (paired (points_of t)) slots (sym k.ends.alive ∙ eqb-true live 0 h)

@@ -1,14 +1,14 @@
 -- What a shift of the ends is to the ranges.
-use Rattle.std.proofs.Common.{◌≡◌, ℕ, zero, suc, ◌+◌, ◌-◌, ◌≤◌, ◌<◌, ◌^◌, ◌==◌, nat_lt, nat_le, ◌&&◌, true, false, List, [], ◌∷◌, length, map, get_or, Option, Some, None, is_some, option_map, refl, sym, ap, subst, ◌∙◌, ⊎_elim, arith, IfSome}
+use Rattle.std.proofs.Common.{◌≡◌, ℕ, zero, suc, ◌+◌, ◌-◌, ◌≤◌, ◌<◌, ◌^◌, ◌==◌, nat_lt, nat_le, ◌&&◌, Bool, true, false, List, [], ◌∷◌, length, map, get_or, Option, Some, None, is_some, option_map, refl, sym, ap, subst, ◌∙◌, ⊎_elim, arith, IfSome}
 use Rattle.std.proofs.lemmas.Bool.{cases_Bool, cases_eq, cases_lt, false≢true, eq-eqb, ne_eqb}
 use Rattle.std.proofs.lemmas.Bool.Decides.{nat_tests}
 use Rattle.std.proofs.lemmas.List.{length-map, get_or_past}
 use Rattle.dom_model.specs.Worlds.World.{Point, Range}
 use Rattle.dom_model.specs.BoundaryPoints.Points.{after_gap, after_splice, after_split, after_merge, moved_range, map_ranges}
 use Rattle.dom_ranges.specs.declared.chains.End.{End}
-use Rattle.dom_ranges.specs.Chained.{Heads, point_at, points_of, HasChains, on_node, MovesWithin, GoesElsewhere, StaysBeside}
+use Rattle.dom_ranges.specs.Chained.{Heads, covers, cover_of, point_at, points_of, HasChains, on_node, MovesWithin, GoesElsewhere, StaysBeside}
 use Rattle.dom_ranges.specs.Tables.{RangeTable, FitsMoved, OffsetsFit, paired, IsPaired, live_count, in_slot, by_slot, slot_at, IsKept, AreVacant, HaveSlots, IsFilled, IsInOrder}
-use Rattle.dom_ranges.proofs.Chained.{point-within}
+use Rattle.dom_ranges.proofs.Chained as Chained
 use Rattle.dom_ranges.proofs.Steps.{points-at, points-length}
 use Rattle.dom_ranges.proofs.Slots.{by_slot-at, by_slot-map, slots-same, vacant-same, map-some}
 use Rattle.dom_ranges.proofs.Pairs.{paired-map, IsPaired-map, live-map, ranges-are, covered-is}
@@ -47,14 +47,14 @@ once-shifted a b g stays q p =
     ⊎_elim (λ (h : p.node ≡ a). on-there a g p h) (λ (n : p.node ≡ a → ⊥). on-elsewhere a g p n ∙ sym (stays p n (λ m. n (m ∙ sym q)))) (cases_eq p.node a)
 
 -- what the second walk asks holds after the first
-pub second-within : (a b : ℕ) (g : Point → Point) (t t1 : List End) (n m : ℕ) → GoesElsewhere a b g → (a ≡ b → ⊥) → points_of t1 ≡ map (λ (o : Option Point). option_map (on_node a g) o) (points_of t) → m ≡ n → MovesWithin b g t n → MovesWithin b g t1 m
+pub second-within : (a b : ℕ) (g : Point → Point) (t t1 : List End) (n m : List Bool) → GoesElsewhere a b g → (a ≡ b → ⊥) → points_of t1 ≡ map (λ (o : Option Point). option_map (on_node a g) o) (points_of t) → m ≡ n → MovesWithin b g t n → MovesWithin b g t1 m
 second-within a b g t t1 n m away d h w within e p at there =
     go (point_at t e) refl
   where
     told : point_at t1 e ≡ option_map (on_node a g) (point_at t e)
     told = sym (points-at t1 e) ∙ ap (λ ps. get_or ps e None) h ∙ map-at (on_node a g) (points_of t) e ∙ ap (option_map (on_node a g)) (points-at t e)
 
-    go : (o : Option Point) → point_at t e ≡ o → (p.offset < 2 ^ 64 → (g p).offset < 2 ^ 64) × ((g p).node < m)
+    go : (o : Option Point) → point_at t e ≡ o → (p.offset < 2 ^ 64 → (g p).offset < 2 ^ 64) × (covers m (g p).node ≡ true)
     go None q = let z : None ≡ Some p = sym (told ∙ ap (option_map (on_node a g)) q) ∙ at in cc
     go (Some x) q =
         let z : Some (on_node a g x) ≡ Some p = sym (told ∙ ap (option_map (on_node a g)) q) ∙ at in
@@ -63,7 +63,7 @@ second-within a b g t t1 n m away d h w within e p at there =
         (λ (k : x.node ≡ a → ⊥).
         let same : x ≡ p = sym (on-elsewhere a g x k) ∙ y in
         let r = within e p (q ∙ ap Some same) there in
-        (r.0, omega (arith, r.1, w))) (cases_eq x.node a)
+        (r.0, ap (λ cs. covers cs (g p).node) w ∙ r.1)) (cases_eq x.node a)
 
 -- a shift of all ends
 module _ (t : List End) (heads : Heads) (live : ℕ) (k : IsKept t heads live) (g : Point → Point) (t' : List End) (heads' : Heads) (moved : points_of t' ≡ map (λ (o : Option Point). option_map g o) (points_of t)) (chains : HasChains t' heads') where
@@ -92,14 +92,17 @@ module _ (t : List End) (heads : Heads) (slots : List (Option ℕ)) (vacant : Li
     filled =
         let n : length t' ≡ length t = sym (points-length t') ∙ ap length moved ∙ length-map (points_of t) (λ (o : Option Point). option_map g o) ∙ points-length t in
         subst (λ m. IsFilled m live many room) (sym n) k.filled;
+    few =
+        let n : length t' ≡ length t = sym (points-length t') ∙ ap length moved ∙ length-map (points_of t) (λ (o : Option Point). option_map g o) ∙ points-length t in
+        omega (arith, n, k.few);
   }
 
-  pub view-shifted : (v : RangeTable) → record { ranges = by_slot (paired (points_of t)) slots; covered = length heads } ≡ v → length heads' ≡ length heads
-      → record { ranges = by_slot (paired (points_of t')) slots; covered = length heads' } ≡ record v { ranges = map_ranges g v.ranges }
+  pub view-shifted : (v : RangeTable) → record { ranges = by_slot (paired (points_of t)) slots; covered = cover_of heads } ≡ v → cover_of heads' ≡ cover_of heads
+      → record { ranges = by_slot (paired (points_of t')) slots; covered = cover_of heads' } ≡ record v { ranges = map_ranges g v.ranges }
   view-shifted v view w =
       let x : by_slot (paired (points_of t')) slots ≡ map_ranges g (by_slot (paired (points_of t)) slots) = ap (λ ps. by_slot ps slots) pairs-moved ∙ by_slot-map g (paired (points_of t)) slots in
       let y : v.ranges ≡ by_slot (paired (points_of t)) slots = ranges-are t heads slots vacant live many room k v view in
-      let z : v.covered ≡ length heads = covered-is t heads slots vacant live many room k v view in
+      let z : v.covered ≡ cover_of heads = covered-is t heads slots vacant live many room k v view in
       rw (x, w, y, z) refl
 
 -- offsets that fit, of the points
@@ -122,7 +125,7 @@ fits-one g rs fit r range h =
     subst (λ (o : Option Range). IfSome o (FitsMoved g)) h a)
     (λ (past : length rs ≤ r). let z : None ≡ Some range = sym (get_or_past rs r None past) ∙ h in cc) (cases_lt r (length rs))
 
-module _ (t : List End) (heads : Heads) (slots : List (Option ℕ)) (vacant : List ℕ) (live many room : ℕ) (k : IsInOrder t heads slots vacant live many room) (v : RangeTable) (view : record { ranges = by_slot (paired (points_of t)) slots; covered = length heads } ≡ v) where
+module _ (t : List End) (heads : Heads) (slots : List (Option ℕ)) (vacant : List ℕ) (live many room : ℕ) (k : IsInOrder t heads slots vacant live many room) (v : RangeTable) (view : record { ranges = by_slot (paired (points_of t)) slots; covered = cover_of heads } ≡ v) where
   fits-pair : (g : Point → Point) → OffsetsFit g v.ranges → (s : ℕ) (range : Range) → get_or (paired (points_of t)) s None ≡ Some range → FitsMoved g range
   fits-pair g fit s range at =
       let there : slot_at slots (k.numbered.number s) ≡ Some s = k.numbered.held s (ap is_some at) in
@@ -132,11 +135,11 @@ module _ (t : List End) (heads : Heads) (slots : List (Option ℕ)) (vacant : Li
   pub point-fits : (g : Point → Point) → OffsetsFit g v.ranges → (e : ℕ) (p : Point) → point_at t e ≡ Some p → p.offset < 2 ^ 64 → (g p).offset < 2 ^ 64
   point-fits g fit e p h = fits-points g (points_of t) k.ends.pairs (fits-pair g fit) e p (points-at t e ∙ h)
 
-  pub point-covered : (e : ℕ) (p : Point) → point_at t e ≡ Some p → p.node < length heads
-  point-covered e p h = let c = k.ends.chains in point-within c.chain t heads c.chained e p h
+  pub point-covered : (e : ℕ) (p : Point) → point_at t e ≡ Some p → covers (cover_of heads) p.node ≡ true
+  point-covered e p h = let c = k.ends.chains in Chained.point-covered c.chain t heads c.chained e p h
 
   -- where the nodes of the moved points have chains
-  pub moves-within : (g : Point → Point) → OffsetsFit g v.ranges → ((p : Point) → p.node < length heads → (g p).node < length heads) → (n : ℕ) → MovesWithin n g t (length heads)
+  pub moves-within : (g : Point → Point) → OffsetsFit g v.ranges → ((p : Point) → covers (cover_of heads) p.node ≡ true → covers (cover_of heads) (g p).node ≡ true) → (n : ℕ) → MovesWithin n g t (cover_of heads)
   moves-within g fit leads n e p h there = (point-fits g fit e p h, leads p (point-covered e p h))
 
 -- the maps
@@ -161,14 +164,14 @@ splice-node n at count added p =
     (λ (a : ((p.node == n) && nat_lt at p.offset) ≡ false). rw a refl) (cases_Bool ((p.node == n) && nat_lt at p.offset))
 
 -- the nodes of moved points
-pub split-node : (text at new parent index : ℕ) (n : ℕ) (p : Point) → new < n → p.node < n → (after_split text at new parent index p).node < n
-split-node text at new parent index n p a b =
+pub split-node : (text at new parent index : ℕ) (cs : List Bool) (p : Point) → covers cs new ≡ true → covers cs p.node ≡ true → covers cs (after_split text at new parent index p).node ≡ true
+split-node text at new parent index cs p a b =
     ⊎_elim (λ (x : ((p.node == text) && nat_lt at p.offset) ≡ true). rw x a)
     (λ (x : ((p.node == text) && nat_lt at p.offset) ≡ false).
     ⊎_elim (λ (y : ((p.node == parent) && (p.offset == index + 1)) ≡ true). rw (x, y) b) (λ (y : ((p.node == parent) && (p.offset == index + 1)) ≡ false). rw (x, y) b) (cases_Bool ((p.node == parent) && (p.offset == index + 1)))) (cases_Bool ((p.node == text) && nat_lt at p.offset))
 
-pub merge-node : (from into base parent index : ℕ) (n : ℕ) (p : Point) → into < n → p.node < n → (after_merge from into base parent index p).node < n
-merge-node from into base parent index n p a b =
+pub merge-node : (from into base parent index : ℕ) (cs : List Bool) (p : Point) → covers cs into ≡ true → covers cs p.node ≡ true → covers cs (after_merge from into base parent index p).node ≡ true
+merge-node from into base parent index cs p a b =
     ⊎_elim (λ (x : (p.node == from) ≡ true). rw x a)
     (λ (x : (p.node == from) ≡ false).
     ⊎_elim (λ (y : ((p.node == parent) && (p.offset == index)) ≡ true). rw (x, y) a) (λ (y : ((p.node == parent) && (p.offset == index)) ≡ false). rw (x, y) b) (cases_Bool ((p.node == parent) && (p.offset == index)))) (cases_Bool (p.node == from))

@@ -4,7 +4,7 @@ use Rattle.std.proofs.lemmas.Bool.{false≢true}
 use Rattle.dom_model.specs.Worlds.World.{Point, Range}
 use Rattle.dom_model.specs.BoundaryPoints.Points.{moved_range, map_ranges}
 use Rattle.dom_ranges.specs.declared.chains.End.{End}
-use Rattle.dom_ranges.specs.Chained.{Heads, point_at, points_of}
+use Rattle.dom_ranges.specs.Chained.{Heads, cover_of, point_at, points_of}
 use Rattle.dom_ranges.specs.Tables.{RangeTable, range_in, both, paired, IsPaired, live_count, in_slot, by_slot, slot_at, IsInOrder}
 use Rattle.dom_ranges.proofs.Steps.{points-at, some-within, point-kept}
 use Rattle.dom_ranges.proofs.Slots.{by_slot-at}
@@ -156,11 +156,11 @@ empty-ends t r k h =
     same = ap is_some (sym (at (twice r) (r + r) (twice-is r))) ∙ paired-pair (points_of t) r k ∙ ap is_some (at (suc (twice r)) (r + r + 1) (omega (arith, twice-is r)))
 
 -- the ranges by number
-module _ (t : List End) (heads : Heads) (slots : List (Option ℕ)) (vacant : List ℕ) (live many room : ℕ) (k : IsInOrder t heads slots vacant live many room) (v : RangeTable) (view : record { ranges = by_slot (paired (points_of t)) slots; covered = length heads } ≡ v) where
+module _ (t : List End) (heads : Heads) (slots : List (Option ℕ)) (vacant : List ℕ) (live many room : ℕ) (k : IsInOrder t heads slots vacant live many room) (v : RangeTable) (view : record { ranges = by_slot (paired (points_of t)) slots; covered = cover_of heads } ≡ v) where
   pub ranges-are : v.ranges ≡ by_slot (paired (points_of t)) slots
   ranges-are = sym (ap (λ (x : RangeTable). x.ranges) view)
 
-  pub covered-is : v.covered ≡ length heads
+  pub covered-is : v.covered ≡ cover_of heads
   covered-is = sym (ap (λ (x : RangeTable). x.covered) view)
 
   range-in : (r : ℕ) → range_in v r ≡ in_slot (paired (points_of t)) (slot_at slots r)
@@ -182,9 +182,6 @@ module _ (t : List End) (heads : Heads) (slots : List (Option ℕ)) (vacant : Li
 
     pub end-within : s + s + 1 < length t
     end-within = some-within t (s + s + 1) end-live
-
-    pub slot-small : s + s + 1 < 2 ^ 32
-    slot-small = omega (arith, end-within, k.ends.small)
 
     module _ (i j : ℕ) (first : i ≡ s + s) (second : j ≡ s + s + 1) where
       pub first-live : IsSome (point_at t i)

@@ -4,9 +4,9 @@ use Rattle.std.proofs.lemmas.Bool.{cases_Bool, cases_eq}
 use Rattle.dom_model.specs.PlainLists.Lists.{among, hits, head_of}
 use Rattle.dom_model.specs.Worlds.World.{Point}
 use Rattle.dom_ranges.specs.declared.chains.End.{End}
-use Rattle.dom_ranges.specs.Chained.{Heads, is_forgotten, head_at, point_at, points_of, stands_at, HasChains}
+use Rattle.dom_ranges.specs.Chained.{Heads, head_at, point_at, points_of, stands_at, HasChains}
 use Rattle.dom_ranges.specs.Tables.{nodes_at}
-use Rattle.dom_ranges.proofs.Chained.{has-head, head-there, in-stands, kept-count}
+use Rattle.dom_ranges.proofs.Chained.{has-head, head-there, in-stands}
 use Rattle.dom_ranges.proofs.Steps.{points-at}
 
 pub nodes-none : (n : ℕ) (ps : List (Option Point)) → ((e : ℕ) (q : Point) → get_or ps e None ≡ Some q → (q.node == n) ≡ false) → among n (nodes_at ps) ≡ false
@@ -28,16 +28,16 @@ stands-none n q h = ⊎_elim (λ (a : (q.node == n) ≡ true). let b : cond true
 stands-some : (n : ℕ) (q : Point) → 0 < stands_at n (Some q) → (q.node == n) ≡ true
 stands-some n q h = ⊎_elim (λ (a : (q.node == n) ≡ true). a) (λ (a : (q.node == n) ≡ false). let b : 0 < cond false 1 0 = rw a at h in absurd (omega arith)) (cases_Bool (q.node == n))
 
--- a node that was not forgotten has a head just where an end stands in it
-pub heads-tell : (t : List End) (heads : Heads) → HasChains t heads → (node : ℕ) → is_forgotten heads node ≡ false → is_some (head_at heads node) ≡ among node (nodes_at (points_of t))
-heads-tell t heads has node keeps = go (head_at heads node) refl
+-- a node has a head just where an end stands in it
+pub heads-tell : (t : List End) (heads : Heads) → HasChains t heads → (node : ℕ) → is_some (head_at heads node) ≡ among node (nodes_at (points_of t))
+heads-tell t heads has node = go (head_at heads node) refl
   where
     go : (o : Option ℕ) → head_at heads node ≡ o → is_some (head_at heads node) ≡ among node (nodes_at (points_of t))
     go None h =
         let none : head_of (has.chain node) ≡ None = sym (has.chained.first node) ∙ h in
         rw h (sym (nodes-none node (points_of t) (λ e q at.
         let z : hits e (has.chain node) ≡ 0 = ⊎_elim (λ (y : hits e (has.chain node) ≡ 0). y) (λ (d : hits e (has.chain node) ≡ 0 → ⊥). absurd (has-head e (has.chain node) (omega arith) none)) (cases_eq (hits e (has.chain node)) 0) in
-        let s : stands_at node (point_at t e) ≡ 0 = sym (kept-count has.chain t heads has.chained e node keeps) ∙ z in
+        let s : stands_at node (point_at t e) ≡ 0 = sym (has.chained.counted e node) ∙ z in
         let at' : point_at t e ≡ Some q = sym (points-at t e) ∙ at in
         stands-none node q (rw at' at s))))
     go (Some e) h =

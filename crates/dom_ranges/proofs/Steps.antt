@@ -1,15 +1,14 @@
 -- The steps by which an end is taken out of its chain or put in come to the changed tables.
 use Rattle.std.proofs.Common.{◌≡◌, ℕ, zero, suc, ◌+◌, ◌<◌, ◌≤◌, true, false, not, List, [], ◌∷◌, length, set, get_or, ◌++◌, Option, Some, None, is_some, refl, sym, ap, subst, ◌∙◌, ⊎_elim, arith, length-set, get_or-set_same, get_or-set_other}
 use Rattle.std.specs.Option.{IsSome}
-use Rattle.std.proofs.lemmas.Bool.{cases_eq, false≢true}
+use Rattle.std.proofs.lemmas.Bool.{cases_eq, cases_lt, false≢true}
 use Rattle.std.proofs.lemmas.List.{map-set, map-append, length-map, get_or_past}
 use Rattle.dom_model.specs.PlainLists.Lists.{hits, head_of}
 use Rattle.dom_model.specs.Worlds.World.{Point}
 use Rattle.dom_ranges.specs.declared.chains.End.{End}
-use Rattle.dom_ranges.specs.Chained.{Heads, free_end, end_at, point_at, points_of, kept_at, is_forgotten, head_in, head_at, chained_at, IsChained, HasChains, Rechains, unchained, chained_first, ForLink, led_on, heads_led, led_back, table_without, heads_without, table_with, heads_with}
-use Rattle.dom_links.proofs.Neighbours.{left_out-none}
-use Rattle.dom_pages.specs.Numbered.{item_at}
-use Rattle.dom_ranges.proofs.Chained.{live-within, in-chain, point-within, next-within, prev-within, head-within, has-head, chained-none, chained-forgotten, chained-nowhere, chained-same, written-kept, IsChained-without, IsChained-with, IsChained-beside, IsChained-alike, led_on-length}
+use Rattle.dom_ranges.specs.Chained.{Heads, free_end, end_at, point_at, points_of, covers, cover_of, head_in, head_at, stands_at, IsChained, HasChains, Rechains, unchained, chained_first, ForLink, led_on, heads_led, led_back, table_without, heads_without, table_with, heads_with}
+use Rattle.dom_ranges.proofs.Covers.{cover-set}
+use Rattle.dom_ranges.proofs.Chained.{live-within, in-chain, point-covered, next-within, prev-within, head-within, has-head, IsChained-without, IsChained-with, led_on-length}
 
 -- the table and the heads, once an end is taken out
 pub out-table : (t t1 t2 t3 : List End) (id : ℕ) (end : End) → end ≡ end_at t id → t1 ≡ led_on end.prev end.next t → t2 ≡ led_back end.next end.prev t1 → t3 ≡ set t2 id free_end → t3 ≡ table_without id t
@@ -46,75 +45,41 @@ with-points e p heads t =
     map-set (λ (x : End). x.point) (led_back (head_at heads p.node) (Some e) t) e (record { point = Some p; prev = None; next = head_at heads p.node })
     ∙ ap (λ xs. set xs e (Some p)) (led_back-points (head_at heads p.node) (Some e) t)
 
-heads_led-length : (prev : Option ℕ) (n : ℕ) (next : Option ℕ) (heads : Heads) → length (heads_led prev n next heads) ≡ length heads
-heads_led-length None n next heads = length-set heads n (Some next)
-heads_led-length (Some p) n next heads = refl
+-- the cover stays, since only a covered node's head is written
+heads_led-cover : (prev : Option ℕ) (n : ℕ) (next : Option ℕ) (heads : Heads) → covers (cover_of heads) n ≡ true → cover_of (heads_led prev n next heads) ≡ cover_of heads
+heads_led-cover None n next heads h = cover-set heads n next h
+heads_led-cover (Some p) n next heads h = refl
 
-pub without-covered : (e n : ℕ) (t : List End) (heads : Heads) → length (heads_without e n t heads) ≡ length heads
-without-covered e n t heads = heads_led-length (end_at t e).prev n (end_at t e).next heads
+pub without-cover : (e n : ℕ) (t : List End) (heads heads' : Heads) → covers (cover_of heads) n ≡ true → heads' ≡ heads_without e n t heads → cover_of heads' ≡ cover_of heads
+without-cover e n t heads heads' h a = ap cover_of a ∙ heads_led-cover (end_at t e).prev n (end_at t e).next heads h
+
+pub with-cover : (e : ℕ) (p : Point) (heads heads' : Heads) → covers (cover_of heads) p.node ≡ true → heads' ≡ heads_with e p heads → cover_of heads' ≡ cover_of heads
+with-cover e p heads heads' h a = ap cover_of a ∙ cover-set heads p.node (Some e) h
 
 -- the chains, once an end is taken out or put in
-pub rechained-out : (t t' : List End) (heads heads' : Heads) (e : ℕ) (p : Point) → point_at t e ≡ Some p → is_forgotten heads p.node ≡ false → t' ≡ table_without e t → heads' ≡ heads_without e p.node t heads → Rechains (unchained e) t heads t' heads'
-rechained-out t t' heads heads' e p at keeps a b chain ok = rw (a, b) (IsChained-without chain t heads ok e p at keeps)
+pub rechained-out : (t t' : List End) (heads heads' : Heads) (e : ℕ) (p : Point) → point_at t e ≡ Some p → t' ≡ table_without e t → heads' ≡ heads_without e p.node t heads → Rechains (unchained e) t heads t' heads'
+rechained-out t t' heads heads' e p at a b chain ok = rw (a, b) (IsChained-without chain t heads ok e p at)
 
-pub rechained-in : (t t' : List End) (heads heads' : Heads) (e : ℕ) (p : Point) → e < length t → point_at t e ≡ None → p.node < length heads → is_forgotten heads p.node ≡ false → t' ≡ table_with e p heads t → heads' ≡ heads_with e p heads
-    → Rechains (chained_first (is_forgotten heads' p.node) e p.node) t heads t' heads'
-rechained-in t t' heads heads' e p within free room keeps a b chain ok =
-    let k : is_forgotten heads' p.node ≡ false = ap (λ h. is_forgotten h p.node) b ∙ written-kept heads p.node (Some e) room keeps p.node ∙ keeps in
-    subst (λ f. IsChained (chained_first f e p.node chain) t' heads') (sym k) (rw (a, b) (IsChained-with chain t heads ok e p within free room keeps))
-
--- the same of an end in a forgotten node, which is in no chain
-pub rechained-out-alone : (t t' : List End) (heads heads' : Heads) (e : ℕ) (p : Point) → point_at t e ≡ Some p → is_forgotten heads p.node ≡ true → t' ≡ set t e free_end → heads' ≡ heads → Rechains (unchained e) t heads t' heads'
-rechained-out-alone t t' heads heads' e p at gone a b chain ok =
-    let out : (n : ℕ) → hits e (chain n) ≡ 0 = (λ n. ok.counted e n ∙ ap (chained_at heads n) at ∙ chained-nowhere heads p gone n) in
-    rw (a, b)
-    (IsChained-alike chain (unchained e chain) (set t e free_end) heads (λ n. left_out-none e (chain n) (out n))
-    (IsChained-beside chain t heads ok e free_end (live-within t e p at) out (chained-none heads)))
-
-pub rechained-in-alone : (t t' : List End) (heads heads' : Heads) (e : ℕ) (p : Point) (x : End) → e < length t → point_at t e ≡ None → is_forgotten heads p.node ≡ true → x.point ≡ Some p → t' ≡ set t e x → heads' ≡ heads
-    → Rechains (chained_first (is_forgotten heads' p.node) e p.node) t heads t' heads'
-rechained-in-alone t t' heads heads' e p x within free gone is a b chain ok =
-    let k : is_forgotten heads' p.node ≡ true = ap (λ h. is_forgotten h p.node) b ∙ gone in
-    let out : (n : ℕ) → hits e (chain n) ≡ 0 = (λ n. ok.counted e n ∙ ap (chained_at heads n) free ∙ chained-none heads n) in
-    subst (λ f. IsChained (chained_first f e p.node chain) t' heads') (sym k)
-    (rw (a, b) (IsChained-beside chain t heads ok e x within out (λ n. ap (chained_at heads n) is ∙ chained-nowhere heads p gone n)))
+pub rechained-in : (t t' : List End) (heads heads' : Heads) (e : ℕ) (p : Point) → e < length t → point_at t e ≡ None → covers (cover_of heads) p.node ≡ true → t' ≡ table_with e p heads t → heads' ≡ heads_with e p heads
+    → Rechains (chained_first e p.node) t heads t' heads'
+rechained-in t t' heads heads' e p within free covered a b chain ok = rw (a, b) (IsChained-with chain t heads ok e p within free covered)
 
 -- where the links of an end lead
 module _ (t : List End) (heads : Heads) (has : HasChains t heads) (e : ℕ) (end : End) (p : Point) (is : end ≡ end_at t e) (at : end.point ≡ Some p) where
   pub stands : point_at t e ≡ Some p
   stands = sym (ap (λ (x : End). x.point) is) ∙ at
 
-  pub node-covered : p.node < length heads
-  node-covered = point-within has.chain t heads has.chained e p stands
+  pub node-covered : covers (cover_of heads) p.node ≡ true
+  node-covered = point-covered has.chain t heads has.chained e p stands
 
-  module _ (keeps : is_forgotten heads p.node ≡ false) where
-    inside : 0 < hits e (has.chain p.node)
-    inside = omega (arith, in-chain has.chain t heads has.chained e p stands keeps)
+  inside : 0 < hits e (has.chain p.node)
+  inside = omega (arith, in-chain has.chain t heads has.chained e p stands)
 
-    pub prev-there : ForLink end.prev (length t)
-    prev-there = rw is (prev-within has.chain t heads has.chained e p.node inside)
+  pub prev-there : ForLink end.prev (length t)
+  prev-there = rw is (prev-within has.chain t heads has.chained e p.node inside)
 
-    pub next-there : (t1 : List End) → t1 ≡ led_on end.prev end.next t → ForLink end.next (length t1)
-    next-there t1 a = rw (a, led_on-length end.prev end.next t, is) (next-within has.chain t heads has.chained e p.node inside)
-
--- what is kept of a node that was not forgotten
-item-kept : (heads : Heads) (n : ℕ) → n < length heads → item_at heads n ≡ kept_at heads n
-item-kept [] n w = absurd (omega arith)
-item-kept (x ∷ xs) zero w = refl
-item-kept (x ∷ xs) (suc n) w = item-kept xs n (omega arith)
-
-pub item-there : (heads : Heads) (n : ℕ) → n < length heads → is_forgotten heads n ≡ false → IsSome (item_at heads n)
-item-there heads n w keeps = go (kept_at heads n) (item-kept heads n w) keeps
-  where
-    go : (o : Option (Option ℕ)) → item_at heads n ≡ o → not (is_some o) ≡ false → IsSome (item_at heads n)
-    go None q k = absurd (false≢true (sym k))
-    go (Some x) q k = rw q refl
-
--- the first of a chain, as it is read
-pub head-read : (heads : Heads) (n : ℕ) → head_in (item_at heads n) ≡ head_at heads n
-head-read [] n = refl
-head-read (x ∷ xs) zero = refl
-head-read (x ∷ xs) (suc n) = head-read xs n
+  pub next-there : (t1 : List End) → t1 ≡ led_on end.prev end.next t → ForLink end.next (length t1)
+  next-there t1 a = rw (a, led_on-length end.prev end.next t, is) (next-within has.chain t heads has.chained e p.node inside)
 
 -- the table, once a free end is put in
 pub in-table : (t t1 t2 t3 : List End) (heads h1 : Heads) (id node : ℕ) (next : Option ℕ) (p : Point) → node ≡ p.node → next ≡ head_at heads node → t1 ≡ led_back next (Some id) t → h1 ≡ heads
@@ -169,51 +134,42 @@ end-appended [] (suc e) = refl
 end-appended (x ∷ xs) zero = refl
 end-appended (x ∷ xs) (suc e) = end-appended xs e
 
-pub kept-appended : (heads : Heads) (n : ℕ) → kept_at (heads ++ Some None ∷ []) n ≡ kept_at heads n
-kept-appended [] zero = refl
-kept-appended [] (suc n) = refl
-kept-appended (x ∷ xs) zero = refl
-kept-appended (x ∷ xs) (suc n) = kept-appended xs n
+head-appended : (heads : Heads) (n : ℕ) → head_at (heads ++ Some None ∷ []) n ≡ head_at heads n
+head-appended [] zero = refl
+head-appended [] (suc n) = refl
+head-appended (x ∷ xs) zero = refl
+head-appended (x ∷ xs) (suc n) = head-appended xs n
 
-pub HasChains-same : (t t' : List End) (heads heads' : Heads) → ((e : ℕ) → end_at t' e ≡ end_at t e) → ((n : ℕ) → kept_at heads' n ≡ kept_at heads n) → HasChains t heads → HasChains t' heads'
+pub HasChains-same : (t t' : List End) (heads heads' : Heads) → ((e : ℕ) → end_at t' e ≡ end_at t e) → ((n : ℕ) → head_at heads' n ≡ head_at heads n) → HasChains t heads → HasChains t' heads'
 HasChains-same t t' heads heads' a b has = record {
   chain = has.chain;
   chained = record {
-    first = λ n. ap head_in (b n) ∙ has.chained.first n;
-    counted = λ e n.
-        has.chained.counted e n
-        ∙ sym (ap (λ (x : End). chained_at heads' n x.point) (a e) ∙ chained-same heads heads' n (point_at t e) (ap (λ (o : Option (Option ℕ)). not (is_some o)) (b n)));
+    first = λ n. b n ∙ has.chained.first n;
+    counted = λ e n. has.chained.counted e n ∙ sym (ap (λ (x : End). stands_at n x.point) (a e));
     next = λ e n h. ap (λ (x : End). x.next) (a e) ∙ has.chained.next e n h;
     prev = λ e n h. ap (λ (x : End). x.prev) (a e) ∙ has.chained.prev e n h;
   };
 }
 
+-- a node is covered, with an empty chain
+pub HasChains-covered : (t t' : List End) (heads heads' : Heads) → t' ≡ t → heads' ≡ heads ++ Some None ∷ [] → HasChains t heads → HasChains t' heads'
+HasChains-covered t t' heads heads' a b has = HasChains-same t t' heads heads' (λ e. ap (λ x. end_at x e) a) (λ n. ap (λ h. head_at h n) b ∙ head-appended heads n) has
+
+set-past : (hs : Heads) (k : ℕ) → length hs ≤ k → set hs k None ≡ hs
+set-past [] k h = refl
+set-past (x ∷ xs) zero h = absurd (omega arith)
+set-past (x ∷ xs) (suc k) h = ap (λ ys. x ∷ ys) (set-past xs k (omega arith))
+
 -- a node is forgotten in whose chain there is no end
-pub HasChains-forgotten : (t : List End) (heads : Heads) (n : ℕ) → n < length heads → head_at heads n ≡ None → HasChains t heads → HasChains t (set heads n None)
-HasChains-forgotten t heads n w none has = record {
-  chain = has.chain;
-  chained = record { first = first; counted = counted; next = has.chained.next; prev = has.chained.prev };
-}
+pub HasChains-forgotten : (t : List End) (heads : Heads) (n : ℕ) → head_at heads n ≡ None → HasChains t heads → HasChains t (set heads n None)
+HasChains-forgotten t heads n none has = HasChains-same t t heads (set heads n None) (λ e. refl) first has
   where
-    here : kept_at (set heads n None) n ≡ None
-    here = get_or-set_same heads n None (Some None) w
-
-    there : (m : ℕ) → (m ≡ n → ⊥) → kept_at (set heads n None) m ≡ kept_at heads m
-    there m d = get_or-set_other heads n m None (Some None) d
-
-    empty : (e : ℕ) → hits e (has.chain n) ≡ 0
-    empty e =
-        ⊎_elim (λ (z : hits e (has.chain n) ≡ 0). z)
-        (λ (d : hits e (has.chain n) ≡ 0 → ⊥). absurd (has-head e (has.chain n) (omega arith) (sym (has.chained.first n) ∙ none))) (cases_eq (hits e (has.chain n)) 0)
-
-    first : (m : ℕ) → head_at (set heads n None) m ≡ head_of (has.chain m)
+    first : (m : ℕ) → head_at (set heads n None) m ≡ head_at heads m
     first m =
-        ⊎_elim (λ (q : m ≡ n). rw q (ap head_in here ∙ sym none ∙ has.chained.first n)) (λ (d : m ≡ n → ⊥). ap head_in (there m d) ∙ has.chained.first m) (cases_eq m n)
-
-    counted : (e m : ℕ) → hits e (has.chain m) ≡ chained_at (set heads n None) m (point_at t e)
-    counted e m =
-        ⊎_elim (λ (q : m ≡ n). rw q (empty e ∙ sym (chained-forgotten (set heads n None) n (point_at t e) (ap (λ (o : Option (Option ℕ)). not (is_some o)) here))))
-        (λ (d : m ≡ n → ⊥). has.chained.counted e m ∙ sym (chained-same heads (set heads n None) m (point_at t e) (ap (λ (o : Option (Option ℕ)). not (is_some o)) (there m d)))) (cases_eq m n)
+        ⊎_elim (λ (q : m ≡ n).
+        ⊎_elim (λ (w : n < length heads). rw q (ap head_in (get_or-set_same heads n None None w) ∙ sym none))
+        (λ (past : length heads ≤ n). ap (λ h. head_at h m) (set-past heads n past)) (cases_lt n (length heads)))
+        (λ (d : m ≡ n → ⊥). ap head_in (get_or-set_other heads n m None None d)) (cases_eq m n)
 
 -- two ends that are appended and put in are the last of the table
 set-last : (ps : List (Option Point)) (s e : Option Point) → set (set (ps ++ None ∷ [] ++ None ∷ []) (length ps) s) (suc (length ps)) e ≡ ps ++ s ∷ e ∷ []
@@ -238,7 +194,7 @@ pub HasChains-grown : (t t1 t2 t3 : List End) (heads heads' : Heads) → t1 ≡ 
 HasChains-grown t t1 t2 t3 heads heads' a b c h has =
     HasChains-same t t3 heads heads'
     (λ e. ap (λ x. end_at x e) c ∙ end-appended t2 e ∙ ap (λ x. end_at x e) b ∙ end-appended t1 e ∙ ap (λ x. end_at x e) a)
-    (λ n. ap (λ x. kept_at x n) h) has
+    (λ n. ap (λ x. head_at x n) h) has
 
 -- the second of the two stands nowhere while the first is put in
 pub second-free : (t t1 t2 t3 t4 : List End) (i j : ℕ) (s : Point) → t1 ≡ t → t2 ≡ t1 ++ free_end ∷ [] → t3 ≡ t2 ++ free_end ∷ [] → i ≡ length t → j ≡ i + 1

@@ -5,11 +5,11 @@ use Rattle.std.proofs.lemmas.Bool.{cases_Bool, cases_eq, eq-eqb, ne_eqb, eqb-tru
 use Rattle.std.proofs.lemmas.List.{ext_get_or, length-map}
 use Rattle.dom_model.specs.PlainLists.Lists.{hits, among, is_number, head_of, after, left_out}
 use Rattle.dom_model.specs.Worlds.World.{Point}
-use Rattle.dom_links.proofs.Neighbours.{after-none, after-left_out, hits-left_out_other}
-use Rattle.dom_links.proofs.Counting.{length-le_from_once}
+use Rattle.dom_point.specs.dom_links.Neighbours.{after-none, after-left_out, hits-left_out_other}
+use Rattle.dom_point.specs.dom_links.Counting.{length-le_from_once}
 use Rattle.dom_ranges.specs.declared.chains.End.{End}
-use Rattle.dom_ranges.specs.Chained.{Heads, end_at, point_at, points_of, is_forgotten, head_at, stands_at, IsChained, HasChains, Rechains, moved_first, on_node, MovesWithin}
-use Rattle.dom_ranges.proofs.Chained.{in-stands, kept-count, once, chained-within}
+use Rattle.dom_ranges.specs.Chained.{Heads, end_at, point_at, points_of, covers, cover_of, head_at, stands_at, IsChained, HasChains, Rechains, moved_first, on_node, MovesWithin}
+use Rattle.dom_ranges.proofs.Chained.{in-stands, once, chained-within}
 use Rattle.dom_ranges.proofs.Steps.{points-at, points-length, same-length, point-written, point-kept}
 
 -- the ends along a list of links, no more than the fuel
@@ -74,16 +74,16 @@ along-rest t (suc k) (e ∷ es) one next few =
     next' k h = let d = other k h in next k (omega (arith, hits-rest k e es d)) ∙ after-rest k e es d
 
 -- how far a walk has come: the ends of the rest stand as they stood, and the others of the node are shifted
-pub record IsWalked (node : ℕ) (move : Point → Point) (t0 : List End) (covered : ℕ) (t : List End) (heads : Heads) (chain : ℕ → List ℕ) (rest : List ℕ) : Type 0 where
+pub record IsWalked (node : ℕ) (move : Point → Point) (t0 : List End) (covered : List Bool) (t : List End) (heads : Heads) (chain : ℕ → List ℕ) (rest : List ℕ) : Type 0 where
   pub chained : IsChained chain t heads
   pub one : (e : ℕ) → hits e rest ≤ 1
   pub inside : (e : ℕ) → 0 < hits e rest → 0 < hits e (chain node)
   pub follows : (e : ℕ) → 0 < hits e rest → after e (chain node) ≡ after e rest
   pub points : (e : ℕ) → point_at t e ≡ (if among e rest then point_at t0 e else option_map (on_node node move) (point_at t0 e))
   pub long : length t ≡ length t0
-  pub wide : length heads ≡ covered
+  pub wide : cover_of heads ≡ covered
 
-pub record Walks (node : ℕ) (move : Point → Point) (t0 : List End) (covered : ℕ) (t : List End) (heads : Heads) (here : Option ℕ) : Type 0 where
+pub record Walks (node : ℕ) (move : Point → Point) (t0 : List End) (covered : List Bool) (t : List End) (heads : Heads) (here : Option ℕ) : Type 0 where
   pub chain : ℕ → List ℕ
   pub rest : List ℕ
   pub starts : here ≡ head_of rest
@@ -94,8 +94,8 @@ on_other node move None h = refl
 on_other node move (Some p) h =
     ⊎_elim (λ (y : (p.node == node) ≡ true). let z : cond true 1 0 ≡ 0 = rw y at h in absurd (omega arith)) (λ (y : (p.node == node) ≡ false). rw y refl) (cases_Bool (p.node == node))
 
-pub Walks-start : (node : ℕ) (move : Point → Point) (t : List End) (heads : Heads) (here : Option ℕ) → HasChains t heads → is_forgotten heads node ≡ false → here ≡ head_at heads node → Walks node move t (length heads) t heads here
-Walks-start node move t heads here has keeps h = record {
+pub Walks-start : (node : ℕ) (move : Point → Point) (t : List End) (heads : Heads) (here : Option ℕ) → HasChains t heads → here ≡ head_at heads node → Walks node move t (cover_of heads) t heads here
+Walks-start node move t heads here has h = record {
   chain = has.chain;
   rest = has.chain node;
   starts = h ∙ has.chained.first node;
@@ -114,13 +114,13 @@ Walks-start node move t heads here has keeps h = record {
     points e =
         ⊎_elim (λ (z : hits e (has.chain node) ≡ 0).
         let a = among-absent e (has.chain node) z in
-        let s : stands_at node (point_at t e) ≡ 0 = sym (kept-count has.chain t heads has.chained e node keeps) ∙ z in
+        let s : stands_at node (point_at t e) ≡ 0 = sym (has.chained.counted e node) ∙ z in
         rw a (on_other node move (point_at t e) s))
         (λ (d : hits e (has.chain node) ≡ 0 → ⊥).
         ⊎_elim (λ (y : among e (has.chain node) ≡ true). rw y refl)
         (λ (n : among e (has.chain node) ≡ false). absurd (d (absent-among e (has.chain node) n))) (cases_Bool (among e (has.chain node)))) (cases_eq (hits e (has.chain node)) 0)
 
-module _ (node : ℕ) (move : Point → Point) (t0 : List End) (covered : ℕ) (t : List End) (heads : Heads) (chain : ℕ → List ℕ) where
+module _ (node : ℕ) (move : Point → Point) (t0 : List End) (covered : List Bool) (t : List End) (heads : Heads) (chain : ℕ → List ℕ) where
   -- along the links lies just the rest
   pub measured : (rest : List ℕ) → IsWalked node move t0 covered t heads chain rest → along t (length t) (head_of rest) ≡ rest
   measured rest w = along-rest t (length t) rest w.one next few
@@ -167,9 +167,9 @@ module _ (node : ℕ) (move : Point → Point) (t0 : List End) (covered : ℕ) (
     other : (k : ℕ) → 0 < hits k es → k ≡ id → ⊥
     other k h q = let z : 0 < hits id es = rw q at h in omega (arith, out)
 
-    pub stepped : (p q : Point) → point_at t id ≡ Some p → q ≡ move p → (f : Bool) (t' : List End) (heads' : Heads) → points_of t' ≡ set (points_of t) id (Some q) → Rechains (moved_first f id q.node) t heads t' heads' → length heads' ≡ length heads
-        → IsWalked node move t0 covered t' heads' (moved_first f id q.node chain) es
-    stepped p q at moves f t' heads' written rechained wide = record {
+    pub stepped : (p q : Point) → point_at t id ≡ Some p → q ≡ move p → (t' : List End) (heads' : Heads) → points_of t' ≡ set (points_of t) id (Some q) → Rechains (moved_first id q.node) t heads t' heads' → cover_of heads' ≡ cover_of heads
+        → IsWalked node move t0 covered t' heads' (moved_first id q.node chain) es
+    stepped p q at moves t' heads' written rechained wide = record {
       chained = rechained chain w.chained;
       one = λ k. omega (arith, w.one k);
       inside = inside;
@@ -182,27 +182,25 @@ module _ (node : ℕ) (move : Point → Point) (t0 : List End) (covered : ℕ) (
         fewer : List ℕ
         fewer = left_out id (chain node)
 
-        first : (f : Bool) (k : ℕ) → (k ≡ id → ⊥) → hits k (moved_first f id q.node chain node) ≡ hits k (chain node)
-        first true k d = hits-left_out_other k id (chain node) (λ e. d (sym e))
-        first false k d =
+        first : (k : ℕ) → (k ≡ id → ⊥) → hits k (moved_first id q.node chain node) ≡ hits k (chain node)
+        first k d =
             ⊎_elim (λ (y : (q.node == node) ≡ true). rw y (hits-rest k id (left_out id (chain node)) d ∙ hits-left_out_other k id (chain node) (λ e. d (sym e))))
             (λ (y : (q.node == node) ≡ false). rw y (hits-left_out_other k id (chain node) (λ e. d (sym e)))) (cases_Bool (q.node == node))
 
-        inside : (k : ℕ) → 0 < hits k es → 0 < hits k (moved_first f id q.node chain node)
-        inside k h = let d = other k h in omega (arith, first f k d, w.inside k (omega (arith, hits-rest k id es d)))
+        inside : (k : ℕ) → 0 < hits k es → 0 < hits k (moved_first id q.node chain node)
+        inside k h = let d = other k h in omega (arith, first k d, w.inside k (omega (arith, hits-rest k id es d)))
 
-        second : (f : Bool) (k : ℕ) → (k ≡ id → ⊥) → after k (moved_first f id q.node chain node) ≡ after k (left_out id (chain node))
-        second true k d = refl
-        second false k d =
+        second : (k : ℕ) → (k ≡ id → ⊥) → after k (moved_first id q.node chain node) ≡ after k (left_out id (chain node))
+        second k d =
             ⊎_elim (λ (y : (q.node == node) ≡ true). rw y (after-rest k id (left_out id (chain node)) d))
             (λ (y : (q.node == node) ≡ false). rw y refl) (cases_Bool (q.node == node))
 
-        follows : (k : ℕ) → 0 < hits k es → after k (moved_first f id q.node chain node) ≡ after k es
+        follows : (k : ℕ) → 0 < hits k es → after k (moved_first id q.node chain node) ≡ after k es
         follows k h =
             let d = other k h in
             let a : after k (chain node) ≡ after k es = w.follows k (omega (arith, hits-rest k id es d)) ∙ after-rest k id es d in
             let b : is_number (after k (chain node)) id ≡ false = rw a (after-none k id es out) in
-            second f k d ∙ after-left_out k id (chain node) d (once chain t heads w.chained id node) ∙ rw b a
+            second k d ∙ after-left_out k id (chain node) d (once chain t heads w.chained id node) ∙ rw b a
 
         stood : point_at t0 id ≡ Some p
         stood = sym id-stood ∙ at
@@ -220,7 +218,7 @@ module _ (node : ℕ) (move : Point → Point) (t0 : List End) (covered : ℕ) (
             point-kept t t' id k (Some q) d written ∙ w.points k ∙ rw a refl) (cases_eq k id)
 
 -- the same for a walk that has come to an end
-module _ (node : ℕ) (move : Point → Point) (t0 : List End) (covered : ℕ) (t : List End) (heads : Heads) (here : Option ℕ) (walk : Walks node move t0 covered t heads here) where
+module _ (node : ℕ) (move : Point → Point) (t0 : List End) (covered : List Bool) (t : List End) (heads : Heads) (here : Option ℕ) (walk : Walks node move t0 covered t heads here) where
   pub record At (id : ℕ) : Type 0 where
     pub es : List ℕ
     pub is : IsWalked node move t0 covered t heads walk.chain (id ∷ es)
@@ -242,19 +240,19 @@ module _ (node : ℕ) (move : Point → Point) (t0 : List End) (covered : ℕ) (
     pub walk-live : IsSome (point_at t id)
     walk-live = id-live node move t0 covered t heads walk.chain id there.es there.is
 
-    pub walk-moves : (p : Point) → point_at t id ≡ Some p → MovesWithin node move t0 covered → (p.offset < 2 ^ 64 → (move p).offset < 2 ^ 64) × ((move p).node < length heads)
+    pub walk-moves : (p : Point) → point_at t id ≡ Some p → MovesWithin node move t0 covered → (p.offset < 2 ^ 64 → (move p).offset < 2 ^ 64) × (covers (cover_of heads) (move p).node ≡ true)
     walk-moves p h within =
         let w = there.is in
         let m = within id p (sym (id-stood node move t0 covered t heads walk.chain id there.es w) ∙ h) (id-node node move t0 covered t heads walk.chain id there.es w p h) in
-        (m.0, omega (arith, m.1, w.wide))
+        (m.0, ap (λ cs. covers cs (move p).node) w.wide ∙ m.1)
 
-    module _ (p r : Point) (at : point_at t id ≡ Some p) (moves : r ≡ move p) (f : Bool) (t' : List End) (heads' : Heads) (written : points_of t' ≡ set (points_of t) id (Some r)) (rechained : Rechains (moved_first f id r.node) t heads t' heads') (wide : length heads' ≡ length heads) where
-      on : IsWalked node move t0 covered t' heads' (moved_first f id r.node walk.chain) there.es
-      on = stepped node move t0 covered t heads walk.chain id there.es there.is p r at moves f t' heads' written rechained wide
+    module _ (p r : Point) (at : point_at t id ≡ Some p) (moves : r ≡ move p) (t' : List End) (heads' : Heads) (written : points_of t' ≡ set (points_of t) id (Some r)) (rechained : Rechains (moved_first id r.node) t heads t' heads') (wide : cover_of heads' ≡ cover_of heads) where
+      on : IsWalked node move t0 covered t' heads' (moved_first id r.node walk.chain) there.es
+      on = stepped node move t0 covered t heads walk.chain id there.es there.is p r at moves t' heads' written rechained wide
 
       pub walk-step : Walks node move t0 covered t' heads' (end_at t id).next
       walk-step = record {
-        chain = moved_first f id r.node walk.chain;
+        chain = moved_first id r.node walk.chain;
         rest = there.es;
         starts = id-next node move t0 covered t heads walk.chain id there.es there.is;
         walked = on;
@@ -263,7 +261,7 @@ module _ (node : ℕ) (move : Point → Point) (t0 : List End) (covered : ℕ) (
       pub walk-smaller : length (along t' (length t') (end_at t id).next) < length (along t (length t) here)
       walk-smaller =
           let a : along t' (length t') (end_at t id).next ≡ there.es =
-          ap (along t' (length t')) (id-next node move t0 covered t heads walk.chain id there.es there.is) ∙ measured node move t0 covered t' heads' (moved_first f id r.node walk.chain) there.es on in
+          ap (along t' (length t')) (id-next node move t0 covered t heads walk.chain id there.es there.is) ∙ measured node move t0 covered t' heads' (moved_first id r.node walk.chain) there.es on in
           let b : along t (length t) here ≡ id ∷ there.es = ap (along t (length t)) q ∙ measured node move t0 covered t heads walk.chain (id ∷ there.es) there.is in
           omega (arith, ap length a, ap length b)
 

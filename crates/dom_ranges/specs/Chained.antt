@@ -1,6 +1,5 @@
--- The chains that a table of ends spells: for each node the ends that stand in it, each once. A node that was forgotten has no chain, and
--- an end that stands in it stands in the table alone.
-use Rattle.std.specs.Prelude.{◌≡◌, ℕ, ◌<◌, ◌^◌, ◌==◌, Bool, true, false, not, if◌then◌else◌, List, ◌∷◌, map, slice_index_or, slice_set, Option, Some, None, is_some}
+-- The chains that a table of ends spells: for each covered node the ends that stand in it, each once. An end stands in a covered node alone.
+use Rattle.std.specs.Prelude.{◌≡◌, ℕ, ◌-◌, ◌<◌, ◌^◌, ◌==◌, Bool, true, false, if◌then◌else◌, List, [], ◌∷◌, ◌++◌, length, map, replicate, slice_index_or, slice_set, Option, Some, None, is_some}
 use Rattle.dom_model.specs.PlainLists.Lists.{hits, head_of, after, before, left_out}
 use Rattle.dom_model.specs.Worlds.World.{Point}
 use Rattle.dom_ranges.specs.declared.chains.End.{End}
@@ -19,16 +18,26 @@ point_at t e = (end_at t e).point
 abbrev pub points_of : List End → List (Option Point)
 points_of t = map (λ (e : End). e.point) t
 
--- by number of a node the first end of its chain, nothing where the node was forgotten
+-- whether a node is covered, by a list that says it of each node; a node past its end is not
+abbrev pub covers : List Bool → ℕ → Bool
+covers covered n = slice_index_or covered n false
+
+-- the nodes numbered below `made` of which the list says nothing are covered; the others stay as they are
+abbrev pub covered_to : ℕ → List Bool → List Bool
+covered_to made covered = covered ++ replicate (made - length covered) true
+
+-- these nodes are covered no more
+abbrev pub uncovered : List ℕ → List Bool → List Bool
+uncovered [] covered = covered
+uncovered (n ∷ ns) covered = uncovered ns (slice_set covered n false)
+
+-- by number of a node the first end of its chain, nothing where the node is not covered
 abbrev pub Heads : Type 0
 Heads = List (Option (Option ℕ))
 
--- what is kept of a node; a node beyond the table has an empty chain
-abbrev pub kept_at : Heads → ℕ → Option (Option ℕ)
-kept_at heads n = slice_index_or heads n (Some None)
-
-abbrev pub is_forgotten : Heads → ℕ → Bool
-is_forgotten heads n = not (is_some (kept_at heads n))
+-- which nodes have heads
+abbrev pub cover_of : Heads → List Bool
+cover_of heads = map is_some heads
 
 abbrev pub head_in : Option (Option ℕ) → Option ℕ
 head_in None = None
@@ -36,26 +45,18 @@ head_in (Some first) = first
 
 -- the first end of a node's chain
 abbrev pub head_at : Heads → ℕ → Option ℕ
-head_at heads n = head_in (kept_at heads n)
+head_at heads n = head_in (slice_index_or heads n None)
 
 -- 1 where the point stands in the node
 abbrev pub stands_at : ℕ → Option Point → ℕ
 stands_at n None = 0
 stands_at n (Some p) = if p.node == n then 1 else 0
 
--- whether the point stands in the node
-abbrev pub is_at : ℕ → Option Point → Bool
-is_at n None = false
-is_at n (Some p) = p.node == n
-
--- 1 where an end at the point is in the chain of the node
-abbrev pub chained_at : Heads → ℕ → Option Point → ℕ
-chained_at heads n o = if is_forgotten heads n then 0 else stands_at n o
-
--- each node's chain is spelled in both directions, and has the ends that stand in the node, each once; none where the node was forgotten
+-- each node's chain is spelled in both directions from its head on, and has the ends that stand in the node, each once. A node that is not
+-- covered has no head, so no end stands in it
 pub record IsChained (chain : ℕ → List ℕ) (t : List End) (heads : Heads) : Type 0 where
   pub first : (n : ℕ) → head_at heads n ≡ head_of (chain n)
-  pub counted : (e n : ℕ) → hits e (chain n) ≡ chained_at heads n (point_at t e)
+  pub counted : (e n : ℕ) → hits e (chain n) ≡ stands_at n (point_at t e)
   pub next : (e n : ℕ) → 0 < hits e (chain n) → (end_at t e).next ≡ after e (chain n)
   pub prev : (e n : ℕ) → 0 < hits e (chain n) → (end_at t e).prev ≡ before e (chain n)
 
@@ -102,14 +103,13 @@ heads_with e p heads = slice_set heads p.node (Some (Some e))
 abbrev pub unchained : ℕ → (ℕ → List ℕ) → ℕ → List ℕ
 unchained e chain n = left_out e (chain n)
 
--- the chains, with an end first in the chain of a node; as they were where the node was forgotten
-abbrev pub chained_first : Bool → ℕ → ℕ → (ℕ → List ℕ) → ℕ → List ℕ
-chained_first true e node chain n = chain n
-chained_first false e node chain n = if node == n then e ∷ chain n else chain n
+-- the chains, with an end first in the chain of a node
+abbrev pub chained_first : ℕ → ℕ → (ℕ → List ℕ) → ℕ → List ℕ
+chained_first e node chain n = if node == n then e ∷ chain n else chain n
 
 -- the chains, with an end taken out of its chain and put first in that of a node
-abbrev pub moved_first : Bool → ℕ → ℕ → (ℕ → List ℕ) → ℕ → List ℕ
-moved_first forgotten e node chain n = chained_first forgotten e node (unchained e chain) n
+abbrev pub moved_first : ℕ → ℕ → (ℕ → List ℕ) → ℕ → List ℕ
+moved_first e node chain n = chained_first e node (unchained e chain) n
 
 -- what a change of chains does to whichever chains there are
 abbrev pub Rechains : ((ℕ → List ℕ) → ℕ → List ℕ) → List End → Heads → List End → Heads → Type 0
@@ -119,9 +119,10 @@ Rechains change t heads t' heads' = (chain : ℕ → List ℕ) → IsChained cha
 abbrev pub on_node : ℕ → (Point → Point) → Point → Point
 on_node node move p = if p.node == node then move p else p
 
--- where a map leads each point of a node there is a chain, and its offset is a number of the machine
-abbrev pub MovesWithin : ℕ → (Point → Point) → List End → ℕ → Type 0
-MovesWithin node move t covered = (e : ℕ) (p : Point) → point_at t e ≡ Some p → p.node ≡ node → (p.offset < 2 ^ 64 → (move p).offset < 2 ^ 64) × ((move p).node < covered)
+-- a map leads each point of a node to a covered one, and its offset is a number of the machine
+abbrev pub MovesWithin : ℕ → (Point → Point) → List End → List Bool → Type 0
+MovesWithin node move t covered =
+    (e : ℕ) (p : Point) → point_at t e ≡ Some p → p.node ≡ node → (p.offset < 2 ^ 64 → (move p).offset < 2 ^ 64) × (covers covered (move p).node ≡ true)
 
 -- of two nodes that differ, no point of the first goes to the second
 abbrev pub GoesElsewhere : ℕ → ℕ → (Point → Point) → Type 0

@@ -1,5 +1,5 @@
 -- The table of live ranges, and what it is to be in order. DOM Standard, "Live ranges".
-use Rattle.std.specs.Prelude.{◌≡◌, ℕ, ◌+◌, ◌^◌, ◌<◌, ◌≤◌, Bool, false, if◌then◌else◌, List, [], ◌∷◌, length, map, slice_index_or, Option, Some, None, IfSome, IsSome, is_some, Result, Ok, Err}
+use Rattle.std.specs.Prelude.{◌≡◌, ℕ, ◌+◌, ◌^◌, ◌<◌, ◌≤◌, Bool, true, false, if◌then◌else◌, List, [], ◌∷◌, length, map, slice_index_or, Option, Some, None, IfSome, IsSome, is_some, Result, Ok, Err}
 use Rattle.std.specs.List.{All, flat_map}
 use Rattle.std.specs.declared.cmp.Ordering.TheVariants.{Greater}
 use Rattle.dom_model.specs.declared.Kind.TheVariants.{DocumentType}
@@ -12,12 +12,16 @@ use Rattle.dom_model.specs.MutationAlgorithms.Checks.{is_of_kind}
 use Rattle.dom_model.specs.Forests.Lengths.{node_length}
 use Rattle.dom_model.specs.MutationAlgorithms.Discarding.{nodes_of_live}
 use Rattle.dom_ranges.specs.declared.chains.End.{End}
-use Rattle.dom_ranges.specs.Chained.{Heads, points_of, HasChains}
+use Rattle.dom_ranges.specs.Chained.{Heads, covers, points_of, HasChains}
 
--- the live ranges by number, none where one was released, and how many nodes may have ends
+-- the live ranges by number, none where one was released, and for each node whether it is covered: only there an end may stand
 pub record RangeTable : Type 0 where
   pub ranges : List (Option Range)
-  pub covered : ℕ
+  pub covered : List Bool
+
+-- a node is covered; one past the end of the list is not
+abbrev pub IsCovered : RangeTable → ℕ → Type 0
+IsCovered t n = covers t.covered n ≡ true
 
 -- a live range; none where its number was not given out, or was released
 abbrev pub range_in : RangeTable → ℕ → Option Range
@@ -116,7 +120,7 @@ pub record IsKept (t : List End) (heads : Heads) (live : ℕ) : Type 0 where
   pub chains : HasChains t heads
   pub pairs : IsPaired (points_of t)
   pub alive : live ≡ live_count (paired (points_of t))
-  pub small : length t ≤ 2 ^ 32
+  pub small : length t ≤ 2 ^ 33
 
 -- each vacant slot is listed once, and no range is in it
 pub record AreVacant (pairs : List (Option Range)) (vacant : List ℕ) : Type 0 where
@@ -136,12 +140,13 @@ pub record IsFilled (ends live vacant room : ℕ) : Type 0 where
   pub filled : ends ≡ live + live + vacant + vacant
   pub listed : live + vacant ≤ room
 
--- what the live ranges keep of their ends, of the slots of their numbers, and of the vacant slots
+-- what the live ranges keep of their ends, of the slots of their numbers, and of the vacant slots. There are no more slots than numbers
 pub record IsInOrder (t : List End) (heads : Heads) (slots : List (Option ℕ)) (vacant : List ℕ) (live many room : ℕ) : Type 0 where
   pub ends : IsKept t heads live
   pub numbered : HaveSlots (paired (points_of t)) slots
   pub empty : AreVacant (paired (points_of t)) vacant
   pub filled : IsFilled (length t) live many room
+  pub few : length t ≤ length slots + length slots
 
 -- a range comes into an empty slot, and these slots are vacant then
 pub record Settles (s : ℕ) (x : Range) (pairs pairs' : List (Option Range)) (vacant : List ℕ) : Type 0 where

@@ -4,13 +4,13 @@
 ghost use Rattle.std.specs.Prelude.{◌≡◌, ◌<◌, ◌^◌, IfSome, IsSomeAnd};
 ghost use Rattle.dom_model.specs.Forests.Forest.{HasNode, parent_of, index_of, inclusive_descendants};
 ghost use Rattle.dom_model.specs.BoundaryPoints.Points.{after_gap, after_splice, after_split, after_merge, after_removal, map_ranges};
-ghost use Rattle.dom_ranges.specs.Tables.{OffsetsFit, moved_in};
+ghost use Rattle.dom_ranges.specs.Tables.{IsCovered, OffsetsFit, moved_in};
 ghost use Rattle.dom_ranges.specs.Chained.{on_node};
 
 use crate::ranges::Ranges;
 use crate::shift::Shift;
 use dom_point::Point;
-use dom_tree::{NodeId, Tree};
+use dom_point::dom_tree::{NodeId, Tree};
 
 impl Ranges {
     /// Nodes come in among a parent's children, `count` of them at the index `at`.
@@ -44,8 +44,8 @@ impl Ranges {
     /// A Text, the child of the parent at the index, was split at an offset: what was beyond stands in the new Text behind it.
     pub fn was_split(&mut self, node: NodeId, at: usize, new: NodeId, parent: NodeId, index: usize)
         requires fit { OffsetsFit (after_split node at new parent index) self.old.ranges }
-        requires new_covered { new < self.old.covered }
-        requires parent_covered { parent < self.old.covered }
+        requires new_covered { IsCovered self.old new }
+        requires parent_covered { IsCovered self.old parent }
         ensures { self.new ≡ record self.old { ranges = map_ranges (after_split node at new parent index) self.old.ranges } }
     {
         let shift = Shift::Split {
@@ -61,7 +61,7 @@ impl Ranges {
     /// A Text, the child of the parent at the index, is joined to another, which had `base` units before.
     pub fn merged(&mut self, from: NodeId, into: NodeId, base: usize, parent: NodeId, index: usize)
         requires fit { OffsetsFit (after_merge from into base parent index) self.old.ranges }
-        requires into_covered { into < self.old.covered }
+        requires into_covered { IsCovered self.old into }
         ensures { self.new ≡ record self.old { ranges = map_ranges (after_merge from into base parent index) self.old.ranges } }
     {
         let shift = Shift::Merge {
@@ -93,7 +93,7 @@ impl Ranges {
 
     // All ends in a node go to one point.
     fn gather_at(&mut self, node: NodeId, to: Point)
-        requires covered { to.node < self.old.covered }
+        requires covered { IsCovered self.old to.node }
         requires fits { to.offset < 2 ^ 64 }
         ensures { self.new ≡ record self.old { ranges = map_ranges (on_node node (λ _. to)) self.old.ranges } }
     {
@@ -102,7 +102,7 @@ impl Ranges {
 
     // The same of all ends inside a node. It asks each end.
     fn gather_ends<X>(&mut self, tree: &Tree<X>, top: NodeId, to: Point)
-        requires covered { to.node < self.old.covered }
+        requires covered { IsCovered self.old to.node }
         ensures { self.new ≡ record self.old { ranges = map_ranges (moved_in (inclusive_descendants tree.now.forest top) to) self.old.ranges } }
     {
         self.chains.gather(tree, top, to);
@@ -111,7 +111,7 @@ impl Ranges {
     // All ends inside a node go to one point. It walks the nodes inside, and where they are more than the ends it asks each end.
     fn gather<X>(&mut self, tree: &Tree<X>, top: NodeId, to: Point)
         requires held { HasNode tree.now.forest top }
-        requires covered { to.node < self.old.covered }
+        requires covered { IsCovered self.old to.node }
         requires fits { to.offset < 2 ^ 64 }
         ensures { self.new ≡ record self.old { ranges = map_ranges (moved_in (inclusive_descendants tree.now.forest top) to) self.old.ranges } }
     {
@@ -130,7 +130,7 @@ impl Ranges {
     /// A node leaves its parent. It is called before the node is taken out.
     pub fn removing<X>(&mut self, tree: &Tree<X>, node: NodeId)
         requires held { HasNode tree.now.forest node }
-        requires parent { IsSomeAnd (parent_of tree.now.forest node) (λ p. p < self.old.covered) }
+        requires parent { IsSomeAnd (parent_of tree.now.forest node) (IsCovered self.old) }
         ensures { IfSome (parent_of tree.now.forest node) (λ p. self.new ≡ record self.old { ranges = map_ranges (after_removal (inclusive_descendants tree.now.forest node) p (index_of tree.now.forest node)) self.old.ranges }) }
     {
         let parent = tree.parent(node).unwrap();

@@ -1,20 +1,18 @@
-//! The ends asked one by one where they stand: for a change that concerns more nodes than there are ends, or a node that was forgotten.
+//! The ends asked one by one where they stand: for a change that concerns more nodes than there are ends.
 
-ghost use Rattle.std.specs.Prelude.{◌≡◌, ◌^◌, ◌<◌, ◌≤◌, length, map, Option, option_map};
+ghost use Rattle.std.specs.Prelude.{◌≡◌, true, map, Option, option_map};
 ghost use Rattle.std.specs.List.{list_any};
 ghost use Rattle.dom_model.specs.PlainLists.Lists.{among};
 ghost use Rattle.dom_model.specs.Forests.Forest.{inclusive_descendants};
 ghost use Rattle.dom_model.specs.Worlds.World.{Point as PointValue};
-ghost use Rattle.dom_ranges.specs.Chained.{is_at, points_of, on_node, HasChains, MovesWithin};
-ghost use Rattle.dom_ranges.specs.Shifting.{shifted};
+ghost use Rattle.dom_ranges.specs.Chained.{covers, cover_of, points_of, HasChains};
 ghost use Rattle.dom_ranges.specs.Tables.{nodes_at, stands_among, moved_in};
 
 use crate::chains::{Chains, End};
 use crate::numbers::EndId;
-use crate::shift::Shift;
 use crate::statics::is_inside;
 use dom_point::Point;
-use dom_tree::{NodeId, Tree};
+use dom_point::dom_tree::{NodeId, Tree};
 
 // Whether an end stands inside a node.
 fn stands_inside<X>(end: End, tree: &Tree<X>, top: NodeId) -> bool
@@ -26,47 +24,7 @@ fn stands_inside<X>(end: End, tree: &Tree<X>, top: NodeId) -> bool
     }
 }
 
-// Whether an end stands in a node.
-fn stands_at(end: End, node: NodeId) -> bool
-    ensures { result ≡ is_at node end.point }
-{
-    match end.point {
-        Some(point) => point.node == node,
-        None => false,
-    }
-}
-
 impl Chains {
-    /// Whether an end stands in a node. It asks each end.
-    pub(crate) fn asked_in(&self, node: NodeId) -> bool
-        ensures { result ≡ among node (nodes_at (points_of self.now.table.items)) }
-    {
-        for end in &self.table {
-            if stands_at(*end, node) {
-                return true;
-            }
-        }
-        false
-    }
-
-    /// Shifts the ends that stand in a node. It asks each end.
-    pub(crate) fn shift_asked(&mut self, node: NodeId, shift: &Shift)
-        requires small { length self.old.table.items ≤ 2 ^ 32 }
-        requires chains { HasChains self.old.table.items self.old.heads.items }
-        requires within { MovesWithin node (shifted shift.now) self.old.table.items (length self.old.heads.items) }
-        ensures points { points_of self.new.table.items ≡ map (λ (o : Option PointValue). option_map (on_node node (shifted shift.now)) o) (points_of self.old.table.items) }
-        ensures chains { HasChains self.new.table.items self.new.heads.items }
-        ensures covered { length self.new.heads.items ≡ length self.old.heads.items }
-    {
-        for number in 0..self.count() {
-            let id = EndId::new(number as u32);
-            if stands_at(self.end(id), node) {
-                let point = self.point(id);
-                self.place(id, shift.apply(point));
-            }
-        }
-    }
-
     /// Whether an end stands inside a node. It asks each end.
     pub(crate) fn refer<X>(&self, tree: &Tree<X>, top: NodeId) -> bool
         ensures { result ≡ list_any (λ m. among m (inclusive_descendants tree.now.forest top)) (nodes_at (points_of self.now.table.items)) }
@@ -81,15 +39,14 @@ impl Chains {
 
     /// Moves all ends that stand inside a node to one point. It asks each end.
     pub(crate) fn gather<X>(&mut self, tree: &Tree<X>, top: NodeId, to: Point)
-        requires room { to.node < length self.old.heads.items }
-        requires small { length self.old.table.items ≤ 2 ^ 32 }
+        requires covered { covers (cover_of self.old.heads.items) to.node ≡ true }
         requires chains { HasChains self.old.table.items self.old.heads.items }
         ensures points { points_of self.new.table.items ≡ map (λ (o : Option PointValue). option_map (moved_in (inclusive_descendants tree.now.forest top) to) o) (points_of self.old.table.items) }
         ensures chains { HasChains self.new.table.items self.new.heads.items }
-        ensures covered { length self.new.heads.items ≡ length self.old.heads.items }
+        ensures covered { cover_of self.new.heads.items ≡ cover_of self.old.heads.items }
     {
         for index in 0..self.count() {
-            let id = EndId::new(index as u32);
+            let id = EndId::new(index);
             if stands_inside(self.end(id), tree, top) {
                 self.place(id, to);
             }

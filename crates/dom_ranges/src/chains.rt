@@ -3,23 +3,22 @@
 //! A node knows the first of its chain, an end the ones on both sides of it. So to take an end out or to put it elsewhere takes the
 //! same time however many there are, and a change at a node is felt by the ends of its chain alone.
 //!
-//! A node that was forgotten has no chain any more, since nothing is kept of it. An end may still come to stand in it: such an end has its
-//! point in the table of ends and no neighbours, and who wants the ends of a forgotten node asks each end of the table.
+//! A node that is not covered, since it was not made yet or was forgotten, has no chain, and no end stands in it.
 
-ghost use Rattle.std.specs.Prelude.{◌≡◌, ℕ, ◌^◌, ◌<◌, ◌≤◌, [], ◌∷◌, ◌++◌, length, map, max, Option, option_map, Some, None, IsSome, OnOk, OnErr, slice_set};
+ghost use Rattle.std.specs.Prelude.{◌≡◌, ℕ, ◌+◌, ◌^◌, ◌<◌, ◌≤◌, true, false, [], ◌∷◌, ◌++◌, length, map, Option, option_map, Some, None, IsSome, OnOk, OnErr, slice_set};
 ghost use Rattle.std.specs.Vec.{vec_len, vec_capacity};
 ghost use Rattle.dom_model.specs.PlainLists.Lists.{among};
 ghost use Rattle.dom_model.specs.Worlds.World.{Point as PointValue};
-ghost use Rattle.dom_pages.specs.Numbered.{item_at};
-ghost use Rattle.dom_ranges.specs.Chained.{free_end, end_at, head_at, is_forgotten, point_at, points_of, ForLink, led_on, led_back, heads_led, HasChains, Rechains, unchained, chained_first, on_node, MovesWithin, GoesElsewhere, StaysBeside, moved_first};
+ghost use Rattle.dom_point.specs.dom_pages.Numbered.{item_at};
+ghost use Rattle.dom_ranges.specs.Chained.{free_end, end_at, head_at, covers, covered_to, cover_of, point_at, points_of, ForLink, led_on, led_back, heads_led, HasChains, Rechains, unchained, chained_first, on_node, MovesWithin, GoesElsewhere, StaysBeside, moved_first};
 ghost use Rattle.dom_ranges.specs.Shifting.{shifted};
 ghost use Rattle.dom_ranges.specs.Tables.{nodes_at};
 
 use crate::numbers::EndId;
 use crate::shift::Shift;
-use dom_pages::Pages;
 use dom_point::Point;
-use dom_tree::NodeId;
+use dom_point::dom_pages::Pages;
+use dom_point::dom_tree::NodeId;
 use std::alloc::{AllocError, Global};
 
 /// An end: where it stands, and the ends before and after it in the chain of its node. An end of no live range stands nowhere.
@@ -30,7 +29,7 @@ pub(crate) struct End {
     pub(crate) next: Option<EndId>,
 }
 
-/// The table of all ends, and for each node that was not forgotten the first end of its chain.
+/// The table of all ends, and for each covered node the first end of its chain.
 #[derive(Drop)]
 pub(crate) struct Chains {
     pub(crate) table: Vec<End>,
@@ -79,12 +78,11 @@ impl Chains {
         self.heads.get(node.number() as usize).flatten()
     }
 
-    // Whether a node was forgotten.
-    fn forgot(&self, node: NodeId) -> bool
-        ensures { result ≡ is_forgotten self.now.heads.items node }
+    /// Whether a node is covered.
+    pub(crate) fn is_covered(&self, node: NodeId) -> bool
+        ensures { result ≡ covers (cover_of self.now.heads.items) node }
     {
-        let index = node.number() as usize;
-        index < self.heads.len() && self.heads.get(index).is_none()
+        self.heads.get(node.number() as usize).is_some()
     }
 
     /// Whether an end stands in a node.
@@ -92,9 +90,6 @@ impl Chains {
         requires { HasChains self.now.table.items self.now.heads.items }
         ensures { result ≡ among node (nodes_at (points_of self.now.table.items)) }
     {
-        if self.forgot(node) {
-            return self.asked_in(node);
-        }
         self.head(node).is_some()
     }
 
@@ -176,34 +171,26 @@ impl Chains {
         requires chains { HasChains self.old.table.items self.old.heads.items }
         ensures points { points_of self.new.table.items ≡ slice_set (points_of self.old.table.items) id None }
         ensures chains { Rechains (unchained id) self.old.table.items self.old.heads.items self.new.table.items self.new.heads.items }
-        ensures covered { length self.new.heads.items ≡ length self.old.heads.items }
+        ensures covered { cover_of self.new.heads.items ≡ cover_of self.old.heads.items }
     {
         let end = self.end(id);
         let point = end.point.unwrap();
-        if self.forgot(point.node) {
-            self.clear(id);
-            return;
-        }
         self.lead_on(point.node, end.prev, end.next);
         self.lead_back(end.next, end.prev);
         self.clear(id);
     }
 
-    /// Puts an end that stands nowhere at a point, first in the chain of its node where that was not forgotten.
+    /// Puts an end that stands nowhere at a point, first in the chain of its node.
     pub(crate) fn put_first(&mut self, id: EndId, point: Point)
         requires within { id < length self.old.table.items }
         requires free { point_at self.old.table.items id ≡ None }
-        requires room { point.node < length self.old.heads.items }
+        requires covered { covers (cover_of self.old.heads.items) point.node ≡ true }
         requires chains { HasChains self.old.table.items self.old.heads.items }
         ensures points { points_of self.new.table.items ≡ slice_set (points_of self.old.table.items) id (Some point) }
-        ensures chains { Rechains (chained_first (is_forgotten self.new.heads.items point.node) id point.node) self.old.table.items self.old.heads.items self.new.table.items self.new.heads.items }
-        ensures covered { length self.new.heads.items ≡ length self.old.heads.items }
+        ensures chains { Rechains (chained_first id point.node) self.old.table.items self.old.heads.items self.new.table.items self.new.heads.items }
+        ensures covered { cover_of self.new.heads.items ≡ cover_of self.old.heads.items }
     {
         let node = node_of(&point);
-        if self.forgot(node) {
-            self.settle(id, point);
-            return;
-        }
         let next = self.head(node);
         self.lead_back(next, Some(id));
         self.settle(id, point);
@@ -213,29 +200,24 @@ impl Chains {
     /// Moves an end that stands somewhere to another point.
     pub(crate) fn place(&mut self, id: EndId, point: Point)
         requires live { IsSome (point_at self.old.table.items id) }
-        requires room { point.node < length self.old.heads.items }
+        requires covered { covers (cover_of self.old.heads.items) point.node ≡ true }
         requires chains { HasChains self.old.table.items self.old.heads.items }
         ensures points { points_of self.new.table.items ≡ slice_set (points_of self.old.table.items) id (Some point) }
-        ensures chains { Rechains (moved_first (is_forgotten self.new.heads.items point.node) id point.node) self.old.table.items self.old.heads.items self.new.table.items self.new.heads.items }
-        ensures covered { length self.new.heads.items ≡ length self.old.heads.items }
+        ensures chains { Rechains (moved_first id point.node) self.old.table.items self.old.heads.items self.new.table.items self.new.heads.items }
+        ensures covered { cover_of self.new.heads.items ≡ cover_of self.old.heads.items }
     {
         self.take_out(id);
         self.put_first(id, point);
     }
 
-    /// Shifts the ends that stand in a node. It walks the chain of that node and no other; of a node that was forgotten it asks each end.
+    /// Shifts the ends that stand in a node. It walks the chain of that node and no other.
     pub(crate) fn shift(&mut self, node: NodeId, shift: &Shift)
-        requires small { length self.old.table.items ≤ 2 ^ 32 }
         requires chains { HasChains self.old.table.items self.old.heads.items }
-        requires within { MovesWithin node (shifted shift.now) self.old.table.items (length self.old.heads.items) }
+        requires within { MovesWithin node (shifted shift.now) self.old.table.items (cover_of self.old.heads.items) }
         ensures points { points_of self.new.table.items ≡ map (λ (o : Option PointValue). option_map (on_node node (shifted shift.now)) o) (points_of self.old.table.items) }
         ensures chains { HasChains self.new.table.items self.new.heads.items }
-        ensures covered { length self.new.heads.items ≡ length self.old.heads.items }
+        ensures covered { cover_of self.new.heads.items ≡ cover_of self.old.heads.items }
     {
-        if self.forgot(node) {
-            self.shift_asked(node, shift);
-            return;
-        }
         let mut here = self.head(node);
         while let Some(id) = here {
             let end = self.end(id);
@@ -246,15 +228,14 @@ impl Chains {
 
     /// Shifts the ends that stand in two nodes, which may be one. No end of the first goes to the second.
     pub(crate) fn shift_both(&mut self, first: NodeId, second: NodeId, shift: &Shift)
-        requires small { length self.old.table.items ≤ 2 ^ 32 }
         requires chains { HasChains self.old.table.items self.old.heads.items }
-        requires first_within { MovesWithin first (shifted shift.now) self.old.table.items (length self.old.heads.items) }
-        requires second_within { MovesWithin second (shifted shift.now) self.old.table.items (length self.old.heads.items) }
+        requires first_within { MovesWithin first (shifted shift.now) self.old.table.items (cover_of self.old.heads.items) }
+        requires second_within { MovesWithin second (shifted shift.now) self.old.table.items (cover_of self.old.heads.items) }
         requires apart { GoesElsewhere first second (shifted shift.now) }
         requires beside { StaysBeside first second (shifted shift.now) }
         ensures points { points_of self.new.table.items ≡ map (λ (o : Option PointValue). option_map (shifted shift.now) o) (points_of self.old.table.items) }
         ensures chains { HasChains self.new.table.items self.new.heads.items }
-        ensures covered { length self.new.heads.items ≡ length self.old.heads.items }
+        ensures covered { cover_of self.new.heads.items ≡ cover_of self.old.heads.items }
     {
         self.shift(first, shift);
         if second != first {
@@ -276,34 +257,32 @@ impl Chains {
         });
     }
 
-    /// Makes two ends. Where there are more than the numbers of ends can tell apart there is no memory either.
+    /// Makes two ends.
     pub(crate) fn add(&mut self, start: Point, end: Point) -> Result<(), AllocError>
-        requires start { start.node < length self.old.heads.items }
-        requires end { end.node < length self.old.heads.items }
+        requires start { covers (cover_of self.old.heads.items) start.node ≡ true }
+        requires end { covers (cover_of self.old.heads.items) end.node ≡ true }
         requires chains { HasChains self.old.table.items self.old.heads.items }
+        requires few { length self.old.table.items + 2 ≤ 2 ^ 33 }
         ensures added { OnOk result (points_of self.new.table.items ≡ points_of self.old.table.items ++ Some start ∷ Some end ∷ []) }
         ensures unchanged { OnErr result (points_of self.new.table.items ≡ points_of self.old.table.items) }
-        ensures small { OnOk result (length self.new.table.items ≤ 2 ^ 32) }
         ensures chains { HasChains self.new.table.items self.new.heads.items }
-        ensures covered { length self.new.heads.items ≡ length self.old.heads.items }
+        ensures covered { cover_of self.new.heads.items ≡ cover_of self.old.heads.items }
     {
         let index = self.table.len();
-        if index > 4294967294 {
-            return Err(AllocError);
-        }
         self.table.reserve(2)?;
         self.append_free();
         self.append_free();
-        self.put_first(EndId::new(index as u32), start);
-        self.put_first(EndId::new(index as u32 + 1), end);
+        self.put_first(EndId::new(index), start);
+        self.put_first(EndId::new(index + 1), end);
         Ok(())
     }
 
-    /// Makes room for the chains of the nodes numbered below `made`.
+    /// Makes room for the chains of the nodes numbered below `made` that were not covered yet. One that was forgotten stays so.
     pub(crate) fn cover(&mut self, made: u64) -> Result<(), AllocError>
-        requires { HasChains self.old.table.items self.old.heads.items }
-        ensures covered { OnOk result (length self.new.heads.items ≡ max (length self.old.heads.items) made) }
-        ensures unchanged { OnErr result (length self.new.heads.items ≡ length self.old.heads.items) }
+        requires chains { HasChains self.old.table.items self.old.heads.items }
+        requires few { made ≤ 4294967295 }
+        ensures covered { OnOk result (cover_of self.new.heads.items ≡ covered_to made (cover_of self.old.heads.items)) }
+        ensures unchanged { OnErr result (cover_of self.new.heads.items ≡ cover_of self.old.heads.items) }
         ensures table { self.new.table.items ≡ self.old.table.items }
         ensures chains { HasChains self.new.table.items self.new.heads.items }
     {
@@ -319,15 +298,16 @@ impl Chains {
         Ok(())
     }
 
-    /// Forgets a node in whose chain there is no end. Another stays as it is, and so does one that is not in the table.
+    /// Forgets a node in which no end stands. One that is not in the table stays as it is.
     pub(crate) fn forget(&mut self, node: NodeId)
-        requires { HasChains self.old.table.items self.old.heads.items }
+        requires chains { HasChains self.old.table.items self.old.heads.items }
+        requires empty { among node (nodes_at (points_of self.old.table.items)) ≡ false }
         ensures table { self.new.table.items ≡ self.old.table.items }
         ensures chains { HasChains self.new.table.items self.new.heads.items }
-        ensures covered { length self.new.heads.items ≡ length self.old.heads.items }
+        ensures covered { cover_of self.new.heads.items ≡ slice_set (cover_of self.old.heads.items) node false }
     {
         let index = node.number() as usize;
-        if index < self.heads.len() && self.head(node).is_none() {
+        if index < self.heads.len() {
             self.heads.clear(index);
         }
     }

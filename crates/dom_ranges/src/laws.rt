@@ -1,7 +1,7 @@
-//! Laws of live range ends: each map that adjusts them moves an end as the edit of the token texts moves its marker. They follow from the
-//! definitions alone; nothing here runs.
+//! Laws of live range ends: each map that adjusts them, and each call that sets them anew, moves an end as the edit of the token texts moves
+//! its marker. They follow from the definitions alone; nothing here runs.
 
-ghost use Rattle.dom_ranges.specs.Markers.{MoveWhereNodesComeIn, MoveWhereANodeLeaves, MoveWhereUnitsAreReplaced, MoveWhereATextIsSplit, MoveWhereTextsAreJoined};
+ghost use Rattle.dom_ranges.specs.Markers.{MoveWhereNodesComeIn, MoveWhereANodeLeaves, MoveWhereUnitsAreReplaced, MoveWhereATextIsSplit, MoveWhereTextsAreJoined, MoveWhereEndsAreSet};
 
 /// A law: where a root comes in among a node's children, `after_gap` for one node moves each end of a live range as the coming in of the
 /// root's tokens behind the gap's markers moves its marker. Several nodes come in one after another, each in a gap of its own (DOM Standard,
@@ -34,4 +34,17 @@ pub fn ends_move_as_markers_where_a_text_is_split()
 /// leaves (DOM Standard, "Interface Node": normalize).
 pub fn ends_move_as_markers_where_texts_are_joined()
     ensures { MoveWhereTextsAreJoined }
+{}
+
+/// A law: where a live range is set anew, the marker of each end that moves goes into the gap of its new point, and all other markers stay.
+/// What [`Ranges::set_start`], [`Ranges::set_end`], [`Ranges::select`], [`Ranges::select_contents`] and [`Ranges::collapse`] write is so set
+/// wherever they refuse nothing (DOM Standard, "Interface Range").
+///
+/// [`Ranges::set_start`]: crate::Ranges::set_start
+/// [`Ranges::set_end`]: crate::Ranges::set_end
+/// [`Ranges::select`]: crate::Ranges::select
+/// [`Ranges::select_contents`]: crate::Ranges::select_contents
+/// [`Ranges::collapse`]: crate::Ranges::collapse
+pub fn ends_move_as_markers_where_they_are_set()
+    ensures { MoveWhereEndsAreSet }
 {}

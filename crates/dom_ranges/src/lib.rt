@@ -11,6 +11,8 @@ mod setting;
 mod shift;
 mod statics;
 
+pub use dom_point;
+pub use dom_point::{dom_kinds, dom_links, dom_pages, dom_tree};
 pub use numbers::RangeId;
 pub use ranges::Ranges;
 pub use statics::{StaticId, Statics};

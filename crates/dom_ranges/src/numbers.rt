@@ -1,6 +1,6 @@
 //! The numbers of live ranges, of their slots, and of their ends.
 
-ghost use Rattle.std.specs.Prelude.{◌≡◌, ◌+◌, ◌<◌, ◌^◌};
+ghost use Rattle.std.specs.Prelude.{◌≡◌, ◌+◌};
 
 use std::marker::Model;
 
@@ -65,25 +65,23 @@ impl RangeSlot {
 
     /// The end at which the range in the slot starts.
     pub(crate) fn start(self) -> EndId
-        requires { self + self + 1 < 2 ^ 32 }
         ensures { result ≡ self + self }
     {
-        EndId::new(self.index + self.index)
+        EndId::new(self.index as usize * 2)
     }
 
     /// The end at which it ends.
     pub(crate) fn end(self) -> EndId
-        requires { self + self + 1 < 2 ^ 32 }
         ensures { result ≡ self + self + 1 }
     {
-        EndId::new(self.index + self.index + 1)
+        EndId::new(self.index as usize * 2 + 1)
     }
 }
 
-/// The place of an end in the table of ends.
+/// The place of an end in the table of ends, which has twice as many as there are slots.
 #[derive(Clone, Copy, Debug, PartialEq, Eq)]
 pub(crate) struct EndId {
-    index: u32,
+    index: usize,
 }
 
 impl Model for EndId {
@@ -93,13 +91,13 @@ impl Model for EndId {
 
     ghost view = { λ e. e.index };
 
-    ghost invariant = { λ e. e.index < 2 ^ 32 };
+    ghost invariant = { λ e. e.index < 2 ^ 64 };
 
     ghost inverse = { λ n. record { index = n } };
 }
 
 impl EndId {
-    pub(crate) fn new(index: u32) -> EndId
+    pub(crate) fn new(index: usize) -> EndId
         ensures { result ≡ index }
     {
         EndId { index }
@@ -108,6 +106,6 @@ impl EndId {
     pub(crate) fn index(self) -> usize
         ensures { result ≡ self }
     {
-        self.index as usize
+        self.index
     }
 }

@@ -1,19 +1,19 @@
 //! Live ranges: making, reading and releasing them.
 
-ghost use Rattle.std.specs.Prelude.{◌≡◌, ◌+◌, ◌<◌, ◌≤◌, max, [], ◌∷◌, ◌++◌, length, slice_set, Some, None, IsSome, is_some, true, IfOk, OnOk, OnErr};
+ghost use Rattle.std.specs.Prelude.{◌≡◌, ◌+◌, ◌^◌, ◌<◌, ◌≤◌, [], ◌∷◌, ◌++◌, length, slice_set, Some, None, IsSome, is_some, true, false, IfOk, OnOk, OnErr};
 ghost use Rattle.std.specs.List.{list_any};
 ghost use Rattle.std.specs.Vec.{vec_len, vec_capacity};
 ghost use Rattle.dom_model.specs.PlainLists.Lists.{among};
 ghost use Rattle.dom_model.specs.Forests.Forest.{HasNode, inclusive_descendants};
 ghost use Rattle.dom_model.specs.Worlds.World.{Range};
-ghost use Rattle.dom_ranges.specs.Chained.{points_of};
-ghost use Rattle.dom_ranges.specs.Tables.{range_in, slot_at, live_nodes, paired, IsRangeIn, IsKept, AreVacant, IsFilled, Settles};
+ghost use Rattle.dom_ranges.specs.Chained.{covers, covered_to, uncovered, cover_of, points_of};
+ghost use Rattle.dom_ranges.specs.Tables.{IsCovered, range_in, slot_at, live_nodes, paired, IsRangeIn, IsKept, AreVacant, IsFilled, Settles};
 
 use crate::chains::Chains;
 use crate::numbers::{RangeId, RangeSlot};
-use dom_pages::Pages;
 use dom_point::Point;
-use dom_tree::{Body, NodeId, Tree};
+use dom_point::dom_pages::Pages;
+use dom_point::dom_tree::{Body, NodeId, Tree};
 use std::alloc::{AllocError, Global};
 use std::marker::Model;
 
@@ -30,14 +30,13 @@ pub struct Ranges {
 }
 
 impl Model for Ranges {
-    ghost use Rattle.std.specs.Prelude.{length};
     ghost use Rattle.std.specs.Vec.{vec_len, vec_capacity};
-    ghost use Rattle.dom_ranges.specs.Chained.{points_of};
+    ghost use Rattle.dom_ranges.specs.Chained.{cover_of, points_of};
     ghost use Rattle.dom_ranges.specs.Tables.{RangeTable, paired, by_slot, IsInOrder};
 
     ghost Value = { RangeTable };
 
-    ghost view = { λ a. record { ranges = by_slot (paired (points_of a.chains.table.items)) a.slots.items; covered = length a.chains.heads.items } };
+    ghost view = { λ a. record { ranges = by_slot (paired (points_of a.chains.table.items)) a.slots.items; covered = cover_of a.chains.heads.items } };
 
     ghost invariant = { λ a. IsInOrder a.chains.table.items a.chains.heads.items a.slots.items a.vacant.items a.live (vec_len a.vacant) (vec_capacity a.vacant) };
 }
@@ -57,15 +56,17 @@ fn settle(
     start: Point,
     end: Point,
 ) -> Result<RangeSlot, AllocError>
-    requires start_covered { start.node < length chains.old.heads.items }
-    requires end_covered { end.node < length chains.old.heads.items }
+    requires start_covered { covers (cover_of chains.old.heads.items) start.node ≡ true }
+    requires end_covered { covers (cover_of chains.old.heads.items) end.node ≡ true }
+    requires few { length chains.old.table.items + 2 ≤ 2 ^ 33 }
     requires kept { IsKept chains.old.table.items chains.old.heads.items live }
     requires vacant { AreVacant (paired (points_of chains.old.table.items)) vacant.old.items }
     requires filled { IsFilled (length chains.old.table.items) live (vec_len vacant.old) (vec_capacity vacant.old) }
     ensures settled { IfOk result (λ s. Settles s (record { start = start; end = end }) (paired (points_of chains.old.table.items)) (paired (points_of chains.new.table.items)) vacant.new.items) }
     ensures kept { OnOk result (IsKept chains.new.table.items chains.new.heads.items (live + 1)) }
     ensures filled { OnOk result (IsFilled (length chains.new.table.items) (live + 1) (vec_len vacant.new) (vec_capacity vacant.new)) }
-    ensures covered { length chains.new.heads.items ≡ length chains.old.heads.items }
+    ensures few { OnOk result (length chains.new.table.items ≤ length chains.old.table.items + 2) }
+    ensures covered { cover_of chains.new.heads.items ≡ cover_of chains.old.heads.items }
     ensures err_points { OnErr result (points_of chains.new.table.items ≡ points_of chains.old.table.items) }
     ensures err_kept { OnErr result (IsKept chains.new.table.items chains.new.heads.items live) }
     ensures err_vacant { OnErr result (vacant.new.items ≡ vacant.old.items) }
@@ -85,7 +86,7 @@ fn settle(
 impl Ranges {
     /// No ranges, and room for none. It takes no memory.
     pub fn new(alloc: Global) -> Ranges
-        ensures { result ≡ record { ranges = []; covered = 0 } }
+        ensures { result ≡ record { ranges = []; covered = [] } }
     {
         Ranges {
             chains: Chains::new(alloc),
@@ -95,25 +96,35 @@ impl Ranges {
         }
     }
 
-    /// Makes room for a chain of ends in each node numbered below `made`. A smaller number than before changes nothing.
+    /// Makes room for ends in the nodes numbered below `made` that had none yet. A node that was forgotten stays forgotten.
     pub fn cover(&mut self, made: u64) -> Result<(), AllocError>
-        ensures ok { OnOk result (self.new ≡ record self.old { covered = max self.old.covered made }) }
+        requires { made ≤ 4294967295 }
+        ensures ok { OnOk result (self.new ≡ record self.old { covered = covered_to made self.old.covered }) }
         ensures err { OnErr result (self.new ≡ self.old) }
     {
         self.chains.cover(made)
     }
 
+    /// Whether ends may stand in a node: it was covered, and was not forgotten since.
+    pub fn is_covered(&self, node: NodeId) -> bool
+        ensures { result ≡ covers self.now.covered node }
+    {
+        self.chains.is_covered(node)
+    }
+
     // Gives back what was kept for ends in a node.
     fn forget_one(&mut self, node: NodeId)
-        ensures { self.new ≡ self.old }
+        requires { among node (live_nodes self.old) ≡ false }
+        ensures { self.new ≡ record self.old { covered = slice_set self.old.covered node false } }
     {
         self.chains.forget(node);
     }
 
-    /// Gives back what was kept for ends in the nodes of a tree that is about to go. Ends that stand there keep standing.
+    /// Gives back what was kept for ends in the nodes of a tree that is about to go.
     pub fn forget<X>(&mut self, tree: &Tree<X>, top: NodeId)
-        requires { HasNode tree.now.forest top }
-        ensures { self.new ≡ self.old }
+        requires held { HasNode tree.now.forest top }
+        requires empty { list_any (λ m. among m (inclusive_descendants tree.now.forest top)) (live_nodes self.old) ≡ false }
+        ensures { self.new ≡ record self.old { covered = uncovered (inclusive_descendants tree.now.forest top) self.old.covered } }
     {
         tree.sound();
         let mut here = top;
@@ -126,7 +137,7 @@ impl Ranges {
         }
     }
 
-    /// Makes a live range. There is no memory for more than 2,147,483,648 at once.
+    /// Makes a live range.
     pub fn make<X: Body>(
         &mut self,
         tree: &Tree<X>,
@@ -134,8 +145,8 @@ impl Ranges {
         end: Point,
     ) -> Result<RangeId, AllocError>
         requires room { length self.old.ranges < 4294967295 }
-        requires start_covered { start.node < self.old.covered }
-        requires end_covered { end.node < self.old.covered }
+        requires start_covered { IsCovered self.old start.node }
+        requires end_covered { IsCovered self.old end.node }
         requires in_order { IsRangeIn X.length tree.now.forest (record { start = start; end = end }) }
         ensures number { IfOk result (λ r. r ≡ length self.old.ranges) }
         ensures made { OnOk result (self.new ≡ record self.old { ranges = self.old.ranges ++ Some (record { start = start; end = end }) ∷ [] }) }
@@ -168,8 +179,8 @@ impl Ranges {
     pub fn ends(&self, r: RangeId) -> (Point, Point)
         requires { IsSome (range_in self.now r) }
         ensures ends { range_in self.now r ≡ Some (record { start = result.0; end = result.1 }) }
-        ensures start_covered { result.0.node < self.now.covered }
-        ensures end_covered { result.1.node < self.now.covered }
+        ensures start_covered { IsCovered self.now result.0.node }
+        ensures end_covered { IsCovered self.now result.1.node }
     {
         let slot = slot_of(&self.slots, r).unwrap();
         let start = self.chains.point(slot.start());
@@ -193,8 +204,8 @@ impl Ranges {
     // Moves both ends of a range.
     pub(crate) fn write(&mut self, r: RangeId, start: Point, end: Point)
         requires held { IsSome (range_in self.old r) }
-        requires start_covered { start.node < self.old.covered }
-        requires end_covered { end.node < self.old.covered }
+        requires start_covered { IsCovered self.old start.node }
+        requires end_covered { IsCovered self.old end.node }
         ensures { self.new ≡ record self.old { ranges = slice_set self.old.ranges r (Some (record { start = start; end = end })) } }
     {
         let slot = slot_of(&self.slots, r).unwrap();

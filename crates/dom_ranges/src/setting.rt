@@ -1,19 +1,19 @@
 //! Live ranges set anew (DOM Standard, "Interface Range").
 
-ghost use Rattle.std.specs.Prelude.{◌≡◌, ◌<◌, slice_set, Some, IsSome, IfSome, OnOk, OnErr};
+ghost use Rattle.std.specs.Prelude.{◌≡◌, slice_set, Some, IsSome, IfSome, OnOk, OnErr};
 ghost use Rattle.std.specs.Option.{ForSome};
 ghost use Rattle.dom_model.specs.declared.Kind.TheVariants.{DocumentType};
 ghost use Rattle.dom_model.specs.Forests.Forest.{HasNode, parent_of, root_of};
 ghost use Rattle.dom_model.specs.Worlds.World.{Range};
 ghost use Rattle.dom_model.specs.MutationAlgorithms.Checks.{is_of_kind};
 ghost use Rattle.dom_model.specs.RangesAndContents.Ranges.{same_root as has_same_root, is_before as comes_before, start_set, end_set, check_point, check_parent, check_contents, around, contents_of, collapsed};
-ghost use Rattle.dom_ranges.specs.Tables.{range_in, StandsIn, refused};
+ghost use Rattle.dom_ranges.specs.Tables.{IsCovered, range_in, StandsIn, refused};
 
 use crate::numbers::RangeId;
 use crate::ranges::Ranges;
-use dom_kinds::{DomError, Kind};
+use dom_point::dom_kinds::{DomError, Kind};
+use dom_point::dom_tree::{Body, NodeId, Tree};
 use dom_point::{Point, order};
-use dom_tree::{Body, NodeId, Tree};
 use std::cmp::Ordering;
 
 // Whether a node is a doctype.
@@ -70,7 +70,7 @@ impl Ranges {
     ) -> Result<(), DomError>
         requires held { IsSome (range_in self.old r) }
         requires node { HasNode tree.now.forest p.node }
-        requires covered { p.node < self.old.covered }
+        requires covered { IsCovered self.old p.node }
         requires stands { ForSome (range_in self.old r) (StandsIn tree.now.forest) }
         ensures refusal { result ≡ refused (check_point X.length tree.now.forest p) }
         ensures set { OnOk result (IfSome (range_in self.old r) (λ range. self.new ≡ record self.old { ranges = slice_set self.old.ranges r (Some (start_set tree.now.forest p range)) })) }
@@ -91,7 +91,7 @@ impl Ranges {
     pub fn set_end<X: Body>(&mut self, tree: &Tree<X>, r: RangeId, p: Point) -> Result<(), DomError>
         requires held { IsSome (range_in self.old r) }
         requires node { HasNode tree.now.forest p.node }
-        requires covered { p.node < self.old.covered }
+        requires covered { IsCovered self.old p.node }
         requires stands { ForSome (range_in self.old r) (StandsIn tree.now.forest) }
         ensures refusal { result ≡ refused (check_point X.length tree.now.forest p) }
         ensures set { OnOk result (IfSome (range_in self.old r) (λ range. self.new ≡ record self.old { ranges = slice_set self.old.ranges r (Some (end_set tree.now.forest p range)) })) }
@@ -132,7 +132,7 @@ impl Ranges {
     pub fn select<X>(&mut self, tree: &Tree<X>, r: RangeId, node: NodeId) -> Result<(), DomError>
         requires held { IsSome (range_in self.old r) }
         requires node { HasNode tree.now.forest node }
-        requires covered { ForSome (parent_of tree.now.forest node) (λ p. p < self.old.covered) }
+        requires covered { ForSome (parent_of tree.now.forest node) (IsCovered self.old) }
         ensures refusal { result ≡ refused (check_parent tree.now.forest node) }
         ensures set { OnOk result (IfSome (around tree.now.forest node) (λ range. self.new ≡ record self.old { ranges = slice_set self.old.ranges r (Some range) })) }
         ensures unchanged { OnErr result (self.new ≡ self.old) }
@@ -167,7 +167,7 @@ impl Ranges {
     ) -> Result<(), DomError>
         requires held { IsSome (range_in self.old r) }
         requires node { HasNode tree.now.forest node }
-        requires covered { node < self.old.covered }
+        requires covered { IsCovered self.old node }
         ensures refusal { result ≡ refused (check_contents tree.now.forest node) }
         ensures set { OnOk result (self.new ≡ record self.old { ranges = slice_set self.old.ranges r (Some (contents_of X.length tree.now.forest node)) }) }
         ensures unchanged { OnErr result (self.new ≡ self.old) }

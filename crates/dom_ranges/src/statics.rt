@@ -12,9 +12,9 @@ ghost use Rattle.dom_model.specs.Forests.Lengths.{node_length};
 ghost use Rattle.dom_ranges.specs.Tables.{refused};
 
 use crate::setting::{is_before, is_doctype, same_root};
-use dom_kinds::DomError;
 use dom_point::Point;
-use dom_tree::{Body, NodeId, Tree};
+use dom_point::dom_kinds::DomError;
+use dom_point::dom_tree::{Body, NodeId, Tree};
 use std::alloc::{AllocError, Global};
 use std::marker::Model;
 

@@ -9,9 +9,9 @@ ghost use Rattle.dom_model.specs.MutationAlgorithms.Checks.{is_of_kind};
 
 use super::*;
 use crate::setting::is_doctype;
-use dom_kinds::{Kind, Label};
+use dom_point::dom_kinds::{Kind, Label};
+use dom_point::dom_tree::{Body, NodeId, Tree};
 use dom_point::{Point, order};
-use dom_tree::{Body, NodeId, Tree};
 use std::alloc::{AllocError, Global};
 use std::cmp::Ordering;
 use std::process::Abort;
@@ -123,22 +123,16 @@ fn is_after(tree: &Tree<Units>, a: Point, b: Point) -> bool
     }
 }
 
-// A node leaves its parent, for which there is room.
-fn leaves(
-    rt: &impl Abort,
-    ranges: &mut Ranges,
-    tree: &Tree<Units>,
-    node: NodeId,
-) -> Result<(), AllocError> {
+// A node leaves its parent, which is covered.
+fn leaves(rt: &impl Abort, ranges: &mut Ranges, tree: &Tree<Units>, node: NodeId) {
     assert!(rt; tree.holds(node));
     if let Some(parent) = tree.parent(node) {
-        ranges.cover(u64::from(parent.number()) + 1)?;
+        assert!(rt; ranges.is_covered(parent));
         ranges.removing(tree, node);
     }
-    Ok(())
 }
 
-// A live range, with room for its ends.
+// A live range in nodes that are covered, or are now.
 fn ranged(
     rt: &impl Abort,
     ranges: &mut Ranges,
@@ -146,8 +140,7 @@ fn ranged(
     start: Point,
     end: Point,
 ) -> Result<RangeId, AllocError>
-    ensures ranges { OnOk result (ranges.new.ranges ≡ ranges.old.ranges ++ Some (record { start = start; end = end }) ∷ []) }
-    ensures covered { OnOk result (ranges.old.covered ≤ ranges.new.covered) }
+    ensures { OnOk result (ranges.new.ranges ≡ ranges.old.ranges ++ Some (record { start = start; end = end }) ∷ []) }
 {
     assert!(rt; tree.holds(start.node));
     assert!(rt; tree.holds(end.node));
@@ -157,8 +150,9 @@ fn ranged(
     assert!(rt; end.offset <= tree.length(end.node));
     assert_eq!(rt; tree.root(start.node), tree.root(end.node));
     assert!(rt; !is_after(tree, start, end));
-    ranges.cover(u64::from(start.node.number()) + 1)?;
-    ranges.cover(u64::from(end.node.number()) + 1)?;
+    ranges.cover(10)?;
+    assert!(rt; ranges.is_covered(start.node));
+    assert!(rt; ranges.is_covered(end.node));
     assert!(rt; ranges.made() < 1_000_000);
     ranges.make(tree, start, end)
 }
@@ -171,31 +165,10 @@ fn alone(
     start: Point,
     end: Point,
 ) -> Result<Ranges, AllocError>
-    ensures ranges { IfOk result (λ ranges. ranges.ranges ≡ Some (record { start = start; end = end }) ∷ []) }
-    ensures covered { IfOk result (λ ranges. 1000 ≤ ranges.covered) }
+    ensures { IfOk result (λ ranges. ranges.ranges ≡ Some (record { start = start; end = end }) ∷ []) }
 {
     let mut ranges = Ranges::new(alloc);
     ranges.cover(1000)?;
-    let _ = ranged(rt, &mut ranges, tree, start, end)?;
-    Ok(ranges)
-}
-
-// A live range alone, in nodes that were forgotten before.
-fn among_forgotten(
-    rt: &impl Abort,
-    alloc: Global,
-    tree: &Tree<Units>,
-    start: Point,
-    end: Point,
-) -> Result<Ranges, AllocError>
-    ensures ranges { IfOk result (λ ranges. ranges.ranges ≡ Some (record { start = start; end = end }) ∷ []) }
-    ensures covered { IfOk result (λ ranges. 1000 ≤ ranges.covered) }
-{
-    let mut ranges = Ranges::new(alloc);
-    ranges.cover(1000)?;
-    let root = NodeId::new(0);
-    assert!(rt; tree.holds(root));
-    ranges.forget(tree, root);
     let _ = ranged(rt, &mut ranges, tree, start, end)?;
     Ok(ranges)
 }
@@ -206,6 +179,9 @@ fn room_for_nodes(rt: HostRuntime) -> Result<(), Fail> {
     ranges.cover(1000)?;
     ranges.cover(10)?;
     assert_eq!(rt; ranges.made(), 0);
+    assert!(rt; ranges.is_covered(NodeId::new(0)));
+    assert!(rt; ranges.is_covered(NodeId::new(999)));
+    assert!(rt; !ranges.is_covered(NodeId::new(1000)));
     assert!(rt; !ranges.stands_in(NodeId::new(5)));
     assert!(rt; !ranges.stands_in(NodeId::new(5000)));
     Ok(())
@@ -351,7 +327,7 @@ fn removed(rt: HostRuntime) -> Result<(), Fail> {
     let _ = child(&rt, rt.alloc(), &mut tree, root)?;
     let mut ranges = Ranges::new(rt.alloc());
     let r = ranged(&rt, &mut ranges, &tree, at(b, 0), at(root, 2))?;
-    leaves(&rt, &mut ranges, &tree, a)?;
+    leaves(&rt, &mut ranges, &tree, a);
     lies(&rt, &ranges, r, at(root, 0), at(root, 1));
     Ok(())
 }
@@ -375,12 +351,13 @@ fn removed_with_many_inside(rt: HostRuntime) -> Result<(), Fail> {
     let (root, a, b) = (NodeId::new(0), NodeId::new(1), NodeId::new(101));
     let (first, last) = (NodeId::new(2), NodeId::new(100));
     let mut ranges = Ranges::new(rt.alloc());
+    ranges.cover(1000)?;
     let x = ranged(&rt, &mut ranges, &tree, at(NodeId::new(99), 0), at(last, 0))?;
     assert!(rt; tree.holds(a));
     assert!(rt; ranges.refers(&tree, a));
     let y = ranged(&rt, &mut ranges, &tree, at(first, 0), at(root, 2))?;
     let z = ranged(&rt, &mut ranges, &tree, at(b, 0), at(b, 0))?;
-    leaves(&rt, &mut ranges, &tree, a)?;
+    leaves(&rt, &mut ranges, &tree, a);
     lies(&rt, &ranges, x, at(root, 0), at(root, 0));
     lies(&rt, &ranges, y, at(root, 0), at(root, 1));
     lies(&rt, &ranges, z, at(b, 0), at(b, 0));
@@ -402,16 +379,13 @@ fn with_texts(rt: &impl Abort, alloc: Global) -> Result<Tree<Units>, AllocError>
 // Sets one end of a range whose ends stand in one tree.
 fn set(rt: &impl Abort, ranges: &mut Ranges, tree: &Tree<Units>, is_start: bool, p: Point) -> bool {
     let r = RangeId::new(0);
-    if ranges.cover(1000).is_err() {
-        return false;
-    }
     assert!(rt; ranges.holds(r));
     let (start, end) = ranges.ends(r);
     assert!(rt; tree.holds(start.node));
     assert!(rt; tree.holds(end.node));
     assert_eq!(rt; tree.root(start.node), tree.root(end.node));
     assert!(rt; tree.holds(p.node));
-    assert!(rt; p.node.number() < 1000);
+    assert!(rt; ranges.is_covered(p.node));
     if is_start {
         ranges.set_start(tree, r, p).is_ok()
     } else {
@@ -438,56 +412,26 @@ fn set_anew(rt: HostRuntime) -> Result<(), Fail> {
     Ok(())
 }
 
-// Only the nodes with ends are kept, and those of other trees.
+// The nodes of a tree in which no end stands are forgotten, and stay so when nodes are covered again. Those of another tree stay.
 #[test]
 fn forgotten(rt: HostRuntime) -> Result<(), Fail> {
-    let tree = with_texts(&rt, rt.alloc())?;
-    let (root, t, u) = (NodeId::new(0), NodeId::new(3), NodeId::new(4));
-    let mut ranges = alone(&rt, rt.alloc(), &tree, at(t, 2), at(u, 5))?;
+    let mut tree = with_texts(&rt, rt.alloc())?;
+    let (root, other) = (NodeId::new(0), NodeId::new(5));
+    let top = made(&rt, rt.alloc(), &mut tree)?;
+    assert_eq!(rt; top, other);
+    let mut ranges = alone(&rt, rt.alloc(), &tree, at(other, 0), at(other, 0))?;
     assert!(rt; tree.holds(root));
-    ranges.forget(&tree, root);
-    ranges.forget(&tree, root);
-    for n in 0..6_u32 {
-        assert_eq!(rt; ranges.chains.heads.get(n as usize).is_some(), n >= 3);
+    for _ in 0..2 {
+        assert!(rt; !ranges.refers(&tree, root));
+        ranges.forget(&tree, root);
+        ranges.cover(1000)?;
+        for n in 0..10_u32 {
+            assert_eq!(rt; ranges.is_covered(NodeId::new(n)), n >= 5);
+        }
     }
-    assert!(rt; ranges.stands_in(t));
-    assert!(rt; ranges.stands_in(u));
+    assert!(rt; ranges.stands_in(other));
     assert!(rt; !ranges.stands_in(root));
-    lies(&rt, &ranges, RangeId::new(0), at(t, 2), at(u, 5));
-    Ok(())
-}
-
-// Ends that come to stand in forgotten nodes are found, moved, set anew and released like others.
-#[test]
-fn ends_in_forgotten_nodes(rt: HostRuntime) -> Result<(), Fail> {
-    let alloc = rt.alloc();
-    let tree = with_texts(&rt, alloc)?;
-    let (root, a, b, t) = (
-        NodeId::new(0),
-        NodeId::new(1),
-        NodeId::new(2),
-        NodeId::new(3),
-    );
-    let r = RangeId::new(0);
-    let mut gapped = among_forgotten(&rt, alloc, &tree, at(root, 1), at(root, 3))?;
-    let mut spliced = among_forgotten(&rt, alloc, &tree, at(t, 2), at(t, 8))?;
-    let mut removed = among_forgotten(&rt, alloc, &tree, at(b, 0), at(root, 2))?;
-    assert!(rt; gapped.stands_in(root));
-    assert!(rt; !gapped.stands_in(t));
-    assert!(rt; tree.holds(a));
-    assert!(rt; removed.refers(&tree, a));
-    gapped.gap(root, 1, 2);
-    spliced.spliced(t, 1, 3, 5);
-    leaves(&rt, &mut removed, &tree, a)?;
-    lies(&rt, &gapped, r, at(root, 1), at(root, 5));
-    lies(&rt, &spliced, r, at(t, 1), at(t, 10));
-    lies(&rt, &removed, r, at(root, 0), at(root, 1));
-    assert!(rt; set(&rt, &mut removed, &tree, true, at(t, 4)));
-    lies(&rt, &removed, r, at(t, 4), at(t, 4));
-    assert!(rt; spliced.holds(r));
-    spliced.release(r);
-    assert!(rt; !spliced.holds(r));
-    assert!(rt; !spliced.stands_in(t));
+    lies(&rt, &ranges, RangeId::new(0), at(other, 0), at(other, 0));
     Ok(())
 }
 
@@ -509,9 +453,12 @@ fn adjusted_without_a_growth(rt: HostRuntime) -> Result<(), Fail> {
     mark.reserve(7777)?;
     gapped.gap(root, 1, 2);
     spliced.spliced(t, 1, 3, 5);
+    assert!(rt; split.is_covered(new));
+    assert!(rt; split.is_covered(root));
     split.was_split(t, 4, new, root, 1);
+    assert!(rt; merged.is_covered(t));
     merged.merged(u, t, 10, root, 2);
-    leaves(&rt, &mut removed, &tree, NodeId::new(1))?;
+    leaves(&rt, &mut removed, &tree, NodeId::new(1));
     let r = RangeId::new(0);
     lies(&rt, &gapped, r, at(root, 1), at(root, 5));
     lies(&rt, &spliced, r, at(t, 1), at(t, 10));

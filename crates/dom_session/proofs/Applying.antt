@@ -7,8 +7,8 @@ use Rattle.dom_session.specs.declared.command.Command.{Command}
 use Rattle.dom_session.specs.declared.command.Command.TheVariants.{NewDocument, CreateElement, CreateText, CreateComment, CreatePI, CreateDoctype, CreateFragment, InsertBefore, AppendChild, AdoptNode, ReplaceChild, RemoveChild, Remove, ReplaceChildren, ImportNode, CloneNode, Normalize, DescribeNode, Children, Index, Length, Root, IsContaining, IsEqual, ComparePosition, TextContent, SetTextContent, Tree, GetData, SetData, AppendData, InsertData, DeleteData, ReplaceData, SubstringData, SplitText, SetAttribute, GetAttribute, HasAttribute, RemoveAttribute, ToggleAttribute, AttributeNames, CreateRange, CloneRange, DescribeRange, SetStart, SetEnd, SetStartBefore, SetStartAfter, SetEndBefore, SetEndAfter, Collapse, SelectNode, SelectNodeContents, CompareBoundaryPoints, ComparePoint, IsPointInRange, IntersectsNode, CommonAncestor, RangeText, DeleteContents, ExtractContents, CloneContents, InsertNode, SurroundContents, ReleaseRange, CreateIterator, CreateWalker, DescribeIterator, NextNode, PreviousNode, DescribeWalker, SetCurrent, Walk, CreateObserver, Observe, Disconnect, TakeRecords, Notify, Pending, Discard, CreateStaticRange, DescribeStaticRange}
 use Rattle.dom_session.specs.declared.reply.Reply.{Reply}
 use Rattle.dom_session.specs.Views.{command_view}
-use Rattle.dom_edit.specs.declared.world.World.{World as CodeWorld}
-use Rattle.dom_edit.specs.Whole.{Shows, IsShown}
+use Rattle.dom_wrap.specs.dom_edit.declared.world.World.{World as CodeWorld}
+use Rattle.dom_wrap.specs.dom_edit.Whole.{Shows, IsShown}
 use Rattle.dom_session.specs.Stands.{Held, StandsFor, IsStep, IsAnswered}
 use Rattle.dom_session.specs.Limiting.{numbered}
 

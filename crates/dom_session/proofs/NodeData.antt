@@ -21,8 +21,8 @@ use Rattle.dom_model.specs.Commands.Command.{Command, SetAttribute, GetAttribute
 use Rattle.dom_model.specs.Commands.Reply as model_reply
 use Rattle.dom_model.specs.Commands.Answer.{Bounds, Step, guarded, refused, answer}
 use Rattle.dom_model.specs.Commands.Guards.{no_node, wrong_kind, bad_name, no_room, answers, does, checked}
-use Rattle.dom_edit.specs.declared.world.World.{World}
-use Rattle.dom_edit.specs.Whole.{Shows, unwatched}
+use Rattle.dom_wrap.specs.dom_edit.declared.world.World.{World}
+use Rattle.dom_wrap.specs.dom_edit.Whole.{Shows, unwatched}
 use Rattle.dom_session.specs.Limiting.{numbered}
 use Rattle.dom_session.specs.Refusing.{kind_refusal}
 use Rattle.dom_session.specs.declared.reply.Reply.{Reply}
@@ -152,6 +152,10 @@ module _ (v : World) (b : Bounds) (w : model.World) (shown : Shows v w) where
       guarded-kind is_character_data n [] (checked (check_offset w n offset) w (answers (model_reply.Units (substring_data w n offset count)) w)) none
       ∙ checked-offset n offset o (answers (model_reply.Units (substring_data w n offset count)) w) is
       ∙ ap (λ (x : List ℕ). checked o w (answers (model_reply.Units x) w)) there
+
+  pub refused-substring_data : (n offset count : ℕ) (r : model_reply.Reply) → kind_refusal is_character_data v n ≡ Some r → answer b w (SubstringData n offset count) ≡ refused r w
+  refused-substring_data n offset count r some =
+      guarded-at_two (is_none (entry_in w.forest n)) (not (kind_passes is_character_data w.forest n)) (model_reply.Own NoSuchObject) (model_reply.Dom TypeError) [] w (checked (check_offset w n offset) w (answers (model_reply.Units (substring_data w n offset count)) w)) r (rw shown.keeps.forest some)
 
   -- one test, which does not hold
   guarded-past_node : (n : ℕ) (cs : List (Bool × model_reply.Reply)) (s : Step) → is_some (entry_in v.tree.forest n) ≡ true → guarded (no_node n w ∷ cs) w s ≡ guarded cs w s

@@ -10,9 +10,9 @@ use Rattle.dom_model.specs.Commands.Reply as model_reply
 use Rattle.dom_model.specs.Commands.Answer.{Bounds, answer}
 use Rattle.dom_model.specs.Commands.AnswerObserving.{with_observing}
 use Rattle.dom_model.specs.MutationObservers.Records.{options_refusal, options_of, settled, settled_unless, observed, disconnected, told, after_notify}
-use Rattle.dom_observe.specs.Watchers.{Watchers, Watches}
-use Rattle.dom_edit.specs.declared.world.World.{World}
-use Rattle.dom_edit.specs.Whole.{IsWhole, Shows}
+use Rattle.dom_wrap.specs.dom_observe.Watchers.{Watchers, Watches}
+use Rattle.dom_wrap.specs.dom_edit.declared.world.World.{World}
+use Rattle.dom_wrap.specs.dom_edit.Whole.{IsWhole, Shows}
 use Rattle.dom_session.specs.declared.reply.Reply.{Reply}
 use Rattle.dom_session.specs.Views.{reply_view}
 use Rattle.dom_session.specs.Stands.{IsStep}

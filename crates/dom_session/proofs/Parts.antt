@@ -7,10 +7,10 @@ use Rattle.dom_model.specs.Worlds.Sound.{IsSound}
 use Rattle.dom_model.specs.Commands.Command.{Command}
 use Rattle.dom_model.specs.Commands.Answer.{Bounds, Step, answer}
 use Rattle.dom_model.proofs.Soundness.SoundAnswers.{sound-answer}
-use Rattle.dom_ranges.specs.Tables.{RangeTable}
-use Rattle.dom_edit.specs.declared.world.World.{World}
-use Rattle.dom_edit.specs.Whole.{IsWhole, Shows, IsShown, Follows, AreHeld}
-use Rattle.dom_edit.proofs.Following.{whole-sound}
+use Rattle.dom_wrap.specs.dom_ranges.Tables.{RangeTable}
+use Rattle.dom_wrap.specs.dom_edit.declared.world.World.{World}
+use Rattle.dom_wrap.specs.dom_edit.Whole.{AreCovered, IsWhole, Shows, IsShown, Follows, AreHeld}
+use Rattle.dom_wrap.specs.dom_edit.Following.{whole-sound}
 use Rattle.dom_session.specs.declared.reply.Reply.{Reply}
 use Rattle.dom_session.specs.Views.{reply_view}
 use Rattle.dom_session.specs.Stands.{IsStep}
@@ -42,7 +42,7 @@ module _ (b : Bounds) (c : Command) (reply : Reply) where
       let u = s.stands_for in
       let next : model.World = record u { ranges = rs } in
       let f = follows-ranges v t rs is in
-      let covers : v.tree.made ≤ t.covered = subst (λ n. v.tree.made ≤ n) (sym (ap (λ (x : RangeTable). x.covered) is)) s.shows.whole.covered in
+      let covers : AreCovered v.tree t.covered = subst (AreCovered v.tree) (sym (ap (λ (x : RangeTable). x.covered) is)) s.shows.whole.covered in
       let whole : IsWhole (record v { ranges = t }) =
       whole-sound (record v { ranges = t }) next (f.keeps u s.shows.keeps) (sound-next v s next (e u s.shows)) s.shows.whole.documents s.shows.whole.owners covers s.shows.whole.statics in
       step-follows b c reply v (record v { ranges = t }) (λ w. record w { ranges = rs }) e f whole

@@ -17,9 +17,9 @@ use Rattle.dom_model.proofs.Soundness.SoundWorlds.{IsLive}
 use Rattle.dom_model.proofs.Soundness.SoundRangeSteps.{document_is_no_doctype}
 use Rattle.dom_model.proofs.RangesAndContents.RangesSet.{range_at_point}
 use Rattle.dom_model.specs.RangesAndContents.Ranges.{collapsed_at}
-use Rattle.dom_ranges.specs.Tables.{range_in, StandsIn, IsBoundaryIn, IsRangeIn}
-use Rattle.dom_edit.specs.declared.world.World.{World}
-use Rattle.dom_edit.specs.Whole.{IsWhole}
+use Rattle.dom_wrap.specs.dom_ranges.Tables.{IsCovered, range_in, StandsIn, IsBoundaryIn, IsRangeIn}
+use Rattle.dom_wrap.specs.dom_edit.declared.world.World.{World}
+use Rattle.dom_wrap.specs.dom_edit.Whole.{IsWhole}
 
 boundary-in : (f : Forest Content) (p : Point) → IsBoundary f p → IsBoundaryIn unit_count f p
 boundary-in f p b = record { there = b.there; kind = b.kind; within = b.within }
@@ -44,12 +44,8 @@ root-above {X} {g} s n q h p =
     ap last_of (a.path ∙ ap (λ ns. n ∷ ns) e.1) ∙ sym (ap last_of e.1)
 
 module _ (v : World) (h : IsWhole v) where
-  pub node-covered : (n : ℕ) → HasNode v.tree.forest n → n < v.ranges.covered
-  node-covered n there =
-      ⊎_elim
-      (λ (lt : n < v.tree.made). let k = h.covered in omega arith)
-      (λ (le : v.tree.made ≤ n). let k = h.forest.small n le in let o = occurs-HasNode v.tree.forest n there in absurd (omega arith))
-      (cases_lt n v.tree.made)
+  pub node-covered : (n : ℕ) → HasNode v.tree.forest n → IsCovered v.ranges n
+  node-covered n there = h.covered.held n there
 
   pub range-live : (r : ℕ) → IsLive v.tree.forest (range_in v.ranges r)
   range-live r =

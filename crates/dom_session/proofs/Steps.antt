@@ -1,5 +1,5 @@
 -- The steps of the commands that make nodes, from any world that is shown.
-use Rattle.std.proofs.Common.{◌≡◌, ℕ, ◌+◌, nat_lt, Bool, true, false, not, List, [], ◌∷◌, None, refl, sym, ap, ◌∙◌}
+use Rattle.std.proofs.Common.{◌≡◌, ℕ, ◌+◌, nat_lt, Bool, true, false, not, List, [], ◌∷◌, Some, None, refl, sym, ap, ◌∙◌}
 use Rattle.std.specs.Prelude.{is_none}
 use Rattle.dom_model.specs.Forests.Forest.{entry_in}
 use Rattle.dom_model.specs.declared.Kind.TheVariants.{Element, Text, ProcessingInstruction, Comment, Document, DocumentFragment}
@@ -13,10 +13,10 @@ use Rattle.dom_model.specs.MutationAlgorithms.Checks.{first_refusal, kind_passes
 use Rattle.dom_model.specs.Forests.Names.{is_element_name, is_doctype_name}
 use Rattle.dom_model.specs.Commands.AnswerMaking.{closes_instruction, doctype_label}
 use Rattle.dom_model.specs.Commands.Command.{Command, NewDocument, CreateElement, CreateText, CreateComment, CreatePI, CreateDoctype, CreateFragment}
-use Rattle.dom_model.specs.Commands.Answer.{Bounds, Step, guarded, no_node, wrong_kind, no_room, bad_name, made_node, makes, named, with_text, answer}
+use Rattle.dom_model.specs.Commands.Answer.{Bounds, Step, guarded, refused, no_node, wrong_kind, no_room, bad_name, made_node, makes, named, with_text, answer}
 use Rattle.dom_model.specs.Commands.Guards.{throws}
-use Rattle.dom_edit.specs.declared.world.World.{World}
-use Rattle.dom_edit.specs.Whole.{IsWhole, Shows, Follows}
+use Rattle.dom_wrap.specs.dom_edit.declared.world.World.{World}
+use Rattle.dom_wrap.specs.dom_edit.Whole.{IsWhole, Shows, Follows}
 use Rattle.dom_session.specs.declared.reply.Answer.TheVariants.{Number}
 use Rattle.dom_session.specs.declared.reply.Reply.TheVariants.{Done}
 use Rattle.dom_session.specs.Limiting.{numbered}
@@ -45,6 +45,20 @@ step-makes old new b c document number label body e is f whole =
     (λ w shown. e w shown ∙ ap (λ n. record { reply = model_reply.Done (model_reply.Number n); world = made_node document label body w }) (shown.keeps.made ∙ sym is))
     f whole
 
+-- where one of three tests refuses, the first that does decides
+pub guarded-at_three : (a b c : Bool) (x y z : model_reply.Reply) (cs : List (Bool × model_reply.Reply)) (w : model.World) (s : Step) (r : model_reply.Reply) → first_refusal ((a, x) ∷ (b, y) ∷ (c, z) ∷ []) ≡ Some r → guarded ((a, x) ∷ (b, y) ∷ (c, z) ∷ cs) w s ≡ refused r w
+guarded-at_three true b c x y z cs w s r h = let same : x ≡ r = cc in ap (λ q. refused q w) same
+guarded-at_three false true c x y z cs w s r h = let same : y ≡ r = cc in ap (λ q. refused q w) same
+guarded-at_three false false true x y z cs w s r h = let same : z ≡ r = cc in ap (λ q. refused q w) same
+guarded-at_three false false false x y z cs w s r h = absurd (cc h)
+
+pub refused-making : (v : World) (b : Bounds) (d : ℕ) (cs : List (Bool × model_reply.Reply)) (w : model.World) (s : Step) (r : model_reply.Reply) → Shows v w → making_refusal v b.numbers d ≡ Some r → guarded (no_node d w ∷ wrong_kind (is_kind Document) d w ∷ no_room b w.made 1 ∷ cs) w s ≡ refused r w
+refused-making v b d cs w s r shown some =
+    guarded-at_three (lacks_node_in w d) (not (kind_passes (is_kind Document) w.forest d)) (nat_lt b.numbers (w.made + 1)) (model_reply.Own NoSuchObject) (model_reply.Dom TypeError) (model_reply.Own Limit) cs w s r (rw (shown.keeps.forest, shown.keeps.made) some)
+  where
+    lacks_node_in : model.World → ℕ → Bool
+    lacks_node_in w n = is_none (entry_in w.forest n)
+
 pub answer-create_element : (v : World) (n d : ℕ) (name : List ℕ) (w : model.World) → Shows v w → making_refusal v n d ≡ None → is_element_name name ≡ true → answer (numbered n) w (CreateElement d name) ≡ makes d (named Element name) no_content w
 answer-create_element v n d name w shown none valid =
     guarded-making v (numbered n) d (bad_name (is_element_name name) ∷ []) w (makes d (named Element name) no_content w) shown none ∙ rw valid refl
@@ -72,3 +86,27 @@ answer-create_fragment v n d w shown none =
 
 pub answer-new_document : (v : World) (n : ℕ) (w : model.World) → Shows v w → nat_lt n (v.tree.made + 1) ≡ false → answer (numbered n) w NewDocument ≡ makes v.tree.made document_label no_content w
 answer-new_document v n w shown room = rw (shown.keeps.made, room) refl
+
+pub refused-create_element : (v : World) (n d : ℕ) (name : List ℕ) (w : model.World) (r : model_reply.Reply) → Shows v w → making_refusal v n d ≡ Some r → answer (numbered n) w (CreateElement d name) ≡ refused r w
+refused-create_element v n d name w r shown some =
+    refused-making v (numbered n) d (bad_name (is_element_name name) ∷ []) w (makes d (named Element name) no_content w) r shown some
+
+pub refused-create_text : (v : World) (n d : ℕ) (text : List ℕ) (w : model.World) (r : model_reply.Reply) → Shows v w → making_refusal v n d ≡ Some r → answer (numbered n) w (CreateText d text) ≡ refused r w
+refused-create_text v n d text w r shown some =
+    refused-making v (numbered n) d ([]) w (makes d (named Text []) (with_text text) w) r shown some
+
+pub refused-create_comment : (v : World) (n d : ℕ) (text : List ℕ) (w : model.World) (r : model_reply.Reply) → Shows v w → making_refusal v n d ≡ Some r → answer (numbered n) w (CreateComment d text) ≡ refused r w
+refused-create_comment v n d text w r shown some =
+    refused-making v (numbered n) d ([]) w (makes d (named Comment []) (with_text text) w) r shown some
+
+pub refused-create_instruction : (v : World) (n d : ℕ) (target text : List ℕ) (w : model.World) (r : model_reply.Reply) → Shows v w → making_refusal v n d ≡ Some r → answer (numbered n) w (CreatePI d target text) ≡ refused r w
+refused-create_instruction v n d target text w r shown some =
+    refused-making v (numbered n) d (bad_name (is_element_name target) ∷ throws (closes_instruction text) InvalidCharacterError ∷ []) w (makes d (named ProcessingInstruction target) (with_text text) w) r shown some
+
+pub refused-create_doctype : (v : World) (n d : ℕ) (name public_id system_id : List ℕ) (w : model.World) (r : model_reply.Reply) → Shows v w → making_refusal v n d ≡ Some r → answer (numbered n) w (CreateDoctype d name public_id system_id) ≡ refused r w
+refused-create_doctype v n d name public_id system_id w r shown some =
+    refused-making v (numbered n) d (bad_name (is_doctype_name name) ∷ []) w (makes d (doctype_label name public_id system_id) no_content w) r shown some
+
+pub refused-create_fragment : (v : World) (n d : ℕ) (w : model.World) (r : model_reply.Reply) → Shows v w → making_refusal v n d ≡ Some r → answer (numbered n) w (CreateFragment d) ≡ refused r w
+refused-create_fragment v n d w r shown some =
+    refused-making v (numbered n) d ([]) w (makes d (named DocumentFragment []) no_content w) r shown some

@@ -20,11 +20,11 @@ use Rattle.dom_model.specs.declared.OwnError.TheVariants.{NoSuchObject, InUse}
 use Rattle.dom_model.specs.MutationAlgorithms.Discarding.{is_in_use, discarded}
 use Rattle.dom_model.specs.MutationAlgorithms.Checks.{first_refusal, entry_has, kind_passes, is_of_kind, check_insert, check_replace}
 use Rattle.dom_model.specs.MutationAlgorithms.Editing.{remove, pre_insert, append, replace, replace_all, adopt}
-use Rattle.dom_edit.specs.declared.world.World.{World}
-use Rattle.dom_edit.specs.Whole.{Shows}
-use Rattle.dom_edit.specs.declared.refusal.Refusal.{Refusal}
-use Rattle.dom_edit.specs.declared.refusal.Refusal.TheVariants as refusal
-use Rattle.dom_edit.specs.Refusals.{check_remove_child, check_only_child, check_adopt, IsRefused}
+use Rattle.dom_wrap.specs.dom_edit.declared.world.World.{World}
+use Rattle.dom_wrap.specs.dom_edit.Whole.{Shows}
+use Rattle.dom_wrap.specs.dom_edit.declared.refusal.Refusal.{Refusal}
+use Rattle.dom_wrap.specs.dom_edit.declared.refusal.Refusal.TheVariants as refusal
+use Rattle.dom_wrap.specs.dom_edit.Refusals.{check_remove_child, check_only_child, check_adopt, IsRefused}
 use Rattle.dom_session.specs.declared.reply.Reply.TheVariants.{Dom}
 use Rattle.dom_session.specs.Refusing.{lacks_given}
 use Rattle.dom_session.specs.Stands.{IsStep}

@@ -5,3 +5,7 @@ pub mod Limiting
 pub mod Bounding
 pub mod Printing
 pub mod Codes
+-- what crates above name of those below
+pub mod dom_attrs
+pub mod dom_edit
+pub mod dom_observe

@@ -8,7 +8,7 @@ use Rattle.dom_model.specs.Forests.Kinds.{is_kind}
 use Rattle.dom_model.specs.Forests.Forest.{entry_in}
 use Rattle.dom_model.specs.MutationAlgorithms.Checks.{first_refusal, kind_passes}
 use Rattle.dom_model.specs.Commands.Reply as model
-use Rattle.dom_edit.specs.declared.world.World.{World}
+use Rattle.dom_wrap.specs.dom_edit.declared.world.World.{World}
 
 -- no node of that number
 abbrev pub lacks_node : World → ℕ → Bool

@@ -2,7 +2,7 @@
 
 ghost use Rattle.std.specs.Prelude.{◌≡◌, ◌≤◌, true, IfOk};
 ghost use Rattle.dom_model.specs.Commands.Reply.{is_refusal};
-ghost use Rattle.dom_edit.specs.Whole.{IsShown};
+ghost use Rattle.dom_wrap.specs.dom_edit.Whole.{IsShown};
 ghost use Rattle.dom_session.specs.Views.{command_view, reply_view};
 ghost use Rattle.dom_session.specs.Stands.{IsStep};
 ghost use Rattle.dom_session.specs.Limiting.{numbered};
@@ -10,7 +10,7 @@ ghost use Rattle.dom_session.specs.Limiting.{numbered};
 use crate::command::Command;
 use crate::making::make_nodes;
 use crate::reply::Reply;
-use dom_edit::World;
+use dom_wrap::dom_edit::World;
 use std::alloc::{AllocError, Global};
 
 /// Answers a command, where memory is there. Each group of commands hands the others on to the next.

@@ -1,7 +1,7 @@
 //! The commands on attributes (DOM Standard, "Interface Element").
 
 ghost use Rattle.std.specs.Prelude.{◌≡◌, ◌<◌, ◌≤◌, true, Some, is_some, length, map, option_map, slice_get, string_bytes, IfOk};
-ghost use Rattle.dom_attrs.specs.Entries.{attribute_at};
+ghost use Rattle.dom_wrap.specs.dom_attrs.Entries.{attribute_at};
 ghost use Rattle.dom_model.specs.declared.Kind.TheVariants.{Element};
 ghost use Rattle.dom_model.specs.Forests.Attributes.{attribute_value, attribute_names};
 ghost use Rattle.dom_model.specs.Forests.Forest.{HasNode, entry_in};
@@ -10,7 +10,7 @@ ghost use Rattle.dom_model.specs.DataAndCopies.Data.{content_in};
 ghost use Rattle.dom_model.specs.Commands.Command.{SetAttribute, GetAttribute, HasAttribute, RemoveAttribute, ToggleAttribute, AttributeNames};
 ghost use Rattle.dom_model.specs.Commands.Guards.{Bounds};
 ghost use Rattle.dom_model.specs.Commands.Reply.{is_refusal};
-ghost use Rattle.dom_edit.specs.Whole.{IsShown};
+ghost use Rattle.dom_wrap.specs.dom_edit.Whole.{IsShown};
 ghost use Rattle.dom_session.specs.Views.{command_view, reply_view};
 ghost use Rattle.dom_session.specs.Stands.{IsStep};
 ghost use Rattle.dom_session.specs.Limiting.{numbered};
@@ -19,12 +19,12 @@ ghost use Rattle.dom_session.specs.Refusing.{kind_refusal};
 use crate::command::Command;
 use crate::copies::copy_nodes;
 use crate::reply::{Answer, Reply};
-use dom_attrs::Attrs;
-use dom_edit::{Content, World};
-use dom_kinds::{DomError, Kind, is_attribute_name};
 use dom_model::OwnError;
-use dom_tree::{NodeId, Tree};
-use dom_units::Units;
+use dom_wrap::dom_attrs::Attrs;
+use dom_wrap::dom_edit::{Content, World};
+use dom_wrap::dom_kinds::{DomError, Kind, is_attribute_name};
+use dom_wrap::dom_tree::{NodeId, Tree};
+use dom_wrap::dom_units::Units;
 use std::alloc::{AllocError, Global};
 
 // Why a node has no attributes.
@@ -58,7 +58,7 @@ pub fn set_attribute(
     if !is_attribute_name(name.as_str()) {
         return Ok(Reply::Dom(DomError::InvalidCharacterError));
     }
-    dom_data::set_attribute(world, alloc, element, name, value)?;
+    dom_wrap::dom_data::set_attribute(world, alloc, element, name, value)?;
     Ok(Reply::Done(Answer::Nothing))
 }
 
@@ -136,7 +136,7 @@ pub fn remove_attribute(
     if let Some(reply) = refusal(world, element) {
         return Ok(reply);
     }
-    dom_data::remove_attribute(world, alloc, element, name)?;
+    dom_wrap::dom_data::remove_attribute(world, alloc, element, name)?;
     Ok(Reply::Done(Answer::Nothing))
 }
 
@@ -158,7 +158,7 @@ pub fn toggle_attribute(
     if !is_attribute_name(name.as_str()) {
         return Ok(Reply::Dom(DomError::InvalidCharacterError));
     }
-    let present = dom_data::toggle_attribute(world, alloc, element, name, force)?;
+    let present = dom_wrap::dom_data::toggle_attribute(world, alloc, element, name, force)?;
     Ok(Reply::Done(Answer::Flag(present)))
 }
 

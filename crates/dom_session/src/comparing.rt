@@ -10,8 +10,8 @@ ghost use Rattle.dom_model.specs.RangesAndContents.Ranges.{same_root as has_same
 ghost use Rattle.dom_model.specs.Commands.Command.{CompareBoundaryPoints, ComparePoint, IsPointInRange, IntersectsNode, CommonAncestor};
 ghost use Rattle.dom_model.specs.Commands.Guards.{Bounds};
 ghost use Rattle.dom_model.specs.Commands.Reply.{is_refusal};
-ghost use Rattle.dom_ranges.specs.Tables.{StandsIn, refused};
-ghost use Rattle.dom_edit.specs.Whole.{IsShown};
+ghost use Rattle.dom_wrap.specs.dom_ranges.Tables.{StandsIn, refused};
+ghost use Rattle.dom_wrap.specs.dom_edit.Whole.{IsShown};
 ghost use Rattle.dom_session.specs.Views.{command_view, reply_view};
 ghost use Rattle.dom_session.specs.Stands.{IsStep};
 ghost use Rattle.dom_session.specs.Limiting.{numbered};
@@ -19,12 +19,12 @@ ghost use Rattle.dom_session.specs.Limiting.{numbered};
 use crate::command::Command;
 use crate::reply::{Answer, Reply};
 use crate::statics::act_on_statics;
-use dom_edit::{Content, World};
-use dom_kinds::{DomError, Kind};
 use dom_model::OwnError;
-use dom_point::{Point, common, order};
-use dom_ranges::RangeId;
-use dom_tree::{NodeId, Tree};
+use dom_wrap::dom_edit::{Content, World};
+use dom_wrap::dom_kinds::{DomError, Kind};
+use dom_wrap::dom_point::{Point, common, order};
+use dom_wrap::dom_ranges::RangeId;
+use dom_wrap::dom_tree::{NodeId, Tree};
 use std::alloc::{AllocError, Global};
 use std::cmp::Ordering;
 

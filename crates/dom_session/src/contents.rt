@@ -4,7 +4,7 @@ ghost use Rattle.std.specs.Prelude.{◌≡◌, ◌≤◌, true, IfOk};
 ghost use Rattle.dom_model.specs.Commands.Command.{RangeText, DeleteContents, ExtractContents, CloneContents, InsertNode, SurroundContents};
 ghost use Rattle.dom_model.specs.Commands.Guards.{Bounds};
 ghost use Rattle.dom_model.specs.Commands.Reply.{is_refusal};
-ghost use Rattle.dom_edit.specs.Whole.{IsShown};
+ghost use Rattle.dom_wrap.specs.dom_edit.Whole.{IsShown};
 ghost use Rattle.dom_session.specs.Views.{command_view, reply_view};
 ghost use Rattle.dom_session.specs.Stands.{IsStep};
 ghost use Rattle.dom_session.specs.Limiting.{numbered};
@@ -12,10 +12,10 @@ ghost use Rattle.dom_session.specs.Limiting.{numbered};
 use crate::command::Command;
 use crate::copies::lacks_numbers;
 use crate::reply::{Answer, Reply};
-use dom_edit::{Refusal, World};
 use dom_model::OwnError;
-use dom_ranges::RangeId;
-use dom_tree::NodeId;
+use dom_wrap::dom_edit::{Refusal, World};
+use dom_wrap::dom_ranges::RangeId;
+use dom_wrap::dom_tree::NodeId;
 use std::alloc::{AllocError, Global};
 
 /// The data of the Texts that lie in a live range.

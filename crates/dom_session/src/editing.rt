@@ -9,7 +9,7 @@ ghost use Rattle.dom_model.specs.Commands.AnswerTree.{is_child_node};
 ghost use Rattle.dom_model.specs.Commands.Command.{InsertBefore, AppendChild, AdoptNode, ReplaceChild, RemoveChild, Remove, ReplaceChildren, Discard};
 ghost use Rattle.dom_model.specs.Commands.Guards.{Bounds};
 ghost use Rattle.dom_model.specs.Commands.Reply.{is_refusal};
-ghost use Rattle.dom_edit.specs.Whole.{IsShown};
+ghost use Rattle.dom_wrap.specs.dom_edit.Whole.{IsShown};
 ghost use Rattle.dom_session.specs.Views.{command_view, reply_view};
 ghost use Rattle.dom_session.specs.Stands.{IsStep};
 ghost use Rattle.dom_session.specs.Limiting.{numbered};
@@ -18,10 +18,10 @@ ghost use Rattle.dom_session.specs.Refusing.{lacks_given};
 use crate::command::Command;
 use crate::questions::ask_tree;
 use crate::reply::{Answer, Reply};
-use dom_edit::{Refusal, World};
-use dom_kinds::{DomError, Kind};
 use dom_model::OwnError;
-use dom_tree::NodeId;
+use dom_wrap::dom_edit::{Refusal, World};
+use dom_wrap::dom_kinds::{DomError, Kind};
+use dom_wrap::dom_tree::NodeId;
 use std::alloc::{AllocError, Global};
 
 // Whether there is such a node, where one is given.

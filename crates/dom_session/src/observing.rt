@@ -4,8 +4,8 @@ ghost use Rattle.std.specs.Prelude.{◌≡◌, ◌≤◌, true, IfOk};
 ghost use Rattle.dom_model.specs.Commands.Command.{CreateObserver, Observe, Disconnect, TakeRecords, Notify, Pending};
 ghost use Rattle.dom_model.specs.Commands.Guards.{Bounds};
 ghost use Rattle.dom_model.specs.Commands.Reply.{is_refusal};
-ghost use Rattle.dom_observe.specs.Notifying.{told_of};
-ghost use Rattle.dom_edit.specs.Whole.{IsShown};
+ghost use Rattle.dom_wrap.specs.dom_observe.Notifying.{told_of};
+ghost use Rattle.dom_wrap.specs.dom_edit.Whole.{IsShown};
 ghost use Rattle.dom_session.specs.Views.{command_view, reply_view};
 ghost use Rattle.dom_session.specs.Stands.{IsStep};
 ghost use Rattle.dom_session.specs.Limiting.{numbered};
@@ -13,10 +13,10 @@ ghost use Rattle.dom_session.specs.Limiting.{numbered};
 use crate::command::Command;
 use crate::reply::{Answer, Reply, Told};
 use crate::texts::change_texts;
-use dom_edit::World;
 use dom_model::OwnError;
-use dom_observe::{ObserverId, Observers, RawOptions, Record, settle};
-use dom_tree::NodeId;
+use dom_wrap::dom_edit::World;
+use dom_wrap::dom_observe::{ObserverId, Observers, RawOptions, Record, settle};
+use dom_wrap::dom_tree::NodeId;
 use std::alloc::{AllocError, Global};
 
 /// Makes a mutation observer, with nothing to observe yet (`new MutationObserver()`).

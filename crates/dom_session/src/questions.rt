@@ -5,7 +5,7 @@ ghost use Rattle.dom_model.specs.Forests.Forest.{HasNode, children_of};
 ghost use Rattle.dom_model.specs.Commands.Command.{DescribeNode, Children, Index, Length, Root};
 ghost use Rattle.dom_model.specs.Commands.Guards.{Bounds};
 ghost use Rattle.dom_model.specs.Commands.Reply.{is_refusal};
-ghost use Rattle.dom_edit.specs.Whole.{IsShown};
+ghost use Rattle.dom_wrap.specs.dom_edit.Whole.{IsShown};
 ghost use Rattle.dom_session.specs.Views.{command_view, reply_view};
 ghost use Rattle.dom_session.specs.Stands.{IsStep};
 ghost use Rattle.dom_session.specs.Limiting.{numbered};
@@ -14,9 +14,9 @@ use crate::command::Command;
 use crate::printing::print_tree;
 use crate::ranging::act_on_ranges;
 use crate::reply::{Answer, Description, Reply};
-use dom_edit::{Content, World};
 use dom_model::OwnError;
-use dom_tree::{NodeId, Tree};
+use dom_wrap::dom_edit::{Content, World};
+use dom_wrap::dom_tree::{NodeId, Tree};
 use std::alloc::{AllocError, Global};
 
 /// Tells where a node stands, and what it is.

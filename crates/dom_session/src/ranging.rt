@@ -4,7 +4,7 @@ ghost use Rattle.std.specs.Prelude.{◌≡◌, ◌≤◌, true, IfOk};
 ghost use Rattle.dom_model.specs.Commands.Command.{CreateRange, CloneRange, DescribeRange, ReleaseRange};
 ghost use Rattle.dom_model.specs.Commands.Guards.{Bounds};
 ghost use Rattle.dom_model.specs.Commands.Reply.{is_refusal};
-ghost use Rattle.dom_edit.specs.Whole.{IsShown};
+ghost use Rattle.dom_wrap.specs.dom_edit.Whole.{IsShown};
 ghost use Rattle.dom_session.specs.Views.{command_view, reply_view};
 ghost use Rattle.dom_session.specs.Stands.{IsStep};
 ghost use Rattle.dom_session.specs.Limiting.{numbered};
@@ -12,12 +12,12 @@ ghost use Rattle.dom_session.specs.Limiting.{numbered};
 use crate::command::Command;
 use crate::reply::{Answer, Reply};
 use crate::setting::set_ranges;
-use dom_edit::World;
-use dom_kinds::{DomError, Kind};
 use dom_model::OwnError;
-use dom_point::Point;
-use dom_ranges::RangeId;
-use dom_tree::NodeId;
+use dom_wrap::dom_edit::World;
+use dom_wrap::dom_kinds::{DomError, Kind};
+use dom_wrap::dom_point::Point;
+use dom_wrap::dom_ranges::RangeId;
+use dom_wrap::dom_tree::NodeId;
 use std::alloc::{AllocError, Global};
 
 /// Makes a live range whose ends both stand at the start of a document.

@@ -1,6 +1,6 @@
 //! One session over one world.
 
-ghost use Rattle.std.specs.Prelude.{◌≡◌, ℕ, ◌≤◌, true, IsErr, IfOk, OnErr};
+ghost use Rattle.std.specs.Prelude.{◌≡◌, ℕ, ◌≤◌, true, false, IsErr, IfOk, OnOk, OnErr};
 ghost use Rattle.dom_model.specs.Worlds.World.{World as PlainWorld, first_world};
 ghost use Rattle.dom_model.specs.Commands.Reply.{is_refusal};
 ghost use Rattle.dom_session.specs.Views.{command_view, reply_view};
@@ -10,7 +10,7 @@ ghost use Rattle.dom_session.specs.Bounding.{bounds_of};
 use crate::answering::answered;
 use crate::command::Command;
 use crate::reply::Reply;
-use dom_edit::World;
+use dom_wrap::dom_edit::World;
 use std::alloc::{AllocError, Global};
 use std::marker::Model;
 
@@ -49,7 +49,7 @@ impl Model for Session {
     ghost view = { λ s. record { world = s.world; bounds = bounds_of s.limits; ended = s.ended } };
 
     ghost use Rattle.std.specs.Prelude.{◌≡◌, ◌≤◌, false};
-    ghost use Rattle.dom_edit.specs.Whole.{IsShown};
+    ghost use Rattle.dom_wrap.specs.dom_edit.Whole.{IsShown};
 
     ghost invariant = { λ s. (s.limits.numbers ≤ 4294967295) × (s.ended ≡ false → IsShown s.world) };
 }
@@ -61,6 +61,7 @@ impl Session {
         requires line { 1 ≤ limits.line }
         ensures first { IfOk result (λ session. StandsFor session first_world) }
         ensures bounds { IfOk result (λ session. session.bounds ≡ bounds_of limits) }
+        ensures open { IfOk result (λ session. session.ended ≡ false) }
     {
         let world = World::new(alloc)?;
         Ok(Session {
@@ -77,6 +78,7 @@ impl Session {
         ensures answers { IfOk result
             (λ reply. (w : PlainWorld) → StandsFor self.old w → IsAnswered reply w self.old self.new (command_view command)) }
         ensures refused { IfOk result (λ reply. is_refusal (reply_view reply) ≡ true → self.new ≡ self.old) }
+        ensures open { OnOk result (self.new.ended ≡ false) }
         ensures ended { OnErr result (self.new.ended ≡ true) }
         ensures stays_ended { self.old.ended ≡ true → IsErr result }
         ensures bounds { self.new.bounds ≡ self.old.bounds }

@@ -10,7 +10,7 @@ ghost use Rattle.dom_model.specs.Commands.Guards.{Bounds};
 ghost use Rattle.dom_model.specs.Commands.Answer.{answer};
 ghost use Rattle.dom_model.specs.Commands.AnswerRanges.{sets_start, sets_end};
 ghost use Rattle.dom_model.specs.Commands.Reply.{is_refusal};
-ghost use Rattle.dom_edit.specs.Whole.{IsShown, Shows};
+ghost use Rattle.dom_wrap.specs.dom_edit.Whole.{IsShown, Shows};
 ghost use Rattle.dom_session.specs.Views.{command_view, reply_view};
 ghost use Rattle.dom_session.specs.Stands.{IsStep};
 ghost use Rattle.dom_session.specs.Limiting.{numbered};
@@ -18,12 +18,12 @@ ghost use Rattle.dom_session.specs.Limiting.{numbered};
 use crate::command::Command;
 use crate::comparing::compare;
 use crate::reply::{Answer, Reply};
-use dom_edit::{Content, World};
-use dom_kinds::DomError;
 use dom_model::OwnError;
-use dom_point::Point;
-use dom_ranges::RangeId;
-use dom_tree::{NodeId, Tree};
+use dom_wrap::dom_edit::{Content, World};
+use dom_wrap::dom_kinds::DomError;
+use dom_wrap::dom_point::Point;
+use dom_wrap::dom_ranges::RangeId;
+use dom_wrap::dom_tree::{NodeId, Tree};
 use std::alloc::{AllocError, Global};
 
 // The point ahead of a node in its parent; none without a parent.

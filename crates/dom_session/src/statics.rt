@@ -4,7 +4,7 @@ ghost use Rattle.std.specs.Prelude.{◌≡◌, ◌≤◌, true, IfOk};
 ghost use Rattle.dom_model.specs.Commands.Command.{CreateStaticRange, DescribeStaticRange};
 ghost use Rattle.dom_model.specs.Commands.Guards.{Bounds};
 ghost use Rattle.dom_model.specs.Commands.Reply.{is_refusal};
-ghost use Rattle.dom_edit.specs.Whole.{IsShown};
+ghost use Rattle.dom_wrap.specs.dom_edit.Whole.{IsShown};
 ghost use Rattle.dom_session.specs.Views.{command_view, reply_view};
 ghost use Rattle.dom_session.specs.Stands.{IsStep};
 ghost use Rattle.dom_session.specs.Limiting.{numbered};
@@ -12,10 +12,10 @@ ghost use Rattle.dom_session.specs.Limiting.{numbered};
 use crate::command::Command;
 use crate::reply::{Answer, Reply};
 use crate::traversing::traverse;
-use dom_edit::World;
 use dom_model::OwnError;
-use dom_point::Point;
-use dom_ranges::{StaticId, Statics};
+use dom_wrap::dom_edit::World;
+use dom_wrap::dom_point::Point;
+use dom_wrap::dom_ranges::{StaticId, Statics};
 use std::alloc::{AllocError, Global};
 
 /// Makes a static range. Its offsets may lie past the lengths of its nodes.

@@ -9,7 +9,7 @@ ghost use Rattle.dom_model.specs.DataAndCopies.Data.{content_in};
 ghost use Rattle.dom_model.specs.Commands.Command.{GetData, SetData, AppendData, InsertData, DeleteData, ReplaceData, SubstringData, SplitText, TextContent, SetTextContent, Normalize};
 ghost use Rattle.dom_model.specs.Commands.Guards.{Bounds};
 ghost use Rattle.dom_model.specs.Commands.Reply.{is_refusal};
-ghost use Rattle.dom_edit.specs.Whole.{IsShown};
+ghost use Rattle.dom_wrap.specs.dom_edit.Whole.{IsShown};
 ghost use Rattle.dom_session.specs.Views.{command_view, reply_view};
 ghost use Rattle.dom_session.specs.Stands.{IsStep};
 ghost use Rattle.dom_session.specs.Limiting.{numbered};
@@ -18,11 +18,11 @@ ghost use Rattle.dom_session.specs.Refusing.{kind_refusal};
 use crate::attributes::change_attributes;
 use crate::command::Command;
 use crate::reply::{Answer, Reply};
-use dom_edit::{Content, Refusal, World};
-use dom_kinds::{DomError, Kind};
 use dom_model::OwnError;
-use dom_tree::{NodeId, Tree};
-use dom_units::Units;
+use dom_wrap::dom_edit::{Content, Refusal, World};
+use dom_wrap::dom_kinds::{DomError, Kind};
+use dom_wrap::dom_tree::{NodeId, Tree};
+use dom_wrap::dom_units::Units;
 use std::alloc::{AllocError, Global};
 
 // Whether a kind has character data.
@@ -90,7 +90,7 @@ pub fn set_data(
     if let Some(reply) = refusal(world, node) {
         return Ok(reply);
     }
-    dom_data::set_data(world, alloc, node, text)?;
+    dom_wrap::dom_data::set_data(world, alloc, node, text)?;
     Ok(Reply::Done(Answer::Nothing))
 }
 
@@ -110,7 +110,7 @@ pub fn replace_data(
     if let Some(reply) = refusal(world, node) {
         return Ok(reply);
     }
-    match dom_data::replace_data(world, alloc, node, offset, count, text) {
+    match dom_wrap::dom_data::replace_data(world, alloc, node, offset, count, text) {
         Ok(()) => Ok(Reply::Done(Answer::Nothing)),
         Err(Refusal::Dom(error)) => Ok(Reply::Dom(error)),
         Err(Refusal::Memory) => Err(AllocError),
@@ -179,7 +179,7 @@ pub fn substring_data(
     if let Some(reply) = refusal(world, node) {
         return Ok(reply);
     }
-    match dom_data::substring(world, alloc, node, offset, count) {
+    match dom_wrap::dom_data::substring(world, alloc, node, offset, count) {
         Ok(units) => Ok(Reply::Done(Answer::Units(units))),
         Err(Refusal::Dom(error)) => Ok(Reply::Dom(error)),
         Err(Refusal::Memory) => Err(AllocError),
@@ -194,7 +194,7 @@ pub fn text_content(world: &World, alloc: Global, node: NodeId) -> Result<Reply,
     if !world.tree.holds(node) {
         return Ok(Reply::Own(OwnError::NoSuchObject));
     }
-    let text = dom_data::text_content(world, alloc, node)?;
+    let text = dom_wrap::dom_data::text_content(world, alloc, node)?;
     Ok(Reply::Done(Answer::MaybeUnits(text)))
 }
 
@@ -217,7 +217,7 @@ pub fn set_text_content(
     if numbers <= world.tree.made() {
         return Ok(Reply::Own(OwnError::Limit));
     }
-    dom_data::set_text_content(world, alloc, node, text)?;
+    dom_wrap::dom_data::set_text_content(world, alloc, node, text)?;
     Ok(Reply::Done(Answer::Nothing))
 }
 
@@ -253,7 +253,7 @@ pub fn split_text(
     if numbers <= world.tree.made() {
         return Ok(Reply::Own(OwnError::Limit));
     }
-    match dom_data::split(world, alloc, text, offset) {
+    match dom_wrap::dom_data::split(world, alloc, text, offset) {
         Ok(new) => Ok(Reply::Done(Answer::Number(new.number()))),
         Err(Refusal::Dom(error)) => Ok(Reply::Dom(error)),
         Err(Refusal::Memory) => Err(AllocError),
@@ -269,7 +269,7 @@ pub fn normalize(world: &mut World, alloc: Global, node: NodeId) -> Result<Reply
     if !world.tree.holds(node) {
         return Ok(Reply::Own(OwnError::NoSuchObject));
     }
-    dom_data::normalize(world, alloc, node)?;
+    dom_wrap::dom_data::normalize(world, alloc, node)?;
     Ok(Reply::Done(Answer::Nothing))
 }
 

@@ -4,7 +4,7 @@ ghost use Rattle.std.specs.Prelude.{◌≡◌, ◌≤◌, true, IfOk};
 ghost use Rattle.dom_model.specs.Commands.Command.{CreateIterator, CreateWalker, DescribeIterator, NextNode, PreviousNode, DescribeWalker, SetCurrent, Walk};
 ghost use Rattle.dom_model.specs.Commands.Guards.{Bounds};
 ghost use Rattle.dom_model.specs.Commands.Reply.{is_refusal, Done, MaybeNumber};
-ghost use Rattle.dom_edit.specs.Whole.{IsShown};
+ghost use Rattle.dom_wrap.specs.dom_edit.Whole.{IsShown};
 ghost use Rattle.dom_session.specs.Views.{command_view, reply_view};
 ghost use Rattle.dom_session.specs.Stands.{IsStep};
 ghost use Rattle.dom_session.specs.Limiting.{numbered};
@@ -12,10 +12,10 @@ ghost use Rattle.dom_session.specs.Limiting.{numbered};
 use crate::command::Command;
 use crate::observing::watch;
 use crate::reply::{Answer, Reply};
-use dom_edit::World;
 use dom_model::{Move, OwnError};
-use dom_traverse::{Filter, IterId, WalkerId};
-use dom_tree::NodeId;
+use dom_wrap::dom_edit::World;
+use dom_wrap::dom_traverse::{Filter, IterId, WalkerId};
+use dom_wrap::dom_tree::NodeId;
 use std::alloc::{AllocError, Global};
 
 // The number of a node, where one is found.

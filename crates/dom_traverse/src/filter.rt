@@ -5,8 +5,8 @@ ghost use Rattle.dom_model.specs.Forests.Kinds.{node_name};
 ghost use Rattle.dom_model.specs.Traversal.Filters.{shows, is_rule_for, ruled, verdict_on, accepts, rejects};
 ghost use Rattle.dom_model.specs.Forests.Forest.{HasNode};
 
-use dom_kinds::{Kind, Label, NodeType};
 use dom_model::Verdict;
+use dom_tree::dom_kinds::{Kind, Label, NodeType};
 use dom_tree::{NodeId, Tree};
 use std::marker::Model;
 

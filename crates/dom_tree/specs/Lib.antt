@@ -6,3 +6,6 @@ pub mod Outside
 pub mod Slots
 pub mod Spelled
 pub mod Standing
+-- what crates above name of those below
+pub mod dom_links
+pub mod dom_pages

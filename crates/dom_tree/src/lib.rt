@@ -14,5 +14,8 @@ mod upkeep;
 mod walks;
 
 pub use body::Body;
+pub use dom_kinds;
+pub use dom_links;
+pub use dom_pages;
 pub use node_id::NodeId;
 pub use tree::Tree;

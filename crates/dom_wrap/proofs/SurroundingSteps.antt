@@ -28,12 +28,12 @@ use Rattle.dom_model.proofs.Soundness.SoundEditing.{checks_insert, insertable}
 use Rattle.dom_model.proofs.Soundness.SoundRangeSteps.{sound-with_range}
 use Rattle.dom_model.proofs.TokenText.EditsMade.EditsOfDrawnContents.{sound-range, check-range, there-contents_drawn, fragment-contents_drawn, live-contents_drawn}
 use Rattle.dom_model.proofs.TokenText.EditsMade.EditsOfInsertedNodes.{kept-insert_node}
-use Rattle.dom_ranges.specs.Tables.{RangeTable, range_in, refused}
-use Rattle.dom_edit.specs.declared.world.World.{World}
-use Rattle.dom_edit.specs.Whole.{IsWhole, Keeps, Follows, unwatched}
-use Rattle.dom_edit.proofs.Following.{keeps-unwatched, follows-none, follows-then, whole-sound}
-use Rattle.dom_edit.proofs.Leaving.{sound-unwatched, it_is}
-use Rattle.dom_edit.proofs.InsertedNodes.{follows-as}
+use Rattle.dom_content.specs.dom_ranges.Tables.{RangeTable, range_in, refused}
+use Rattle.dom_content.specs.dom_edit.declared.world.World.{World}
+use Rattle.dom_content.specs.dom_edit.Whole.{AreCovered, IsWhole, Keeps, Follows, unwatched}
+use Rattle.dom_content.specs.dom_edit.Following.{keeps-unwatched, follows-none, follows-then, whole-sound}
+use Rattle.dom_content.specs.dom_edit.Leaving.{sound-unwatched, it_is}
+use Rattle.dom_content.specs.dom_edit.InsertedNodes.{follows-as}
 use Rattle.dom_wrap.specs.Outcomes.{left_by, Passes, put_around}
 use Rattle.dom_wrap.proofs.InsertedNode.{unless-none, left-alike, start-alike, parent-alike, reference-alike}
 
@@ -296,7 +296,7 @@ module _ (v : World) (h : IsWhole v) (r n : ℕ) (t : RangeTable) (ends : Range)
       let u = unwatched v in
       let s = sound-unwatched v h in
       let i : IsRange v.tree.forest ends = subst (λ (o : Option Range). IfSome o (IsRange v.tree.forest)) e (range_selected s.forest n) in
-      let covers : v.tree.made ≤ t.covered = subst (λ m. v.tree.made ≤ m) (sym (ap (λ (x : RangeTable). x.covered) is)) h.covered in
+      let covers : AreCovered v.tree t.covered = subst (AreCovered v.tree) (sym (ap (λ (x : RangeTable). x.covered) is)) h.covered in
       whole-sound around_it (with_range r ends u) (follows-ends.keeps u (keeps-unwatched v)) (sound-with_range r ends u s i) h.documents h.owners covers h.statics
 
 module _ (v : World) (h : IsWhole v) (r n : ℕ) (t : RangeTable) (unit : Unit {0}) (allowed : Ok unit ≡ refused (check_parent v.tree.forest n))

@@ -9,18 +9,18 @@ ghost use Rattle.dom_model.specs.MutationAlgorithms.Checks.{check_insert as inse
 ghost use Rattle.dom_model.specs.MutationAlgorithms.Editing.{reference_child};
 ghost use Rattle.dom_model.specs.RangesAndContents.Wrapping.{insert_node, is_text, inserted_at, placed_at, refusal_in, check_start, reference_at, parent_at, reference_after, split_at, offset_past, end_if_collapsed};
 ghost use Rattle.dom_model.specs.TokenText.Edits.{insert_node_edits};
-ghost use Rattle.dom_ranges.specs.Tables.{range_in};
-ghost use Rattle.dom_edit.specs.Whole.{IsWhole, Keeps, Follows, unwatched};
-ghost use Rattle.dom_edit.specs.Markers.{StandByEdits};
-ghost use Rattle.dom_edit.specs.Refusals.{IsRefused};
+ghost use Rattle.dom_content.specs.dom_ranges.Tables.{range_in};
+ghost use Rattle.dom_content.specs.dom_edit.Whole.{IsWhole, Keeps, Follows, unwatched};
+ghost use Rattle.dom_content.specs.dom_edit.Markers.{StandByEdits};
+ghost use Rattle.dom_content.specs.dom_edit.Refusals.{IsRefused};
 ghost use Rattle.dom_wrap.specs.Outcomes.{left_by, HasRoom, IsPlaceable, MayEndAt};
 
-use dom_data::split;
-use dom_edit::{Content, Refusal, World, check_insert};
-use dom_kinds::{DomError, Kind};
-use dom_point::Point;
-use dom_ranges::RangeId;
-use dom_tree::{NodeId, Tree};
+use dom_content::dom_data::split;
+use dom_content::dom_edit::{Content, Refusal, World, check_insert};
+use dom_content::dom_kinds::{DomError, Kind};
+use dom_content::dom_point::Point;
+use dom_content::dom_ranges::RangeId;
+use dom_content::dom_tree::{NodeId, Tree};
 use std::alloc::{AllocError, Global};
 
 // Whether a node is of that kind.

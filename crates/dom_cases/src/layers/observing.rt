@@ -1,8 +1,10 @@
 //! Observers at work, with ample memory. The nodes are roots: what stands above a node is told by the contracts.
-use dom_kinds::{DomError, Kind, Label};
-use dom_observe::{Mutation, ObserverId, Observers, RawOptions, Record, RecordType, settle};
-use dom_tree::{NodeId, Tree};
-use dom_units::Units;
+use dom_serve::dom_kinds::{DomError, Kind, Label};
+use dom_serve::dom_observe::{
+    Mutation, ObserverId, Observers, RawOptions, Record, RecordType, settle,
+};
+use dom_serve::dom_tree::{NodeId, Tree};
+use dom_serve::dom_units::Units;
 use std::alloc::{AllocError, Global};
 use std::process::Abort;
 use std::test::Fail;

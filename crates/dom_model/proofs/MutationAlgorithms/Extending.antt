@@ -2,6 +2,8 @@
 use Rattle.std.proofs.Common.{◌≡◌, ℕ, suc, ◌+◌, ◌<◌, ◌≤◌, Bool, true, false, if◌then◌else◌, List, [], ◌∷◌, ◌++◌, length, Option, Some, None, refl, ap, sym, ◌∙◌, subst, arith}
 use Rattle.dom_model.specs.declared.Kind.{Kind}
 use Rattle.dom_model.specs.PlainLists.Lists.{hits}
+use Rattle.dom_model.specs.Forests.Kinds.{Label}
+use Rattle.dom_model.specs.Forests.Attributes.{Attribute}
 use Rattle.dom_model.specs.Forests.Arena.{Entry, parent_in}
 use Rattle.dom_model.specs.Forests.Forest.{Node, Forest, occurs, one_at, beside, cut, map_nodes, adopted, entry_in, parent_of, children_of}
 use Rattle.dom_model.specs.Worlds.World.{Content, World}
@@ -9,6 +11,7 @@ use Rattle.dom_model.specs.MutationAlgorithms.Checks.{entry_has, kind_passes}
 use Rattle.dom_model.specs.MutationAlgorithms.Editing.{node_document, remove, remove_all, is_fragment, nodes_of, emptied_fragment, freed, put_in, put_all, gap_before, previous_to, insert_nodes, insert}
 use Rattle.dom_model.specs.DataAndCopies.Data.{content_in}
 use Rattle.dom_model.specs.Worlds.Sound.{IsSound}
+use Rattle.dom_model.specs.TokenText.Originals.{label_in}
 use Rattle.dom_model.proofs.PlainLists.Numbers.{same_or, same, apart}
 use Rattle.dom_model.proofs.Forests.Changes.{cut_at, link_at}
 use Rattle.dom_model.proofs.Forests.Climbing.{hits-append, hits-first}
@@ -26,10 +29,18 @@ use Rattle.dom_model.proofs.Soundness.SoundInserting.{IsInsertable, IsReady, fre
 abbrev pub text_at : Forest Content → ℕ → List ℕ
 text_at f n = (content_in (entry_in f n)).text
 
+-- its label and attributes
+abbrev pub tag_in : Option (Entry (Node Content)) → (Option Label) × (List Attribute)
+tag_in e = (label_in e, (content_in e).attributes)
+
+abbrev pub tag_at : Forest Content → ℕ → (Option Label) × (List Attribute)
+tag_at f n = tag_in (entry_in f n)
+
 pub record Extends (f g : Forest Content) (moved : List ℕ) : Type 0 where
   pub there : (m : ℕ) → 0 < occurs m f → 0 < occurs m g
   pub kinds : (test : Kind → Bool) (m : ℕ) → 0 < occurs m f → kind_passes test g m ≡ kind_passes test f m
   pub texts : (m : ℕ) → 0 < occurs m f → text_at g m ≡ text_at f m
+  pub tags : (m : ℕ) → 0 < occurs m f → tag_at g m ≡ tag_at f m
   pub parents : (m : ℕ) → 0 < occurs m f → hits m moved ≡ 0 → parent_of g m ≡ parent_of f m
 
 pub extends-same : (f g : Forest Content) → g ≡ f → Extends f g []
@@ -38,6 +49,7 @@ extends-same f g e =
       there = λ m h. subst (λ (x : Forest Content). 0 < occurs m x) (sym e) h;
       kinds = λ test m h. ap (λ (x : Forest Content). kind_passes test x m) e;
       texts = λ m h. ap (λ (x : Forest Content). text_at x m) e;
+      tags = λ m h. ap (λ (x : Forest Content). tag_at x m) e;
       parents = λ m h z. ap (λ (x : Forest Content). parent_of x m) e;
     }
 
@@ -47,12 +59,13 @@ extends-then f g h ns ms a b =
       there = λ m i. b.there m (a.there m i);
       kinds = λ test m i. b.kinds test m (a.there m i) ∙ a.kinds test m i;
       texts = λ m i. b.texts m (a.there m i) ∙ a.texts m i;
+      tags = λ m i. b.tags m (a.there m i) ∙ a.tags m i;
       parents = λ m i z. let c = hits-append m ns ms in b.parents m (a.there m i) (omega arith) ∙ a.parents m i (omega arith);
     }
 
 -- the same, told with other moves
 pub extends-of : (f g : Forest Content) (ns ms : List ℕ) → ((m : ℕ) → 0 < occurs m f → hits m ms ≡ 0 → hits m ns ≡ 0) → Extends f g ns → Extends f g ms
-extends-of f g ns ms fewer a = record { there = a.there; kinds = a.kinds; texts = a.texts; parents = λ m i z. a.parents m i (fewer m i z) }
+extends-of f g ns ms fewer a = record { there = a.there; kinds = a.kinds; texts = a.texts; tags = a.tags; parents = λ m i z. a.parents m i (fewer m i z) }
 
 -- Trees that come in last.
 
@@ -62,6 +75,7 @@ extends-beside f g =
       there = λ m h. let t = total-beside (one_at m) f g in omega arith;
       kinds = λ test m h. ap (entry_has test) (entry-beside f g m h);
       texts = λ m h. ap (λ o. (content_in o).text) (entry-beside f g m h);
+      tags = λ m h. ap tag_in (entry-beside f g m h);
       parents = λ m h z. ap parent_in (entry-beside f g m h);
     }
 
@@ -73,6 +87,7 @@ extends-cut f o n =
       there = λ m h. subst (λ x. 0 < x) (sym (total-cut (one_at m) n f)) h;
       kinds = λ test m h. kind-cut f o n test m;
       texts = λ m h. ap (λ x. (content_in x).text) (entry-cut f o n m) ∙ text m (entry_in f m);
+      tags = λ m h. ap tag_in (entry-cut f o n m) ∙ tag m (entry_in f m);
       parents = λ m h z. parent-cut f o n m ∙ (elim (same_or m n) [
         | same e t ↦ absurd (let k = hits-first n [] in let j : hits n (n ∷ []) ≡ 0 = ap (λ x. hits x (n ∷ [])) (sym e) ∙ z in omega arith)
         | apart ne t ↦ rw t refl
@@ -82,6 +97,10 @@ extends-cut f o n =
     text : (m : ℕ) (e : Option (Entry (Node Content))) → (content_in (cut_at n m e)).text ≡ (content_in e).text
     text m None = refl
     text m (Some e) = refl
+
+    tag : (m : ℕ) (e : Option (Entry (Node Content))) → tag_in (cut_at n m e) ≡ tag_in e
+    tag m None = refl
+    tag m (Some e) = refl
 
 pub extends-remove : (suppressed : Bool) (n : ℕ) (w : World) → IsSound w → 0 < occurs n w.forest → Extends w.forest (remove suppressed n w).forest (n ∷ [])
 extends-remove suppressed n w s h =
@@ -108,6 +127,25 @@ module _ (parent n : ℕ) (child : Option ℕ) (w : World) (s : IsSound w) (hp :
       go None = refl
       go (Some e) = refl
 
+  tag-put : (m : ℕ) → tag_at (after_put parent n child w s hp k) m ≡ tag_at w.forest m
+  tag-put m =
+      ap tag_in (entry-put w.forest s.forest.once parent n child hp k.there k.root (apart_from parent n child w s hp k) m)
+      ∙ go (entry_in w.forest m)
+    where
+      go : (e : Option (Entry (Node Content))) → tag_in (link_at parent child n m e) ≡ tag_in e
+      go None = refl
+      go (Some e) = refl
+
+  tag-adopted : (f : Forest Content) (d m : ℕ) → tag_at (adopted n d f) m ≡ tag_at f m
+  tag-adopted f d m = sym (measured (adopted n d f)) ∙ ap (λ g. tag_at g m) (adopted-unplaced n d f) ∙ measured f
+    where
+      measured : (g : Forest Content) → tag_at (map_nodes unplaced g) m ≡ tag_at g m
+      measured g = ap tag_in (entry-unplaced None m g) ∙ go (entry_in g m)
+        where
+          go : (e : Option (Entry (Node Content))) → tag_in (unplaced_entry e) ≡ tag_in e
+          go None = refl
+          go (Some e) = refl
+
   text-adopted : (f : Forest Content) (d m : ℕ) → text_at (adopted n d f) m ≡ text_at f m
   text-adopted f d m = sym (measured (adopted n d f)) ∙ ap (λ g. text_at g m) (adopted-unplaced n d f) ∙ measured f
     where
@@ -124,6 +162,7 @@ module _ (parent n : ℕ) (child : Option ℕ) (w : World) (s : IsSound w) (hp :
         there = λ m h. subst (λ x. 0 < x) (sym (occurs_placed parent n child w s hp k m)) h;
         kinds = λ test m h. kind_placed parent n child w s hp k test m;
         texts = λ m h. text-adopted (after_put parent n child w s hp k) (node_document w parent) m ∙ text-put m;
+        tags = λ m h. tag-adopted (after_put parent n child w s hp k) (node_document w parent) m ∙ tag-put m;
         parents = λ m h z. parent_placed parent n child w s hp k m h ∙ (elim (same_or m n) [
           | same e t ↦ absurd (let i = hits-first n [] in let j : hits n (n ∷ []) ≡ 0 = ap (λ x. hits x (n ∷ [])) (sym e) ∙ z in omega arith)
           | apart ne t ↦ rw t refl
@@ -176,7 +215,7 @@ extends-freed n w s h = go (is_fragment w n)
     go : (v : Bool) → Extends w.forest (if v then emptied_fragment n (if v then children_of w.forest n else n ∷ []) w else remove false n w).forest (if v then children_of w.forest n else n ∷ [])
     go true =
         let a = extends-remove_all (children_of w.forest n) w s (λ m k. child-there w.forest s.forest.once m n k) in
-        record { there = a.there; kinds = a.kinds; texts = a.texts; parents = a.parents }
+        record { there = a.there; kinds = a.kinds; texts = a.texts; tags = a.tags; parents = a.parents }
     go false = extends-remove false n w s h
 
 twice : (ns ms : List ℕ) (m : ℕ) → ms ≡ ns → hits m ns ≡ 0 → hits m (ns ++ ms) ≡ 0

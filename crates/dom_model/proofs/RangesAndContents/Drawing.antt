@@ -22,7 +22,7 @@ use Rattle.dom_model.proofs.Forests.Totals.{total-beside}
 use Rattle.dom_model.proofs.Forests.Paths.{parent-path, root-path}
 use Rattle.dom_model.proofs.Forests.Indices.{child-parent}
 use Rattle.dom_model.proofs.Worlds.Measured.{kind-beside, entry-beside}
-use Rattle.dom_model.proofs.MutationAlgorithms.Extending.{put_by_insert}
+use Rattle.dom_model.proofs.MutationAlgorithms.Extending.{tag_in, tag_at, put_by_insert}
 use Rattle.dom_model.proofs.Soundness.SoundInserting.{IsInsertable, sound-insert}
 use Rattle.dom_model.proofs.DataAndCopies.CopiesPlaced.{parent-copies}
 use Rattle.dom_model.proofs.MutationAlgorithms.Appended.{IsAppended, appended, made-appended}
@@ -41,17 +41,19 @@ pub record IsDrawing (low : ℕ) (v : World) : Type 0 where
 pub record Extends (v u : World) : Type 0 where
   pub there : (n : ℕ) → 0 < occurs n v.forest → 0 < occurs n u.forest
   pub kinds : (test : Kind → Bool) (n : ℕ) → 0 < occurs n v.forest → kind_passes test u.forest n ≡ kind_passes test v.forest n
+  pub tags : (n : ℕ) → 0 < occurs n v.forest → tag_at u.forest n ≡ tag_at v.forest n
   pub live : (r : ℕ) → is_live r u ≡ is_live r v
   pub made : v.made ≤ u.made
 
 pub extends-same : (v : World) → Extends v v
-extends-same v = record { there = λ n h. h; kinds = λ test n h. refl; live = λ r. refl; made = omega arith }
+extends-same v = record { there = λ n h. h; kinds = λ test n h. refl; tags = λ n h. refl; live = λ r. refl; made = omega arith }
 
 pub extends-then : (v u x : World) → Extends v u → Extends u x → Extends v x
 extends-then v u x a b =
     record {
       there = λ n h. b.there n (a.there n h);
       kinds = λ test n h. b.kinds test n (a.there n h) ∙ a.kinds test n h;
+      tags = λ n h. b.tags n (a.there n h) ∙ a.tags n h;
       live = λ r. b.live r ∙ a.live r;
       made = (let i = a.made in let j = b.made in omega arith);
     }
@@ -98,6 +100,7 @@ module _ (low : ℕ) (v : World) (d : IsDrawing low v) (document : ℕ) (g : For
       record {
         there = λ n h. let t = total-beside (one_at n) v.forest (renumbered document v.made g) in omega arith;
         kinds = λ test n h. kind-beside v.forest (renumbered document v.made g) n h test;
+        tags = λ n h. ap tag_in (entry-beside v.forest (renumbered document v.made g) n h);
         live = λ r. refl;
         made = omega arith;
       }
@@ -223,6 +226,7 @@ module _ (low : ℕ) (v : World) (d : IsDrawing low v) where
           extends = record {
             there = λ m h. subst (λ x. 0 < x) (sym (change.numbers m)) h;
             kinds = λ test m h. change.kinds test m;
+            tags = λ m h. let i = put_by_insert false n into None v d.sound may_come in i.extends.tags m h;
             live = λ r. append-live r n into v;
             made = (let e = made-appended n into v d.sound may_come in omega arith);
           };

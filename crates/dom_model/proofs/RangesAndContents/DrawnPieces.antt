@@ -1,12 +1,13 @@
 -- Pieces of contents as they go into a fragment: some units of a node, a child, a copy that is filled, and what stands beside a path.
 -- DOM Standard, "Interface Range": extract, clone the contents.
-use Rattle.std.proofs.Common.{◌≡◌, ℕ, ◌<◌, ◌≤◌, Bool, true, false, List, [], ◌∷◌, length, None, refl, sym, ◌∙◌, subst, arith, ◌⊎◌, inl, inr, ⊎_elim}
+use Rattle.std.proofs.Common.{◌≡◌, ℕ, ◌<◌, ◌≤◌, ◌==◌, Bool, true, false, if◌then◌else◌, List, [], ◌∷◌, length, Option, Some, None, refl, ap, sym, ◌∙◌, subst, arith, ◌⊎◌, inl, inr, ⊎_elim}
 use Rattle.std.proofs.lemmas.Bool.{cases_lt, false≢true}
 use Rattle.dom_model.specs.declared.Kind.{Kind}
 use Rattle.dom_model.specs.declared.Kind.TheVariants.{Element, Text, ProcessingInstruction, Comment, Document, DocumentType, DocumentFragment}
 use Rattle.dom_model.specs.PlainLists.Lists.{hits}
 use Rattle.dom_model.specs.Forests.Kinds.{is_kind, is_character_data, may_be_parent}
-use Rattle.dom_model.specs.Forests.Forest.{Node, Forest, empty, node, occurs, map_nodes, KindsFit}
+use Rattle.dom_model.specs.Forests.Arena.{Entry}
+use Rattle.dom_model.specs.Forests.Forest.{Node, Forest, empty, node, occurs, map_nodes, entry_in, KindsFit}
 use Rattle.dom_model.specs.Worlds.World.{Content, World, no_content}
 use Rattle.dom_model.specs.Forests.Texts.{substring, spliced}
 use Rattle.dom_model.specs.MutationAlgorithms.Checks.{kind_passes}
@@ -17,6 +18,9 @@ use Rattle.dom_model.specs.DataAndCopies.Clones.{original, document_of_clone, cl
 use Rattle.dom_model.specs.RangesAndContents.Contents.{new_fragment, clone_with, cut_if, units_into, child_into, children_into}
 use Rattle.dom_model.specs.TokenText.Edits.{making, copies_edits, clone_edits, replace_data_edits, doing_append, doing_replace_data, doing_clone, doing_clone_with, doing_fragment, doing_cut_if, doing_units, doing_child, doing_children}
 use Rattle.dom_model.proofs.PlainLists.Numbers.{same_or, same, apart}
+use Rattle.dom_model.proofs.Forests.Changes.{change_at}
+use Rattle.dom_model.proofs.Worlds.Measured.{entry-with_node}
+use Rattle.dom_model.proofs.MutationAlgorithms.Extending.{tag_in}
 use Rattle.dom_model.proofs.Worlds.SameShape.{IsAlike, occurs-alike, parent-alike, kind-alike, map-alike, with_node-alike, fits-alike}
 use Rattle.dom_model.proofs.Soundness.SoundMaking.{sound-made_node, sound-copies, sound-clone_node, fits-original}
 use Rattle.dom_model.proofs.Soundness.SoundData.{sound-replace_data}
@@ -42,10 +46,19 @@ module _ (low : ℕ) (v : World) (d : IsDrawing low v) where
         extends = record {
           there = λ m h. subst (λ x. 0 < x) (sym (occurs-alike a m)) h;
           kinds = λ test m h. kind-alike a test m;
+          tags = λ m h. ap tag_in (entry-with_node (with_data (spliced offset (cut_count (length (data_of v n)) offset count) [] (data_of v n))) (λ x. refl) n m None v.forest) ∙ tag-cut m (entry_in v.forest m);
           live = λ r. replace_data-live r n offset count [] v;
           made = omega arith;
         };
       }
+    where
+      tag-cut : (m : ℕ) (e : Option (Entry (Node Content))) → tag_in (change_at (with_data (spliced offset (cut_count (length (data_of v n)) offset count) [] (data_of v n))) n m e) ≡ tag_in e
+      tag-cut m None = refl
+      tag-cut m (Some e) = go (m == n)
+        where
+          go : (b : Bool) → tag_in (Some (record { value = if b then with_data (spliced offset (cut_count (length (data_of v n)) offset count) [] (data_of v n)) e.value else e.value; parent = e.parent; children = e.children })) ≡ tag_in (Some e)
+          go true = refl
+          go false = refl
 
   pub draws-cut_if : (moves : Bool) (n offset count : ℕ) → kind_passes is_character_data v.forest n ≡ true → offset ≤ length (data_of v n) → Draws low (doing_cut_if moves n offset count) v (cut_if moves n offset count v)
   draws-cut_if false n offset count k within = draws-none low v d

@@ -50,7 +50,7 @@ pub drawn_children : (moves : Bool) (into : ℕ) (ns : List ℕ) (w : World) →
 drawn_children moves into [] w s h plain z =
     record {
       sound = s;
-      extends = record { there = λ m k. k; kinds = λ test m k. refl; texts = λ m k. refl; parents = λ m k l. refl };
+      extends = record { there = λ m k. k; kinds = λ test m k. refl; texts = λ m k. refl; tags = λ m k. refl; parents = λ m k l. refl };
       made = omega arith;
     }
 drawn_children moves into (n ∷ ns) w s h plain z =

@@ -29,3 +29,4 @@ pub mod NodesTaken
 pub mod TreesLeft
 pub mod ExtractedAsDeleted
 pub mod ExtractedLeft
+pub mod EndsTogether

@@ -3,9 +3,9 @@ use Rattle.std.proofs.Common.{◌≡◌, ℕ, ◌≤◌, true, false, [], ◌∷
 use Rattle.dom_model.specs.PlainLists.Lists.{hits, after}
 use Rattle.dom_model.specs.Forests.Forest.{children_of}
 use Rattle.dom_model.proofs.Forests.Indices.{child-once}
-use Rattle.dom_edit.specs.Places.{from_optional, ahead_of}
-use Rattle.dom_edit.proofs.AmongChildren.{IsAmong-after, from_first-after, HasNode-child, next_of-child}
-use Rattle.dom_edit.proofs.Placing.{ahead-here, ahead-on, ahead-none}
+use Rattle.dom_clone.specs.dom_edit.Places.{from_optional, ahead_of}
+use Rattle.dom_clone.specs.dom_edit.AmongChildren.{IsAmong-after, from_first-after, HasNode-child, next_of-child}
+use Rattle.dom_clone.specs.dom_edit.Placing.{ahead-here, ahead-on, ahead-none}
 use Rattle.dom_content.proofs.ChildrenBetween.{given-is}
 use Rattle.dom_content.proofs.children.children_between.Goals as goal
 use Rattle.dom_content.proofs.children.children_between.Goals.{in-Some+then-eq, in_default}

@@ -1,7 +1,7 @@
 -- The children that were passed are in the list; the child stands among them.
 use Rattle.std.proofs.Common.{◌≡◌, ◌++◌, length}
 use Rattle.dom_model.specs.Forests.Forest.{children_of}
-use Rattle.dom_edit.specs.Places.{from_optional, ahead_of, IsAmong}
+use Rattle.dom_clone.specs.dom_edit.Places.{from_optional, ahead_of, IsAmong}
 use Rattle.dom_content.proofs.children.children_between.Given as goal
 
 abbrev pub invariant-loop-child : goal.invariant-loop-child

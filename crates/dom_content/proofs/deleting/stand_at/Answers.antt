@@ -1,15 +1,21 @@
 -- The start is set, and the end becomes the start.
-use Rattle.std.proofs.Common.{sym, ◌∙◌}
+use Rattle.std.proofs.Common.{is_some, ap, sym, ◌∙◌}
 use Rattle.dom_model.specs.Forests.Lengths.{unit_count}
 use Rattle.dom_model.specs.RangesAndContents.Ranges.{check_point}
 use Rattle.dom_model.proofs.RangesAndContents.LiveRangesKept.{live-there}
-use Rattle.dom_edit.specs.Whole.{unwatched}
-use Rattle.dom_edit.proofs.Leaving.{held-covered}
-use Rattle.dom_content.proofs.EndsSet.{not-refused, both-set, follows-standing, whole-standing}
+use Rattle.dom_clone.specs.dom_edit.Whole.{unwatched}
+use Rattle.dom_clone.specs.dom_edit.Leaving.{held-covered}
+use Rattle.dom_content.proofs.EndsSet.{not-refused, start-there, both-set, follows-standing, whole-standing}
 use Rattle.dom_content.proofs.deleting.stand_at.Goals as goal
 
 pub set_start-requires-clause-covered : goal.set_start-requires-clause-covered
 set_start-requires-clause-covered c = held-covered c.args.world.now c.requires.whole c.args.place.node c.requires.held
+
+pub collapse-requires : goal.collapse-requires
+collapse-requires c =
+    let v = c.args.world.now in
+    let old = live-there c.args.range (unwatched v) c.requires.live in
+    ap is_some (start-there v c.args.range c.args.place old.0 old.1 c.set_start.new.self c.in-Ok.ensures.set)
 
 pub returns-in-Ok-clause-stands : goal.returns-in-Ok-clause-stands
 returns-in-Ok-clause-stands c =

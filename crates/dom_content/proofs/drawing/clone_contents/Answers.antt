@@ -4,14 +4,17 @@ use Rattle.dom_model.specs.declared.Kind.TheVariants.{DocumentType}
 use Rattle.dom_model.specs.Worlds.World.{Range}
 use Rattle.dom_model.specs.MutationAlgorithms.Checks.{has_kind}
 use Rattle.dom_model.specs.RangesAndContents.Contents.{contents_drawn, clone_contents}
-use Rattle.dom_edit.specs.Inserting.{AreThere}
+use Rattle.dom_clone.specs.dom_edit.Inserting.{AreThere}
 use Rattle.dom_content.proofs.ContentsMarked.{may-draw, markers-cloned}
-use Rattle.dom_content.proofs.ContentsLeft.{held-cloned}
-use Rattle.dom_content.specs.Left.{HoldsBetween}
+use Rattle.dom_content.proofs.ContentsLeft.{held-cloned, copied-cloned}
+use Rattle.dom_content.specs.Left.{HoldsBetween, CopiesBetween}
 use Rattle.dom_content.proofs.RangeTexts.{range-held}
 use Rattle.dom_content.proofs.Deleted.{follows-alike}
 use Rattle.dom_content.proofs.DrawnContents.{contained-held, range-cloned, room-cloned}
 use Rattle.dom_content.proofs.drawing.clone_contents.Goals as goal
+
+pub parts_of-requires : goal.parts_of-requires
+parts_of-requires c = record { range = range-held c.args.world.now c.requires.whole c.args.range (record { start = c.ends-start.result.0; end = c.ends-start.result.1 }) c.ends-start.ensures.ends }
 
 pub has_doctype-requires : goal.has_doctype-requires
 has_doctype-requires c =
@@ -46,4 +49,14 @@ returns-clause-held c =
     let allowed = may-draw v c.args.range range c.in_ok-parts.parts.first.items c.in_ok-parts.parts.contained.items c.in_ok-parts.parts.last.items c.ends-start.ensures.ends c.in_ok-parts.ensures none in
     subst (λ id. HoldsBetween v c.draw.new.world c.args.range id) (sym c.in_ok-fragment.ensures.number)
     (held-cloned v c.draw.new.world c.args.range c.requires.whole allowed
+    (follows-alike v c.draw.new.world (contents_drawn false range) (clone_contents c.args.range) (λ w k. range-cloned v c.args.range range c.ends-start.ensures.ends w k) c.in_ok-fragment.ensures.drawn))
+
+pub returns-clause-copied : goal.returns-clause-copied
+returns-clause-copied c =
+    let v = c.args.world.now in
+    let range : Range = record { start = c.ends-start.result.0; end = c.ends-start.result.1 } in
+    let none = ap (has_kind DocumentType v.tree.forest) (sym c.deref.ensures.value) ∙ sym c.if-has_doctype.ensures in
+    let allowed = may-draw v c.args.range range c.in_ok-parts.parts.first.items c.in_ok-parts.parts.contained.items c.in_ok-parts.parts.last.items c.ends-start.ensures.ends c.in_ok-parts.ensures none in
+    subst (λ id. CopiesBetween v c.draw.new.world c.args.range id) (sym c.in_ok-fragment.ensures.number)
+    (copied-cloned v c.draw.new.world c.args.range c.requires.whole allowed
     (follows-alike v c.draw.new.world (contents_drawn false range) (clone_contents c.args.range) (λ w k. range-cloned v c.args.range range c.ends-start.ensures.ends w k) c.in_ok-fragment.ensures.drawn))

@@ -1,7 +1,7 @@
 -- The node itself, or its copy.
 use Rattle.std.proofs.Common.{subst, sym}
 use Rattle.dom_model.specs.RangesAndContents.Contents.{child_into}
-use Rattle.dom_edit.specs.Whole.{Follows}
+use Rattle.dom_clone.specs.dom_edit.Whole.{Follows}
 use Rattle.dom_content.specs.Paths.{HasRoom}
 use Rattle.dom_content.proofs.PieceSteps.{room-child, follows-child, still-then, held-still}
 use Rattle.dom_content.proofs.pieces.child_into.Goals as goal

@@ -1,5 +1,5 @@
 -- Every node document is a Document.
-use Rattle.dom_data.proofs.NewTexts.{owner-kind}
+use Rattle.dom_clone.specs.dom_data.NewTexts.{owner-kind}
 use Rattle.dom_content.proofs.pieces.document_in.Goals as goal
 
 pub returns-clause-kind : goal.returns-clause-kind

@@ -2,20 +2,24 @@
 use Rattle.std.proofs.Common.{◌≡◌, ℕ, ◌-◌, true, false, [], ◌++◌, take, drop, Option, Some, refl, ap, sym, ◌∙◌, arith, append-nil}
 use Rattle.std.proofs.lemmas.Bool.{false≢true}
 use Rattle.dom_model.specs.Forests.Forest.{root_of}
-use Rattle.dom_model.specs.Worlds.World.{Range, World}
+use Rattle.dom_model.specs.Worlds.World.{Point, Range, World}
 use Rattle.dom_model.specs.Worlds.Sound.{IsSound}
-use Rattle.dom_model.specs.RangesAndContents.Ranges.{is_collapsed, range_at}
+use Rattle.dom_model.specs.RangesAndContents.Ranges.{is_collapsed, collapsed_at, range_at}
 use Rattle.dom_model.specs.RangesAndContents.Contents.{for_range, deleted, delete_contents}
 use Rattle.dom_model.specs.TokenText.Tokens.{unmarked, texts_of}
 use Rattle.dom_model.specs.TokenText.Gaps.{text_among, root_text, tokens_ahead}
-use Rattle.dom_model.specs.TokenText.Between.{before_mark, after_mark, closes_left, opens_left, left_before, left_after}
+use Rattle.dom_model.specs.TokenText.Between.{before_mark, after_mark, between, closes_left, opens_left, left_before, left_after}
 use Rattle.dom_model.proofs.PlainLists.Numbers.{same_or, same, apart}
 use Rattle.dom_model.proofs.TokenText.Contents.PartsByGaps.{parts-by_gaps, left_before-by_gaps, left_after-by_gaps}
 
--- what deleting leaves of the text of a root: what is to be left ahead of both markers, and behind them
+-- what deleting leaves of the text of a root: what is to be left ahead of both markers, nothing between them, and what is to be left behind
+-- them; both ends are then one point
 pub record IsLeft (r root : ℕ) (w v : World) : Type 0 where
   pub before : unmarked (before_mark r true (text_among root (texts_of v))) ≡ left_before r (text_among root (texts_of w))
   pub after : unmarked (after_mark r false (text_among root (texts_of v))) ≡ left_after r (text_among root (texts_of w))
+  pub gone : between r (text_among root (texts_of v)) ≡ []
+  pub place : Point
+  pub together : range_at v r ≡ Some (collapsed_at place)
 
 pub same-ends : (range : Range) → is_collapsed range ≡ true → range.start ≡ range.end
 same-ends range h =
@@ -49,4 +53,13 @@ collapsed-left w r root range sound h rooted one =
           ∙ p.after
           ∙ ap (λ k. opens_left [] (take k (drop p.a text)) ++ drop p.b text) (sym z)
           ∙ sym (left_after-by_gaps w r root range p);
+      gone =
+          ap (λ (v : World). between r (text_among root (texts_of v))) stays
+          ∙ p.inside
+          ∙ ap (λ k. take k (drop p.a text)) z;
+      place = range.start;
+      together =
+          ap (λ (v : World). range_at v r) stays
+          ∙ h
+          ∙ ap (λ q. Some (record { start = range.start; end = q })) (sym (same-ends range one));
     }

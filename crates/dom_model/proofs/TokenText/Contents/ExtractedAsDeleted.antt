@@ -106,6 +106,15 @@ left-alike w u v r root su sv a left =
     record {
       before = p.before ∙ ap (λ k. take k (root_text u.forest root)) ca ∙ ap (take q.a) a.text ∙ sym q.before ∙ left.before;
       after = p.after ∙ ap (λ k. drop k (root_text u.forest root)) cb ∙ ap (drop q.b) a.text ∙ sym q.after ∙ left.after;
+      gone =
+          p.inside
+          ∙ ap (λ k. take (p.b - k) (drop k (root_text u.forest root))) ca
+          ∙ ap (λ k. take (k - q.a) (drop q.a (root_text u.forest root))) cb
+          ∙ ap (λ ts. take (q.b - q.a) (drop q.a ts)) a.text
+          ∙ sym q.inside
+          ∙ left.gone;
+      place = left.place;
+      together = a.first ∙ sym a.second ∙ left.together;
     }
 
 -- units that come and go leave an end in its node

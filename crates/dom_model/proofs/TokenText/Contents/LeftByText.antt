@@ -1,5 +1,5 @@
 -- An operation leaves of a text what is to be left, if without markers the text is so, and the range's ends stand where its contents stood.
-use Rattle.std.proofs.Common.{◌≡◌, ℕ, ◌-◌, List, [], ◌++◌, length, take, drop, Some, ap, sym, ◌∙◌}
+use Rattle.std.proofs.Common.{◌≡◌, ℕ, ◌-◌, List, [], ◌++◌, length, take, drop, Some, ap, sym, ◌∙◌, arith}
 use Rattle.dom_model.specs.Forests.Forest.{root_of}
 use Rattle.dom_model.specs.Worlds.World.{Point, Range, World}
 use Rattle.dom_model.specs.Worlds.Sound.{IsSound}
@@ -40,4 +40,7 @@ left-by_text w v r root range place p sound h rooted text gap =
           ∙ ap (drop (length (front_left w r root range p))) text
           ∙ drop-front (front_left w r root range p) (back_left w r root range p)
           ∙ sym (left_after-by_gaps w r root range p);
+      gone = (let z : q.b - q.a ≡ 0 = omega arith in q.inside ∙ ap (λ k. take k (drop q.a (root_text v.forest root))) z);
+      place = place;
+      together = h;
     }

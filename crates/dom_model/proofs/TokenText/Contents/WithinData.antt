@@ -14,9 +14,9 @@ use Rattle.dom_model.specs.MutationAlgorithms.Checks.{kind_passes}
 use Rattle.dom_model.specs.RangesAndContents.Ranges.{is_collapsed, range_at}
 use Rattle.dom_model.specs.RangesAndContents.Contents.{for_range, is_in_one_data, deleted, delete_contents}
 use Rattle.dom_model.specs.DataAndCopies.Data.{cut_count, data_of, with_data, replace_data}
-use Rattle.dom_model.specs.TokenText.Tokens.{Token, Open, Close, point, no_marks, unit_tokens, texts_of}
+use Rattle.dom_model.specs.TokenText.Tokens.{Token, Open, Close, point, no_marks, unit_tokens, texts_of, unmarked}
 use Rattle.dom_model.specs.TokenText.Gaps.{text_among, root_text, tokens_ahead}
-use Rattle.dom_model.specs.TokenText.Between.{between, closes_left, opens_left}
+use Rattle.dom_model.specs.TokenText.Between.{before_mark, between, closes_left, opens_left}
 use Rattle.dom_model.proofs.PlainLists.Numbers.{same_or, same, apart}
 use Rattle.dom_model.proofs.Forests.Entries.{occurs-HasNode}
 use Rattle.dom_model.proofs.Worlds.SameShape.{with_node-alike, root-alike}
@@ -211,6 +211,15 @@ module _ (w : World) (r root : ℕ) (range : Range) (sound : IsSound w) (h : ran
   pub between-within : between r (text_among root (texts_of w)) ≡ unit_tokens no_marks range.start.node 0 (take (range.end.offset - range.start.offset) (drop range.start.offset (data_of w range.start.node)))
   between-within = parts.inside ∙ inner
 
+  -- ahead of them the node's open, and units
+  pub before-within : (ahead : List Token) × (us : List ℕ) × (unmarked (before_mark r true (text_among root (texts_of w))) ≡ ahead ++ (Open range.start.node ∷ unit_tokens no_marks range.start.node 0 us))
+  before-within =
+      let x : parts.a ≡ length front = a-is ∙ sym front-long in (
+        there_data.ahead,
+        take range.start.offset (data_of w range.start.node),
+        parts.before ∙ ap (λ k. take k (root_text w.forest root)) x ∙ ap (take (length front)) text-now ∙ take-front front (middle ++ back),
+      )
+
   pub within-left : IsLeft r root w next
   within-left =
       let m = matches-units range.start.node 0 (take (range.end.offset - range.start.offset) (drop range.start.offset (data_of w range.start.node))) in
@@ -242,6 +251,13 @@ module _ (w : World) (r root : ℕ) (range : Range) (sound : IsSound w) (h : ran
             ∙ ap (λ ts. ts ++ drop parts.b (root_text w.forest root)) (sym opens)
             ∙ ap (λ ts. opens_left [] ts ++ drop parts.b (root_text w.forest root)) (sym inner)
             ∙ sym (left_after-by_gaps w r root range parts);
+        gone =
+            (let a = gap-next next-parts.a next-parts.starts in
+            let b = gap-next next-parts.b next-parts.ends in
+            let n : next-parts.b - next-parts.a ≡ 0 = omega arith in
+            next-parts.inside ∙ ap (λ k. take k (drop next-parts.a (root_text next.forest root))) n);
+        place = range.start;
+        together = next-range;
       }
 
 -- delete contents, where both ends stand in one node with data

@@ -14,17 +14,20 @@ use Rattle.dom_model.specs.DataAndCopies.Data.{data_of, with_data}
 use Rattle.dom_model.specs.DataAndCopies.Clones.{renumbered, alone_of, original, document_of_clone, clone_node}
 use Rattle.dom_model.specs.RangesAndContents.Contents.{new_fragment, clone_with, cut_if, units_into, copy_into}
 use Rattle.dom_model.specs.TokenText.Tokens.{Token, Open, Close, no_marks, unit_tokens}
+use Rattle.dom_model.specs.TokenText.Originals.{opened_in, InStep}
 use Rattle.dom_model.specs.TokenText.Edits.{doing_clone_with, doing_append, doing_clone, doing_fragment}
 use Rattle.dom_model.proofs.DataAndCopies.CopiesPlaced.{kind-copy}
 use Rattle.dom_model.proofs.Soundness.SoundInserting.{IsInsertable}
 use Rattle.dom_model.proofs.TokenText.AlikeTrees.TreesAlike.{Top, top_of}
+use Rattle.dom_model.proofs.MutationAlgorithms.Extending.{tag_in, tag_at}
 use Rattle.dom_model.proofs.RangesAndContents.Drawing.{IsDrawing, Extends, extends-then, Draws, passes_there, passes_too, data-copies, IsHolder, holder-extends, IsComing, may_come, data-append, draws-append}
 use Rattle.dom_model.proofs.RangesAndContents.DrawnPieces.{draws-clone_with, draws-cut_if, new-greater, is_drawn, drawn-fragment, data-drawn, IsDrawable, coming}
 use Rattle.dom_model.proofs.RangesAndContents.DrawnPaths.{first, second, third, kind_copied, copy_holds, kind_inner, greater, inner_there, inner_holds, extended}
 use Rattle.dom_model.proofs.TokenText.Fragments.Shapes.{shape, shape-append, shape-units, tree_shape}
+use Rattle.dom_model.proofs.TokenText.Fragments.OpensInStep.{opened_in-append, opened_in-units, tree_nodes}
 use Rattle.dom_model.proofs.TokenText.Fragments.StandingTrees.{IsAs, Stands, Keeps, keeps-then, stands-kept}
 use Rattle.dom_model.proofs.TokenText.Fragments.SteppedTrees.{keeps-copies, stands-copies, unlisted-copies, keeps-alone, added-alone, keeps-children, added-children, text-children, keeps-cut_if}
-use Rattle.dom_model.proofs.TokenText.Fragments.DrawnTrees.{IsSafe, each-weaker, copies-safe, Drew, AreOld, safe-kept}
+use Rattle.dom_model.proofs.TokenText.Fragments.DrawnTrees.{NodeFrom, TagFrom, steps-one, steps-around, IsSafe, each-weaker, copies-safe, Drew, AreOld, safe-kept}
 use Rattle.dom_model.proofs.TokenText.Fragments.DrawnNodes.{old-one, far-from}
 
 -- Units.
@@ -107,8 +110,8 @@ module _ (low : ℕ) (bad : List ℕ) (old : (x : ℕ) → low ≤ x → hits x 
   put_extends : Extends v put
   put_extends = extends-then v copied put made.extends came.extends
 
-  pub units-drew : (moves : Bool) → Drew low bad (n ∷ []) v (units_into moves into n offset count v) into (Open n ∷ (unit_tokens no_marks n 0 (substring offset count (data_of v n)) ++ (Close ∷ [])))
-  units-drew moves =
+  pub units-drew : (w : World) → tag_at w.forest n ≡ tag_at v.forest n → (moves : Bool) → Drew w moves low bad (n ∷ []) v (units_into moves into n offset count v) into (Open n ∷ (unit_tokens no_marks n 0 (substring offset count (data_of v n)) ++ (Close ∷ [])))
+  units-drew w same_tag moves =
       let cut = draws-cut_if low put came.drawing moves n offset count (put_extends.kinds is_character_data n n_there ∙ has_data) (subst (λ (xs : List ℕ). offset ≤ length xs) (sym same_data) within) in
       let safe = copies-safe low bad v.made (node_document v n) v.made original_copy (omega arith) in
       let far : (x : ℕ) → low ≤ x → x ≡ n → ⊥ = λ x l e. let z = old x l in let i = subst (λ m. 0 < hits m bad) (sym e) n_bad in omega arith in
@@ -127,6 +130,16 @@ module _ (low : ℕ) (bad : List ℕ) (old : (x : ℕ) → low ≤ x → hits x 
             ∙ ap (λ ns. ns ++ (v.made ∷ [])) into_first.children
             ∙ ap (λ g. children_of v.forest into ++ tops g) (sym one);
         shaped = has_shape;
+        steps =
+            subst (λ g. InStep (NodeFrom moves low bad) (opened_in (Open n ∷ (unit_tokens no_marks n 0 (substring offset count (data_of v n)) ++ (Close ∷ [])))) (tree_nodes g)) (sym one)
+            (subst (λ ns. InStep (NodeFrom moves low bad) (n ∷ ns) (tree_nodes (node first_node empty empty)))
+            (sym (opened_in-append (unit_tokens no_marks n 0 (substring offset count (data_of v n))) (Close ∷ []) ∙ ap (λ (ns : List ℕ). ns ++ []) (opened_in-units n 0 (substring offset count (data_of v n)))))
+            (steps-one (NodeFrom moves low bad) n first_node (inr (inr n_bad, d.begun))));
+        tagged =
+            subst (λ g. InStep (TagFrom w) (opened_in (Open n ∷ (unit_tokens no_marks n 0 (substring offset count (data_of v n)) ++ (Close ∷ [])))) (tree_nodes g)) (sym one)
+            (subst (λ ns. InStep (TagFrom w) (n ∷ ns) (tree_nodes (node first_node empty empty)))
+            (sym (opened_in-append (unit_tokens no_marks n 0 (substring offset count (data_of v n))) (Close ∷ []) ∙ ap (λ (ns : List ℕ). ns ++ []) (opened_in-units n 0 (substring offset count (data_of v n)))))
+            (steps-one (TagFrom w) n first_node (same_tag ∙ ap tag_in top.told)));
         safe = safe;
         keeps = λ x h ne z. keeps-then v copied (cut_if moves n offset count put) x (keeps_first x h) (later x (made.extends.there x h) ne z);
         drawing = cut.drawing;
@@ -220,7 +233,7 @@ module _ (low : ℕ) (bad : List ℕ) (into n : ℕ) (v : World) (d : IsDrawing 
   copy_less : v.made < held.made
   copy_less = greater low into n v d k drawable no_data
 
-  module _ (touched : List ℕ) (o : AreOld low bad touched) (filled : World) (ts : List Token) (f : Drew low bad touched begun filled held.made ts) where
+  module _ (w : World) (same_tag : tag_at w.forest n ≡ tag_at v.forest n) (moves : Bool) (n_bad : 0 < hits n bad) (touched : List ℕ) (o : AreOld low bad touched) (filled : World) (ts : List Token) (f : Drew w moves low bad touched begun filled held.made ts) where
     abbrev final : World
     final = append held.made v.made filled
 
@@ -281,6 +294,7 @@ module _ (low : ℕ) (bad : List ℕ) (into n : ℕ) (v : World) (d : IsDrawing 
         record {
           there = e.there v.made copy_is.there;
           kind = e.kinds is_character_data v.made copy_is.there ∙ copy_is.kind;
+          tag = e.tags v.made copy_is.there ∙ copy_is.tag;
           text = text-children held.made v.made filled f.drawing.sound fragment_fits is_one v.made (f.extends.there v.made j) ∙ copy_kept.text ∙ copy_is.text;
           children = copy_children;
         }
@@ -309,7 +323,7 @@ module _ (low : ℕ) (bad : List ℕ) (into n : ℕ) (v : World) (d : IsDrawing 
         ∙ added-alone v.made into one_copy a.drawing.sound copy_fits copy_alone (copy_unlisted into)
         ∙ ap (λ ns. ns ++ (v.made ∷ [])) k1.children
 
-    filled-drew : Drew low bad touched v final into (Open n ∷ (ts ++ (Close ∷ [])))
+    filled-drew : Drew w moves low bad touched v final into (Open n ∷ (ts ++ (Close ∷ [])))
     filled-drew = record {
       trees = node copy_node f.trees empty;
       stands = (copy_stands, inside_stand, tt);
@@ -318,6 +332,8 @@ module _ (low : ℕ) (bad : List ℕ) (into n : ℕ) (v : World) (d : IsDrawing 
           (rw copy_no_data refl)
           ∙ ap (λ us. Open 0 ∷ (us ++ (Close ∷ []))) f.shaped
           ∙ ap (λ us. Open 0 ∷ us) (sym (shape-append ts (Close ∷ [])));
+      steps = steps-around (NodeFrom moves low bad) n copy_node f.trees ts copy_no_data (inr (inr n_bad, d.begun)) f.steps;
+      tagged = steps-around (TagFrom w) n copy_node f.trees ts copy_no_data (same_tag ∙ ap tag_in copy_top.told) f.tagged;
       safe = (inl (omega arith), each-weaker (IsSafe low bad begun.made) (IsSafe low bad v.made) later f.trees f.safe, tt);
       keeps = λ x h ne z.
           let l = new-greater low v d x h in
@@ -334,7 +350,7 @@ module _ (low : ℕ) (bad : List ℕ) (into n : ℕ) (v : World) (d : IsDrawing 
         later x (inl i) = let m = copy_less in inl (omega arith)
         later x (inr i) = inr i
 
-  pub copy-drew : (touched : List ℕ) → AreOld low bad touched → (fill : ℕ → World → World) (ts : List Token) → ((inner : ℕ) (x : World) → IsDrawing low x → Extends v x → IsHolder low x inner → ((y : ℕ) → 0 < occurs y v.forest → (y ≡ into → ⊥) → Keeps v x y) → Drew low bad touched x (fill inner x) inner ts) →
-      Drew low bad touched v (copy_into into n fill v) into (Open n ∷ (ts ++ (Close ∷ [])))
-  copy-drew touched o fill ts each =
-      filled-drew touched o (fill held.made begun) ts (each held.made begun c.drawing (extended low into n v d k drawable no_data) (inner_holds low into n v d k drawable no_data) from_old)
+  pub copy-drew : (w : World) → tag_at w.forest n ≡ tag_at v.forest n → (moves : Bool) → 0 < hits n bad → (touched : List ℕ) → AreOld low bad touched → (fill : ℕ → World → World) (ts : List Token) → ((inner : ℕ) (x : World) → IsDrawing low x → Extends v x → IsHolder low x inner → ((y : ℕ) → 0 < occurs y v.forest → (y ≡ into → ⊥) → Keeps v x y) → Drew w moves low bad touched x (fill inner x) inner ts) →
+      Drew w moves low bad touched v (copy_into into n fill v) into (Open n ∷ (ts ++ (Close ∷ [])))
+  copy-drew w same_tag moves n_bad touched o fill ts each =
+      filled-drew w same_tag moves n_bad touched o (fill held.made begun) ts (each held.made begun c.drawing (extended low into n v d k drawable no_data) (inner_holds low into n v d k drawable no_data) from_old)

@@ -13,6 +13,7 @@ use Rattle.dom_model.specs.MutationAlgorithms.Editing.{is_fragment, append}
 use Rattle.dom_model.specs.DataAndCopies.Clones.{renumbered, document_of_clone, clone_node}
 use Rattle.dom_model.specs.RangesAndContents.Contents.{child_into, children_into}
 use Rattle.dom_model.specs.TokenText.Tokens.{no_marks, token_texts, tokens_among}
+use Rattle.dom_model.specs.TokenText.Originals.{opened_in, InStep}
 use Rattle.dom_model.specs.TokenText.Edits.{doing_clone}
 use Rattle.dom_model.proofs.PlainLists.Numbers.{same_or, same, apart}
 use Rattle.dom_model.proofs.Forests.Climbing.{hits-first}
@@ -24,15 +25,18 @@ use Rattle.dom_model.proofs.RangesAndContents.Drawing.{IsDrawing, extends-then, 
 use Rattle.dom_model.proofs.RangesAndContents.DrawnPieces.{draws-clone, new-greater, is_drawn, drawn-fragment, IsDrawable, drawable-extends, coming}
 use Rattle.dom_model.proofs.TokenText.Contents.PathTokens.{nodes_tokens}
 use Rattle.dom_model.proofs.TokenText.Fragments.Shapes.{shape, tree_shape, tree_shape-renumbered}
-use Rattle.dom_model.proofs.TokenText.Fragments.StandingTrees.{Stands, stands-shape, Keeps, keeps-then}
+use Rattle.dom_model.proofs.TokenText.Fragments.OpensInStep.{tree_nodes, tree_numbers}
+use Rattle.dom_model.proofs.TokenText.Fragments.StandingTrees.{Stands, stands-shape, stands-numbers, stands-tags, Keeps, keeps-then}
 use Rattle.dom_model.proofs.TokenText.Fragments.SteppedTrees.{stands-tree_at, stands-forest, keeps-copies, parent_kept-copies, stands-copies, unlisted-copies, keeps-alone, added-alone, parent_kept-alone}
-use Rattle.dom_model.proofs.TokenText.Fragments.DrawnTrees.{IsSafe, each-weaker, copies-safe, Drew, drew-none, drew-as, AreOld, safe-kept, drew-then}
+use Rattle.dom_model.proofs.TokenText.Fragments.DrawnTrees.{NodeFrom, TagFrom, AreTagged, tags-itself, tags-copies, steps-itself, steps-copies, IsSafe, each-weaker, copies-safe, Drew, drew-none, drew-as, AreOld, safe-kept, drew-then}
 
 -- an old tree that is nowhere on the ways to the ends, with its tokens
 pub record IsAside (low : ℕ) (bad : List ℕ) (w : World) (n : ℕ) : Type 0 where
   pub top : tops (tree_at n w.forest) ≡ n ∷ []
   pub far : EachNode (λ x. (x.number < low) × (hits x.number bad ≡ 0)) (tree_at n w.forest)
   pub told : tree_shape (tree_at n w.forest) ≡ shape (nodes_tokens w.forest (n ∷ []))
+  pub tagged : AreTagged w (tree_at n w.forest)
+  pub opens : tree_numbers (tree_at n w.forest) ≡ opened_in (nodes_tokens w.forest (n ∷ []))
 
 pub old-one : (low : ℕ) (bad : List ℕ) → ((x : ℕ) → low ≤ x → hits x bad ≡ 0) → (p : ℕ) → 0 < hits p bad → AreOld low bad (p ∷ [])
 old-one low bad old p h = record {
@@ -66,7 +70,7 @@ module _ (low : ℕ) (bad : List ℕ) (old : (x : ℕ) → low ≤ x → hits x 
   fits : IsInsertable v.forest n into None
   fits = may_come low v d into n k comes
 
-  itself : IsAside low bad w n → Stands v (tree_at n w.forest) → Drew low bad (p ∷ []) v (append n into v) into (nodes_tokens w.forest (n ∷ []))
+  itself : IsAside low bad w n → Stands v (tree_at n w.forest) → Drew w true low bad (p ∷ []) v (append n into v) into (nodes_tokens w.forest (n ∷ []))
   itself a st =
       let g = draws-append low v d into n k comes in
       let keeps : (x : ℕ) → 0 < occurs x v.forest → (x ≡ into → ⊥) → hits x (p ∷ []) ≡ 0 → Keeps v (append n into v) x = λ x i ne z. keeps-alone n into v d.sound fits no_fragment x i ne (unlisted v low d n p x e (far-from p x z)) in
@@ -77,6 +81,8 @@ module _ (low : ℕ) (bad : List ℕ) (old : (x : ℕ) → low ≤ x → hits x 
         stands = safe-kept low bad (p ∷ []) (old-one low bad old p p_bad) v.made v (append n into v) into k.fresh (new-greater low v d into into_there) d.begun g.extends keeps (tree_at n w.forest) safe st;
         added = added-alone n into v d.sound fits no_fragment (unlisted v low d n p into e (λ i. omega arith)) ∙ ap (λ ns. children_of v.forest into ++ ns) (sym a.top);
         shaped = a.told;
+        steps = subst (λ ns. InStep (NodeFrom true low bad) ns (tree_nodes (tree_at n w.forest))) a.opens (steps-itself low bad (tree_at n w.forest) a.far);
+        tagged = subst (λ ns. InStep (TagFrom w) ns (tree_nodes (tree_at n w.forest))) a.opens (tags-itself w (tree_at n w.forest) a.tagged);
         safe = safe;
         keeps = keeps;
         drawing = g.drawing;
@@ -118,7 +124,7 @@ module _ (low : ℕ) (bad : List ℕ) (old : (x : ℕ) → low ≤ x → hits x 
   same_top : tops (tree_at n v.forest) ≡ n ∷ []
   same_top = let t = top_of None n v.forest d.sound.forest.once n_there in ap tops t.at ∙ ap (λ m. m ∷ []) t.named
 
-  as_copy : IsAside low bad w n → Stands v (tree_at n w.forest) → Drew low bad (p ∷ []) v (append v.made into copied) into (nodes_tokens w.forest (n ∷ []))
+  as_copy : IsAside low bad w n → Stands v (tree_at n w.forest) → Drew w false low bad (p ∷ []) v (append v.made into copied) into (nodes_tokens w.forest (n ∷ []))
   as_copy a st =
       let second = draws-append low copied first.drawing into v.made copy_holder copy_comes in
       let ext = extends-then v copied (append v.made into copied) first.extends second.extends in
@@ -137,6 +143,14 @@ module _ (low : ℕ) (bad : List ℕ) (old : (x : ℕ) → low ≤ x → hits x 
             tree_shape-renumbered (document_of_clone v n) v.made (tree_at n v.forest)
             ∙ stands-shape v (tree_at n v.forest) (tree_at n w.forest) (stands-tree_at v n v.forest (stands-forest v d.sound)) st (same_top ∙ sym a.top)
             ∙ a.told;
+        steps =
+            subst (λ ns. InStep (NodeFrom false low bad) ns (tree_nodes copies))
+            (stands-numbers v (tree_at n v.forest) (tree_at n w.forest) (stands-tree_at v n v.forest (stands-forest v d.sound)) st (same_top ∙ sym a.top) ∙ a.opens)
+            (steps-copies low bad (document_of_clone v n) v.made (tree_at n v.forest) d.begun);
+        tagged =
+            subst (λ ns. InStep (TagFrom w) ns (tree_nodes copies)) a.opens
+            (tags-copies w v (document_of_clone v n) v.made (tree_at n w.forest) (tree_at n v.forest) a.tagged (stands-tags v (tree_at n w.forest) st) (stands-tags v (tree_at n v.forest) (stands-tree_at v n v.forest (stands-forest v d.sound)))
+            (stands-numbers v (tree_at n v.forest) (tree_at n w.forest) (stands-tree_at v n v.forest (stands-forest v d.sound)) st (same_top ∙ sym a.top)));
         safe = safe;
         keeps = λ x i ne z. keeps-then v copied (append v.made into copied) x (keeps-copies (document_of_clone v n) (tree_at n v.forest) v x i) (later x (first.extends.there x i) ne);
         drawing = second.drawing;
@@ -146,7 +160,7 @@ module _ (low : ℕ) (bad : List ℕ) (old : (x : ℕ) → low ≤ x → hits x 
       old_children : (x : ℕ) → 0 < occurs x v.forest → children_of copied.forest x ≡ children_of v.forest x
       old_children x i = let j = keeps-copies (document_of_clone v n) (tree_at n v.forest) v x i in j.children
 
-  pub child-drew : (moves : Bool) → IsAside low bad w n → Stands v (tree_at n w.forest) → Drew low bad (p ∷ []) v (child_into moves into n v) into (nodes_tokens w.forest (n ∷ []))
+  pub child-drew : (moves : Bool) → IsAside low bad w n → Stands v (tree_at n w.forest) → Drew w moves low bad (p ∷ []) v (child_into moves into n v) into (nodes_tokens w.forest (n ∷ []))
   child-drew true a st = itself a st
   child-drew false a st = as_copy a st
 
@@ -169,8 +183,8 @@ pub record Waits (low : ℕ) (bad : List ℕ) (w v : World) (p n : ℕ) : Type 0
   pub parent : parent_of v.forest n ≡ Some p
 
 pub children-drew : (low : ℕ) (bad : List ℕ) → ((x : ℕ) → low ≤ x → hits x bad ≡ 0) → (w : World) (into p : ℕ) → p < low → 0 < hits p bad → (moves : Bool) (ns : List ℕ) (v : World) → IsDrawing low v → IsHolder low v into → ((n : ℕ) → 0 < hits n ns → Waits low bad w v p n) → ((n : ℕ) → hits n ns ≤ 1) →
-    Drew low bad (p ∷ []) v (children_into moves into ns v) into (nodes_tokens w.forest ns)
-children-drew low bad old w into p p_old p_bad moves [] v d k each once = drew-none low bad (p ∷ []) v into d
+    Drew w moves low bad (p ∷ []) v (children_into moves into ns v) into (nodes_tokens w.forest ns)
+children-drew low bad old w into p p_old p_bad moves [] v d k each once = drew-none w moves low bad (p ∷ []) v into d
 children-drew low bad old w into p p_old p_bad moves (n ∷ ns) v d k each once =
     let u = child_into moves into n v in
     let a = each n (hits-first n ns) in
@@ -178,10 +192,10 @@ children-drew low bad old w into p p_old p_bad moves (n ∷ ns) v d k each once 
     let ku = holder-extends low v u into first.extends k in
     let b = children-drew low bad old w into p p_old p_bad moves ns u first.drawing ku (λ m i. waits first m i) (λ m. let j = once m in omega arith) in
     let hi = passes_there may_be_parent v.forest into k.kind in
-    drew-as low bad ((p ∷ []) ++ (p ∷ [])) (p ∷ []) v (children_into moves into ns u) into (nodes_tokens w.forest (n ∷ []) ++ nodes_tokens w.forest ns) (nodes_tokens w.forest (n ∷ ns)) (ap shape (sym (nodes_tokens-first w n ns))) (λ x z. omega arith)
-    (drew-then low bad (p ∷ []) (p ∷ []) (old-one low bad old p p_bad) v u (children_into moves into ns u) into (nodes_tokens w.forest (n ∷ [])) (nodes_tokens w.forest ns) k.fresh (new-greater low v d into hi) d.begun first b)
+    drew-as w moves low bad ((p ∷ []) ++ (p ∷ [])) (p ∷ []) v (children_into moves into ns u) into (nodes_tokens w.forest (n ∷ []) ++ nodes_tokens w.forest ns) (nodes_tokens w.forest (n ∷ ns)) (ap shape (sym (nodes_tokens-first w n ns))) (ap opened_in (sym (nodes_tokens-first w n ns))) (λ x z. omega arith)
+    (drew-then w moves low bad (p ∷ []) (p ∷ []) (old-one low bad old p p_bad) v u (children_into moves into ns u) into (nodes_tokens w.forest (n ∷ [])) (nodes_tokens w.forest ns) k.fresh (new-greater low v d into hi) d.begun first b)
   where
-    waits : Drew low bad (p ∷ []) v (child_into moves into n v) into (nodes_tokens w.forest (n ∷ [])) → (m : ℕ) → 0 < hits m ns → Waits low bad w (child_into moves into n v) p m
+    waits : Drew w moves low bad (p ∷ []) v (child_into moves into n v) into (nodes_tokens w.forest (n ∷ [])) → (m : ℕ) → 0 < hits m ns → Waits low bad w (child_into moves into n v) p m
     waits first m i =
         let a = each n (hits-first n ns) in
         let b = each m (omega arith) in

@@ -11,7 +11,8 @@ use Rattle.dom_model.specs.MutationAlgorithms.Checks.{up_to}
 use Rattle.dom_model.specs.MutationAlgorithms.Editing.{node_document}
 use Rattle.dom_model.specs.Commands.Making.{named}
 use Rattle.dom_model.specs.RangesAndContents.Contents.{new_fragment, common_of, path_below, contained_in, contained_children, children_into, tail_into, head_into, parts_into, check_draw}
-use Rattle.dom_model.specs.TokenText.Tokens.{Token, Open, Close}
+use Rattle.dom_model.specs.TokenText.Tokens.{Token, Close}
+use Rattle.dom_model.specs.TokenText.Originals.{opened_in}
 use Rattle.dom_model.proofs.PlainLists.Numbers.{same_or, same, apart}
 use Rattle.dom_model.proofs.Forests.Climbing.{hits-append, hits-first}
 use Rattle.dom_model.proofs.Forests.Indices.{child-there}
@@ -23,6 +24,7 @@ use Rattle.dom_model.proofs.RangesAndContents.DrawnPaths.{ArePath, IsWithin, hit
 use Rattle.dom_model.proofs.RangesAndContents.PathsToEnds.{path-within, path-down}
 use Rattle.dom_model.proofs.TokenText.EditsMade.EditsOfDrawnContents.{at_start, first, holds, same_ancestors, common-same, contained_children-same, contained_drawable}
 use Rattle.dom_model.proofs.TokenText.Contents.PathTokens.{nodes_tokens, tail_tokens, head_tokens, start_path, end_path, parts_tokens, tail_nodes, head_nodes}
+use Rattle.dom_model.proofs.TokenText.Contents.PathShapes.{opens_of}
 use Rattle.dom_model.proofs.TokenText.Fragments.Shapes.{shape}
 use Rattle.dom_model.proofs.TokenText.Fragments.StandingTrees.{Stands, Keeps}
 use Rattle.dom_model.proofs.TokenText.Fragments.SteppedTrees.{stands-tree_at, stands-forest, keeps-copies}
@@ -131,7 +133,7 @@ module _ (w : World) (sound : IsSound w) (range : Range) (is : IsRange w.forest 
 
   module _ (no_doctype : check_draw w range ≡ None) (moves : Bool) where
     abbrev opens : List Token
-    opens = replicate (length (start_path w range)) (Open 0)
+    opens = opens_of (start_path w range)
 
     abbrev closes : List Token
     closes = replicate (length (end_path w range)) Close
@@ -145,7 +147,7 @@ module _ (w : World) (sound : IsSound w) (range : Range) (is : IsRange w.forest 
     abbrev after_head : World
     after_head = head_into moves w.made range.end.offset (end_path w range) after_children
 
-    tail_came : Drew w.made bad (start_path w range) grown after_tail w.made (opens ++ tail_tokens w range.start.offset (start_path w range))
+    tail_came : Drew w moves w.made bad (start_path w range) grown after_tail w.made (opens ++ tail_tokens w range.start.offset (start_path w range))
     tail_came = tail-drew w.made bad old w start moves range.start.offset (start_path w range) w.made grown begins grows into_holds start_down within start_ready
 
     to_tail : Extends w after_tail
@@ -167,7 +169,7 @@ module _ (w : World) (sound : IsSound w) (range : Range) (is : IsRange w.forest 
         let b = tail_came.keeps (common_of w range) (grows.there (common_of w range) h) (λ e. omega arith) (common-off_start w sound range is) in
         b.children ∙ a.children
 
-    children_came : Drew w.made bad (common_of w range ∷ []) after_tail after_children w.made (nodes_tokens w.forest (contained_children w range))
+    children_came : Drew w moves w.made bad (common_of w range ∷ []) after_tail after_children w.made (nodes_tokens w.forest (contained_children w range))
     children_came =
         some-drew w.made bad old w start moves (common_of w range) (contained_children w range) (below-made w sound range is (common_of w range) (common_there w sound range is)) common_in
         (λ c. hits-filter c (contained_in w range) (children_of w.forest (common_of w range))) child_drawable (contained-aside w sound range is) w.made after_tail tail_came.drawing to_tail (holder-extends w.made grown after_tail w.made tail_came.extends into_holds) common_kept
@@ -188,7 +190,7 @@ module _ (w : World) (sound : IsSound w) (range : Range) (is : IsRange w.forest 
               | apart ne t ↦ rw t refl
             ]
 
-    head_came : Drew w.made bad (end_path w range) after_children after_head w.made (head_tokens w range.end.offset (end_path w range) ++ closes)
+    head_came : Drew w moves w.made bad (end_path w range) after_children after_head w.made (head_tokens w range.end.offset (end_path w range) ++ closes)
     head_came =
         head-drew w.made bad old w start moves range.end.offset (end_path w range) w.made after_children children_came.drawing (extends-then w grown after_children grows to_children) (holder-extends w.made grown after_children w.made to_children into_holds) end_down head_ready
 
@@ -201,14 +203,14 @@ module _ (w : World) (sound : IsSound w) (range : Range) (is : IsRange w.forest 
         ∙ ap (λ ns. head_into moves w.made range.end.offset (end_path w range) (children_into moves w.made ns (tail_into moves w.made range.start.offset (path_below grown.forest (common_of grown range) range.start.node) grown))) (contained_children-same w sound range is)
         ∙ ap (λ ns. head_into moves w.made range.end.offset (end_path w range) (children_into moves w.made (contained_children w range) (tail_into moves w.made range.start.offset ns grown))) start_path-same)
 
-    pub parts-drew : Drew w.made bad bad grown (parts_into moves w.made range grown) w.made (replicate (length (start_path w range)) (Open 0) ++ (parts_tokens w range ++ replicate (length (end_path w range)) Close))
+    pub parts-drew : Drew w moves w.made bad bad grown (parts_into moves w.made range grown) w.made (opens_of (start_path w range) ++ (parts_tokens w range ++ replicate (length (end_path w range)) Close))
     parts-drew =
         let less : w.made < grown.made = omega arith in
         let m1 = tail_came.extends.made in
-        subst (λ u. Drew w.made bad bad grown u w.made (opens ++ (parts_tokens w range ++ closes))) parts-same
-        (drew-as w.made bad bad bad grown after_head w.made _ (opens ++ (parts_tokens w range ++ closes)) (ap shape (five opens (tail_tokens w range.start.offset (start_path w range)) (nodes_tokens w.forest (contained_children w range)) (head_tokens w range.end.offset (end_path w range)) closes)) (λ x z. z)
-        (drew-then w.made bad (start_path w range) (common_of w range ∷ end_path w range) (old-ones w.made bad (common_of w range ∷ end_path w range) old rest_in) grown after_tail after_head w.made (opens ++ tail_tokens w range.start.offset (start_path w range)) (nodes_tokens w.forest (contained_children w range) ++ (head_tokens w range.end.offset (end_path w range) ++ closes)) (omega arith) less (omega arith) tail_came
-        (drew-then w.made bad (common_of w range ∷ []) (end_path w range) (old-ones w.made bad (end_path w range) old end_in) after_tail after_children after_head w.made (nodes_tokens w.forest (contained_children w range)) (head_tokens w range.end.offset (end_path w range) ++ closes) (omega arith) (omega arith) (omega arith) children_came head_came)))
+        subst (λ u. Drew w moves w.made bad bad grown u w.made (opens ++ (parts_tokens w range ++ closes))) parts-same
+        (drew-as w moves w.made bad bad bad grown after_head w.made _ (opens ++ (parts_tokens w range ++ closes)) (ap shape (five opens (tail_tokens w range.start.offset (start_path w range)) (nodes_tokens w.forest (contained_children w range)) (head_tokens w range.end.offset (end_path w range)) closes)) (ap opened_in (five opens (tail_tokens w range.start.offset (start_path w range)) (nodes_tokens w.forest (contained_children w range)) (head_tokens w range.end.offset (end_path w range)) closes)) (λ x z. z)
+        (drew-then w moves w.made bad (start_path w range) (common_of w range ∷ end_path w range) (old-ones w.made bad (common_of w range ∷ end_path w range) old rest_in) grown after_tail after_head w.made (opens ++ tail_tokens w range.start.offset (start_path w range)) (nodes_tokens w.forest (contained_children w range) ++ (head_tokens w range.end.offset (end_path w range) ++ closes)) (omega arith) less (omega arith) tail_came
+        (drew-then w moves w.made bad (common_of w range ∷ []) (end_path w range) (old-ones w.made bad (end_path w range) old end_in) after_tail after_children after_head w.made (nodes_tokens w.forest (contained_children w range)) (head_tokens w range.end.offset (end_path w range) ++ closes) (omega arith) (omega arith) (omega arith) children_came head_came)))
       where
         rest_in : (n : ℕ) → 0 < hits n (common_of w range ∷ end_path w range) → 0 < hits n bad
         rest_in n h = let i = hits-append n (start_path w range) (common_of w range ∷ end_path w range) in omega arith

@@ -13,6 +13,7 @@ use Rattle.dom_model.specs.MutationAlgorithms.Checks.{up_to, kind_passes}
 use Rattle.dom_model.specs.DataAndCopies.Data.{data_of}
 use Rattle.dom_model.specs.RangesAndContents.Contents.{units_into, children_into, copy_into, tail_into, head_into}
 use Rattle.dom_model.specs.TokenText.Tokens.{Token, Open, Close, no_marks, unit_tokens}
+use Rattle.dom_model.specs.TokenText.Originals.{opened_in}
 use Rattle.dom_model.proofs.PlainLists.Numbers.{same_or, same, apart}
 use Rattle.dom_model.proofs.Forests.Climbing.{hits-append, hits-first}
 use Rattle.dom_model.proofs.Forests.Indices.{child-parent, child-once}
@@ -20,6 +21,7 @@ use Rattle.dom_model.proofs.RangesAndContents.Drawing.{IsDrawing, Extends, exten
 use Rattle.dom_model.proofs.RangesAndContents.DrawnPieces.{new-greater, is_drawn, IsDrawable, drawable-extends}
 use Rattle.dom_model.proofs.RangesAndContents.DrawnPaths.{ArePath, IsWithin, child-drawable, hits-drop, hits-take, hits-past, hits-up_to}
 use Rattle.dom_model.proofs.TokenText.Contents.PathTokens.{nodes_tokens, tail_tokens, head_tokens, tail_nodes, head_nodes}
+use Rattle.dom_model.proofs.TokenText.Contents.PathShapes.{opens_of}
 use Rattle.dom_model.proofs.TokenText.Fragments.Shapes.{shape}
 use Rattle.dom_model.proofs.TokenText.Fragments.StandingTrees.{Stands, Keeps, keeps-then}
 use Rattle.dom_model.proofs.TokenText.Fragments.DrawnTrees.{IsSafe, each-weaker, Drew, drew-none, drew-as, AreOld, safe-kept, drew-then}
@@ -66,7 +68,7 @@ ready-later low bad touched o w v x into l ew e keeps path beside more others fe
 module _ (low : ℕ) (bad : List ℕ) (old : (x : ℕ) → low ≤ x → hits x bad ≡ 0) (w : World) (dw : IsDrawing low w) (moves : Bool) where
   -- some children of an old node
   pub some-drew : (p : ℕ) (ns : List ℕ) → p < low → 0 < hits p bad → ((c : ℕ) → hits c ns ≤ hits c (children_of w.forest p)) → ((c : ℕ) → 0 < hits c ns → IsDrawable low w c) → ((c : ℕ) → 0 < hits c ns → IsAside low bad w c) →
-      (into : ℕ) (x : World) → IsDrawing low x → Extends w x → IsHolder low x into → children_of x.forest p ≡ children_of w.forest p → ((c : ℕ) → 0 < hits c ns → Stands x (tree_at c w.forest)) → Drew low bad (p ∷ []) x (children_into moves into ns x) into (nodes_tokens w.forest ns)
+      (into : ℕ) (x : World) → IsDrawing low x → Extends w x → IsHolder low x into → children_of x.forest p ≡ children_of w.forest p → ((c : ℕ) → 0 < hits c ns → Stands x (tree_at c w.forest)) → Drew w moves low bad (p ∷ []) x (children_into moves into ns x) into (nodes_tokens w.forest ns)
   some-drew p ns p_old p_bad fewer drawable aside into x dx e k same_children stands =
       children-drew low bad old w into p p_old p_bad moves ns x dx k
       (λ c h. record {
@@ -79,7 +81,7 @@ module _ (low : ℕ) (bad : List ℕ) (old : (x : ℕ) → low ≤ x → hits x 
 
   -- the children beside a path
   beside-drew : (n : ℕ) (ns : List ℕ) → IsDrawable low w n → 0 < hits n bad → ((c : ℕ) → hits c ns ≤ hits c (children_of w.forest n)) → ((c : ℕ) → 0 < hits c ns → IsAside low bad w c) →
-      (into : ℕ) (x : World) → IsDrawing low x → Extends w x → IsHolder low x into → children_of x.forest n ≡ children_of w.forest n → ((c : ℕ) → 0 < hits c ns → Stands x (tree_at c w.forest)) → Drew low bad (n ∷ []) x (children_into moves into ns x) into (nodes_tokens w.forest ns)
+      (into : ℕ) (x : World) → IsDrawing low x → Extends w x → IsHolder low x into → children_of x.forest n ≡ children_of w.forest n → ((c : ℕ) → 0 < hits c ns → Stands x (tree_at c w.forest)) → Drew w moves low bad (n ∷ []) x (children_into moves into ns x) into (nodes_tokens w.forest ns)
   beside-drew n ns h n_bad fewer aside = some-drew n ns h.old n_bad fewer (λ c i. child-drawable low w dw n c h (let j = fewer c in omega arith)) aside
 
   first-in : (n : ℕ) (ns : List ℕ) → ((m : ℕ) → hits m (n ∷ ns) ≤ 1) → hits n ns ≡ 0
@@ -109,26 +111,27 @@ module _ (low : ℕ) (bad : List ℕ) (old : (x : ℕ) → low ≤ x → hits x 
     abbrev one_tokens : Bool → List Token
     one_tokens b = Open n ∷ (last_tokens n us ns b ++ (Close ∷ []))
 
-    with_units : kind_passes is_character_data w.forest n ≡ true → Drew low bad (n ∷ []) v (units_into moves into n from count v) into (one_tokens true)
+    with_units : kind_passes is_character_data w.forest n ≡ true → Drew w moves low bad (n ∷ []) v (units_into moves into n from count v) into (one_tokens true)
     with_units b =
         let l : from ≤ length (data_of v n) = subst (λ (xs : List ℕ). from ≤ length xs) (sym kept.text) (within b) in
-        let u = units-drew low bad old into n from count v dv k (same_kind ∙ b) l n_bad moves in
-        drew-as low bad (n ∷ []) (n ∷ []) v (units_into moves into n from count v) into (Open n ∷ (unit_tokens no_marks n 0 (take count (drop from (data_of v n))) ++ (Close ∷ []))) (one_tokens true)
+        let u = units-drew low bad old into n from count v dv k (same_kind ∙ b) l n_bad w (sym (e.tags n n_there)) moves in
+        drew-as w moves low bad (n ∷ []) (n ∷ []) v (units_into moves into n from count v) into (Open n ∷ (unit_tokens no_marks n 0 (take count (drop from (data_of v n))) ++ (Close ∷ []))) (one_tokens true)
         (ap (λ (xs : List ℕ). shape (Open n ∷ (unit_tokens no_marks n 0 xs ++ (Close ∷ [])))) (ap (λ (xs : List ℕ). take count (drop from xs)) kept.text ∙ cut))
+        (ap (λ (xs : List ℕ). opened_in (Open n ∷ (unit_tokens no_marks n 0 xs ++ (Close ∷ [])))) (ap (λ (xs : List ℕ). take count (drop from xs)) kept.text ∙ cut))
         (λ x z. z) u
 
-    with_children : kind_passes is_character_data w.forest n ≡ false → Drew low bad (n ∷ []) v (copy_into into n (λ inner x. children_into moves inner ns x) v) into (one_tokens false)
+    with_children : kind_passes is_character_data w.forest n ≡ false → Drew w moves low bad (n ∷ []) v (copy_into into n (λ inner x. children_into moves inner ns x) v) into (one_tokens false)
     with_children b =
-        copy-drew low bad into n v dv k (drawable-extends low w v n e h) (same_kind ∙ b) (n ∷ []) (old-one low bad old n n_bad) (λ inner x. children_into moves inner ns x) (nodes_tokens w.forest ns)
+        copy-drew low bad into n v dv k (drawable-extends low w v n e h) (same_kind ∙ b) w (sym (e.tags n n_there)) moves n_bad (n ∷ []) (old-one low bad old n n_bad) (λ inner x. children_into moves inner ns x) (nodes_tokens w.forest ns)
         (λ inner x dx ex kx keeps.
         let i = keeps n (e.there n n_there) (λ j. let a = h.old in let c = k.fresh in omega arith) in
         beside-drew n ns h n_bad fewer (aside b) inner x dx (extends-then w v x e ex) kx (i.children ∙ kept.children)
         (λ c j. aside-stands low bad [] (record { old = old; within = λ y z. refl }) w v x into k.fresh ex (λ y t ne z. keeps y t ne) c (aside b c j) (stands b c j)))
 
-    pub one-drew : Drew low bad (n ∷ []) v (drawn (kind_passes is_character_data v.forest n)) into (one_tokens (kind_passes is_character_data w.forest n))
-    one-drew = subst (λ b. Drew low bad (n ∷ []) v (drawn b) into (one_tokens (kind_passes is_character_data w.forest n))) (sym same_kind) (go (kind_passes is_character_data w.forest n) refl)
+    pub one-drew : Drew w moves low bad (n ∷ []) v (drawn (kind_passes is_character_data v.forest n)) into (one_tokens (kind_passes is_character_data w.forest n))
+    one-drew = subst (λ b. Drew w moves low bad (n ∷ []) v (drawn b) into (one_tokens (kind_passes is_character_data w.forest n))) (sym same_kind) (go (kind_passes is_character_data w.forest n) refl)
       where
-        go : (b : Bool) → kind_passes is_character_data w.forest n ≡ b → Drew low bad (n ∷ []) v (drawn b) into (one_tokens b)
+        go : (b : Bool) → kind_passes is_character_data w.forest n ≡ b → Drew w moves low bad (n ∷ []) v (drawn b) into (one_tokens b)
         go true e = with_units e
         go false e = with_children e
 
@@ -138,28 +141,27 @@ module _ (low : ℕ) (bad : List ℕ) (old : (x : ℕ) → low ≤ x → hits x 
   nodes-if b ns e c h = rw e h
 
   abbrev DrawsTail : ℕ → List ℕ → Type 0
-  DrawsTail offset path = (into : ℕ) (v : World) → IsDrawing low v → Extends w v → IsHolder low v into → IsReady low bad w v path (tail_nodes w offset path) → Drew low bad path v (tail_into moves into offset path v) into (replicate (length path) (Open 0) ++ tail_tokens w offset path)
+  DrawsTail offset path = (into : ℕ) (v : World) → IsDrawing low v → Extends w v → IsHolder low v into → IsReady low bad w v path (tail_nodes w offset path) → Drew w moves low bad path v (tail_into moves into offset path v) into (opens_of path ++ tail_tokens w offset path)
 
   abbrev DrawsHead : ℕ → List ℕ → Type 0
-  DrawsHead offset path = (into : ℕ) (v : World) → IsDrawing low v → Extends w v → IsHolder low v into → IsReady low bad w v path (head_nodes w offset path) → Drew low bad path v (head_into moves into offset path v) into (head_tokens w offset path ++ replicate (length path) Close)
+  DrawsHead offset path = (into : ℕ) (v : World) → IsDrawing low v → Extends w v → IsHolder low v into → IsReady low bad w v path (head_nodes w offset path) → Drew w moves low bad path v (head_into moves into offset path v) into (head_tokens w offset path ++ replicate (length path) Close)
 
   pub tail-drew : (offset : ℕ) (path : List ℕ) (into : ℕ) (v : World) → IsDrawing low v → Extends w v → IsHolder low v into → ArePath low w path → IsWithin offset w path → IsReady low bad w v path (tail_nodes w offset path) →
-      Drew low bad path v (tail_into moves into offset path v) into (replicate (length path) (Open 0) ++ tail_tokens w offset path)
-  tail-drew offset [] into v dv e k p within r = drew-none low bad [] v into dv
+      Drew w moves low bad path v (tail_into moves into offset path v) into (opens_of path ++ tail_tokens w offset path)
+  tail-drew offset [] into v dv e k p within r = drew-none w moves low bad [] v into dv
   tail-drew offset (n ∷ []) into v dv e k p within r =
       let kept = r.keeps n (hits-first n []) in
       let each = nodes-if (kind_passes is_character_data w.forest n) (drop offset (children_of w.forest n)) in
-      subst (λ (cs : List ℕ). Drew low bad (n ∷ []) v (if kind_passes is_character_data v.forest n then units_into moves into n offset (length (data_of v n) - offset) v else copy_into into n (λ inner x. children_into moves inner (drop offset cs) x) v) into (Open 0 ∷ tail_tokens w offset (n ∷ []))) (sym kept.children)
-      (subst (λ (xs : List ℕ). Drew low bad (n ∷ []) v (if kind_passes is_character_data v.forest n then units_into moves into n offset (length xs - offset) v else copy_into into n (λ inner x. children_into moves inner (drop offset (children_of w.forest n)) x) v) into (Open 0 ∷ tail_tokens w offset (n ∷ []))) (sym kept.text)
-      (drew-as low bad (n ∷ []) (n ∷ []) v _ into (Open n ∷ tail_tokens w offset (n ∷ [])) (Open 0 ∷ tail_tokens w offset (n ∷ [])) refl (λ x z. z)
+      subst (λ (cs : List ℕ). Drew w moves low bad (n ∷ []) v (if kind_passes is_character_data v.forest n then units_into moves into n offset (length (data_of v n) - offset) v else copy_into into n (λ inner x. children_into moves inner (drop offset cs) x) v) into (Open n ∷ tail_tokens w offset (n ∷ []))) (sym kept.children)
+      (subst (λ (xs : List ℕ). Drew w moves low bad (n ∷ []) v (if kind_passes is_character_data v.forest n then units_into moves into n offset (length xs - offset) v else copy_into into n (λ inner x. children_into moves inner (drop offset (children_of w.forest n)) x) v) into (Open n ∷ tail_tokens w offset (n ∷ []))) (sym kept.text)
       (one-drew n offset (length (data_of w n) - offset) (drop offset (children_of w.forest n)) (drop offset (data_of w n)) into v dv e k p (r.in_bad n (hits-first n [])) kept within
-      (rest-units offset (data_of w n)) (λ c. hits-drop c offset (children_of w.forest n)) (λ b c h. r.aside c (each b c h)) (λ b c h. r.stands c (each b c h)))))
+      (rest-units offset (data_of w n)) (λ c. hits-drop c offset (children_of w.forest n)) (λ b c h. r.aside c (each b c h)) (λ b c h. r.stands c (each b c h))))
   tail-drew offset (n ∷ m ∷ path) into v dv e k p within r =
       let kept = r.keeps n (hits-first n (m ∷ path)) in
-      subst (λ (cs : List ℕ). Drew low bad (n ∷ m ∷ path) v (copy_into into n (λ inner x. children_into moves inner (past m cs) (tail_into moves inner offset (m ∷ path) x)) v) into (replicate (length (n ∷ m ∷ path)) (Open 0) ++ tail_tokens w offset (n ∷ m ∷ path))) (sym kept.children)
-      (drew-as low bad (n ∷ m ∷ path) (n ∷ m ∷ path) v _ into (Open n ∷ ((deeper ++ nodes_tokens w.forest ns) ++ (Close ∷ []))) (replicate (length (n ∷ m ∷ path)) (Open 0) ++ tail_tokens w offset (n ∷ m ∷ path))
-      (ap (λ ts. Open 0 ∷ shape ts) regrouped) (λ x z. z)
-      (copy-drew low bad into n v dv k (drawable-extends low w v n e p.0) (e.kinds is_character_data n n_there ∙ p.1) (n ∷ m ∷ path) (old-ones low bad (n ∷ m ∷ path) old r.in_bad)
+      subst (λ (cs : List ℕ). Drew w moves low bad (n ∷ m ∷ path) v (copy_into into n (λ inner x. children_into moves inner (past m cs) (tail_into moves inner offset (m ∷ path) x)) v) into (opens_of (n ∷ m ∷ path) ++ tail_tokens w offset (n ∷ m ∷ path))) (sym kept.children)
+      (drew-as w moves low bad (n ∷ m ∷ path) (n ∷ m ∷ path) v _ into (Open n ∷ ((deeper ++ nodes_tokens w.forest ns) ++ (Close ∷ []))) (opens_of (n ∷ m ∷ path) ++ tail_tokens w offset (n ∷ m ∷ path))
+      (ap (λ ts. Open 0 ∷ shape ts) regrouped) (ap (λ ts. n ∷ opened_in ts) regrouped) (λ x z. z)
+      (copy-drew low bad into n v dv k (drawable-extends low w v n e p.0) (e.kinds is_character_data n n_there ∙ p.1) w (sym (e.tags n n_there)) moves (r.in_bad n (hits-first n (m ∷ path))) (n ∷ m ∷ path) (old-ones low bad (n ∷ m ∷ path) old r.in_bad)
       (λ inner x. children_into moves inner (past m (children_of w.forest n)) (tail_into moves inner offset (m ∷ path) x)) (deeper ++ nodes_tokens w.forest ns)
       (filled (λ inner u du eu ku ru. tail-drew offset (m ∷ path) inner u du eu ku p.2 within ru))))
     where
@@ -167,17 +169,17 @@ module _ (low : ℕ) (bad : List ℕ) (old : (x : ℕ) → low ≤ x → hits x 
       ns = past m (children_of w.forest n)
 
       deeper : List Token
-      deeper = replicate (length (m ∷ path)) (Open 0) ++ tail_tokens w offset (m ∷ path)
+      deeper = opens_of (m ∷ path) ++ tail_tokens w offset (m ∷ path)
 
       n_there : 0 < occurs n w.forest
       n_there = passes_there is_drawn w.forest n p.0.kind
 
-      regrouped : (deeper ++ nodes_tokens w.forest ns) ++ (Close ∷ []) ≡ replicate (length (m ∷ path)) (Open 0) ++ (tail_tokens w offset (m ∷ path) ++ (nodes_tokens w.forest ns ++ (Close ∷ [])))
+      regrouped : (deeper ++ nodes_tokens w.forest ns) ++ (Close ∷ []) ≡ opens_of (m ∷ path) ++ (tail_tokens w offset (m ∷ path) ++ (nodes_tokens w.forest ns ++ (Close ∷ [])))
       regrouped =
           append_assoc deeper (nodes_tokens w.forest ns) (Close ∷ [])
-          ∙ append_assoc (replicate (length (m ∷ path)) (Open 0)) (tail_tokens w offset (m ∷ path)) (nodes_tokens w.forest ns ++ (Close ∷ []))
+          ∙ append_assoc (opens_of (m ∷ path)) (tail_tokens w offset (m ∷ path)) (nodes_tokens w.forest ns ++ (Close ∷ []))
 
-      filled : DrawsTail offset (m ∷ path) → (inner : ℕ) (x : World) → IsDrawing low x → Extends v x → IsHolder low x inner → ((y : ℕ) → 0 < occurs y v.forest → (y ≡ into → ⊥) → Keeps v x y) → Drew low bad (n ∷ m ∷ path) x (children_into moves inner ns (tail_into moves inner offset (m ∷ path) x)) inner (deeper ++ nodes_tokens w.forest ns)
+      filled : DrawsTail offset (m ∷ path) → (inner : ℕ) (x : World) → IsDrawing low x → Extends v x → IsHolder low x inner → ((y : ℕ) → 0 < occurs y v.forest → (y ≡ into → ⊥) → Keeps v x y) → Drew w moves low bad (n ∷ m ∷ path) x (children_into moves inner ns (tail_into moves inner offset (m ∷ path) x)) inner (deeper ++ nodes_tokens w.forest ns)
       filled deep inner x dx ex kx keeps =
           let ewx = extends-then w v x e ex in
           let none : AreOld low bad [] = record { old = old; within = λ y z. refl } in
@@ -190,24 +192,24 @@ module _ (low : ℕ) (bad : List ℕ) (old : (x : ℕ) → low ≤ x → hits x 
           let listed : (c : ℕ) → 0 < hits c ns → 0 < hits c (tail_nodes w offset (n ∷ m ∷ path)) = λ c h. let i = hits-append c (tail_nodes w offset (m ∷ path)) ns in omega arith in
           let second = beside-drew n ns p.0 (r.in_bad n (hits-first n (m ∷ path))) (λ c. hits-past c m (children_of w.forest n)) (λ c h. r.aside c (listed c h)) inner u first.drawing (extends-then w x u ewx first.extends) (holder-extends low x u inner first.extends kx) (still.children ∙ here.children)
           (λ c h. aside-stands low bad (m ∷ path) (old-ones low bad (m ∷ path) old ry.in_bad) w x u inner kx.fresh first.extends first.keeps c (r.aside c (listed c h)) (rx.stands c (listed c h))) in
-          drew-as low bad ((m ∷ path) ++ (n ∷ [])) (n ∷ m ∷ path) x (children_into moves inner ns u) inner (deeper ++ nodes_tokens w.forest ns) (deeper ++ nodes_tokens w.forest ns) refl (λ y z. let i = hits-append y (m ∷ path) (n ∷ []) in omega arith)
-          (drew-then low bad (m ∷ path) (n ∷ []) (old-one low bad old n (r.in_bad n (hits-first n (m ∷ path)))) x u (children_into moves inner ns u) inner deeper (nodes_tokens w.forest ns) kx.fresh (new-greater low x dx inner (passes_there may_be_parent x.forest inner kx.kind)) dx.begun first second)
+          drew-as w moves low bad ((m ∷ path) ++ (n ∷ [])) (n ∷ m ∷ path) x (children_into moves inner ns u) inner (deeper ++ nodes_tokens w.forest ns) (deeper ++ nodes_tokens w.forest ns) refl refl (λ y z. let i = hits-append y (m ∷ path) (n ∷ []) in omega arith)
+          (drew-then w moves low bad (m ∷ path) (n ∷ []) (old-one low bad old n (r.in_bad n (hits-first n (m ∷ path)))) x u (children_into moves inner ns u) inner deeper (nodes_tokens w.forest ns) kx.fresh (new-greater low x dx inner (passes_there may_be_parent x.forest inner kx.kind)) dx.begun first second)
 
   pub head-drew : (offset : ℕ) (path : List ℕ) (into : ℕ) (v : World) → IsDrawing low v → Extends w v → IsHolder low v into → ArePath low w path → IsReady low bad w v path (head_nodes w offset path) →
-      Drew low bad path v (head_into moves into offset path v) into (head_tokens w offset path ++ replicate (length path) Close)
-  head-drew offset [] into v dv e k p r = drew-none low bad [] v into dv
+      Drew w moves low bad path v (head_into moves into offset path v) into (head_tokens w offset path ++ replicate (length path) Close)
+  head-drew offset [] into v dv e k p r = drew-none w moves low bad [] v into dv
   head-drew offset (n ∷ []) into v dv e k p r =
       let kept = r.keeps n (hits-first n []) in
       let each = nodes-if (kind_passes is_character_data w.forest n) (take offset (children_of w.forest n)) in
-      subst (λ (cs : List ℕ). Drew low bad (n ∷ []) v (if kind_passes is_character_data v.forest n then units_into moves into n 0 offset v else copy_into into n (λ inner x. children_into moves inner (take offset cs) x) v) into (head_tokens w offset (n ∷ []) ++ (Close ∷ []))) (sym kept.children)
+      subst (λ (cs : List ℕ). Drew w moves low bad (n ∷ []) v (if kind_passes is_character_data v.forest n then units_into moves into n 0 offset v else copy_into into n (λ inner x. children_into moves inner (take offset cs) x) v) into (head_tokens w offset (n ∷ []) ++ (Close ∷ []))) (sym kept.children)
       (one-drew n 0 offset (take offset (children_of w.forest n)) (take offset (data_of w n)) into v dv e k p (r.in_bad n (hits-first n [])) kept (λ b. omega arith)
       refl (λ c. hits-take c offset (children_of w.forest n)) (λ b c h. r.aside c (each b c h)) (λ b c h. r.stands c (each b c h)))
   head-drew offset (n ∷ m ∷ path) into v dv e k p r =
       let kept = r.keeps n (hits-first n (m ∷ path)) in
-      subst (λ (cs : List ℕ). Drew low bad (n ∷ m ∷ path) v (copy_into into n (λ inner x. head_into moves inner offset (m ∷ path) (children_into moves inner (up_to m cs) x)) v) into (head_tokens w offset (n ∷ m ∷ path) ++ replicate (length (n ∷ m ∷ path)) Close)) (sym kept.children)
-      (drew-as low bad (n ∷ m ∷ path) (n ∷ m ∷ path) v _ into (Open n ∷ ((nodes_tokens w.forest ns ++ deeper) ++ (Close ∷ []))) (head_tokens w offset (n ∷ m ∷ path) ++ replicate (length (n ∷ m ∷ path)) Close)
-      (ap (λ ts. Open 0 ∷ shape ts) regrouped) (λ x z. z)
-      (copy-drew low bad into n v dv k (drawable-extends low w v n e p.0) (e.kinds is_character_data n n_there ∙ p.1) (n ∷ m ∷ path) (old-ones low bad (n ∷ m ∷ path) old r.in_bad)
+      subst (λ (cs : List ℕ). Drew w moves low bad (n ∷ m ∷ path) v (copy_into into n (λ inner x. head_into moves inner offset (m ∷ path) (children_into moves inner (up_to m cs) x)) v) into (head_tokens w offset (n ∷ m ∷ path) ++ replicate (length (n ∷ m ∷ path)) Close)) (sym kept.children)
+      (drew-as w moves low bad (n ∷ m ∷ path) (n ∷ m ∷ path) v _ into (Open n ∷ ((nodes_tokens w.forest ns ++ deeper) ++ (Close ∷ []))) (head_tokens w offset (n ∷ m ∷ path) ++ replicate (length (n ∷ m ∷ path)) Close)
+      (ap (λ ts. Open 0 ∷ shape ts) regrouped) (ap (λ ts. n ∷ opened_in ts) regrouped) (λ x z. z)
+      (copy-drew low bad into n v dv k (drawable-extends low w v n e p.0) (e.kinds is_character_data n n_there ∙ p.1) w (sym (e.tags n n_there)) moves (r.in_bad n (hits-first n (m ∷ path))) (n ∷ m ∷ path) (old-ones low bad (n ∷ m ∷ path) old r.in_bad)
       (λ inner x. head_into moves inner offset (m ∷ path) (children_into moves inner (up_to m (children_of w.forest n)) x)) (nodes_tokens w.forest ns ++ deeper)
       (filled (λ inner u du eu ku ru. head-drew offset (m ∷ path) inner u du eu ku p.2 ru))))
     where
@@ -232,7 +234,7 @@ module _ (low : ℕ) (bad : List ℕ) (old : (x : ℕ) → low ≤ x → hits x 
           ∙ ap (λ ts. nodes_tokens w.forest ns ++ ts) (append_assoc (head_tokens w offset (m ∷ path)) closes (Close ∷ []) ∙ ap (λ ts. head_tokens w offset (m ∷ path) ++ ts) one_more)
           ∙ sym (append_assoc (nodes_tokens w.forest ns) (head_tokens w offset (m ∷ path)) (replicate (length (n ∷ m ∷ path)) Close))
 
-      filled : DrawsHead offset (m ∷ path) → (inner : ℕ) (x : World) → IsDrawing low x → Extends v x → IsHolder low x inner → ((y : ℕ) → 0 < occurs y v.forest → (y ≡ into → ⊥) → Keeps v x y) → Drew low bad (n ∷ m ∷ path) x (head_into moves inner offset (m ∷ path) (children_into moves inner ns x)) inner (nodes_tokens w.forest ns ++ deeper)
+      filled : DrawsHead offset (m ∷ path) → (inner : ℕ) (x : World) → IsDrawing low x → Extends v x → IsHolder low x inner → ((y : ℕ) → 0 < occurs y v.forest → (y ≡ into → ⊥) → Keeps v x y) → Drew w moves low bad (n ∷ m ∷ path) x (head_into moves inner offset (m ∷ path) (children_into moves inner ns x)) inner (nodes_tokens w.forest ns ++ deeper)
       filled deep inner x dx ex kx keeps =
           let ewx = extends-then w v x e ex in
           let none : AreOld low bad [] = record { old = old; within = λ y z. refl } in
@@ -244,4 +246,4 @@ module _ (low : ℕ) (bad : List ℕ) (old : (x : ℕ) → low ≤ x → hits x 
           let u = children_into moves inner ns x in
           let ry = ready-later low bad (n ∷ []) one w x u inner kx.fresh ewx first.extends first.keeps (n ∷ m ∷ path) (head_nodes w offset (n ∷ m ∷ path)) (m ∷ path) (head_nodes w offset (m ∷ path)) (λ y. omega arith) (λ y h. apart-first n y (m ∷ path) r.once h) (λ y. let i = hits-append y ns (head_nodes w offset (m ∷ path)) in omega arith) rx in
           let second = deep inner u first.drawing (extends-then w x u ewx first.extends) (holder-extends low x u inner first.extends kx) ry in
-          drew-then low bad (n ∷ []) (m ∷ path) (old-ones low bad (m ∷ path) old ry.in_bad) x u (head_into moves inner offset (m ∷ path) u) inner (nodes_tokens w.forest ns) deeper kx.fresh (new-greater low x dx inner (passes_there may_be_parent x.forest inner kx.kind)) dx.begun first second
+          drew-then w moves low bad (n ∷ []) (m ∷ path) (old-ones low bad (m ∷ path) old ry.in_bad) x u (head_into moves inner offset (m ∷ path) u) inner (nodes_tokens w.forest ns) deeper kx.fresh (new-greater low x dx inner (passes_there may_be_parent x.forest inner kx.kind)) dx.begun first second

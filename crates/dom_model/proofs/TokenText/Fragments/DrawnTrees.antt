@@ -1,18 +1,22 @@
 -- What a step of drawing contents brings into a fragment, told by the trees that then stand under it; and two such steps one after another.
 -- DOM Standard, "Interface Range": extract, clone the contents.
-use Rattle.std.proofs.Common.{◌≡◌, ℕ, ◌+◌, ◌<◌, ◌≤◌, List, [], ◌++◌, refl, ap, sym, ◌∙◌, arith, append_assoc, append-nil, ◌⊎◌, inl, inr}
+use Rattle.std.proofs.Common.{◌≡◌, ℕ, ◌+◌, ◌<◌, ◌≤◌, Bool, true, false, if◌then◌else◌, List, [], ◌∷◌, ◌++◌, refl, ap, sym, ◌∙◌, subst, arith, append_assoc, append-nil, ◌⊎◌, inl, inr}
 use Rattle.dom_model.specs.PlainLists.Lists.{hits}
-use Rattle.dom_model.specs.Forests.Forest.{Forest, empty, node, occurs, tops, size, beside, children_of}
+use Rattle.dom_model.specs.Forests.Kinds.{is_character_data}
+use Rattle.dom_model.specs.Forests.Forest.{Node, Forest, empty, node, occurs, tops, size, beside, children_of}
 use Rattle.dom_model.specs.Forests.EachNode.{EachNode}
 use Rattle.dom_model.specs.Worlds.World.{Content, World}
 use Rattle.dom_model.specs.DataAndCopies.Clones.{renumbered}
-use Rattle.dom_model.specs.TokenText.Tokens.{Token}
+use Rattle.dom_model.specs.TokenText.Tokens.{Token, Open, Close}
+use Rattle.dom_model.specs.TokenText.Originals.{opened_in, InStep}
 use Rattle.dom_model.proofs.Forests.Climbing.{hits-append}
 use Rattle.dom_model.proofs.Forests.EachNode.{EachNode-beside}
 use Rattle.dom_model.proofs.Forests.Tops.{tops-beside}
+use Rattle.dom_model.proofs.MutationAlgorithms.Extending.{tag_at}
 use Rattle.dom_model.proofs.RangesAndContents.Drawing.{IsDrawing, Extends, extends-same, extends-then}
 use Rattle.dom_model.proofs.TokenText.Fragments.Shapes.{shape, shape-append, tree_shape, tree_shape-beside}
-use Rattle.dom_model.proofs.TokenText.Fragments.StandingTrees.{Stands, stands-beside, Keeps, keeps-then, stands-kept}
+use Rattle.dom_model.proofs.TokenText.Fragments.OpensInStep.{EachOf, each-map, each-both, steps-left, steps-self, steps-of, numbers-nodes, steps-append, opened_in-append, tree_nodes, tree_numbers, tree_nodes-beside}
+use Rattle.dom_model.proofs.TokenText.Fragments.StandingTrees.{tag_of, Stands, stands-beside, Keeps, keeps-then, stands-kept}
 
 -- a new node, or an old one that is nowhere on the ways to the ends
 abbrev pub IsSafe : ℕ → List ℕ → ℕ → ℕ → Type 0
@@ -28,37 +32,129 @@ copies-safe low bad made document next empty l = tt
 copies-safe low bad made document next (node x kids rest) l =
     (inl l, copies-safe low bad made document (next + 1) kids (omega arith), copies-safe low bad made document (next + 1 + size kids) rest (omega arith))
 
--- Trees of the shape of some tokens have come under a node. Of the nodes that were there only that node and those of a list are touched.
-pub record Drew (low : ℕ) (bad touched : List ℕ) (v u : World) (into : ℕ) (ts : List Token) : Type 0 where
+-- What comes in for a node's open: the node itself, where nodes are moved and it is on no way to an end, and else a new one.
+abbrev pub IsFrom : Bool → ℕ → List ℕ → ℕ → ℕ → Type 0
+IsFrom moves low bad n m = ((moves ≡ true) × (hits n bad ≡ 0) × (m ≡ n)) ⊎ (((moves ≡ false) ⊎ (0 < hits n bad)) × (low ≤ m))
+
+abbrev pub NodeFrom : Bool → ℕ → List ℕ → ℕ → Node Content → Type 0
+NodeFrom moves low bad n x = IsFrom moves low bad n x.number
+
+-- trees that come in as they are
+pub steps-itself : (low : ℕ) (bad : List ℕ) (f : Forest Content) → EachNode (λ x. (x.number < low) × (hits x.number bad ≡ 0)) f → InStep (NodeFrom true low bad) (tree_numbers f) (tree_nodes f)
+steps-itself low bad empty p = tt
+steps-itself low bad (node x kids rest) p = (inl (refl, p.0.1, refl), go (is_character_data x.label.kind) (steps-itself low bad kids p.1) (steps-itself low bad rest p.2))
+  where
+    go : (v : Bool) → InStep (NodeFrom true low bad) (tree_numbers kids) (tree_nodes kids) → InStep (NodeFrom true low bad) (tree_numbers rest) (tree_nodes rest) → InStep (NodeFrom true low bad) ((if v then [] else tree_numbers kids) ++ tree_numbers rest) ((if v then [] else tree_nodes kids) ++ tree_nodes rest)
+    go true h k = k
+    go false h k = steps-append (NodeFrom true low bad) (tree_numbers kids) (tree_numbers rest) (tree_nodes kids) (tree_nodes rest) h k
+
+-- and copies of them
+pub steps-copies : (low : ℕ) (bad : List ℕ) (document next : ℕ) (f : Forest Content) → low ≤ next → InStep (NodeFrom false low bad) (tree_numbers f) (tree_nodes (renumbered document next f))
+steps-copies low bad document next empty l = tt
+steps-copies low bad document next (node x kids rest) l =
+    (inr (inl refl, l), go (is_character_data x.label.kind) (steps-copies low bad document (next + 1) kids (omega arith)) (steps-copies low bad document (next + 1 + size kids) rest (omega arith)))
+  where
+    below : Forest Content
+    below = renumbered document (next + 1) kids
+
+    beside_it : Forest Content
+    beside_it = renumbered document (next + 1 + size kids) rest
+
+    go : (v : Bool) → InStep (NodeFrom false low bad) (tree_numbers kids) (tree_nodes below) → InStep (NodeFrom false low bad) (tree_numbers rest) (tree_nodes beside_it) → InStep (NodeFrom false low bad) ((if v then [] else tree_numbers kids) ++ tree_numbers rest) ((if v then [] else tree_nodes below) ++ tree_nodes beside_it)
+    go true h k = k
+    go false h k = steps-append (NodeFrom false low bad) (tree_numbers kids) (tree_numbers rest) (tree_nodes below) (tree_nodes beside_it) h k
+
+-- what stands for a node has its label and attributes
+abbrev pub TagFrom : World → ℕ → Node Content → Type 0
+TagFrom w n x = tag_at w.forest n ≡ tag_of x
+
+abbrev pub SameTag : Node Content → Node Content → Type 0
+SameTag x y = tag_of x ≡ tag_of y
+
+copies-tags : (document next : ℕ) (f : Forest Content) → InStep SameTag (tree_nodes f) (tree_nodes (renumbered document next f))
+copies-tags document next empty = tt
+copies-tags document next (node x kids rest) = (refl, go (is_character_data x.label.kind) (copies-tags document (next + 1) kids) (copies-tags document (next + 1 + size kids) rest))
+  where
+    below : Forest Content
+    below = renumbered document (next + 1) kids
+
+    beside_it : Forest Content
+    beside_it = renumbered document (next + 1 + size kids) rest
+
+    go : (v : Bool) → InStep SameTag (tree_nodes kids) (tree_nodes below) → InStep SameTag (tree_nodes rest) (tree_nodes beside_it) → InStep SameTag ((if v then [] else tree_nodes kids) ++ tree_nodes rest) ((if v then [] else tree_nodes below) ++ tree_nodes beside_it)
+    go true h k = k
+    go false h k = steps-append SameTag (tree_nodes kids) (tree_nodes rest) (tree_nodes below) (tree_nodes beside_it) h k
+
+-- the nodes of trees are labelled as in a world
+abbrev pub AreTagged : World → Forest Content → Type 0
+AreTagged w f = EachOf (λ (x : Node Content). tag_at w.forest x.number ≡ tag_of x) (tree_nodes f)
+
+pub tags-itself : (w : World) (f : Forest Content) → AreTagged w f → InStep (TagFrom w) (tree_numbers f) (tree_nodes f)
+tags-itself w f h = subst (λ ns. InStep (TagFrom w) ns (tree_nodes f)) (numbers-nodes f) (steps-self (TagFrom w) (λ (x : Node Content). x.number) (tree_nodes f) h)
+
+pub tags-copies : (w v : World) (document next : ℕ) (f g : Forest Content) → AreTagged w f → AreTagged v f → AreTagged v g → tree_numbers g ≡ tree_numbers f → InStep (TagFrom w) (tree_numbers f) (tree_nodes (renumbered document next g))
+tags-copies w v document next f g hw hv k e =
+    steps-left (TagFrom v) (TagFrom w) (λ n. tag_at w.forest n ≡ tag_at v.forest n) (tree_numbers f) (tree_nodes (renumbered document next g)) (λ n x i j. i ∙ j) same
+    (subst (λ ns. InStep (TagFrom v) ns (tree_nodes (renumbered document next g))) (numbers-nodes g ∙ e)
+    (steps-of (TagFrom v) (λ (x : Node Content). x.number) (tree_nodes g) (tree_nodes (renumbered document next g))
+    (steps-left SameTag (λ x y. TagFrom v x.number y) (λ (x : Node Content). tag_at v.forest x.number ≡ tag_of x) (tree_nodes g) (tree_nodes (renumbered document next g)) (λ x y i j. i ∙ j) k (copies-tags document next g))))
+  where
+    same : EachOf (λ n. tag_at w.forest n ≡ tag_at v.forest n) (tree_numbers f)
+    same =
+        subst (λ ns. EachOf (λ n. tag_at w.forest n ≡ tag_at v.forest n) ns) (numbers-nodes f)
+        (each-map (λ n. tag_at w.forest n ≡ tag_at v.forest n) (λ (x : Node Content). x.number) (tree_nodes f)
+        (each-both (λ (x : Node Content). tag_at w.forest x.number ≡ tag_of x) (λ (x : Node Content). tag_at v.forest x.number ≡ tag_of x) (λ (x : Node Content). tag_at w.forest x.number ≡ tag_at v.forest x.number) (tree_nodes f) (λ x i j. i ∙ sym j) hw hv))
+
+-- a node without children, and one around trees
+pub steps-one : (related : ℕ → Node Content → Type 0) (n : ℕ) (x : Node Content) → related n x → InStep related (n ∷ []) (tree_nodes (node x empty empty))
+steps-one related n x h = go (is_character_data x.label.kind)
+  where
+    go : (v : Bool) → InStep related (n ∷ []) (x ∷ ((if v then [] else []) ++ []))
+    go true = (h, tt)
+    go false = (h, tt)
+
+pub steps-around : (related : ℕ → Node Content → Type 0) (n : ℕ) (x : Node Content) (kids : Forest Content) (ts : List Token) → is_character_data x.label.kind ≡ false → related n x → InStep related (opened_in ts) (tree_nodes kids) → InStep related (opened_in (Open n ∷ (ts ++ (Close ∷ [])))) (tree_nodes (node x kids empty))
+steps-around related n x kids ts no_data h k =
+    rw no_data (h, subst (λ ns. InStep related ns (tree_nodes kids ++ [])) (sym (opened_in-append ts (Close ∷ []))) (steps-append related (opened_in ts) [] (tree_nodes kids) [] k tt))
+
+-- Trees of the shape of some tokens have come under a node, in step with the tokens' opens. Of the nodes that were there only that node and
+-- those of a list are touched.
+pub record Drew (w : World) (moves : Bool) (low : ℕ) (bad touched : List ℕ) (v u : World) (into : ℕ) (ts : List Token) : Type 0 where
   pub trees : Forest Content
   pub stands : Stands u trees
   pub added : children_of u.forest into ≡ children_of v.forest into ++ tops trees
   pub shaped : tree_shape trees ≡ shape ts
+  pub steps : InStep (NodeFrom moves low bad) (opened_in ts) (tree_nodes trees)
+  pub tagged : InStep (TagFrom w) (opened_in ts) (tree_nodes trees)
   pub safe : EachNode (λ x. IsSafe low bad v.made x.number) trees
   pub keeps : (x : ℕ) → 0 < occurs x v.forest → (x ≡ into → ⊥) → hits x touched ≡ 0 → Keeps v u x
   pub drawing : IsDrawing low u
   pub extends : Extends v u
 
 -- nothing is drawn
-pub drew-none : (low : ℕ) (bad touched : List ℕ) (v : World) (into : ℕ) → IsDrawing low v → Drew low bad touched v v into []
-drew-none low bad touched v into d = record {
+pub drew-none : (w : World) (moves : Bool) (low : ℕ) (bad touched : List ℕ) (v : World) (into : ℕ) → IsDrawing low v → Drew w moves low bad touched v v into []
+drew-none w moves low bad touched v into d = record {
   trees = empty;
   stands = tt;
   added = sym (append-nil (children_of v.forest into));
   shaped = refl;
+  steps = tt;
+  tagged = tt;
   safe = tt;
   keeps = λ x h ne z. record { text = refl; children = refl };
   drawing = d;
   extends = extends-same v;
 }
 
--- tokens of the same shape, and more nodes that may be touched
-pub drew-as : (low : ℕ) (bad touched more : List ℕ) (v u : World) (into : ℕ) (ts us : List Token) → shape ts ≡ shape us → ((x : ℕ) → hits x more ≡ 0 → hits x touched ≡ 0) → Drew low bad touched v u into ts → Drew low bad more v u into us
-drew-as low bad touched more v u into ts us e m d = record {
+-- tokens of the same shape and opens, and more nodes that may be touched
+pub drew-as : (w : World) (moves : Bool) (low : ℕ) (bad touched more : List ℕ) (v u : World) (into : ℕ) (ts us : List Token) → shape ts ≡ shape us → opened_in ts ≡ opened_in us → ((x : ℕ) → hits x more ≡ 0 → hits x touched ≡ 0) → Drew w moves low bad touched v u into ts → Drew w moves low bad more v u into us
+drew-as w moves low bad touched more v u into ts us e o m d = record {
   trees = d.trees;
   stands = d.stands;
   added = d.added;
   shaped = d.shaped ∙ e;
+  steps = subst (λ ns. InStep (NodeFrom moves low bad) ns (tree_nodes d.trees)) o d.steps;
+  tagged = subst (λ ns. InStep (TagFrom w) ns (tree_nodes d.trees)) o d.tagged;
   safe = d.safe;
   keeps = λ x h ne z. d.keeps x h ne (m x z);
   drawing = d.drawing;
@@ -80,8 +176,8 @@ safe-kept low bad touched o made v u into l lt b e keeps f safe h = stands-kept 
     each x (inr i) k = keeps x k (λ d. let a = i.0 in omega arith) (o.within x i.1)
 
 -- one step after another
-pub drew-then : (low : ℕ) (bad first second : List ℕ) → AreOld low bad second → (v u y : World) (into : ℕ) (ts us : List Token) → low ≤ into → into < v.made → low ≤ v.made → Drew low bad first v u into ts → Drew low bad second u y into us → Drew low bad (first ++ second) v y into (ts ++ us)
-drew-then low bad first second o v u y into ts us l lt b d e = record {
+pub drew-then : (w : World) (moves : Bool) (low : ℕ) (bad first second : List ℕ) → AreOld low bad second → (v u y : World) (into : ℕ) (ts us : List Token) → low ≤ into → into < v.made → low ≤ v.made → Drew w moves low bad first v u into ts → Drew w moves low bad second u y into us → Drew w moves low bad (first ++ second) v y into (ts ++ us)
+drew-then w moves low bad first second o v u y into ts us l lt b d e = record {
   trees = beside d.trees e.trees;
   stands = stands-beside y d.trees e.trees (safe-kept low bad second o v.made u y into l lt b e.extends e.keeps d.trees d.safe d.stands) e.stands;
   added =
@@ -94,6 +190,14 @@ drew-then low bad first second o v u y into ts us l lt b d e = record {
       ∙ ap (λ xs. xs ++ tree_shape e.trees) d.shaped
       ∙ ap (λ xs. shape ts ++ xs) e.shaped
       ∙ sym (shape-append ts us);
+  steps =
+      subst (λ ns. InStep (NodeFrom moves low bad) ns (tree_nodes (beside d.trees e.trees))) (sym (opened_in-append ts us))
+      (subst (λ xs. InStep (NodeFrom moves low bad) (opened_in ts ++ opened_in us) xs) (sym (tree_nodes-beside d.trees e.trees))
+      (steps-append (NodeFrom moves low bad) (opened_in ts) (opened_in us) (tree_nodes d.trees) (tree_nodes e.trees) d.steps e.steps));
+  tagged =
+      subst (λ ns. InStep (TagFrom w) ns (tree_nodes (beside d.trees e.trees))) (sym (opened_in-append ts us))
+      (subst (λ xs. InStep (TagFrom w) (opened_in ts ++ opened_in us) xs) (sym (tree_nodes-beside d.trees e.trees))
+      (steps-append (TagFrom w) (opened_in ts) (opened_in us) (tree_nodes d.trees) (tree_nodes e.trees) d.tagged e.tagged));
   safe =
       EachNode-beside (λ x. IsSafe low bad v.made x.number) d.trees e.trees d.safe
       (each-weaker (IsSafe low bad u.made) (IsSafe low bad v.made) later e.trees e.safe);

@@ -1,6 +1,6 @@
 -- The fragment that extracting or cloning the contents of a live range makes holds what lies between the range's markers.
 -- DOM Standard, "Interface Range": extractContents, cloneContents.
-use Rattle.std.proofs.Common.{◌≡◌, ℕ, suc, ◌-◌, ◌<◌, ◌≤◌, ◌==◌, Bool, true, false, ◌||◌, if◌then◌else◌, List, [], ◌∷◌, ◌++◌, take, drop, length, Option, Some, None, refl, ap, sym, ◌∙◌, subst, arith, length-drop, ⊎_elim}
+use Rattle.std.proofs.Common.{◌≡◌, ℕ, suc, ◌-◌, ◌<◌, ◌≤◌, ◌==◌, Bool, true, false, ◌||◌, if◌then◌else◌, List, [], ◌∷◌, ◌++◌, take, drop, length, Option, Some, None, refl, ap, sym, ◌∙◌, subst, arith, append-nil, length-drop, ⊎_elim}
 use Rattle.std.specs.Prelude.{replicate}
 use Rattle.std.proofs.lemmas.Bool.{cases_lt, false≢true}
 use Rattle.std.proofs.lemmas.List.{length-take-le}
@@ -9,6 +9,7 @@ use Rattle.dom_model.specs.PlainLists.Lists.{hits, last_of}
 use Rattle.dom_model.specs.Forests.Kinds.{is_character_data, may_be_parent}
 use Rattle.dom_model.specs.Forests.Arena.{Entry, parent_in, children_in}
 use Rattle.dom_model.specs.Forests.Forest.{Node, Forest, empty, node, occurs, tops, entry_in, parent_of, children_of, root_of}
+use Rattle.dom_model.specs.Forests.Texts.{substring}
 use Rattle.dom_model.specs.Worlds.World.{Content, Range, World, no_content}
 use Rattle.dom_model.specs.Worlds.Sound.{IsRange, IsSound}
 use Rattle.dom_model.specs.MutationAlgorithms.Checks.{entry_has, kind_passes}
@@ -19,7 +20,8 @@ use Rattle.dom_model.specs.RangesAndContents.Ranges.{is_collapsed, range_at, wit
 use Rattle.dom_model.specs.RangesAndContents.Contents.{for_range, is_in_one_data, new_place, new_fragment, units_into, parts_into, contents_drawn, check_draw, check_extract, extracted, extract, clone_contents}
 use Rattle.dom_model.specs.TokenText.Tokens.{Token, Open, Close, no_marks, unit_tokens, texts_of}
 use Rattle.dom_model.specs.TokenText.Gaps.{text_among, root_text, tokens_ahead}
-use Rattle.dom_model.specs.TokenText.Between.{between, same_shape, are_units, fragment_shape}
+use Rattle.dom_model.specs.TokenText.Between.{between, without_first, same_shape, are_units, fragment_shape}
+use Rattle.dom_model.specs.TokenText.Originals.{opened_in, opened_inside, InStep}
 use Rattle.dom_model.proofs.PlainLists.Numbers.{same_or, same, apart}
 use Rattle.dom_model.proofs.Forests.Changes.{seen, nothing, just}
 use Rattle.dom_model.proofs.Forests.Climbing.{hits-first}
@@ -29,16 +31,19 @@ use Rattle.dom_model.proofs.Forests.Paths.{root-path}
 use Rattle.dom_model.proofs.MutationAlgorithms.Loosened.{root-listed}
 use Rattle.dom_model.proofs.TokenText.Marked.MarkedFirst.{kinds-childless}
 use Rattle.dom_model.proofs.TokenText.EditsMade.EditsOfDrawnContents.{sound-range, check-range, first, holds, start_data, start_within, second-too}
+use Rattle.dom_model.proofs.MutationAlgorithms.Extending.{tag_at}
 use Rattle.dom_model.proofs.RangesAndContents.Drawing.{IsDrawing, passes_there}
 use Rattle.dom_model.proofs.TokenText.Contents.TextsOfRoots.{TreeOf, tree_of_root}
 use Rattle.dom_model.proofs.TokenText.Contents.PartsByGaps.{parts-by_gaps}
 use Rattle.dom_model.proofs.TokenText.Contents.DeletedInPlace.{same-ends}
 use Rattle.dom_model.proofs.TokenText.Contents.WithinData.{BothIn, both-in, end-fits, in_order, between-within}
 use Rattle.dom_model.proofs.TokenText.Contents.PathTokens.{start_path, end_path, parts_tokens}
+use Rattle.dom_model.proofs.TokenText.Contents.PathShapes.{opens_of}
 use Rattle.dom_model.proofs.TokenText.Contents.BetweenParts.{between-parts}
 use Rattle.dom_model.proofs.TokenText.Fragments.Shapes.{shape, shape-append, shape-same, shape-children, tree_shape}
-use Rattle.dom_model.proofs.TokenText.Fragments.StandingTrees.{Stands, stands-lies, stands-shape}
-use Rattle.dom_model.proofs.TokenText.Fragments.DrawnTrees.{Drew, drew-none}
+use Rattle.dom_model.proofs.TokenText.Fragments.OpensInStep.{steps-right, steps-map, opened_in-children, tree_nodes, tree_numbers, numbers-nodes}
+use Rattle.dom_model.proofs.TokenText.Fragments.StandingTrees.{tag_of, Stands, stands-lies, stands-shape, stands-numbers, stands-tags}
+use Rattle.dom_model.proofs.TokenText.Fragments.DrawnTrees.{IsFrom, TagFrom, Drew, drew-none}
 use Rattle.dom_model.proofs.TokenText.Fragments.DrawnCopies.{units-drew}
 use Rattle.dom_model.proofs.TokenText.Fragments.DrawnParts.{parts-drew}
 use Rattle.dom_model.proofs.TokenText.Fragments.MatchedParts.{parts-shape}
@@ -76,6 +81,23 @@ module _ (v : World) (sound : IsSound v) (n : ℕ) (there : 0 < occurs n v.fores
       ∙ (rw bare refl)
       ∙ ap (λ ts. Open 0 ∷ (ts ++ (Close ∷ []))) (stands-shape v tree.kids trees (stands-lies v (Some tree.top.number) tree.kids tree.lies) s (sym listed ∙ e))
 
+  -- and its opens but the root's
+  pub text-numbers : (trees : Forest Content) → Stands v trees → children_of v.forest n ≡ tops trees → opened_inside (root_text v.forest n) ≡ tree_numbers trees
+  text-numbers trees s e =
+      ap (λ ts. without_first (opened_in ts)) tree.text
+      ∙ ap without_first (opened_in-children 0 0 (node tree.top tree.kids empty))
+      ∙ (rw bare (append-nil (tree_numbers tree.kids)))
+      ∙ stands-numbers v tree.kids trees (stands-lies v (Some tree.top.number) tree.kids tree.lies) s (sym listed ∙ e)
+
+-- a node of the second forest has the label and the attributes of one of the first
+abbrev pub TaggedAs : Forest Content → Forest Content → ℕ → ℕ → Type 0
+TaggedAs f g n m = tag_at g m ≡ tag_at f n
+
+-- opens that stand in front, by their shape
+shape-opens : (path : List ℕ) (ts : List Token) → shape (opens_of path ++ ts) ≡ shape (replicate (length path) (Open 0) ++ ts)
+shape-opens [] ts = refl
+shape-opens (n ∷ path) ts = ap (λ us. Open 0 ∷ us) (shape-opens path ts)
+
 -- ends in one node that are not one point
 apart-ends : (range : Range) → range.start.node ≡ range.end.node → is_collapsed range ≡ false → range.start.offset ≤ range.end.offset → range.start.offset < range.end.offset
 apart-ends range one wide le =
@@ -98,7 +120,7 @@ module _ (w : World) (sound : IsSound w) (range : Range) (is : IsRange w.forest 
   abbrev fragment : Node Content
   fragment = record { number = w.made; document = node_document w range.start.node; label = named DocumentFragment []; body = no_content }
 
-  begins : IsDrawing w.made grown
+  pub begins : IsDrawing w.made grown
   begins = (first w sound range is).drawing
 
   fragment_entry : entry_in grown.forest w.made ≡ Some (record { value = fragment; parent = None; children = [] })
@@ -107,19 +129,40 @@ module _ (w : World) (sound : IsSound w) (range : Range) (is : IsRange w.forest 
   fragment_there : 0 < occurs w.made grown.forest
   fragment_there = passes_there may_be_parent grown.forest w.made (holds w sound range is).kind
 
-  -- the fragment has the shape of what was drawn
-  drawn-shape : (bad touched : List ℕ) (u : World) (ts : List Token) → Drew w.made bad touched grown u w.made ts → shape (root_text u.forest w.made) ≡ Open 0 ∷ (shape ts ++ (Close ∷ []))
-  drawn-shape bad touched u ts d =
-      text-shape u d.drawing.sound w.made (d.extends.there w.made fragment_there) root (d.extends.kinds is_character_data w.made fragment_there ∙ ap (entry_has is_character_data) fragment_entry) d.trees d.stands
-      (d.added ∙ ap (λ ns. ns ++ tops d.trees) (ap children_in fragment_entry))
-      ∙ ap (λ us. Open 0 ∷ (us ++ (Close ∷ []))) d.shaped
-    where
-      root : parent_of u.forest w.made ≡ None
-      root =
-          elim (seen (parent_of u.forest w.made)) [
-            | nothing e ↦ e
-            | just q e ↦ absurd (let i = d.drawing.rising w.made q (omega arith) e in let a = i.0 in let b = i.1 in omega arith)
-          ]
+  module _ (moves : Bool) (bad touched : List ℕ) (u : World) (ts : List Token) (d : Drew w moves w.made bad touched grown u w.made ts) where
+    fragment_root : parent_of u.forest w.made ≡ None
+    fragment_root =
+        elim (seen (parent_of u.forest w.made)) [
+          | nothing e ↦ e
+          | just q e ↦ absurd (let i = d.drawing.rising w.made q (omega arith) e in let a = i.0 in let b = i.1 in omega arith)
+        ]
+
+    fragment_bare : kind_passes is_character_data u.forest w.made ≡ false
+    fragment_bare = d.extends.kinds is_character_data w.made fragment_there ∙ ap (entry_has is_character_data) fragment_entry
+
+    fragment_children : children_of u.forest w.made ≡ tops d.trees
+    fragment_children = d.added ∙ ap (λ ns. ns ++ tops d.trees) (ap children_in fragment_entry)
+
+    -- the fragment has the shape of what was drawn
+    drawn-shape : shape (root_text u.forest w.made) ≡ Open 0 ∷ (shape ts ++ (Close ∷ []))
+    drawn-shape =
+        text-shape u d.drawing.sound w.made (d.extends.there w.made fragment_there) fragment_root fragment_bare d.trees d.stands fragment_children
+        ∙ ap (λ us. Open 0 ∷ (us ++ (Close ∷ []))) d.shaped
+
+    -- and its opens are in step with those of what was drawn
+    pub drawn-steps : InStep (IsFrom moves w.made bad) (opened_in ts) (opened_inside (root_text u.forest w.made))
+    drawn-steps =
+        subst (λ ns. InStep (IsFrom moves w.made bad) (opened_in ts) ns)
+        (numbers-nodes d.trees ∙ sym (text-numbers u d.drawing.sound w.made (d.extends.there w.made fragment_there) fragment_root fragment_bare d.trees d.stands fragment_children))
+        (steps-map (IsFrom moves w.made bad) (λ (x : Node Content). x.number) (opened_in ts) (tree_nodes d.trees) d.steps)
+
+    -- with the labels and attributes of the nodes that they stand for
+    pub drawn-tags : InStep (TaggedAs w.forest u.forest) (opened_in ts) (opened_inside (root_text u.forest w.made))
+    drawn-tags =
+        subst (λ ns. InStep (TaggedAs w.forest u.forest) (opened_in ts) ns)
+        (numbers-nodes d.trees ∙ sym (text-numbers u d.drawing.sound w.made (d.extends.there w.made fragment_there) fragment_root fragment_bare d.trees d.stands fragment_children))
+        (steps-map (TaggedAs w.forest u.forest) (λ (x : Node Content). x.number) (opened_in ts) (tree_nodes d.trees)
+        (steps-right (TagFrom w) (λ n x. TaggedAs w.forest u.forest n x.number) (λ (x : Node Content). tag_at u.forest x.number ≡ tag_of x) (opened_in ts) (tree_nodes d.trees) (λ n x i j. i ∙ sym j) (stands-tags u d.trees d.stands) d.tagged))
 
   module _ (r root : ℕ) (h : range_at w r ≡ Some range) (rooted : root_of w.forest range.start.node ≡ Some root) (moves : Bool) where
     abbrev wanted : List Token
@@ -133,7 +176,7 @@ module _ (w : World) (sound : IsSound w) (range : Range) (is : IsRange w.forest 
         let d : p.a ≡ p.b = cc e in
         let z : p.b - p.a ≡ 0 = omega arith in
         let none : between r (text_among root (texts_of w)) ≡ [] = p.inside ∙ ap (λ k. take k (drop p.a (root_text w.forest root))) z in
-        drawn-shape [] [] grown [] (drew-none w.made [] [] grown w.made begins) ∙ sym (ap (λ ts. shape (fragment_shape ts)) none)
+        drawn-shape moves [] [] grown [] (drew-none w moves w.made [] [] grown w.made begins) ∙ sym (ap (λ ts. shape (fragment_shape ts)) none)
 
     -- one within a node with data
     one_node-shape : (n : ℕ) (us : List ℕ) → 0 < length us → fragment_shape (unit_tokens no_marks n 0 us) ≡ Open 0 ∷ ((Open 0 ∷ (unit_tokens no_marks n 0 us ++ (Close ∷ []))) ++ (Close ∷ []))
@@ -144,16 +187,37 @@ module _ (w : World) (sound : IsSound w) (range : Range) (is : IsRange w.forest 
         units-are n i [] = refl
         units-are n i (u ∷ us) = units-are n (suc i) us
 
-    of_units : is_collapsed range ≡ false → is_in_one_data w range ≡ true → shape (root_text (units_into moves w.made range.start.node range.start.offset (range.end.offset - range.start.offset) grown).forest w.made) ≡ wanted
-    of_units wide one =
+    one_old : (x : ℕ) → w.made ≤ x → hits x (range.start.node ∷ []) ≡ 0
+    one_old x l =
+        elim (same_or range.start.node x) [
+          | same e t ↦ absurd (let z = sound.forest.small x l in let i = subst (λ m. 0 < occurs m w.forest) e (occurs-HasNode w.forest range.start.node is.starts.there) in omega arith)
+          | apart ne t ↦ rw t refl
+        ]
+
+    pub units-came : is_in_one_data w range ≡ true → Drew w moves w.made (range.start.node ∷ []) (range.start.node ∷ []) grown (units_into moves w.made range.start.node range.start.offset (range.end.offset - range.start.offset) grown) w.made (Open range.start.node ∷ (unit_tokens no_marks range.start.node 0 (substring range.start.offset (range.end.offset - range.start.offset) (data_of grown range.start.node)) ++ (Close ∷ [])))
+    units-came one =
         let has = second-too (range.start.node == range.end.node) (kind_passes is_character_data w.forest range.start.node) one in
         let g = (first w sound range is).extends in
         let hs = occurs-HasNode w.forest range.start.node is.starts.there in
-        let d = units-drew w.made (range.start.node ∷ []) old w.made range.start.node range.start.offset (range.end.offset - range.start.offset) grown begins (holds w sound range is) (g.kinds is_character_data range.start.node hs ∙ has) (start_within w sound range is (g.kinds is_character_data range.start.node hs ∙ has)) (hits-first range.start.node []) moves in
-        drawn-shape (range.start.node ∷ []) (range.start.node ∷ []) _ _ d
+        units-drew w.made (range.start.node ∷ []) one_old w.made range.start.node range.start.offset (range.end.offset - range.start.offset) grown begins (holds w sound range is) (g.kinds is_character_data range.start.node hs ∙ has) (start_within w sound range is (g.kinds is_character_data range.start.node hs ∙ has)) (hits-first range.start.node []) w (sym (g.tags range.start.node hs)) moves
+
+    -- the units between its ends are some
+    pub units-some : is_collapsed range ≡ false → is_in_one_data w range ≡ true → 0 < length (take (range.end.offset - range.start.offset) (drop range.start.offset (data_of w range.start.node)))
+    units-some wide one =
+        let both = both-in w range one in
+        let i = in_order w r root range sound h rooted both in
+        let j = end-fits w r root range sound h rooted both in
+        let k = length-drop range.start.offset (data_of w range.start.node) in
+        let l = length-take-le (range.end.offset - range.start.offset) (drop range.start.offset (data_of w range.start.node)) (omega arith) in
+        let ne = apart-ends range both.one wide i in
+        omega arith
+
+    of_units : is_collapsed range ≡ false → is_in_one_data w range ≡ true → shape (root_text (units_into moves w.made range.start.node range.start.offset (range.end.offset - range.start.offset) grown).forest w.made) ≡ wanted
+    of_units wide one =
+        drawn-shape moves (range.start.node ∷ []) (range.start.node ∷ []) _ _ (units-came one)
         ∙ ap (λ (us : List ℕ). Open 0 ∷ (shape (Open range.start.node ∷ (unit_tokens no_marks range.start.node 0 (take (range.end.offset - range.start.offset) (drop range.start.offset us)) ++ (Close ∷ []))) ++ (Close ∷ []))) (start_data w sound range is)
         ∙ ap (λ ts. Open 0 ∷ ts) (sym (shape-append (Open range.start.node ∷ (unit_tokens no_marks range.start.node 0 units ++ (Close ∷ []))) (Close ∷ [])))
-        ∙ sym (ap shape (one_node-shape range.start.node units some))
+        ∙ sym (ap shape (one_node-shape range.start.node units (units-some wide one)))
         ∙ sym (ap (λ ts. shape (fragment_shape ts)) (between-within w r root range sound h rooted both))
       where
         units : List ℕ
@@ -162,26 +226,11 @@ module _ (w : World) (sound : IsSound w) (range : Range) (is : IsRange w.forest 
         both : BothIn w range
         both = both-in w range one
 
-        some : 0 < length units
-        some =
-            let i = in_order w r root range sound h rooted both in
-            let j = end-fits w r root range sound h rooted both in
-            let k = length-drop range.start.offset (data_of w range.start.node) in
-            let l = length-take-le (range.end.offset - range.start.offset) (drop range.start.offset (data_of w range.start.node)) (omega arith) in
-            let ne = apart-ends range both.one wide i in
-            omega arith
-
-        old : (x : ℕ) → w.made ≤ x → hits x (range.start.node ∷ []) ≡ 0
-        old x l =
-            elim (same_or range.start.node x) [
-              | same e t ↦ absurd (let z = sound.forest.small x l in let i = subst (λ m. 0 < occurs m w.forest) e (occurs-HasNode w.forest range.start.node is.starts.there) in omega arith)
-              | apart ne t ↦ rw t refl
-            ]
-
     -- any other
     of_parts : is_collapsed range ≡ false → is_in_one_data w range ≡ false → check_draw w range ≡ None → shape (root_text (parts_into moves w.made range grown).forest w.made) ≡ wanted
     of_parts wide two no_doctype =
-        drawn-shape _ _ _ _ (parts-drew w sound range is no_doctype moves)
+        drawn-shape moves _ _ _ _ (parts-drew w sound range is no_doctype moves)
+        ∙ ap (λ ts. Open 0 ∷ (ts ++ (Close ∷ []))) (shape-opens (start_path w range) (parts_tokens w range ++ replicate (length (end_path w range)) Close))
         ∙ ap (λ ts. Open 0 ∷ ts) (sym (shape-append (replicate (length (start_path w range)) (Open 0) ++ (parts_tokens w range ++ replicate (length (end_path w range)) Close)) (Close ∷ [])))
         ∙ sym (ap shape (parts-shape w sound range is))
         ∙ sym (ap (λ ts. shape (fragment_shape ts)) (between-parts w r root range sound h rooted wide two))

@@ -43,11 +43,11 @@ units-open (Mark r side ∷ ts) h = units-open ts h
 mixed-shape : (ts : List Token) → are_units ts ≡ false → fragment_shape ts ≡ Open 0 ∷ (matched ts ++ (Close ∷ []))
 mixed-shape ts h = rw h refl
 
-closes-long : (path : List ℕ) → length (closes_of path) ≡ length path
+pub closes-long : (path : List ℕ) → length (closes_of path) ≡ length path
 closes-long [] = refl
 closes-long (n ∷ path) = length-append (closes_of path) (Close ∷ []) ∙ (let i = closes-long path in omega arith)
 
-opens-long : (path : List ℕ) → length (opens_of path) ≡ length path
+pub opens-long : (path : List ℕ) → length (opens_of path) ≡ length path
 opens-long [] = refl
 opens-long (n ∷ path) = let i = opens-long path in omega arith
 
@@ -69,13 +69,13 @@ module _ (w : World) (sound : IsSound w) (range : Range) (is : IsRange w.forest 
   middle_matches : Matches middle_part
   middle_matches = (whole-listed w sound (contained_children w range) contained_there).matches
 
-  closes-parts : closes_left 0 (parts_tokens w range) ≡ closes_of (start_path w range)
+  pub closes-parts : closes_left 0 (parts_tokens w range) ≡ closes_of (start_path w range)
   closes-parts =
       closes-tail w sound range.start.offset (common_of w range) (start_path w range) range.start.node fork_is.first (middle_part ++ head_part)
       ∙ ap (λ ts. closes_of (start_path w range) ++ ts) (middle_matches.closes 0 head_part ∙ closes-head w sound range.end.offset (common_of w range) (end_path w range) range.end.node 0 fork_is.second)
       ∙ append-nil (closes_of (start_path w range))
 
-  opens-parts : opens_left [] (parts_tokens w range) ≡ opens_of (end_path w range)
+  pub opens-parts : opens_left [] (parts_tokens w range) ≡ opens_of (end_path w range)
   opens-parts =
       opens-tail w sound range.start.offset (common_of w range) (start_path w range) range.start.node fork_is.first (middle_part ++ head_part)
       ∙ middle_matches.opens [] head_part
@@ -101,7 +101,11 @@ module _ (w : World) (sound : IsSound w) (range : Range) (is : IsRange w.forest 
   no_path [] ts e l = refl
   no_path (n ∷ path) ts e l = absurd (let i = rw e at l in omega arith)
 
-  parts-none : are_units (parts_tokens w range) ≡ true → parts_tokens w range ≡ []
+  -- the path to the start then has no node
+  pub start_path-none : are_units (parts_tokens w range) ≡ true → start_path w range ≡ []
+  start_path-none h = no_path (start_path w range) (closes_of (start_path w range)) (sym closes-parts ∙ units-close 0 (parts_tokens w range) h) (closes-long (start_path w range))
+
+  pub parts-none : are_units (parts_tokens w range) ≡ true → parts_tokens w range ≡ []
   parts-none h =
       let a = no_path (start_path w range) (closes_of (start_path w range)) (sym closes-parts ∙ units-close 0 (parts_tokens w range) h) (closes-long (start_path w range)) in
       let b = no_path (end_path w range) (opens_of (end_path w range)) (sym opens-parts ∙ units-open (parts_tokens w range) h) (opens-long (end_path w range)) in

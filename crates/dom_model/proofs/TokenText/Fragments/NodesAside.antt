@@ -13,6 +13,7 @@ use Rattle.dom_model.specs.MutationAlgorithms.PreRemoval.{past}
 use Rattle.dom_model.specs.MutationAlgorithms.Checks.{up_to, kind_passes}
 use Rattle.dom_model.specs.RangesAndContents.Contents.{path_below, common_of, contained_in, contained_children}
 use Rattle.dom_model.specs.TokenText.Tokens.{no_marks, token_texts, tokens_among}
+use Rattle.dom_model.specs.TokenText.Originals.{opened_in}
 use Rattle.dom_model.proofs.PlainLists.Numbers.{same_or, same, apart}
 use Rattle.dom_model.proofs.Forests.Totals.{total-tree_at}
 use Rattle.dom_model.proofs.Forests.Chains.{IsWay}
@@ -32,6 +33,9 @@ use Rattle.dom_model.proofs.TokenText.Marked.MarkedFirst.{kinds-childless}
 use Rattle.dom_model.proofs.TokenText.Contents.PathTokens.{start_path, end_path, tail_nodes, head_nodes}
 use Rattle.dom_model.proofs.TokenText.Contents.WholePieces.{tokens-own}
 use Rattle.dom_model.proofs.TokenText.Fragments.Shapes.{shape, shape-children, tree_shape}
+use Rattle.dom_model.proofs.TokenText.Fragments.StandingTrees.{stands-tags}
+use Rattle.dom_model.proofs.TokenText.Fragments.SteppedTrees.{stands-tree_at, stands-forest}
+use Rattle.dom_model.proofs.TokenText.Fragments.OpensInStep.{tree_numbers, opened_in-children}
 use Rattle.dom_model.proofs.TokenText.Fragments.DrawnNodes.{IsAside}
 
 -- Lists.
@@ -239,6 +243,8 @@ module _ (w : World) (sound : IsSound w) (range : Range) (is : IsRange w.forest 
         top = ap tops t.at ∙ ap (λ m. m ∷ []) t.named;
         far = each-occurs (λ x. (x < w.made) × (hits x (start_path w range ++ (common_of w range ∷ end_path w range)) ≡ 0)) (tree_at c w.forest) far;
         told = ap tree_shape t.at ∙ sym (shape-children 0 0 (node t.top t.kids empty)) ∙ ap shape (sym (tokens-own w.forest sound.forest.once (kinds-childless None w.forest sound.forest.kinds) c t)) ∙ ap shape (sym (append-nil (tokens_among c (token_texts no_marks w.forest))));
+        tagged = stands-tags w (tree_at c w.forest) (stands-tree_at w c w.forest (stands-forest w sound));
+        opens = ap tree_numbers t.at ∙ sym (opened_in-children 0 0 (node t.top t.kids empty)) ∙ ap opened_in (sym (tokens-own w.forest sound.forest.once (kinds-childless None w.forest sound.forest.kinds) c t)) ∙ ap opened_in (sym (append-nil (tokens_among c (token_texts no_marks w.forest))));
       }
     where
       far : (x : ℕ) → 0 < occurs x (tree_at c w.forest) → (x < w.made) × (hits x (start_path w range ++ (common_of w range ∷ end_path w range)) ≡ 0)

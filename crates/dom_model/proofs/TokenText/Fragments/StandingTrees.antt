@@ -1,7 +1,8 @@
 -- Trees as they stand in a world, told by the kinds, the data and the children of their nodes: trees of the same tops have one shape, and
 -- trees stand on where none of their nodes is touched.
-use Rattle.std.proofs.Common.{◌≡◌, ℕ, ◌<◌, List, Option, Some, IsSome, refl, ap, sym, ◌∙◌, subst}
-use Rattle.dom_model.specs.Forests.Kinds.{is_character_data}
+use Rattle.std.proofs.Common.{◌≡◌, ℕ, ◌<◌, Bool, true, false, if◌then◌else◌, List, [], Option, Some, IsSome, refl, ap, sym, ◌∙◌, subst}
+use Rattle.dom_model.specs.Forests.Kinds.{Label, is_character_data}
+use Rattle.dom_model.specs.Forests.Attributes.{Attribute}
 use Rattle.dom_model.specs.Forests.Arena.{Entry, children_in}
 use Rattle.dom_model.specs.Forests.Forest.{Node, Forest, empty, node, occurs, tops, beside, entry_in, children_of}
 use Rattle.dom_model.specs.Forests.Lies.{Lies}
@@ -10,14 +11,21 @@ use Rattle.dom_model.specs.Worlds.World.{Content, World}
 use Rattle.dom_model.specs.MutationAlgorithms.Checks.{entry_has, kind_passes}
 use Rattle.dom_model.specs.DataAndCopies.Data.{content_in, data_of}
 use Rattle.dom_model.proofs.Forests.Entries.{occurs-HasNode}
+use Rattle.dom_model.proofs.MutationAlgorithms.Extending.{tag_in, tag_at}
 use Rattle.dom_model.proofs.RangesAndContents.Drawing.{Extends}
 use Rattle.dom_model.proofs.TokenText.Fragments.Shapes.{tree_shape}
+use Rattle.dom_model.proofs.TokenText.Fragments.OpensInStep.{EachOf, each-append, tree_nodes, tree_numbers}
+
+-- its label and attributes
+abbrev pub tag_of : Node Content → (Option Label) × (List Attribute)
+tag_of x = (Some x.label, x.body.attributes)
 
 -- a node as it is in a world
 pub record IsAs (v : World) (x : Node Content) (kids : List ℕ) : Type 0 where
   pub there : 0 < occurs x.number v.forest
   pub kind : kind_passes is_character_data v.forest x.number ≡ is_character_data x.label.kind
   pub text : data_of v x.number ≡ x.body.text
+  pub tag : tag_at v.forest x.number ≡ tag_of x
   pub children : children_of v.forest x.number ≡ kids
 
 abbrev pub Stands : World → Forest Content → Type 0
@@ -33,6 +41,7 @@ stands-lies v q (node x kids rest) l =
         there = occurs-HasNode v.forest x.number (subst (λ (o : Option (Entry (Node Content))). IsSome o) (sym e) refl);
         kind = ap (entry_has is_character_data) e;
         text = ap (λ (o : Option (Entry (Node Content))). (content_in o).text) e;
+        tag = ap tag_in e;
         children = ap children_in e;
       },
       stands-lies v (Some x.number) kids l.1,
@@ -58,6 +67,31 @@ stands-shape v (node x kids rest) (node y ys others) h k e =
     let below : tops kids ≡ tops ys = sym hx.children ∙ ap (children_of v.forest) d ∙ ky.children in
     rw (kinds, texts, stands-shape v kids ys h.1 k.1 below, stands-shape v rest others h.2 k.2 r) refl
 
+-- and the same nodes
+pub stands-numbers : (v : World) (f g : Forest Content) → Stands v f → Stands v g → tops f ≡ tops g → tree_numbers f ≡ tree_numbers g
+stands-numbers v empty empty h k e = refl
+stands-numbers v empty (node y ys others) h k e = absurd (cc e)
+stands-numbers v (node x kids rest) empty h k e = absurd (cc e)
+stands-numbers v (node x kids rest) (node y ys others) h k e =
+    let d : x.number ≡ y.number = cc e in
+    let r : tops rest ≡ tops others = cc e in
+    let hx = h.0 in
+    let ky = k.0 in
+    let kinds : is_character_data x.label.kind ≡ is_character_data y.label.kind = sym hx.kind ∙ ap (kind_passes is_character_data v.forest) d ∙ ky.kind in
+    let below : tops kids ≡ tops ys = sym hx.children ∙ ap (children_of v.forest) d ∙ ky.children in
+    rw (d, kinds, stands-numbers v kids ys h.1 k.1 below, stands-numbers v rest others h.2 k.2 r) refl
+
+-- each of them has there the label and the attributes that it has
+pub stands-tags : (v : World) (f : Forest Content) → Stands v f → EachOf (λ (x : Node Content). tag_at v.forest x.number ≡ tag_of x) (tree_nodes f)
+stands-tags v empty h = tt
+stands-tags v (node x kids rest) h =
+    let i = h.0 in
+    (i.tag, each-append (λ (y : Node Content). tag_at v.forest y.number ≡ tag_of y) (if is_character_data x.label.kind then [] else tree_nodes kids) (tree_nodes rest) (below (is_character_data x.label.kind) (stands-tags v kids h.1)) (stands-tags v rest h.2))
+  where
+    below : (b : Bool) → EachOf (λ (y : Node Content). tag_at v.forest y.number ≡ tag_of y) (tree_nodes kids) → EachOf (λ (y : Node Content). tag_at v.forest y.number ≡ tag_of y) (if b then [] else tree_nodes kids)
+    below true k = tt
+    below false k = k
+
 -- a node's data and children are as they were
 pub record Keeps (v u : World) (x : ℕ) : Type 0 where
   pub text : data_of u x ≡ data_of v x
@@ -76,6 +110,7 @@ stands-kept v u e P keeps (node x kids rest) p h =
         there = e.there x.number i.there;
         kind = e.kinds is_character_data x.number i.there ∙ i.kind;
         text = k.text ∙ i.text;
+        tag = e.tags x.number i.there ∙ i.tag;
         children = k.children ∙ i.children;
       },
       stands-kept v u e P keeps kids p.1 h.1,

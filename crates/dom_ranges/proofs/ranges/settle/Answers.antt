@@ -1,19 +1,19 @@
-use Rattle.std.proofs.Common.{refl, sym, ◌∙◌, arith}
+use Rattle.std.proofs.Common.{[], ◌∷◌, Some, length, refl, sym, ap, ◌∙◌, arith, length-append}
 use Rattle.std.proofs.lemmas.List.{append-nil}
-use Rattle.dom_ranges.specs.Chained.{is_forgotten, chained_first}
-use Rattle.dom_ranges.proofs.Steps.{has-after, same-length}
+use Rattle.dom_ranges.specs.Chained.{points_of, covers, chained_first}
+use Rattle.dom_ranges.proofs.Steps.{has-after, same-length, points-length}
 use Rattle.dom_ranges.proofs.Slots.{new-settled}
-use Rattle.dom_ranges.proofs.Making.{half, IsKept-added, pairs-added, vacant-within, vacant-small, first-empty, second-empty, reused-length, reused-settles, reused-kept}
+use Rattle.dom_ranges.proofs.Making.{half, IsKept-added, pairs-added, vacant-within, first-empty, second-empty, reused-length, reused-settles, reused-kept}
 use Rattle.dom_ranges.proofs.ranges.settle.Goals as goal
-
-pub start-requires : goal.start-requires
-start-requires c = vacant-small _ _ _ c.requires.kept _ _ _ c.requires.vacant c.in-Some.ensures.items
 
 pub put_first-requires-clause-within : goal.put_first-requires-clause-within
 put_first-requires-clause-within c = omega (arith, vacant-within _ _ _ c.requires.kept _ _ _ c.requires.vacant c.in-Some.ensures.items, c.start.ensures)
 
 pub put_first-requires-clause-free : goal.put_first-requires-clause-free
 put_first-requires-clause-free c = first-empty _ _ _ c.requires.kept _ _ _ c.requires.vacant c.in-Some.ensures.items _ _ c.start.ensures refl
+
+pub put_first-requires-in-Some-clause-covered : goal.put_first-requires-in-Some-clause-covered
+put_first-requires-in-Some-clause-covered c = ap (λ cs. covers cs c.args.end.node) c.put_first.ensures.covered ∙ c.requires.end_covered
 
 pub put_first-requires-in-Some-clause-within : goal.put_first-requires-in-Some-clause-within
 put_first-requires-in-Some-clause-within c = omega (arith, vacant-within _ _ _ c.requires.kept _ _ _ c.requires.vacant c.in-Some.ensures.items, c.end.ensures, same-length _ _ _ _ c.put_first.ensures.points)
@@ -26,8 +26,8 @@ returns-in-Some-clause-settled c = reused-settles _ _ _ c.requires.kept _ _ _ c.
 
 pub returns-in-Some-clause-kept : goal.returns-in-Some-clause-kept
 returns-in-Some-clause-kept c =
-    let a = has-after (chained_first (is_forgotten c.put_first.new.self.heads.items c.args.start.node) c.start.result c.args.start.node) _ _ _ _ c.requires.kept.chains c.put_first.ensures.chains in
-    let b = has-after (chained_first (is_forgotten c.put_first-in-Some.new.self.heads.items c.args.end.node) c.end.result c.args.end.node) _ _ _ _ a c.put_first-in-Some.ensures.chains in
+    let a = has-after (chained_first c.start.result c.args.start.node) _ _ _ _ c.requires.kept.chains c.put_first.ensures.chains in
+    let b = has-after (chained_first c.end.result c.args.end.node) _ _ _ _ a c.put_first-in-Some.ensures.chains in
     reused-kept _ _ _ c.requires.kept _ _ _ c.requires.vacant c.in-Some.ensures.items _ _ c.start.ensures c.end.ensures _ c.args.start c.put_first.ensures.points _ c.args.end c.put_first-in-Some.ensures.points _ b
 
 pub returns-in-Some-clause-filled : goal.returns-in-Some-clause-filled
@@ -42,4 +42,12 @@ returns-clause-settled c =
     (pairs-added _ _ _ c.requires.kept _ c.args.start c.args.end c.in_ok-add.ensures.added) (c.reserve.ensures.items ∙ sym (append-nil c.pop.new.self.items) ∙ sym c.in_default.ensures.items)
 
 pub returns-clause-kept : goal.returns-clause-kept
-returns-clause-kept c = IsKept-added _ _ _ c.requires.kept _ _ c.args.start c.args.end c.in_ok-add.ensures.added c.add.ensures.chains c.in_ok-add.ensures.small
+returns-clause-kept c = IsKept-added _ _ _ c.requires.kept _ _ c.args.start c.args.end c.in_ok-add.ensures.added c.add.ensures.chains (omega (arith, ap length c.in_ok-add.ensures.added, length-append (points_of c.args.chains.now.table.items) (Some c.args.start ∷ Some c.args.end ∷ []), points-length c.args.chains.now.table.items, points-length c.add.new.self.table.items, c.requires.few))
+
+pub returns-in-Some-clause-few : goal.returns-in-Some-clause-few
+returns-in-Some-clause-few c =
+    omega (arith, reused-length _ _ _ c.requires.kept _ _ _ c.requires.vacant c.in-Some.ensures.items _ _ c.start.ensures c.end.ensures _ c.args.start c.put_first.ensures.points _ c.args.end c.put_first-in-Some.ensures.points)
+
+pub returns-clause-few : goal.returns-clause-few
+returns-clause-few c =
+    omega (arith, ap length c.in_ok-add.ensures.added, length-append (points_of c.args.chains.now.table.items) (Some c.args.start ∷ Some c.args.end ∷ []), points-length c.args.chains.now.table.items, points-length c.add.new.self.table.items)

@@ -5,7 +5,7 @@ use Rattle.dom_model.proofs.Forests.Entries.{occurs-HasNode}
 use Rattle.dom_model.proofs.Forests.Indices.{child-listed, index-child}
 use Rattle.dom_model.proofs.PlainLists.Places.{place-there}
 use Rattle.dom_model.proofs.Forests.Above.{above}
-use Rattle.dom_ranges.proofs.Ends.{one-root}
+use Rattle.dom_wrap.specs.dom_ranges.Ends.{one-root}
 use Rattle.dom_session.proofs.RangeFacts.{root-above}
 use Rattle.dom_session.proofs.comparing.meets.Goals as goal
 

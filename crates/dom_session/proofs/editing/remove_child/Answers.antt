@@ -7,7 +7,7 @@ use Rattle.dom_session.specs.Stands.{IsStep}
 use Rattle.dom_model.specs.declared.DomError.{DomError}
 use Rattle.dom_model.specs.Commands.Command.{RemoveChild}
 use Rattle.dom_model.specs.MutationAlgorithms.Editing.{remove}
-use Rattle.dom_edit.specs.Refusals.{check_remove_child}
+use Rattle.dom_wrap.specs.dom_edit.Refusals.{check_remove_child}
 use Rattle.dom_session.proofs.Stepping.{step-follows}
 use Rattle.dom_session.proofs.TreeEdits.{told, step-refused, answer-remove_child, refused-remove_child}
 use Rattle.dom_session.proofs.editing.remove_child.Goals as goal

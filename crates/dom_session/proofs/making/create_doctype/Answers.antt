@@ -4,7 +4,9 @@ use Rattle.dom_model.specs.Worlds.World.{no_content}
 use Rattle.dom_model.specs.Commands.AnswerMaking.{doctype_label}
 use Rattle.dom_model.specs.Commands.Command.{CreateDoctype}
 use Rattle.dom_session.specs.Limiting.{numbered}
-use Rattle.dom_session.proofs.Steps.{step-makes, answer-create_doctype}
+use Rattle.dom_session.specs.Views.{reply_view}
+use Rattle.dom_session.proofs.Stepping.{step-stays}
+use Rattle.dom_session.proofs.Steps.{step-makes, answer-create_doctype, refused-create_doctype}
 use Rattle.dom_session.proofs.making.create_doctype.Goals as goal
 
 pub returns-clause-step : goal.returns-clause-step
@@ -17,3 +19,8 @@ returns-clause-step c =
     (λ w shown. answer-create_doctype c.args.world.now c.args.numbers c.args.document name public_id system_id w shown (sym c.in_default.ensures) valid)
     (c.number.ensures ∙ c.in_ok-id.ensures.number)
     (rw (c.of_text-body.ensures, c.new.ensures) at c.in_ok-id.ensures.made) c.make.ensures.whole
+
+pub returns-in-Some-clause-step : goal.returns-in-Some-clause-step
+returns-in-Some-clause-step c =
+    step-stays (numbered c.args.numbers) (CreateDoctype c.args.document (string_bytes c.args.name) (string_bytes c.args.public_id) (string_bytes c.args.system_id)) c.in-Some.reply c.args.world.now
+    (λ w shown. refused-create_doctype c.args.world.now c.args.numbers c.args.document (string_bytes c.args.name) (string_bytes c.args.public_id) (string_bytes c.args.system_id) w (reply_view c.in-Some.reply) shown (sym c.in-Some.ensures))

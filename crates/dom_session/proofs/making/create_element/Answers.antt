@@ -5,7 +5,9 @@ use Rattle.dom_model.specs.Worlds.World.{no_content}
 use Rattle.dom_model.specs.Commands.Answer.{named}
 use Rattle.dom_model.specs.Commands.Command.{CreateElement}
 use Rattle.dom_session.specs.Limiting.{numbered}
-use Rattle.dom_session.proofs.Steps.{step-makes, answer-create_element}
+use Rattle.dom_session.specs.Views.{reply_view}
+use Rattle.dom_session.proofs.Stepping.{step-stays}
+use Rattle.dom_session.proofs.Steps.{step-makes, answer-create_element, refused-create_element}
 use Rattle.dom_session.proofs.making.create_element.Goals as goal
 
 pub returns-clause-step : goal.returns-clause-step
@@ -16,3 +18,8 @@ returns-clause-step c =
     (λ w shown. answer-create_element c.args.world.now c.args.numbers c.args.document name w shown (sym c.in_default.ensures) valid)
     (c.number.ensures ∙ c.in_ok-id.ensures.number)
     (rw (c.label.ensures, c.of_text-body.ensures, c.new.ensures) at c.in_ok-id.ensures.made) c.make.ensures.whole
+
+pub returns-in-Some-clause-step : goal.returns-in-Some-clause-step
+returns-in-Some-clause-step c =
+    step-stays (numbered c.args.numbers) (CreateElement c.args.document (string_bytes c.args.name)) c.in-Some.reply c.args.world.now
+    (λ w shown. refused-create_element c.args.world.now c.args.numbers c.args.document (string_bytes c.args.name) w (reply_view c.in-Some.reply) shown (sym c.in-Some.ensures))

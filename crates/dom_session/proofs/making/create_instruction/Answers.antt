@@ -5,7 +5,9 @@ use Rattle.dom_model.specs.Commands.Answer.{named, with_text}
 use Rattle.dom_model.specs.Commands.AnswerMaking.{closes_instruction}
 use Rattle.dom_model.specs.Commands.Command.{CreatePI}
 use Rattle.dom_session.specs.Limiting.{numbered}
-use Rattle.dom_session.proofs.Steps.{step-makes, answer-create_instruction}
+use Rattle.dom_session.specs.Views.{reply_view}
+use Rattle.dom_session.proofs.Stepping.{step-stays}
+use Rattle.dom_session.proofs.Steps.{step-makes, answer-create_instruction, refused-create_instruction}
 use Rattle.dom_session.proofs.making.create_instruction.Goals as goal
 
 pub returns-clause-step : goal.returns-clause-step
@@ -17,3 +19,8 @@ returns-clause-step c =
     (λ w shown. answer-create_instruction c.args.world.now c.args.numbers c.args.document target c.args.text w shown (sym c.in_default.ensures) valid apart)
     (c.number.ensures ∙ c.in_ok-id.ensures.number)
     (rw (c.label-label.ensures, c.of_text.ensures) at c.in_ok-id.ensures.made) c.make.ensures.whole
+
+pub returns-in-Some-clause-step : goal.returns-in-Some-clause-step
+returns-in-Some-clause-step c =
+    step-stays (numbered c.args.numbers) (CreatePI c.args.document (string_bytes c.args.target) c.args.text) c.in-Some.reply c.args.world.now
+    (λ w shown. refused-create_instruction c.args.world.now c.args.numbers c.args.document (string_bytes c.args.target) c.args.text w (reply_view c.in-Some.reply) shown (sym c.in-Some.ensures))

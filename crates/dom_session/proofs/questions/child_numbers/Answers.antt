@@ -3,8 +3,8 @@ use Rattle.std.proofs.lemmas.List.{append-nil}
 use Rattle.dom_model.specs.PlainLists.Lists.{hits, after}
 use Rattle.dom_model.specs.Forests.Forest.{children_of}
 use Rattle.dom_model.proofs.Forests.Indices.{child-once}
-use Rattle.dom_edit.specs.Places.{from_optional}
-use Rattle.dom_edit.proofs.AmongChildren.{from_optional-head, IsAmong-head, IsAmong-after, from_first-after, HasNode-child, next_of-child}
+use Rattle.dom_wrap.specs.dom_edit.Places.{from_optional}
+use Rattle.dom_wrap.specs.dom_edit.AmongChildren.{from_optional-head, IsAmong-head, IsAmong-after, from_first-after, HasNode-child, next_of-child}
 use Rattle.dom_session.proofs.questions.child_numbers.Goals as goal
 
 pub loop-child-init : goal.loop-child-init

@@ -1,6 +1,6 @@
 use Rattle.std.proofs.Common.{◌≡◌, ◌++◌, length}
 use Rattle.dom_model.specs.Forests.Forest.{children_of}
-use Rattle.dom_edit.specs.Places.{from_optional, IsAmong}
+use Rattle.dom_wrap.specs.dom_edit.Places.{from_optional, IsAmong}
 use Rattle.dom_session.proofs.questions.child_numbers.Given as goal
 
 abbrev pub invariant-loop-child : goal.invariant-loop-child

@@ -4,8 +4,8 @@ use Rattle.dom_model.specs.PlainLists.Lists.{hits}
 use Rattle.dom_model.specs.Forests.Forest.{children_of}
 use Rattle.dom_model.specs.MutationAlgorithms.Checks.{is_of_kind, has_kind}
 use Rattle.dom_model.proofs.Forests.Indices.{child-once}
-use Rattle.dom_edit.specs.Places.{from_optional}
-use Rattle.dom_edit.proofs.AmongChildren.{IsAmong-after, from_first-after, HasNode-child, next_of-child}
+use Rattle.dom_content.specs.dom_edit.Places.{from_optional}
+use Rattle.dom_content.specs.dom_edit.AmongChildren.{IsAmong-after, from_first-after, HasNode-child, next_of-child}
 use Rattle.dom_wrap.proofs.AllowCode.{found-here, passed-by}
 use Rattle.dom_wrap.proofs.allowing.has_doctype_from.Goals as goal
 

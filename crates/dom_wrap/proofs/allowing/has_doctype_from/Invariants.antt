@@ -2,7 +2,7 @@ use Rattle.std.proofs.Common.{◌≡◌, length}
 use Rattle.dom_model.specs.declared.Kind.TheVariants.{DocumentType}
 use Rattle.dom_model.specs.Forests.Forest.{children_of}
 use Rattle.dom_model.specs.MutationAlgorithms.Checks.{has_kind}
-use Rattle.dom_edit.specs.Places.{from_optional, IsAmong}
+use Rattle.dom_content.specs.dom_edit.Places.{from_optional, IsAmong}
 use Rattle.dom_wrap.proofs.allowing.has_doctype_from.Given as goal
 
 abbrev pub invariant-loop-child : goal.invariant-loop-child

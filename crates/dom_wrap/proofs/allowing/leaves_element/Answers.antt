@@ -5,8 +5,8 @@ use Rattle.dom_model.specs.Forests.Forest.{children_of}
 use Rattle.dom_model.proofs.Forests.Chains.{root-child}
 use Rattle.dom_model.proofs.Forests.Entries.{occurs-HasNode}
 use Rattle.dom_model.proofs.Forests.Indices.{child-once, child-parent}
-use Rattle.dom_edit.specs.Whole.{unwatched}
-use Rattle.dom_edit.proofs.AmongChildren.{from_optional-head, IsAmong-head, IsAmong-after, from_first-after, HasNode-child, next_of-child}
+use Rattle.dom_content.specs.dom_edit.Whole.{unwatched}
+use Rattle.dom_content.specs.dom_edit.AmongChildren.{from_optional-head, IsAmong-head, IsAmong-after, from_first-after, HasNode-child, next_of-child}
 use Rattle.dom_wrap.specs.Allowing.{is_left_element}
 use Rattle.dom_wrap.proofs.AllowCode.{found-here, passed-by}
 use Rattle.dom_wrap.proofs.allowing.leaves_element.Goals as goal

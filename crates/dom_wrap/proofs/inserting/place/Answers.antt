@@ -1,6 +1,6 @@
 use Rattle.std.proofs.Common.{false}
 use Rattle.dom_model.proofs.Forests.Entries.{HasNode-occurs, occurs-HasNode}
-use Rattle.dom_edit.proofs.InsertedNodes.{there-removed}
+use Rattle.dom_content.specs.dom_edit.InsertedNodes.{there-removed}
 use Rattle.dom_wrap.proofs.inserting.place.Goals as goal
 
 pub offset_past-requires-clause-node_held : goal.offset_past-requires-clause-node_held

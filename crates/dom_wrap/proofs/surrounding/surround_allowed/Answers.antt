@@ -1,8 +1,8 @@
 use Rattle.std.proofs.Common.{ℕ, sym, subst}
 use Rattle.dom_model.specs.Forests.Forest.{HasNode}
 use Rattle.dom_model.specs.RangesAndContents.Contents.{extract}
-use Rattle.dom_edit.specs.Whole.{unwatched}
-use Rattle.dom_edit.proofs.Following.{keeps-unwatched}
+use Rattle.dom_content.specs.dom_edit.Whole.{unwatched}
+use Rattle.dom_content.specs.dom_edit.Following.{keeps-unwatched}
 use Rattle.dom_wrap.specs.Outcomes.{Passes, put_around}
 use Rattle.dom_wrap.proofs.SurroundingRoom.{room-extract, room-emptied}
 use Rattle.dom_wrap.proofs.SurroundingSteps.{Stays, stays-extracted, fragment-there, stays-emptied, passes-extracted, follows-surrounded, on-ok}

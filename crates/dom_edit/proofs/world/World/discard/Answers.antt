@@ -1,7 +1,13 @@
 use Rattle.std.proofs.Common.{refl}
 use Rattle.dom_edit.specs.declared.world.World.{World}
-use Rattle.dom_edit.proofs.Naming.{whole-left}
+use Rattle.dom_edit.proofs.Naming.{no-end-inside, whole-left}
 use Rattle.dom_edit.proofs.world.World.discard.Goals as goal
+
+pub forget-requires-clause-empty : goal.forget-requires-clause-empty
+forget-requires-clause-empty c =
+    let w = c.requires.shown.stands_for in
+    let s = c.requires.shown.shows in
+    no-end-inside c.args.self.now w c.args.top s (c.requires.unused w s)
 
 pub returns-clause-whole : goal.returns-clause-whole
 returns-clause-whole c =

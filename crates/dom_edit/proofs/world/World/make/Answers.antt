@@ -1,5 +1,5 @@
-use Rattle.std.specs.Prelude.{max}
-use Rattle.std.proofs.Common.{◌≡◌, ◌+◌, refl, ap, ◌∙◌, arith}
+use Rattle.std.proofs.Common.{◌≡◌, ◌+◌, refl, ap, ◌∙◌}
+use Rattle.dom_ranges.specs.Chained.{covered_to}
 use Rattle.dom_observe.proofs.Outcomes.{by_outcome}
 use Rattle.dom_edit.specs.declared.world.World.{World}
 use Rattle.dom_edit.proofs.Making.{follows-made, whole-made, whole-covered}
@@ -10,8 +10,8 @@ returns-clause-whole c =
     let v = c.args.self.now in
     let new : World = record { tree = c.make.new.self; ranges = c.cover.new.self; statics = v.statics; iters = v.iters; walkers = v.walkers; observers = v.observers } in
     let ranges = ap (λ r. r.ranges) c.in_ok-cover.ensures.ok in
-    let covered : c.cover.new.self.covered ≡ max v.ranges.covered (v.tree.made + 1) = ap (λ r. r.covered) c.in_ok-cover.ensures.ok ∙ ap (λ m. max v.ranges.covered (m + 1)) c.made.ensures in
+    let covered : c.cover.new.self.covered ≡ covered_to (v.tree.made + 1) v.ranges.covered = ap (λ r. r.covered) c.in_ok-cover.ensures.ok ∙ ap (λ m. covered_to (m + 1) v.ranges.covered) c.made.ensures in
     by_outcome c.make.result c.make.ensures.made c.make.ensures.unchanged c.make.ensures.unchanged
     (λ made. whole-made v new c.args.document c.args.label c.args.content c.requires.whole c.requires.document_kind c.requires.own_document
-    (follows-made v new c.args.document c.args.label c.args.content made ranges refl refl refl refl) (omega arith))
-    (λ same again. whole-covered v new c.requires.whole same ranges (omega arith) refl refl refl)
+    (follows-made v new c.args.document c.args.label c.args.content made ranges refl refl refl refl) covered)
+    (λ same again. whole-covered v new (v.tree.made + 1) c.requires.whole same ranges covered refl refl refl)

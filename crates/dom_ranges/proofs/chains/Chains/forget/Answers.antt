@@ -1,6 +1,8 @@
-use Rattle.std.proofs.Common.{◌≡◌, Some, None, refl, Option, ℕ, false, not, is_some, sym, ap, ◌∙◌, arith}
+use Rattle.std.proofs.Common.{◌≡◌, Some, None, refl, Option, ℕ, false, is_some, sym, ap, ◌∙◌, arith}
 use Rattle.std.proofs.lemmas.Bool.{false≢true}
-use Rattle.dom_ranges.specs.Chained.{head_at}
+use Rattle.dom_ranges.specs.Chained.{cover_of, head_at}
+use Rattle.dom_ranges.proofs.Covers.{cover-cleared, cover-past, cover-length}
+use Rattle.dom_ranges.proofs.Standing.{heads-tell}
 use Rattle.dom_ranges.proofs.Steps.{HasChains-forgotten}
 use Rattle.dom_ranges.proofs.chains.Chains.forget.Goals as goal
 
@@ -8,9 +10,16 @@ none-is : (o : Option ℕ) → is_some o ≡ false → o ≡ None
 none-is None h = refl
 none-is (Some x) h = absurd (false≢true (sym h))
 
-pub returns-then-is_none-clause-chains : goal.returns-then-is_none-clause-chains
-returns-then-is_none-clause-chains c =
+pub returns-then-index-len-clause-chains : goal.returns-then-index-len-clause-chains
+returns-then-index-len-clause-chains c =
+    let t = c.args.self.now.table.items in
     let heads = c.args.self.now.heads.items in
-    let empty : head_at heads c.args.node ≡ None = sym c.head.ensures ∙ none-is c.head.result (c.is_none.ensures ∙ ap not c.if-is_none.true) in
-    rw (c.clear.ensures.items, c.number-index.ensures)
-    (HasChains-forgotten c.args.self.now.table.items heads c.args.node (omega (arith, c.number-index.ensures, c.len.ensures, c.if-index-len.true)) empty c.requires)
+    let empty : head_at heads c.args.node ≡ None = none-is (head_at heads c.args.node) (heads-tell t heads c.requires.chains c.args.node ∙ c.requires.empty) in
+    rw (c.clear.ensures.items, c.number-index.ensures) (HasChains-forgotten t heads c.args.node empty c.requires.chains)
+
+pub returns-then-index-len-clause-covered : goal.returns-then-index-len-clause-covered
+returns-then-index-len-clause-covered c = rw (c.clear.ensures.items, c.number-index.ensures) (cover-cleared c.args.self.now.heads.items c.args.node)
+
+pub returns-else-index-len-clause-covered : goal.returns-else-index-len-clause-covered
+returns-else-index-len-clause-covered c =
+    sym (cover-past (cover_of c.args.self.now.heads.items) c.args.node (omega (arith, cover-length c.args.self.now.heads.items, c.number-index.ensures, c.len.ensures, c.if-index-len.false)))

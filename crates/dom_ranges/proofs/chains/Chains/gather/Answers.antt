@@ -16,7 +16,7 @@ loop-index-preserved g c =
     elim c.if-stands_inside.branch [
       | then-stands_inside w ↦
           rw w.self-is
-          (asked-moves _ _ _ _ _ _ c.loop-index.invariant _ _ _ _ c.args.to c.new-id.ensures (omega (arith, c.loop-index-test.true, c.count-index-end.ensures, c.loop-index.invariant.long))
+          (asked-moves _ _ _ _ _ _ c.loop-index.invariant _ _ _ c.args.to c.new-id.ensures (omega (arith, c.loop-index-test.true, c.count-index-end.ensures, c.loop-index.invariant.long))
           (moved-inside inside c.args.to _ (told ∙ w.if-stands_inside.true)) w.place.ensures.points w.place.ensures.chains w.place.ensures.covered)
       | else-stands_inside w ↦ rw w.self-is (asked-stays _ _ _ _ _ _ c.loop-index.invariant (stays-outside inside c.args.to _ (told ∙ w.if-stands_inside.false)))
     ]

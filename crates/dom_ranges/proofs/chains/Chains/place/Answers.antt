@@ -1,12 +1,15 @@
 use Rattle.std.proofs.Common.{Some, None, ap, ◌∙◌, set}
 use Rattle.std.proofs.lemmas.List.{set-set}
-use Rattle.dom_ranges.specs.Chained.{points_of}
+use Rattle.dom_ranges.specs.Chained.{points_of, covers}
 use Rattle.dom_ranges.proofs.Steps.{point-written, some-within}
 use Rattle.dom_ranges.proofs.chains.Chains.place.Goals as goal
 
 pub put_first-requires-clause-free : goal.put_first-requires-clause-free
 put_first-requires-clause-free c =
     point-written c.args.self.now.table.items c.take_out.new.self.table.items c.args.id None (some-within c.args.self.now.table.items c.args.id c.requires.live) c.take_out.ensures.points
+
+pub put_first-requires-clause-covered : goal.put_first-requires-clause-covered
+put_first-requires-clause-covered c = ap (λ cs. covers cs c.args.point.node) c.take_out.ensures.covered ∙ c.requires.covered
 
 pub returns-clause-points : goal.returns-clause-points
 returns-clause-points c =

@@ -1,13 +1,9 @@
-use Rattle.std.proofs.Common.{refl, ◌∙◌, arith}
+use Rattle.std.proofs.Common.{refl, ap, ◌∙◌}
+use Rattle.dom_ranges.specs.Chained.{covers}
 use Rattle.dom_ranges.proofs.Slots.{slot-read}
-use Rattle.dom_ranges.proofs.Pairs.{range-found, first-live, second-live, first-within, slot-small, covered-is}
+use Rattle.dom_ranges.proofs.Pairs.{range-found, first-live, second-live, first-within, covered-is}
 use Rattle.dom_ranges.proofs.Moving.{point-covered}
 use Rattle.dom_ranges.proofs.ranges.Ranges.ends.Goals as goal
-
-pub start-requires : goal.start-requires
-start-requires c =
-    let slot = slot-read c.self.inside.slots.items c.args.r _ _ c.slot_of.ensures c.unwrap-slot.ensures in
-    slot-small _ _ _ _ _ _ _ c.self.invariant _ c.self.view_is _ _ slot
 
 pub point-start-requires-clause-within : goal.point-start-requires-clause-within
 point-start-requires-clause-within c =
@@ -32,7 +28,7 @@ returns-clause-ends c =
     range-found _ _ _ _ _ _ _ c.self.invariant _ c.self.view_is _ _ slot ∙ rw (a, b) refl
 
 pub returns-clause-start_covered : goal.returns-clause-start_covered
-returns-clause-start_covered c = omega (arith, point-covered _ _ _ _ _ _ _ c.self.invariant _ c.self.view_is _ _ c.point-start.ensures, covered-is _ _ _ _ _ _ _ c.self.invariant _ c.self.view_is)
+returns-clause-start_covered c = ap (λ cs. covers cs c.point-start.result.node) (covered-is _ _ _ _ _ _ _ c.self.invariant _ c.self.view_is) ∙ point-covered _ _ _ _ _ _ _ c.self.invariant _ c.self.view_is _ _ c.point-start.ensures
 
 pub returns-clause-end_covered : goal.returns-clause-end_covered
-returns-clause-end_covered c = omega (arith, point-covered _ _ _ _ _ _ _ c.self.invariant _ c.self.view_is _ _ c.point-end.ensures, covered-is _ _ _ _ _ _ _ c.self.invariant _ c.self.view_is)
+returns-clause-end_covered c = ap (λ cs. covers cs c.point-end.result.node) (covered-is _ _ _ _ _ _ _ c.self.invariant _ c.self.view_is) ∙ point-covered _ _ _ _ _ _ _ c.self.invariant _ c.self.view_is _ _ c.point-end.ensures

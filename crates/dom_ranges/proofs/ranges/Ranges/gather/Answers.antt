@@ -1,5 +1,6 @@
 -- Each step gathers the ends of one node.
-use Rattle.std.proofs.Common.{◌≡◌, sym, ap, ◌∙◌, arith}
+use Rattle.std.proofs.Common.{sym, ap, ◌∙◌}
+use Rattle.dom_ranges.specs.Chained.{covers}
 use Rattle.dom_ranges.specs.Tables.{RangeTable}
 use Rattle.dom_ranges.proofs.Inside.{gathered-top, gathered-next, gathered-end, gathered-rest}
 use Rattle.dom_ranges.proofs.ranges.Ranges.gather.Goals as goal
@@ -9,13 +10,10 @@ loop-step-init g c s = gathered-top c.args.tree.now s c.args.top c.args.self.now
 
 pub gather_at-requires-clause-covered : goal.gather_at-requires-clause-covered
 gather_at-requires-clause-covered g c =
-    let same : c.loop-step.self.covered ≡ c.args.self.now.covered = ap (λ (v : RangeTable). v.covered) (c.loop-step.invariant c.sound.ensures).moved in
-    omega (arith, same, c.requires.covered)
+    ap (λ (v : RangeTable). covers v.covered c.args.to.node) (c.loop-step.invariant c.sound.ensures).moved ∙ c.requires.covered
 
 pub gather_ends-requires : goal.gather_ends-requires
-gather_ends-requires g c =
-    let same : c.loop-step.self.covered ≡ c.args.self.now.covered = ap (λ (v : RangeTable). v.covered) (c.loop-step.invariant c.sound.ensures).moved in
-    omega (arith, same, c.requires.covered)
+gather_ends-requires g c = record { covered = ap (λ (v : RangeTable). covers v.covered c.args.to.node) (c.loop-step.invariant c.sound.ensures).moved ∙ c.requires.covered }
 
 pub next_inside-requires-clause-held : goal.next_inside-requires-clause-held
 next_inside-requires-clause-held g c = (c.loop-step.invariant c.sound.ensures).at.there

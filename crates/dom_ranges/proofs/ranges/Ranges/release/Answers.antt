@@ -2,14 +2,9 @@ use Rattle.std.proofs.Common.{None, set, refl, ap, ◌∙◌, arith}
 use Rattle.dom_ranges.specs.Chained.{unchained}
 use Rattle.dom_ranges.proofs.Steps.{has-after}
 use Rattle.dom_ranges.proofs.Slots.{slot-read}
-use Rattle.dom_ranges.proofs.Pairs.{slot-small, first-live, second-kept}
+use Rattle.dom_ranges.proofs.Pairs.{first-live, second-kept}
 use Rattle.dom_ranges.proofs.Making.{fewer, kept-released, view-released}
 use Rattle.dom_ranges.proofs.ranges.Ranges.release.Goals as goal
-
-pub start-requires : goal.start-requires
-start-requires c =
-    let slot = slot-read c.self.inside.slots.items c.args.r _ _ c.slot_of.ensures c.unwrap-slot.ensures in
-    slot-small _ _ _ _ _ _ _ c.self.invariant _ c.self.view_is _ _ slot
 
 pub take_out-requires-clause-live : goal.take_out-requires-clause-live
 take_out-requires-clause-live c =

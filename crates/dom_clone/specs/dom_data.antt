@@ -1,0 +1,4 @@
+-- What crates above name of dom_data.
+pub use Rattle.dom_data.specs.Reading
+pub use Rattle.dom_data.proofs.NewTexts
+pub use Rattle.dom_data.proofs.StaysWhole

@@ -1,0 +1,4 @@
+-- What crates above name of dom_ranges.
+pub use Rattle.dom_edit.specs.dom_ranges.Tables
+pub use Rattle.dom_edit.specs.dom_ranges.Ends
+pub use Rattle.dom_edit.specs.dom_ranges.Inside

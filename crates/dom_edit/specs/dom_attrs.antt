@@ -1,0 +1,2 @@
+-- What crates above name of dom_attrs.
+pub use Rattle.dom_attrs.specs.Entries

@@ -1,0 +1,2 @@
+-- What crates above name of dom_pages.
+pub use Rattle.dom_tree.specs.dom_pages.Numbered

@@ -1,0 +1,21 @@
+-- Each step covers one node.
+use Rattle.std.proofs.Common.{true, None, Some, [], ◌∷◌, ◌++◌, refl, ap, ◌∙◌, arith, length, ◌+◌, length-append}
+use Rattle.dom_ranges.specs.Chained.{cover_of}
+use Rattle.dom_ranges.proofs.Covers.{cover-length, cover-appended, covered_to-there, covered_to-next}
+use Rattle.dom_ranges.proofs.Steps.{HasChains-covered}
+use Rattle.dom_ranges.proofs.chains.Chains.cover.Goals as goal
+
+pub loop-node-preserved : goal.loop-node-preserved
+loop-node-preserved c =
+    let v = c.loop-node.invariant in
+    let e = c.push_reserved.ensures.items in
+    let have : _ = cover-length c.args.self.now.heads.items in
+    record {
+      long = ap length e ∙ length-append c.loop-node.self.heads.items (Some None ∷ []) ∙ ap (λ n. n + 1) v.long;
+      room = omega (arith, v.room, c.push_reserved.ensures.room);
+      table = v.table;
+      chains = HasChains-covered c.loop-node.self.table.items c.loop-node.self.table.items c.loop-node.self.heads.items c.push_reserved.new.self.items refl e v.chains;
+      covered =
+          ap cover_of e ∙ cover-appended c.loop-node.self.heads.items ∙ ap (λ bs. bs ++ true ∷ []) v.covered
+          ∙ covered_to-next c.loop-node._node (cover_of c.args.self.now.heads.items) (omega (arith, have, c.len-have.ensures, c.loop-node.auto._node));
+    }
