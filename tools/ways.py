@@ -2,9 +2,9 @@
 """Tells, for each crate of crates.txt, how many ways lead down the graph from it, and fails past a bound.
 
 `rt` reads a crate's files once for each way down to it, so a graph with many ways makes each command slow. A crate therefore lists
-only what stands directly below it, and gets the rest handed on: each library hands on all crates of this repository below it but
-dom_model, which each crate lists, by `pub use NAME;` or `pub use LISTED::NAME;` in `src/lib.rt`. That these lines are there is tested
-too, and that `specs` hands on modules alone: a whole crate there would make the modules multiply with each level.
+only what stands directly below it. What else it names is handed on by the crates that it lists, name by name: types and functions in
+`src/lib.rt`, modules of words in `specs/NAME.antt`. That no library hands on a whole crate is tested too: each level would have all
+modules of the crates below once more for each way down, and twice as many as the level below it.
 """
 
 import argparse
@@ -14,7 +14,6 @@ import re
 import sys
 
 ROOT = os.path.dirname(os.path.dirname(os.path.realpath(__file__)))
-MODEL = "dom_model"
 TESTS = "dom_cases"
 BOUND, BOUND_OF_TESTS = 200, 400
 
@@ -34,19 +33,13 @@ def text_of(file):
         return it.read()
 
 
-def below(rows, name):
-    """Returns the crates of this repository below one, less dom_model."""
-    found = []
-    for dep in rows.get(name, []):
-        if dep in rows and dep != MODEL:
-            found += [it for it in [*below(rows, dep), dep] if it not in found]
-    return found
-
-
-def handed_on(name):
-    """Returns the crates that a library hands on to code."""
-    found = re.findall(r"(?m)^pub use (?:\w+::)?(\w+|\{[\w\s,]+\});", text_of(f"{ROOT}/crates/{name}/src/lib.rt"))
-    return {it for many in found for it in re.findall(r"\w+", many) if it.startswith("dom_")}
+def hands_on_crates(rows, name):
+    """Returns the crates that a library hands on whole to code."""
+    file = f"{ROOT}/crates/{name}/src/lib.rt"
+    if not os.path.exists(file):
+        return []
+    found = re.findall(r"(?m)^\s*pub use (?:\w+::)*(\w+|\{[^}]*\}|\*);", text_of(file))
+    return [it for many in found for it in re.findall(r"\w+|\*", many) if it in rows or it == "*"]
 
 
 def hands_on_whole(name):
@@ -60,15 +53,11 @@ def main():
     argparse.ArgumentParser(description=__doc__, formatter_class=argparse.RawDescriptionHelpFormatter).parse_args()
     rows, failed = graph(), 0
     ways = functools.lru_cache(None)(lambda name: 1 + sum(ways(it) for it in rows.get(name, [])))
-    listed = {it for deps in rows.values() for it in deps}
     for name in rows:
         bound = BOUND_OF_TESTS if name == TESTS else BOUND
         is_well = ways(name) <= bound
-        lacking = set()
-        if name in listed and name != MODEL and below(rows, name):
-            lacking = {it for it in below(rows, name) if it not in handed_on(name)}
         said = [] if is_well else [f"more than {bound}"]
-        said += [f"does not hand on {', '.join(sorted(lacking))}"] if lacking else []
+        said += [f"hands on {it} whole" for it in hands_on_crates(rows, name)]
         said += ["hands on a whole crate in specs"] if hands_on_whole(name) else []
         failed += bool(said)
         print(f"{ways(name):5}  {name}{': ' if said else ''}{'; '.join(said)}")

@@ -6,7 +6,6 @@ ghost use Rattle.dom_model.specs.Forests.Attributes.{Attribute, attribute_value,
 ghost use Rattle.dom_attrs.specs.Entries.{attribute_at};
 ghost use Rattle.std.specs.List.{IsDistinct, list_any};
 
-pub use dom_units;
 use dom_units::Units;
 use indexmap::IndexMap;
 use std::alloc::{AllocError, Global};

@@ -13,11 +13,56 @@ mod splitting;
 
 pub use attributes::{remove_attribute, set_attribute, toggle_attribute};
 pub use contents::{set_text_content, text_content};
-pub use dom_edit;
-pub use dom_edit::{
-    dom_attrs, dom_kinds, dom_links, dom_observe, dom_pages, dom_point, dom_ranges, dom_traverse,
-    dom_tree, dom_units,
-};
 pub use normalizing::normalize;
 pub use replacing::{replace_data, set_data, substring};
 pub use splitting::split;
+
+/// What crates above name of `dom_attrs`.
+pub mod dom_attrs {
+    pub use dom_edit::dom_attrs::Attrs;
+}
+
+/// What crates above name of `dom_edit`.
+pub mod dom_edit {
+    pub use dom_edit::{Content, Refusal, World, check_insert};
+}
+
+/// What crates above name of `dom_kinds`.
+pub mod dom_kinds {
+    pub use dom_edit::dom_kinds::{
+        DomError, Exception, Kind, Label, NodeType, is_attribute_name, is_doctype_name,
+        is_element_name,
+    };
+}
+
+/// What crates above name of `dom_observe`.
+pub mod dom_observe {
+    pub use dom_edit::dom_observe::{
+        Mutation, ObserverId, Observers, RawOptions, Record, RecordType, settle,
+    };
+}
+
+/// What crates above name of `dom_point`.
+pub mod dom_point {
+    pub use dom_edit::dom_point::{Point, common, order};
+}
+
+/// What crates above name of `dom_ranges`.
+pub mod dom_ranges {
+    pub use dom_edit::dom_ranges::{RangeId, StaticId, Statics};
+}
+
+/// What crates above name of `dom_traverse`.
+pub mod dom_traverse {
+    pub use dom_edit::dom_traverse::{Filter, IterId, Rule, WalkerId};
+}
+
+/// What crates above name of `dom_tree`.
+pub mod dom_tree {
+    pub use dom_edit::dom_tree::{NodeId, Tree};
+}
+
+/// What crates above name of `dom_units`.
+pub mod dom_units {
+    pub use dom_edit::dom_units::Units;
+}

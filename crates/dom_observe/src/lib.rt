@@ -15,10 +15,12 @@ mod table;
 mod telling;
 
 pub use dom_model::RecordType;
-pub use dom_tree;
-pub use dom_tree::{dom_kinds, dom_links, dom_pages};
-pub use dom_units;
 pub use observer_id::ObserverId;
 pub use observers::Observers;
 pub use options::{Options, RawOptions, settle};
 pub use record::{Mutation, Record};
+
+/// What crates above name of `dom_units`.
+pub mod dom_units {
+    pub use dom_units::Units;
+}

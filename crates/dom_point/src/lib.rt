@@ -9,8 +9,24 @@ mod point;
 mod tests;
 
 pub use ancestors::common;
-pub use dom_tree;
-pub use dom_tree::{dom_kinds, dom_links, dom_pages};
 pub use laws::{one_gap_each, points_as_gaps};
 pub use ordering::order;
 pub use point::Point;
+
+/// What crates above name of `dom_kinds`.
+pub mod dom_kinds {
+    pub use dom_tree::dom_kinds::{
+        DomError, Exception, Kind, Label, NodeType, is_attribute_name, is_doctype_name,
+        is_element_name,
+    };
+}
+
+/// What crates above name of `dom_pages`.
+pub mod dom_pages {
+    pub use dom_tree::dom_pages::Pages;
+}
+
+/// What crates above name of `dom_tree`.
+pub mod dom_tree {
+    pub use dom_tree::{Body, NodeId, Tree};
+}

@@ -11,11 +11,27 @@ mod setting;
 mod shift;
 mod statics;
 
-pub use dom_point;
-pub use dom_point::{dom_kinds, dom_links, dom_pages, dom_tree};
 pub use numbers::RangeId;
 pub use ranges::Ranges;
 pub use statics::{StaticId, Statics};
 
 #[cfg(test)]
 mod tests;
+
+/// What crates above name of `dom_kinds`.
+pub mod dom_kinds {
+    pub use dom_point::dom_kinds::{
+        DomError, Exception, Kind, Label, NodeType, is_attribute_name, is_doctype_name,
+        is_element_name,
+    };
+}
+
+/// What crates above name of `dom_point`.
+pub mod dom_point {
+    pub use dom_point::{Point, common, order};
+}
+
+/// What crates above name of `dom_tree`.
+pub mod dom_tree {
+    pub use dom_point::dom_tree::{Body, NodeId, Tree};
+}

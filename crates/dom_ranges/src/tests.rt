@@ -7,8 +7,8 @@ ghost use Rattle.dom_model.specs.Forests.Forest.{HasNode, root_of};
 ghost use Rattle.dom_model.specs.BoundaryPoints.Points.{order_of};
 ghost use Rattle.dom_model.specs.MutationAlgorithms.Checks.{is_of_kind};
 
-use super::*;
 use crate::setting::is_doctype;
+use crate::{RangeId, Ranges, StaticId, Statics};
 use dom_point::dom_kinds::{Kind, Label};
 use dom_point::dom_tree::{Body, NodeId, Tree};
 use dom_point::{Point, order};

@@ -12,12 +12,7 @@ mod to_write;
 mod writing;
 
 pub use answering::{serve, serve_within};
-pub use dom_wire;
-pub use dom_wire::{
-    Limits, dom_attrs, dom_clone, dom_content, dom_data, dom_edit, dom_kinds, dom_links,
-    dom_observe, dom_pages, dom_point, dom_ranges, dom_session, dom_traverse, dom_tree, dom_units,
-    dom_wrap,
-};
+pub use dom_wire::{Limits, ReadError, read_line, write_reply};
 pub use fault::{Fault, Summary};
 pub use from_read::FromRead;
 pub use streams::{Failed, Sink, Source};

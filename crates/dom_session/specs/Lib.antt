@@ -7,5 +7,4 @@ pub mod Printing
 pub mod Codes
 -- what crates above name of those below
 pub mod dom_attrs
-pub mod dom_edit
 pub mod dom_observe

@@ -23,7 +23,6 @@ mod traversing;
 
 pub use command::Command;
 pub use dom_model::{Move, OwnError, RecordType, Verdict};
-pub use dom_wrap;
 pub use dom_wrap::dom_attrs::Attrs;
 pub use dom_wrap::dom_edit::Content;
 pub use dom_wrap::dom_kinds::{DomError, Kind, Label};
@@ -33,9 +32,10 @@ pub use dom_wrap::dom_ranges::{RangeId, StaticId};
 pub use dom_wrap::dom_traverse::{Filter, IterId, Rule, WalkerId};
 pub use dom_wrap::dom_tree::NodeId;
 pub use dom_wrap::dom_units::Units;
-pub use dom_wrap::{
-    dom_attrs, dom_clone, dom_content, dom_data, dom_edit, dom_kinds, dom_links, dom_observe,
-    dom_pages, dom_point, dom_ranges, dom_traverse, dom_tree, dom_units,
-};
 pub use reply::{Answer, Description, Reply, Told, TreeRow};
 pub use session::{Ended, Limits, Session};
+
+/// What crates above name of `dom_kinds`.
+pub mod dom_kinds {
+    pub use dom_wrap::dom_kinds::{Exception, NodeType};
+}

@@ -11,8 +11,6 @@ mod walkers;
 mod walks;
 
 pub use dom_model::{Move, Verdict};
-pub use dom_tree;
-pub use dom_tree::{dom_kinds, dom_links, dom_pages};
 pub use filter::{Filter, Rule};
 pub use iterators::{IterId, Iters};
 pub use walkers::{WalkerId, Walkers};

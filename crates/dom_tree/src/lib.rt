@@ -14,8 +14,18 @@ mod upkeep;
 mod walks;
 
 pub use body::Body;
-pub use dom_kinds;
-pub use dom_links;
-pub use dom_pages;
 pub use node_id::NodeId;
 pub use tree::Tree;
+
+/// What crates above name of `dom_kinds`.
+pub mod dom_kinds {
+    pub use dom_kinds::{
+        DomError, Exception, Kind, Label, NodeType, is_attribute_name, is_doctype_name,
+        is_element_name,
+    };
+}
+
+/// What crates above name of `dom_pages`.
+pub mod dom_pages {
+    pub use dom_pages::Pages;
+}

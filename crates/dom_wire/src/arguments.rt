@@ -3,9 +3,9 @@
 ghost use Rattle.std.specs.Prelude.{◌≡◌, ◌<◌, ◌+◌, [], map, slice_index, slice_index_or, slice_set, string_bytes};
 ghost use Rattle.dom_model.specs.Commands.Command.{no_options};
 
-use dom_session::dom_units::Units;
 use dom_session::{
-    Filter, IterId, Move, NodeId, ObserverId, Point, RangeId, RawOptions, Rule, StaticId, WalkerId,
+    Filter, IterId, Move, NodeId, ObserverId, Point, RangeId, RawOptions, Rule, StaticId, Units,
+    WalkerId,
 };
 use std::alloc::Global;
 use std::mem;

@@ -13,7 +13,7 @@ use crate::filters::{course_in, rules_in};
 use crate::options::options_in;
 use crate::texts::{number_in, text_in};
 use dom_model::OwnError;
-use dom_session::dom_units::Units;
+use dom_session::Units;
 use serde_json::Value;
 use std::alloc::Global;
 

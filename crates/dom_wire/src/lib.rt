@@ -15,11 +15,6 @@ mod rows;
 mod texts;
 mod values;
 
-pub use dom_session;
-pub use dom_session::{
-    dom_attrs, dom_clone, dom_content, dom_data, dom_edit, dom_kinds, dom_links, dom_observe,
-    dom_pages, dom_point, dom_ranges, dom_traverse, dom_tree, dom_units, dom_wrap,
-};
 /// What lines are read for, and what is printed of it.
 pub use dom_session::{Command, Ended, Limits, OwnError, Reply, Session};
 pub use error::ReadError;

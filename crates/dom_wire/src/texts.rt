@@ -7,7 +7,7 @@ ghost use Rattle.dom_wire.specs.Reads.{Decodes};
 
 use crate::error::ReadError;
 use dom_model::OwnError;
-use dom_session::dom_units::Units;
+use dom_session::Units;
 use serde_json::Value;
 use std::alloc::Global;
 

@@ -1,10 +1,10 @@
 //! Lines that are refused, lines that are read, and printed replies.
 
-use dom_serve::dom_session::{
+use dom_serve::{ReadError, read_line, write_reply};
+use dom_session::{
     Answer, Command, Content, Description, DomError, Kind, Label, Move, NodeId, ObserverId,
     OwnError, Point, RawOptions, Record, RecordType, Reply, Told, TreeRow, Units, Verdict,
 };
-use dom_serve::dom_wire::{ReadError, read_line, write_reply};
 use std::alloc::{AllocError, Global};
 use std::cmp::Ordering;
 use std::test::Fail;

@@ -1,8 +1,6 @@
 //! A session at work, with ample memory.
 
-use dom_serve::dom_session::{
-    Answer, Command, DomError, Limits, NodeId, OwnError, Reply, Session, Units,
-};
+use dom_session::{Answer, Command, DomError, Limits, NodeId, OwnError, Reply, Session, Units};
 use std::alloc::{AllocError, Global};
 use std::process::Abort;
 use std::test::Fail;

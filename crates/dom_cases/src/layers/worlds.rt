@@ -1,12 +1,12 @@
 //! Examples of a copied content, and of nodes that are made, adopted and asked about.
 
-ghost use Rattle.dom_serve.specs.dom_edit.Whole.{IsWhole};
+ghost use Rattle.dom_wrap.specs.dom_edit.Whole.{IsWhole};
 
-use dom_serve::dom_attrs::Attrs;
-use dom_serve::dom_edit::{Content, Refusal, World};
-use dom_serve::dom_kinds::{DomError, Kind, Label};
-use dom_serve::dom_tree::NodeId;
-use dom_serve::dom_units::Units;
+use dom_wrap::dom_attrs::Attrs;
+use dom_wrap::dom_edit::{Content, Refusal, World};
+use dom_wrap::dom_kinds::{DomError, Kind, Label};
+use dom_wrap::dom_tree::NodeId;
+use dom_wrap::dom_units::Units;
 use std::alloc::{AllocError, Global};
 use std::process::Abort;
 use std::test::Fail;
