@@ -3,8 +3,9 @@
 
 Tested are: each link to a file of the repository, and its anchor among that file's headings; each file or folder named in backticks, by its
 path from the top, from the page, or by its last parts, with or without its ending (capitals as NAME and `*` stand for any word; what lies in a folder
-`out` is made by runs, and so passed over); each single word in backticks, which stands in some file of crates, tools or bench; and that
-docs/definitions.md names each file of definitions and of laws of dom_model.
+`out` or `build` is made by runs, and so passed over); each name in backticks, which stands in some file beside the documents (a plain word in small
+letters may be another program's, and is tested only on the pages that tell of definitions, clauses and commands); and that docs/definitions.md names
+each file of definitions and of laws of dom_model.
 """
 
 import argparse
@@ -18,8 +19,11 @@ INDEX = "docs/definitions.md"
 MODEL = "crates/dom_model"
 # The proofs that another file names: tools/rows.py writes them, one for each dialogue.
 WRITTEN = f"{MODEL}/proofs/Dialogues/"
-SOURCES = (".rt", ".antt", ".py", ".sh", ".edit")
-ENDINGS = r"\.(?:rt|antt|py|sh|md|svg|txt|edit|c|in|out|opts)"
+# The pages on which plain words are names too.
+PAGES_OF_NAMES = ("docs/commands.md", "docs/definitions.md", "docs/proved.md", "docs/rules.md")
+SOURCES = (".rt", ".antt", ".py", ".sh", ".edit", ".c", ".h", ".rs", ".toml")
+ENDINGS = r"\.(?:rt|antt|py|sh|md|svg|txt|edit|c|h|rs|toml|in|out|opts)"
+MADE = re.compile(r"(\A|/)(out|build)(/|\Z)")
 ANY_NAME = re.compile(r"(\b[A-Z]{2,}\b|\*)")
 
 
@@ -85,7 +89,7 @@ def parts_of(paths):
 def is_there(name, page, known):
     """Returns whether a file or folder is in the repository."""
     name = re.sub(r"\A\./", "", name).rstrip("/")
-    if re.search(r"(\A|/)out(/|\Z)", name) or name.startswith("/") or os.path.exists(os.path.join(ROOT, os.path.dirname(page), name)):
+    if MADE.search(name) or name.startswith("/") or os.path.exists(os.path.join(ROOT, os.path.dirname(page), name)):
         return True
     if not ANY_NAME.search(name) or name in known:
         return name in known
@@ -97,14 +101,23 @@ def is_file_name(quoted):
     return re.fullmatch(r"[\w.][\w./*-]*", quoted) and ("/" in quoted or re.search(ENDINGS + r"\Z", quoted))
 
 
-def unknown_quote(quoted, page, known, words):
+def quotes(page):
+    """Returns what stands in backticks on a page."""
+    return re.findall(r"(?<!`)`([^`\n]+)`(?!`)", prose(page))
+
+
+def names_in(quoted, page):
+    """Returns the names that are quoted: one, or those of a path of names; none where it is something else."""
+    is_name = re.search(r"[A-Z_:]", quoted) or page in PAGES_OF_NAMES
+    return quoted.split("::") if is_name and re.fullmatch(r"[A-Za-z_]\w*(::\w+)*", quoted) else []
+
+
+def unknown_quote(quoted, page, known, lacking):
     """Returns what is wrong with what stands in backticks, if anything is."""
     if is_file_name(quoted):
         return None if is_there(quoted, page, known) else f"no file or folder is called {quoted}"
-    if re.fullmatch(r"[A-Za-z_]\w*(::\w+)*", quoted):
-        unknown = [it for it in quoted.split("::") if it not in words and it not in known]
-        return f"no file has the word {', '.join(unknown)} of {quoted}" if unknown else None
-    return None
+    unknown = [it for it in names_in(quoted, page) if it in lacking]
+    return f"no file has the word {', '.join(unknown)} of {quoted}" if unknown else None
 
 
 def unnamed(paths):
@@ -114,30 +127,30 @@ def unnamed(paths):
     return [it for it in theirs if os.path.splitext(os.path.basename(it))[0] not in {*named, "Lib"}]
 
 
-def words_of(paths):
-    """Returns the words of the sources."""
-    found = set()
-    for path in paths:
-        if path.startswith(("crates/", "tools/", "bench/")) and path.endswith(SOURCES):
-            found.update(re.findall(r"\w+", text_of(path)))
-    return found
+def not_found(names, paths):
+    """Returns those of the names that are no word of the sources, which are read until each is found, and the laws last."""
+    lacking = set(names)
+    for path in sorted(paths, key=lambda it: ("/proofs/" in it) + it.startswith(MODEL)):
+        if lacking and not path.startswith("docs/") and path.endswith(SOURCES):
+            lacking.difference_update(re.findall(r"\w+", text_of(path)))
+    return lacking
 
 
-def wrongs(page, known, words):
-    """Returns what is wrong on a page, line by line."""
-    found, text = [], prose(page)
-    for target in re.findall(r"\]\(([^)\s]+)\)", text) + re.findall(r'(?:src|href|srcset)="([^"]+)"', text):
-        found.append(broken_link(page, target))
-    for quoted in re.findall(r"(?<!`)`([^`\n]+)`(?!`)", text):
-        found.append(unknown_quote(quoted, page, known, words))
+def wrongs(page, known, lacking):
+    """Returns what is wrong on a page."""
+    text = prose(page)
+    targets = re.findall(r"\]\(([^)\s]+)\)", text) + re.findall(r'(?:src|href|srcset)="([^"]+)"', text)
+    found = [broken_link(page, it) for it in targets] + [unknown_quote(it, page, known, lacking) for it in quotes(page)]
     return [f"{page}: {it}" for it in found if it]
 
 
 def main():
     argparse.ArgumentParser(description=__doc__, formatter_class=argparse.RawDescriptionHelpFormatter).parse_args()
     paths = files()
-    known, words = parts_of(paths), words_of(paths)
-    found = [it for page in pages() for it in wrongs(page, known, words)]
+    known = parts_of(paths)
+    names = {name for page in pages() for it in quotes(page) for name in names_in(it, page)}
+    lacking = not_found(names - known, paths)
+    found = [it for page in pages() for it in wrongs(page, known, lacking)]
     found += [f"{INDEX}: it does not name {it}" for it in unnamed(paths)]
     for it in found:
         print(it)
