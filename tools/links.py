@@ -1,0 +1,172 @@
+#!/usr/bin/env python3
+"""Tests that what README.md and docs/*.md point at is there, and fails where something is not.
+
+Tested are: each link to a file of the repository, and its anchor among that file's headings; each file or folder named in backticks, by its
+path from the top, from the page, or by its last parts, with or without its ending (capitals as NAME and `*` stand for any word; what lies in a folder
+`out` or `build` is made by runs, and so passed over); each name in backticks, which stands in some file beside the documents (a plain word in small
+letters may be another program's, and is tested only on the pages that tell of definitions, clauses and commands); that docs/definitions.md names
+each file of definitions and of laws of dom_model; and that docs/commands.md has a row for each command of the table, with as many arguments.
+"""
+
+import argparse
+import glob
+import os
+import re
+import sys
+
+ROOT = os.path.dirname(os.path.dirname(os.path.realpath(__file__)))
+INDEX = "docs/definitions.md"
+COMMANDS = "docs/commands.md"
+MODEL = "crates/dom_model"
+TABLE = f"{MODEL}/specs/Commands/Table.antt"
+# The theorems of the dialogues, which tools/rows.py writes; the index names them by their folder.
+WRITTEN = f"{MODEL}/proofs/Dialogues/"
+# The pages on which plain words are names too.
+PAGES_OF_NAMES = (COMMANDS, INDEX, "docs/proved.md", "docs/rules.md")
+SOURCES = (".rt", ".antt", ".py", ".sh", ".edit", ".c", ".h", ".rs", ".toml")
+ENDINGS = r"\.(?:rt|antt|py|sh|md|svg|txt|edit|c|h|rs|toml|in|out|opts)"
+MADE = re.compile(r"(\A|/)(out|build)(/|\Z)")
+ANY_NAME = re.compile(r"(\b[A-Z]{2,}\b|\*)")
+
+
+def text_of(file):
+    with open(f"{ROOT}/{file}", encoding="utf-8", errors="replace") as it:
+        return it.read()
+
+
+def files():
+    """Returns the files of the repository, by their paths from the top, without those that runs make."""
+    found = []
+    for at, folders, names in os.walk(ROOT):
+        folders[:] = sorted(it for it in folders if it not in (".git", "out", "__pycache__"))
+        found += [os.path.relpath(f"{at}/{it}", ROOT) for it in sorted(names)]
+    return found
+
+
+def pages():
+    return ["README.md", *sorted(os.path.relpath(it, ROOT) for it in glob.glob(f"{ROOT}/docs/*.md"))]
+
+
+def prose(page):
+    """Returns the lines of a page that are no code block."""
+    return re.sub(r"(?ms)^```.*?^```$", "", text_of(page))
+
+
+def anchors(page):
+    """Returns the anchors of a page's headings, as the pages of a repository are shown."""
+    found = []
+    for heading in re.findall(r"(?m)^#+ +(.*?) *$", prose(page)):
+        shown = re.sub(r"\[([^]]*)\]\([^)]*\)", r"\1", heading).lower()
+        anchor = re.sub(r"[^\w\- ]", "", shown).replace(" ", "-")
+        same = sum(re.fullmatch(re.escape(anchor) + r"(-\d+)?", it) is not None for it in found)
+        found.append(f"{anchor}-{same}" if same else anchor)
+    return found
+
+
+def broken_link(page, target):
+    """Returns what is wrong with a link, if anything is."""
+    path, _, anchor = target.partition("#")
+    if re.match(r"\w+:", target):
+        return None
+    file = os.path.normpath(os.path.join(os.path.dirname(page), path)) if path else page
+    if not os.path.exists(f"{ROOT}/{file}"):
+        return f"the link to {target} leads nowhere"
+    if anchor and anchor not in anchors(file):
+        return f"{file} has no heading for the link to {target}"
+    return None
+
+
+def parts_of(paths):
+    """Returns each way to name a file or a folder by the last parts of its path, with or without its ending."""
+    known = set()
+    for path in paths:
+        steps = path.split("/")
+        for end in range(1, len(steps) + 1):
+            shown = "/".join(steps[:end])
+            names = {shown, os.path.splitext(shown)[0]}
+            known |= {name.split("/", start)[-1] for name in names for start in range(end)}
+    return known
+
+
+def is_there(name, page, known):
+    """Returns whether a file or folder is in the repository."""
+    name = re.sub(r"\A\./", "", name).rstrip("/")
+    if MADE.search(name) or name.startswith("/") or os.path.exists(os.path.join(ROOT, os.path.dirname(page), name)):
+        return True
+    if not ANY_NAME.search(name) or name in known:
+        return name in known
+    pattern = re.compile("".join(r"[\w-]+" if ANY_NAME.fullmatch(it) else re.escape(it) for it in ANY_NAME.split(name)))
+    return any(pattern.fullmatch(it) for it in known)
+
+
+def is_file_name(quoted):
+    return re.fullmatch(r"[\w.][\w./*-]*", quoted) and ("/" in quoted or re.search(ENDINGS + r"\Z", quoted))
+
+
+def quotes(page):
+    """Returns what stands in backticks on a page."""
+    return re.findall(r"(?<!`)`([^`\n]+)`(?!`)", prose(page))
+
+
+def names_in(quoted, page):
+    """Returns the names that are quoted: one, or those of a path of names; none where it is something else."""
+    is_name = re.search(r"[A-Z_:]", quoted) or page in PAGES_OF_NAMES
+    return quoted.split("::") if is_name and re.fullmatch(r"[A-Za-z_]\w*(::\w+)*", quoted) else []
+
+
+def unknown_quote(quoted, page, known, lacking):
+    """Returns what is wrong with what stands in backticks, if anything is."""
+    if is_file_name(quoted):
+        return None if is_there(quoted, page, known) else f"no file or folder is called {quoted}"
+    unknown = [it for it in names_in(quoted, page) if it in lacking]
+    return f"no file has the word {', '.join(unknown)} of {quoted}" if unknown else None
+
+
+def unnamed(paths):
+    """Returns the files of definitions and of laws that the index does not name."""
+    named = {it.rpartition("/")[2] for it in re.findall(r"`([\w/]+)`", text_of(INDEX))}
+    theirs = [it for it in paths if re.match(f"{MODEL}/(specs|proofs)/.", it) and it.endswith(".antt") and not it.startswith(WRITTEN)]
+    return [it for it in theirs if os.path.splitext(os.path.basename(it))[0] not in {*named, "Lib"}]
+
+
+def untold():
+    """Returns the commands of the table of which the page has no row with as many arguments."""
+    shown = {(name, len(words.split())) for name, words in re.findall(r"(?m)^\| `(\w+)`([\w? ]*)\|", text_of(COMMANDS))}
+    table = re.findall(r'row \(codes "(\w+)"\) (.*?) \(λ', text_of(TABLE))
+    return [name for name, shapes in table if (name, shapes.count("∷")) not in shown]
+
+
+def not_found(names, paths):
+    """Returns those of the names that are no word of the sources, which are read until each is found, and the laws last."""
+    lacking = set(names)
+    for path in sorted(paths, key=lambda it: ("/proofs/" in it) + it.startswith(MODEL)):
+        if lacking and not path.startswith("docs/") and path.endswith(SOURCES):
+            lacking.difference_update(re.findall(r"\w+", text_of(path)))
+    return lacking
+
+
+def wrongs(page, known, lacking):
+    """Returns what is wrong on a page."""
+    text = prose(page)
+    targets = re.findall(r"\]\(([^)\s]+)\)", text) + re.findall(r'(?:src|href|srcset)="([^"]+)"', text)
+    found = [broken_link(page, it) for it in targets] + [unknown_quote(it, page, known, lacking) for it in quotes(page)]
+    return [f"{page}: {it}" for it in found if it]
+
+
+def main():
+    argparse.ArgumentParser(description=__doc__, formatter_class=argparse.RawDescriptionHelpFormatter).parse_args()
+    paths = files()
+    known = parts_of(paths)
+    names = {name for page in pages() for it in quotes(page) for name in names_in(it, page)}
+    lacking = not_found(names - known, paths)
+    found = [it for page in pages() for it in wrongs(page, known, lacking)]
+    found += [f"{INDEX}: it does not name {it}" for it in unnamed(paths)]
+    found += [f"{COMMANDS}: it has no row for {it} with as many arguments as the table" for it in untold()]
+    for it in found:
+        print(it)
+    print(f"{len(pages())} pages: {len(found)} wrong" if found else f"{len(pages())} pages: all that they point at is there")
+    return 1 if found else 0
+
+
+if __name__ == "__main__":
+    sys.exit(main())
