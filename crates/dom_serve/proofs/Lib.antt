@@ -1,4 +1,5 @@
 pub mod Texts
+pub mod Calls
 pub mod Lines
 pub mod Growth
 pub mod Fed

@@ -14,6 +14,7 @@ use Rattle.dom_serve.specs.declared.fault.Fault.TheVariants.{Read, Write, Memory
 use Rattle.dom_serve.specs.declared.fault.Summary.{Summary}
 use Rattle.dom_serve.specs.declared.server.Server.{Server}
 use Rattle.dom_serve.specs.Writes.{IsPrefix}
+use Rattle.dom_serve.specs.Calls.{EndsWith}
 use Rattle.dom_serve.specs.Pieces.{Reads, AreWithin, is_nothing, has_end, before_last}
 use Rattle.dom_serve.specs.Tells.{is_read_fault, SaysOutOfMemory, IsCutShort, AnswersEarlier, Tells}
 use Rattle.dom_serve.specs.Server.{Stands, Grows, IsBroken, Breaks, Concludes, SaysWant, IsSoFar, IsTold}
@@ -98,13 +99,15 @@ so_far-more gives left b turn old mid new s s' taken taken' taken'' piece p give
 -- ---- at the end
 
 -- a read failed
-pub told-read : {R : Type 0} (gives : R → List ℕ → R → Type 0) (left : R → Option (List ℕ)) (b : Bounds) (turns turn : ℕ) (old mid new : R) (s : Server)
-    (taken taken' : Option (List ℕ)) → IsSoFar gives left b turn old mid s taken taken' → turn < turns → Keeps (left mid) (left new) → IsTold gives left b turns old new taken taken' (Err Read)
-told-read gives left b turns turn old mid new s taken taken' p room kept = record {
+pub told-read : {R : Type 0} (gives : R → List ℕ → R → Type 0) (fails : R → R → Type 0) (left : R → Option (List ℕ)) (b : Bounds) (turns turn : ℕ) (old mid new : R) (s : Server)
+    (taken taken' : Option (List ℕ)) → IsSoFar gives left b turn old mid s taken taken' → turn < turns → Keeps (left mid) (left new) → fails mid new
+    → IsTold gives fails left b turns old new taken taken' (Err Read)
+told-read gives fails left b turns turn old mid new s taken taken' p room kept failed = record {
   pieces = p.pieces;
   text = joined (due whole_table b (joined p.pieces) false);
   last = mid;
   reads = p.reads;
+  ends = failed;
   within = (omega (arith, p.count), p.sizes);
   consumed = Consumes-kept (left old) (left mid) (left new) (joined p.pieces) p.consumed kept;
   written = p.written;
@@ -112,13 +115,14 @@ told-read gives left b turns turn old mid new s taken taken' p room kept = recor
 }
 
 -- no read is left
-pub told-too_long : {R : Type 0} (gives : R → List ℕ → R → Type 0) (left : R → Option (List ℕ)) (b : Bounds) (turns : ℕ) (old new : R) (s : Server) (taken taken' : Option (List ℕ))
-    → IsSoFar gives left b turns old new s taken taken' → IsTold gives left b turns old new taken taken' (Err InputTooLong)
-told-too_long gives left b turns old new s taken taken' p = record {
+pub told-too_long : {R : Type 0} (gives : R → List ℕ → R → Type 0) (fails : R → R → Type 0) (left : R → Option (List ℕ)) (b : Bounds) (turns : ℕ) (old new : R) (s : Server) (taken taken' : Option (List ℕ))
+    → IsSoFar gives left b turns old new s taken taken' → IsTold gives fails left b turns old new taken taken' (Err InputTooLong)
+told-too_long gives fails left b turns old new s taken taken' p = record {
   pieces = p.pieces;
   text = joined (due whole_table b (joined p.pieces) false);
   last = new;
   reads = p.reads;
+  ends = refl;
   within = (omega (arith, p.count), p.sizes);
   consumed = p.consumed;
   written = p.written;
@@ -143,40 +147,49 @@ Tells-broken b turns pieces piece text Memory h =
     )
 Tells-broken b turns pieces piece text InputTooLong h = absurd h
 
+-- no fault after a read is the reader's
+ends-broken : {R : Type 0} (fails : R → R → Type 0) (after : List (List ℕ)) (whole : List ℕ) (fault : Fault) (new : R) → IsBroken after fault whole
+    → EndsWith fails (is_read_fault {T = Summary} (Err fault)) new new
+ends-broken fails after whole Read new h = absurd h
+ends-broken fails after whole Write new h = refl
+ends-broken fails after whole Memory new h = refl
+ends-broken fails after whole InputTooLong new h = absurd h
+
 -- something failed after a read
-pub told-broken : {R : Type 0} (gives : R → List ℕ → R → Type 0) (left : R → Option (List ℕ)) (b : Bounds) (turns turn : ℕ) (old mid new : R) (s : Server)
+pub told-broken : {R : Type 0} (gives : R → List ℕ → R → Type 0) (fails : R → R → Type 0) (left : R → Option (List ℕ)) (b : Bounds) (turns turn : ℕ) (old mid new : R) (s : Server)
     (taken taken' taken'' : Option (List ℕ)) (piece : List ℕ) (fault : Fault) (p : IsSoFar gives left b turn old mid s taken taken') → turn < turns → length piece ≤ 65536
     → gives mid piece new → Consumes (left mid) (left new) piece
     → Breaks (due whole_table b (joined p.pieces) false) (due whole_table b (joined p.pieces ++ piece) (is_nothing piece)) taken' taken'' fault
-    → IsTold gives left b turns old new taken taken'' (Err fault)
-told-broken gives left b turns turn old mid new s taken taken' taken'' piece fault p room size given consumed q = record {
+    → IsTold gives fails left b turns old new taken taken'' (Err fault)
+told-broken gives fails left b turns turn old mid new s taken taken' taken'' piece fault p room size given consumed q = record {
   within = AreWithin-more turns turn p.pieces piece p.count room p.sizes size;
   pieces = p.pieces ++ piece ∷ [];
   text = joined (due whole_table b (joined p.pieces) false) ++ q.text;
   last = new;
   reads = Reads-more gives old mid new p.pieces piece p.reads given;
+  ends = ends-broken fails (due whole_table b (joined p.pieces ++ piece) (is_nothing piece)) (joined (due whole_table b (joined p.pieces) false) ++ q.text) fault new q.broken;
   consumed = Consumes-more left old mid new p.pieces piece p.consumed consumed;
   written = Appends-trans taken taken' taken'' (joined (due whole_table b (joined p.pieces) false)) q.text p.written q.written;
   tells = Tells-broken b turns p.pieces piece q.text fault q.broken;
 }
 
 -- something failed after the read that gave nothing
-pub told-end-broken : {R : Type 0} (gives : R → List ℕ → R → Type 0) (left : R → Option (List ℕ)) (b : Bounds) (turns turn : ℕ) (old mid new : R) (s : Server)
+pub told-end-broken : {R : Type 0} (gives : R → List ℕ → R → Type 0) (fails : R → R → Type 0) (left : R → Option (List ℕ)) (b : Bounds) (turns turn : ℕ) (old mid new : R) (s : Server)
     (taken taken' taken'' : Option (List ℕ)) (fault : Fault) (p : IsSoFar gives left b turn old mid s taken taken') → turn < turns → gives mid [] new
     → Consumes (left mid) (left new) []
     → Breaks (due whole_table b (joined p.pieces) false) (due whole_table b (joined p.pieces) true) taken' taken'' fault
-    → IsTold gives left b turns old new taken taken'' (Err fault)
-told-end-broken gives left b turns turn old mid new s taken taken' taken'' fault p room given consumed q =
-    told-broken gives left b turns turn old mid new s taken taken' taken'' [] fault p room (omega arith) given consumed
+    → IsTold gives fails left b turns old new taken taken'' (Err fault)
+told-end-broken gives fails left b turns turn old mid new s taken taken' taken'' fault p room given consumed q =
+    told-broken gives fails left b turns turn old mid new s taken taken' taken'' [] fault p room (omega arith) given consumed
     (subst (λ l. Breaks (due whole_table b (joined p.pieces) false) (due whole_table b l true) taken' taken'' fault) (sym (append-nil (joined p.pieces))) q)
 
 -- the input ended, and all is answered
-pub told-ok : {R : Type 0} (gives : R → List ℕ → R → Type 0) (left : R → Option (List ℕ)) (b : Bounds) (turns turn : ℕ) (old mid new : R) (s : Server)
+pub told-ok : {R : Type 0} (gives : R → List ℕ → R → Type 0) (fails : R → R → Type 0) (left : R → Option (List ℕ)) (b : Bounds) (turns turn : ℕ) (old mid new : R) (s : Server)
     (taken taken' taken'' : Option (List ℕ)) (summary : Summary) (p : IsSoFar gives left b turn old mid s taken taken') → turn < turns → gives mid [] new
     → Consumes (left mid) (left new) [] → summary.lines ≡ length (lines_of (joined p.pieces))
     → Grows (due whole_table b (joined p.pieces) false) (due whole_table b (joined p.pieces) true) taken' taken''
-    → IsTold gives left b turns old new taken taken'' (Ok summary)
-told-ok gives left b turns turn old mid new s taken taken' taken'' summary p room given consumed lines q =
+    → IsTold gives fails left b turns old new taken taken'' (Ok summary)
+told-ok gives fails left b turns turn old mid new s taken taken' taken'' summary p room given consumed lines q =
     let e : joined p.pieces ≡ joined (p.pieces ++ [] ∷ []) = sym (joined-single p.pieces [] ∙ append-nil (joined p.pieces)) in
     record {
       within = AreWithin-more turns turn p.pieces [] p.count room p.sizes (omega arith);
@@ -184,6 +197,7 @@ told-ok gives left b turns turn old mid new s taken taken' taken'' summary p roo
       text = joined (due whole_table b (joined p.pieces) true);
       last = new;
       reads = Reads-more gives old mid new p.pieces [] p.reads given;
+      ends = refl;
       consumed = Consumes-more left old mid new p.pieces [] p.consumed consumed;
       written = Grows-written (due whole_table b (joined p.pieces) false) (due whole_table b (joined p.pieces) true) taken taken' taken'' p.written q;
       tells = (has_end-last p.pieces [], ap (λ l. joined (due whole_table b l true)) e, lines ∙ ap (λ l. length (lines_of l)) e);
@@ -192,33 +206,16 @@ told-ok gives left b turns turn old mid new s taken taken' taken'' summary p roo
 -- ---- by what was read
 
 -- the last line was answered, or that failed
-pub told-concluded : {R : Type 0} (gives : R → List ℕ → R → Type 0) (left : R → Option (List ℕ)) (b : Bounds) (turns turn : ℕ) (old mid new : R) (s : Server)
+pub told-concluded : {R : Type 0} (gives : R → List ℕ → R → Type 0) (fails : R → R → Type 0) (left : R → Option (List ℕ)) (b : Bounds) (turns turn : ℕ) (old mid new : R) (s : Server)
     (taken taken' taken'' : Option (List ℕ)) (result : Result Summary Fault) (n : ℕ) (buffer : List ℕ) (p : IsSoFar gives left b turn old mid s taken taken') → turn < turns → n ≡ 0
     → gives mid (take n buffer) new → Consumes (left mid) (left new) (take n buffer) → Concludes b (joined p.pieces) taken' taken'' result
-    → IsTold gives left b turns old new taken taken'' result
-told-concluded gives left b turns turn old mid new s taken taken' taken'' (Ok summary) n buffer p room e given consumed q =
-    told-ok gives left b turns turn old mid new s taken taken' taken'' summary p room (subst (λ m. gives mid (take m buffer) new) e given)
+    → IsTold gives fails left b turns old new taken taken'' result
+told-concluded gives fails left b turns turn old mid new s taken taken' taken'' (Ok summary) n buffer p room e given consumed q =
+    told-ok gives fails left b turns turn old mid new s taken taken' taken'' summary p room (subst (λ m. gives mid (take m buffer) new) e given)
     (subst (λ m. Consumes (left mid) (left new) (take m buffer)) e consumed) q.0 q.1
-told-concluded gives left b turns turn old mid new s taken taken' taken'' (Err fault) n buffer p room e given consumed q =
-    told-end-broken gives left b turns turn old mid new s taken taken' taken'' fault p room (subst (λ m. gives mid (take m buffer) new) e given)
+told-concluded gives fails left b turns turn old mid new s taken taken' taken'' (Err fault) n buffer p room e given consumed q =
+    told-end-broken gives fails left b turns turn old mid new s taken taken' taken'' fault p room (subst (λ m. gives mid (take m buffer) new) e given)
     (subst (λ m. Consumes (left mid) (left new) (take m buffer)) e consumed) q
-
-Breaks-read : (before after : List (List ℕ)) (taken taken' : Option (List ℕ)) (fault : Fault) → Breaks before after taken taken' fault
-    → false ≡ is_read_fault {T = Summary} (Err fault)
-Breaks-read before after taken taken' Read q = absurd q.broken
-Breaks-read before after taken taken' Write q = refl
-Breaks-read before after taken taken' Memory q = refl
-Breaks-read before after taken taken' InputTooLong q = absurd q.broken
-
--- no fault after a read is the reader's
-pub Concludes-read : (b : Bounds) (bytes : List ℕ) (taken taken' : Option (List ℕ)) (result : Result Summary Fault) → Concludes b bytes taken taken' result
-    → false ≡ is_read_fault result
-Concludes-read b bytes taken taken' (Ok summary) q = refl
-Concludes-read b bytes taken taken' (Err fault) q = Breaks-read (due whole_table b bytes false) (due whole_table b bytes true) taken taken' fault q
-
-pub Fed-read : (b : Bounds) (bytes bytes' : List ℕ) (taken taken' : Option (List ℕ)) (fault : Fault)
-    → Breaks (due whole_table b bytes false) (due whole_table b bytes' false) taken taken' fault → false ≡ is_read_fault {T = Summary} (Err fault)
-Fed-read b bytes bytes' taken taken' fault q = Breaks-read (due whole_table b bytes false) (due whole_table b bytes' false) taken taken' fault q
 
 -- a read gave n bytes
 pub some-read : (n : ℕ) (buffer : List ℕ) → n ≤ length buffer → (n ≡ 0 → ⊥) → 0 < length (take n buffer)
@@ -228,14 +225,14 @@ pub most-read : (n : ℕ) (buffer : List ℕ) → length buffer ≡ 65536 → le
 most-read n buffer e = omega (arith, length-take n buffer)
 
 -- bytes were taken, or that failed
-pub told-fed : {R : Type 0} (gives : R → List ℕ → R → Type 0) (left : R → Option (List ℕ)) (b : Bounds) (turns turn : ℕ) (old mid new : R) (s : Server)
+pub told-fed : {R : Type 0} (gives : R → List ℕ → R → Type 0) (fails : R → R → Type 0) (left : R → Option (List ℕ)) (b : Bounds) (turns turn : ℕ) (old mid new : R) (s : Server)
     (taken taken' taken'' : Option (List ℕ)) (piece : List ℕ) (fault : Fault) (p : IsSoFar gives left b turn old mid s taken taken') → turn < turns → 0 < length piece → length piece ≤ 65536
     → gives mid piece new
     → Consumes (left mid) (left new) piece
     → Breaks (due whole_table b (joined p.pieces) false) (due whole_table b (joined p.pieces ++ piece) false) taken' taken'' fault
-    → IsTold gives left b turns old new taken taken'' (Err fault)
-told-fed gives left b turns turn old mid new s taken taken' taken'' piece fault p room some size given consumed q =
-    told-broken gives left b turns turn old mid new s taken taken' taken'' piece fault p room size given consumed
+    → IsTold gives fails left b turns old new taken taken'' (Err fault)
+told-fed gives fails left b turns turn old mid new s taken taken' taken'' piece fault p room some size given consumed q =
+    told-broken gives fails left b turns turn old mid new s taken taken' taken'' piece fault p room size given consumed
     (subst (λ t. Breaks (due whole_table b (joined p.pieces) false) (due whole_table b (joined p.pieces ++ piece) t) taken' taken'' fault) (sym (is_nothing-some piece some)) q)
 
 -- each byte ends at most one line
@@ -249,30 +246,32 @@ earlier-none : (b : Bounds) (text : List ℕ) → AnswersEarlier b [] text
 earlier-none b text = (text, sym (ap (λ l. l ++ text) (due-nothing b)))
 
 -- memory was wanting ahead of the first read
-pub told-none : {R : Type 0} (gives : R → List ℕ → R → Type 0) (left : R → Option (List ℕ)) (b : Bounds) (turns : ℕ) (old : R) (taken taken' : Option (List ℕ)) (fault : Fault)
-    → SaysWant taken taken' fault → IsTold gives left b turns old old taken taken' (Err fault)
-told-none gives left b turns old taken taken' Read s = absurd s
-told-none gives left b turns old taken taken' Write s = record {
+pub told-none : {R : Type 0} (gives : R → List ℕ → R → Type 0) (fails : R → R → Type 0) (left : R → Option (List ℕ)) (b : Bounds) (turns : ℕ) (old : R) (taken taken' : Option (List ℕ)) (fault : Fault)
+    → SaysWant taken taken' fault → IsTold gives fails left b turns old old taken taken' (Err fault)
+told-none gives fails left b turns old taken taken' Read s = absurd s
+told-none gives fails left b turns old taken taken' Write s = record {
   pieces = [];
   within = (omega arith, Sizes-none);
   text = s.0;
   last = old;
   reads = refl;
+  ends = refl;
   consumed = Consumes-nil (left old);
   written = s.2;
   tells = (inr (out_of_memory_line, ([], (due whole_table b [] false, refl), refl), s.1), earlier-none b s.0);
 }
-told-none gives left b turns old taken taken' Memory s = record {
+told-none gives fails left b turns old taken taken' Memory s = record {
   pieces = [];
   within = (omega arith, Sizes-none);
   text = out_of_memory_line;
   last = old;
   reads = refl;
+  ends = refl;
   consumed = Consumes-nil (left old);
   written = s;
   tells = (([], (due whole_table b [] false, refl), refl), earlier-none b out_of_memory_line);
 }
-told-none gives left b turns old taken taken' InputTooLong s = absurd s
+told-none gives fails left b turns old taken taken' InputTooLong s = absurd s
 
 -- ---- one line for each
 
@@ -282,28 +281,28 @@ one-each-of b bytes text lines e h =
     (ap (λ l. length (whole_lines l)) e ∙ length-whole_lines-output_of whole_table b bytes ∙ sym h, ap last_piece e ∙ last_piece-output_of whole_table b bytes)
 
 -- what was written has one whole line for each line of the input
-pub one-each : {R : Type 0} (gives : R → List ℕ → R → Type 0) (left : R → Option (List ℕ)) (b : Bounds) (turns : ℕ) (old new : R) (taken taken' : Option (List ℕ))
-    (result : Result Summary Fault) → IsTold gives left b turns old new taken taken' result
+pub one-each : {R : Type 0} (gives : R → List ℕ → R → Type 0) (fails : R → R → Type 0) (left : R → Option (List ℕ)) (b : Bounds) (turns : ℕ) (old new : R) (taken taken' : Option (List ℕ))
+    (result : Result Summary Fault) → IsTold gives fails left b turns old new taken taken' result
     → IfOk result (λ summary. (text : List ℕ) × Appends taken taken' text × (length (whole_lines text) ≡ summary.lines) × (last_piece text ≡ []))
-one-each gives left b turns old new taken taken' (Ok summary) t =
+one-each gives fails left b turns old new taken taken' (Ok summary) t =
     let e = one-each-of b (joined t.pieces) t.text summary.lines t.tells.1 t.tells.2 in (t.text, t.written, e.0, e.1)
-one-each gives left b turns old new taken taken' (Err fault) t = tt
+one-each gives fails left b turns old new taken taken' (Err fault) t = tt
 
 -- ---- once the input ended
 
 -- what was written is the output for all of the input
-pub told-output : {R : Type 0} (gives : R → List ℕ → R → Type 0) (left : R → Option (List ℕ)) (b : Bounds) (turns : ℕ) (old new : R) (taken taken' : Option (List ℕ))
-    (result : Result Summary Fault) → IsTold gives left b turns old new taken taken' result → OnOk result (IsAtEnd (left new))
+pub told-output : {R : Type 0} (gives : R → List ℕ → R → Type 0) (fails : R → R → Type 0) (left : R → Option (List ℕ)) (b : Bounds) (turns : ℕ) (old new : R) (taken taken' : Option (List ℕ))
+    (result : Result Summary Fault) → IsTold gives fails left b turns old new taken taken' result → OnOk result (IsAtEnd (left new))
     → OnOk result (IfSome (left old) (λ input. Appends taken taken' (output_of whole_table b input)))
-told-output gives left b turns old new taken taken' (Ok summary) t ended =
+told-output gives fails left b turns old new taken taken' (Ok summary) t ended =
     Consumes-whole (left old) (left new) (joined t.pieces) (λ input. Appends taken taken' (output_of whole_table b input)) t.consumed ended
     (subst (λ l. Appends taken taken' l) t.tells.1 t.written)
-told-output gives left b turns old new taken taken' (Err fault) t ended = tt
+told-output gives fails left b turns old new taken taken' (Err fault) t ended = tt
 
 -- as many lines were counted as the input has
-pub told-lines : {R : Type 0} (gives : R → List ℕ → R → Type 0) (left : R → Option (List ℕ)) (b : Bounds) (turns : ℕ) (old new : R) (taken taken' : Option (List ℕ))
-    (result : Result Summary Fault) → IsTold gives left b turns old new taken taken' result → OnOk result (IsAtEnd (left new))
+pub told-lines : {R : Type 0} (gives : R → List ℕ → R → Type 0) (fails : R → R → Type 0) (left : R → Option (List ℕ)) (b : Bounds) (turns : ℕ) (old new : R) (taken taken' : Option (List ℕ))
+    (result : Result Summary Fault) → IsTold gives fails left b turns old new taken taken' result → OnOk result (IsAtEnd (left new))
     → IfOk result (λ summary. IfSome (left old) (λ input. summary.lines ≡ length (lines_of input)))
-told-lines gives left b turns old new taken taken' (Ok summary) t ended =
+told-lines gives fails left b turns old new taken taken' (Ok summary) t ended =
     Consumes-whole (left old) (left new) (joined t.pieces) (λ input. summary.lines ≡ length (lines_of input)) t.consumed ended t.tells.2
-told-lines gives left b turns old new taken taken' (Err fault) t ended = tt
+told-lines gives fails left b turns old new taken taken' (Err fault) t ended = tt

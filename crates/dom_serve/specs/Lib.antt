@@ -1,5 +1,6 @@
 pub mod Writes
 pub mod Pieces
+pub mod Calls
 pub mod Tells
 pub mod Server
 pub mod Limits

@@ -1,12 +1,13 @@
 //! Serving: read, answer what became due, read again.
 
-ghost use Rattle.std.specs.Prelude.{◌≡◌, ℕ, ◌+◌, ◌<◌, ◌≤◌, ◌^◌, false, List, [], length, IfOk, OnOk, IfSome};
-ghost use Rattle.std.specs.Io.KnownBytes.{Appends, Consumes, IsAtEnd};
+ghost use Rattle.std.specs.Prelude.{◌≡◌, ℕ, ◌+◌, ◌<◌, ◌≤◌, ◌^◌, true, false, List, [], length, take, IfOk, OnOk, OnErr, IfSome, ◌⊎◌};
+ghost use Rattle.std.specs.Io.KnownBytes.{Appends, Consumes, IsAtEnd, ReadConsumes};
 ghost use Rattle.dom_model.specs.Commands.Answer.{Bounds};
 ghost use Rattle.dom_model.specs.Commands.Table.{whole_table};
 ghost use Rattle.dom_model.specs.Commands.Output.{joined, whole_lines, last_piece, lines_of, output_of};
 ghost use Rattle.dom_wire.specs.Sessions.{bounds_of};
 ghost use Rattle.dom_serve.specs.Pieces.{Reads, AreWithin};
+ghost use Rattle.dom_serve.specs.Calls.{EndsWith, IsRead, IsWritten, HasPassedOn, HasAnswered};
 ghost use Rattle.dom_serve.specs.Tells.{is_read_fault, is_write_fault, Tells};
 ghost use Rattle.dom_serve.specs.Server.{Stands, Concludes, IsTold};
 
@@ -31,11 +32,12 @@ fn read_buffer(alloc: Global) -> Result<Vec<u8>, AllocError>
 
 /// Answers the last line, and counts all of them.
 fn conclude<W: Sink>(server: &mut Server, writer: &mut W) -> Result<Summary, Fault>
-    requires works { W.has_failed writer.old ≡ false }
     requires room { server.old.lines + 1 < 2 ^ 64 }
     ensures concludes { (b : Bounds) (bytes : List ℕ) → Stands b bytes server.old →
         Concludes b bytes (W.taken writer.old) (W.taken writer.new) result }
-    ensures failed { W.has_failed writer.new ≡ is_write_fault result }
+    ensures passed { is_write_fault result ≡ false →
+        HasAnswered W.is_passed_on writer.old server.old.lines writer.new server.new.lines }
+    ensures writer { IsWritten W.works W.fails (is_write_fault result) writer.old writer.new }
 {
     match server.finish(writer) {
         Ok(()) => Ok(Summary {
@@ -43,6 +45,22 @@ fn conclude<W: Sink>(server: &mut Server, writer: &mut W) -> Result<Summary, Fau
         }),
         Err(fault) => Err(fault),
     }
+}
+
+/// A read, which is made only where no line was answered yet, or all that was written has been passed on.
+fn read_piece<R: Source, W: Sink>(
+    _server: &Server,
+    _writer: &W,
+    reader: &mut R,
+    buffer: &mut [u8],
+) -> Result<usize, Failed>
+    requires passed { (_server.now.lines ≡ 0) ⊎ (W.is_passed_on _writer.now ≡ true) }
+    ensures count { IfOk result (λ n. n ≤ length buffer.new) }
+    ensures bytes { ReadConsumes (R.left reader.old) (R.left reader.new) result buffer.new }
+    ensures gives { IfOk result (λ n. R.gives reader.old (take n buffer.new) reader.new) }
+    ensures fails { OnErr result (R.fails reader.old reader.new) }
+{
+    reader.read(buffer)
 }
 
 /// Reads and answers, until the input ends or something fails.
@@ -53,19 +71,17 @@ fn serve_all<R: Source, W: Sink>(
     reader: &mut R,
     writer: &mut W,
 ) -> Result<Summary, Fault>
-    requires reads { R.has_failed reader.old ≡ false }
-    requires writes { W.has_failed writer.old ≡ false }
     requires bounded { (1 ≤ turns) × (turns ≤ 2 ^ 40) }
     requires lines { server.old.lines ≡ 0 }
     requires size { length buffer.old ≡ READ_SIZE }
     ensures told { (b : Bounds) → Stands b [] server.old →
-        IsTold R.gives R.left b turns reader.old reader.new (W.taken writer.old) (W.taken writer.new) result }
+        IsTold R.gives R.fails R.left b turns reader.old reader.new (W.taken writer.old) (W.taken writer.new) result }
     ensures at_end { OnOk result (IsAtEnd (R.left reader.new)) }
-    ensures reader { (b : Bounds) → Stands b [] server.old → R.has_failed reader.new ≡ is_read_fault result }
-    ensures writer { W.has_failed writer.new ≡ is_write_fault result }
+    ensures passed { is_write_fault result ≡ false → HasPassedOn W.is_passed_on writer.old writer.new }
+    ensures writer { IsWritten W.works W.fails (is_write_fault result) writer.old writer.new }
 {
     for _turn in 0..turns {
-        match reader.read(buffer) {
+        match read_piece(server, writer, reader, buffer) {
             Ok(0) => return conclude(server, writer),
             Ok(n) => {
                 if let Err(fault) = server.feed_all(&buffer[..n], writer) {
@@ -101,8 +117,6 @@ pub fn serve_within<R: Source, W: Sink>(
     reader: &mut R,
     writer: &mut W,
 ) -> Result<Summary, Fault>
-    requires reads { R.has_failed reader.old ≡ false }
-    requires writes { W.has_failed writer.old ≡ false }
     requires numbers { (1 ≤ limits.numbers) × (limits.numbers ≤ 4294967295) }
     requires line { 1 ≤ limits.line }
     requires bounded { (1 ≤ turns) × (turns ≤ 2 ^ 40) }
@@ -119,15 +133,18 @@ pub fn serve_within<R: Source, W: Sink>(
 
     // For each outcome: the pieces that reads gave, and the text that was written.
     ensures tells { (pieces : List (List ℕ)) × (text : List ℕ) × (last : _)
-        × Reads R.gives reader.old pieces last
+        × Reads R.gives reader.old pieces last × EndsWith R.fails (is_read_fault result) last reader.new
         × AreWithin turns pieces
         × Consumes (R.left reader.old) (R.left reader.new) (joined pieces)
         × Appends (W.taken writer.old) (W.taken writer.new) text
         × Tells (bounds_of limits) turns pieces text result }
 
-    // A read failed only at `Read`, a write or a flush only at `Write`.
-    ensures reader { R.has_failed reader.new ≡ is_read_fault result }
-    ensures writer { W.has_failed writer.new ≡ is_write_fault result }
+    // Where no write or flush failed, all that was written has been passed on.
+    ensures passed { is_write_fault result ≡ false → HasPassedOn W.is_passed_on writer.old writer.new }
+
+    // A read failed only at `Read`, a write or a flush only at `Write`, and nothing was asked after that.
+    ensures reader { IsRead R.gives R.fails (is_read_fault result) reader.old reader.new }
+    ensures writer { IsWritten W.works W.fails (is_write_fault result) writer.old writer.new }
 {
     match start(alloc, limits) {
         Ok((mut server, mut buffer)) => {
@@ -144,8 +161,6 @@ pub fn serve<R: Source, W: Sink>(
     reader: &mut R,
     writer: &mut W,
 ) -> Result<Summary, Fault>
-    requires reads { R.has_failed reader.old ≡ false }
-    requires writes { W.has_failed writer.old ≡ false }
     requires numbers { (1 ≤ limits.numbers) × (limits.numbers ≤ 4294967295) }
     requires line { 1 ≤ limits.line }
 
@@ -161,15 +176,18 @@ pub fn serve<R: Source, W: Sink>(
 
     // For each outcome: the pieces that reads gave, and the text that was written.
     ensures tells { (pieces : List (List ℕ)) × (text : List ℕ) × (last : _)
-        × Reads R.gives reader.old pieces last
+        × Reads R.gives reader.old pieces last × EndsWith R.fails (is_read_fault result) last reader.new
         × AreWithin (2 ^ 40) pieces
         × Consumes (R.left reader.old) (R.left reader.new) (joined pieces)
         × Appends (W.taken writer.old) (W.taken writer.new) text
         × Tells (bounds_of limits) (2 ^ 40) pieces text result }
 
-    // A read failed only at `Read`, a write or a flush only at `Write`.
-    ensures reader { R.has_failed reader.new ≡ is_read_fault result }
-    ensures writer { W.has_failed writer.new ≡ is_write_fault result }
+    // Where no write or flush failed, all that was written has been passed on.
+    ensures passed { is_write_fault result ≡ false → HasPassedOn W.is_passed_on writer.old writer.new }
+
+    // A read failed only at `Read`, a write or a flush only at `Write`, and nothing was asked after that.
+    ensures reader { IsRead R.gives R.fails (is_read_fault result) reader.old reader.new }
+    ensures writer { IsWritten W.works W.fails (is_write_fault result) writer.old writer.new }
 {
     serve_within(alloc, limits, MOST_READS, reader, writer)
 }

@@ -1,8 +1,9 @@
 //! Taking bytes, one at a time, and answering each line at its newline.
 
-ghost use Rattle.std.specs.Prelude.{◌≡◌, ℕ, ◌+◌, ◌<◌, ◌≤◌, ◌^◌, false, List, ◌++◌, ◌∷◌, [], length, IfOk};
+ghost use Rattle.std.specs.Prelude.{◌≡◌, ℕ, ◌+◌, ◌<◌, ◌≤◌, ◌^◌, true, false, List, ◌++◌, ◌∷◌, [], length, IfOk};
 ghost use Rattle.dom_model.specs.Commands.Answer.{Bounds};
 ghost use Rattle.dom_wire.specs.Sessions.{bounds_of};
+ghost use Rattle.dom_serve.specs.Calls.{HasAnswered, IsWritten};
 ghost use Rattle.dom_serve.specs.Tells.{is_write_fault};
 ghost use Rattle.dom_serve.specs.Server.{Stands, Fed, Finishes};
 
@@ -36,12 +37,12 @@ impl Server {
 
     /// Answers the line that is held, and holds none.
     fn end_line<W: Sink>(&mut self, writer: &mut W) -> Result<(), Fault>
-        requires works { W.has_failed writer.old ≡ false }
         requires room { self.old.lines + 1 < 2 ^ 64 }
         ensures fed { (b : Bounds) (bytes : List ℕ) → Stands b bytes self.old →
             Fed b bytes (bytes ++ 10 ∷ []) self.new (W.taken writer.old) (W.taken writer.new) result }
         ensures lines { self.new.lines ≤ self.old.lines + 1 }
-        ensures failed { W.has_failed writer.new ≡ is_write_fault result }
+        ensures passed { is_write_fault result ≡ false → W.is_passed_on writer.new ≡ true }
+        ensures writer { IsWritten W.works W.fails (is_write_fault result) writer.old writer.new }
     {
         if let Err(fault) = answer(
             self.alloc,
@@ -60,12 +61,13 @@ impl Server {
 
     /// Takes a byte.
     fn feed<W: Sink>(&mut self, byte: u8, writer: &mut W) -> Result<(), Fault>
-        requires works { W.has_failed writer.old ≡ false }
         requires room { self.old.lines + 1 < 2 ^ 64 }
         ensures fed { (b : Bounds) (bytes : List ℕ) → Stands b bytes self.old →
             Fed b bytes (bytes ++ byte ∷ []) self.new (W.taken writer.old) (W.taken writer.new) result }
         ensures lines { self.new.lines ≤ self.old.lines + 1 }
-        ensures failed { W.has_failed writer.new ≡ is_write_fault result }
+        ensures passed { is_write_fault result ≡ false →
+            HasAnswered W.is_passed_on writer.old self.old.lines writer.new self.new.lines }
+        ensures writer { IsWritten W.works W.fails (is_write_fault result) writer.old writer.new }
     {
         if byte == b'\n' {
             return self.end_line(writer);
@@ -86,12 +88,13 @@ impl Server {
 
     /// Takes bytes, and answers each line at its newline.
     pub fn feed_all<W: Sink>(&mut self, piece: &[u8], writer: &mut W) -> Result<(), Fault>
-        requires works { W.has_failed writer.old ≡ false }
         requires room { self.old.lines + length piece.now < 2 ^ 64 }
         ensures fed { (b : Bounds) (bytes : List ℕ) → Stands b bytes self.old →
             Fed b bytes (bytes ++ piece.now) self.new (W.taken writer.old) (W.taken writer.new) result }
         ensures lines { self.new.lines ≤ self.old.lines + length piece.now }
-        ensures failed { W.has_failed writer.new ≡ is_write_fault result }
+        ensures passed { is_write_fault result ≡ false →
+            HasAnswered W.is_passed_on writer.old self.old.lines writer.new self.new.lines }
+        ensures writer { IsWritten W.works W.fails (is_write_fault result) writer.old writer.new }
     {
         for byte in piece {
             if let Err(fault) = self.feed(*byte, writer) {
@@ -103,11 +106,12 @@ impl Server {
 
     /// Answers the last line, where the input did not end with a newline.
     pub fn finish<W: Sink>(&mut self, writer: &mut W) -> Result<(), Fault>
-        requires works { W.has_failed writer.old ≡ false }
         requires room { self.old.lines + 1 < 2 ^ 64 }
         ensures finishes { (b : Bounds) (bytes : List ℕ) → Stands b bytes self.old →
             Finishes b bytes self.new (W.taken writer.old) (W.taken writer.new) result }
-        ensures failed { W.has_failed writer.new ≡ is_write_fault result }
+        ensures passed { is_write_fault result ≡ false →
+            HasAnswered W.is_passed_on writer.old self.old.lines writer.new self.new.lines }
+        ensures writer { IsWritten W.works W.fails (is_write_fault result) writer.old writer.new }
     {
         if self.too_long {
             return self.end_line(writer);

@@ -1,10 +1,11 @@
 //! The reply to a line that is held whole, or of which there were too many bytes.
 
-ghost use Rattle.std.specs.Prelude.{◌≡◌, false, IfOk};
+ghost use Rattle.std.specs.Prelude.{◌≡◌, true, false, IfOk};
 ghost use Rattle.dom_model.specs.Worlds.World.{World};
 ghost use Rattle.dom_wire.specs.Sessions.{StandsFor};
 ghost use Rattle.dom_wire.specs.Sessions.{reply_view};
 ghost use Rattle.dom_wire.specs.Reads.{Reads};
+ghost use Rattle.dom_serve.specs.Calls.{IsWritten};
 ghost use Rattle.dom_serve.specs.Tells.{is_write_fault};
 ghost use Rattle.dom_serve.specs.Server.{held_command, held_step, Takes, Prints, Answers};
 
@@ -70,11 +71,11 @@ pub fn answer<W: Sink>(
     too_long: bool,
     writer: &mut W,
 ) -> Result<(), Fault>
-    requires works { W.has_failed writer.old ≡ false }
     ensures answers { (w : World) → StandsFor session.old w →
         Answers (held_step session.old.bounds kept.now too_long w) session.new (W.taken writer.old) (W.taken writer.new) result }
     ensures bounds { session.new.bounds ≡ session.old.bounds }
-    ensures failed { W.has_failed writer.new ≡ is_write_fault result }
+    ensures passed { is_write_fault result ≡ false → W.is_passed_on writer.new ≡ true }
+    ensures writer { IsWritten W.works W.fails (is_write_fault result) writer.old writer.new }
 {
     match reply_text(alloc, session, kept, too_long) {
         Ok(text) => match write_line(writer, &text) {

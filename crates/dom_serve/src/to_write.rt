@@ -1,32 +1,34 @@
 //! A writer made of one of std's.
 
-ghost use Rattle.std.specs.Prelude.{◌≡◌, false};
+ghost use Rattle.std.specs.Prelude.{◌≡◌, ℕ, List, true};
+ghost use Rattle.std.specs.Io.KnownBytes.{Appends, Keeps};
 
 use crate::streams::{Failed, Sink};
 use std::io::Write;
 
-/// A std writer as a `Sink`. A write that takes no byte of a slice that has some is a failure; after a failure it fails
-/// without trying.
+/// A std writer as a `Sink`: a write or a flush of one is that of the other, also after one that failed. A write that takes
+/// no byte of a slice that has some is a failure.
 #[derive(Drop)]
 pub struct ToWrite<W> {
     inner: W,
-    failed: bool,
+    // Whether it was flushed after the last write.
+    flushed: bool,
 }
 
 impl<W: Write> ToWrite<W> {
     pub fn new(inner: W) -> ToWrite<W>
         ensures taken { ⟦<ToWrite<W> as Sink>⟧.taken result ≡ W.contents inner }
-        ensures failed { ⟦<ToWrite<W> as Sink>⟧.has_failed result ≡ false }
+        ensures passed { ⟦<ToWrite<W> as Sink>⟧.is_passed_on result ≡ true }
     {
-        let failed = false;
-        ToWrite { inner, failed }
+        let flushed = true;
+        ToWrite { inner, flushed }
     }
 
     /// The std writer.
     pub fn into_inner(self) -> W
         ensures { W.contents result ≡ ⟦<ToWrite<W> as Sink>⟧.taken self }
     {
-        let ToWrite { inner, failed: _ } = self;
+        let ToWrite { inner, flushed: _ } = self;
         inner
     }
 }
@@ -34,35 +36,27 @@ impl<W: Write> ToWrite<W> {
 impl<W: Write> Sink for ToWrite<W> {
     ghost taken = { λ s. W.contents s.inner };
 
-    ghost has_failed = { λ s. s.failed };
+    ghost is_passed_on = { λ s. s.flushed };
+
+    ghost works = { λ s t. (bytes : List ℕ) × Appends (W.contents s.inner) (W.contents t.inner) bytes };
+
+    ghost fails = { λ s t. Keeps (W.contents s.inner) (W.contents t.inner) };
 
     fn write(&mut self, buf: &[u8]) -> Result<usize, Failed> {
-        if self.failed {
-            return Err(Failed);
-        }
+        self.flushed = false;
         match self.inner.write(buf) {
             Ok(n) if 0 < n || buf.is_empty() => Ok(n),
-            _ => {
-                self.failed = true;
-                Err(Failed)
-            }
+            _ => Err(Failed),
         }
     }
 
     fn flush(&mut self) -> Result<(), Failed> {
-        if self.failed {
-            return Err(Failed);
-        }
         match self.inner.flush() {
-            Ok(()) => Ok(()),
-            Err(_) => {
-                self.failed = true;
-                Err(Failed)
+            Ok(()) => {
+                self.flushed = true;
+                Ok(())
             }
+            Err(_) => Err(Failed),
         }
-    }
-
-    fn failed(&self) -> bool {
-        self.failed
     }
 }

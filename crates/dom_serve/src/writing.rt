@@ -1,7 +1,8 @@
 //! Writing a line, whole and passed on.
 
-ghost use Rattle.std.specs.Prelude.{◌≡◌, false, is_err};
+ghost use Rattle.std.specs.Prelude.{◌≡◌, true, false, OnOk, is_err};
 ghost use Rattle.dom_model.specs.Commands.Printed.{out_of_memory_line};
+ghost use Rattle.dom_serve.specs.Calls.{IsWritten};
 ghost use Rattle.dom_serve.specs.Writes.{Writes};
 ghost use Rattle.dom_serve.specs.Tells.{is_write};
 ghost use Rattle.dom_serve.specs.Server.{SaysWant};
@@ -14,9 +15,8 @@ const OUT_OF_MEMORY: &[u8] = b"{\"error\":\"out-of-memory\"}\n";
 
 /// Writes the bytes, by as many writes as that takes.
 fn write_whole<W: Sink>(writer: &mut W, bytes: &[u8]) -> Result<(), Failed>
-    requires works { W.has_failed writer.old ≡ false }
     ensures written { Writes (W.taken writer.old) (W.taken writer.new) bytes.now result }
-    ensures failed { W.has_failed writer.new ≡ is_err result }
+    ensures writer { IsWritten W.works W.fails (is_err result) writer.old writer.new }
 {
     let mut at = 0;
     while at < bytes.len() {
@@ -28,11 +28,12 @@ fn write_whole<W: Sink>(writer: &mut W, bytes: &[u8]) -> Result<(), Failed>
     Ok(())
 }
 
-/// Writes the bytes, by as many writes as that takes, and flushes. Where that fails, a front of them was written.
+/// Writes the bytes, by as many writes as that takes, and flushes. Where that fails, a front of them was written, and
+/// nothing more is asked of the writer.
 pub fn write_line<W: Sink>(writer: &mut W, bytes: &[u8]) -> Result<(), Failed>
-    requires works { W.has_failed writer.old ≡ false }
     ensures written { Writes (W.taken writer.old) (W.taken writer.new) bytes.now result }
-    ensures failed { W.has_failed writer.new ≡ is_err result }
+    ensures passed { OnOk result (W.is_passed_on writer.new ≡ true) }
+    ensures writer { IsWritten W.works W.fails (is_err result) writer.old writer.new }
 {
     match write_whole(writer, bytes) {
         Ok(()) => writer.flush(),
@@ -48,9 +49,9 @@ fn out_of_memory_text() -> &'static [u8]
 
 /// Says that memory was wanting, and gives the fault.
 pub fn write_out_of_memory<W: Sink>(writer: &mut W) -> Fault
-    requires works { W.has_failed writer.old ≡ false }
     ensures written { SaysWant (W.taken writer.old) (W.taken writer.new) result }
-    ensures failed { W.has_failed writer.new ≡ is_write result }
+    ensures passed { is_write result ≡ false → W.is_passed_on writer.new ≡ true }
+    ensures writer { IsWritten W.works W.fails (is_write result) writer.old writer.new }
 {
     match write_line(writer, out_of_memory_text()) {
         Ok(()) => Fault::Memory,

@@ -1,12 +1,13 @@
 use Rattle.std.proofs.Common.{◌≡◌, ◌*◌, ◌≤◌, false, [], length}
 use Rattle.dom_model.specs.Commands.Answer.{Bounds}
+use Rattle.dom_serve.specs.Calls.{HasAnswered, IsWritten}
 use Rattle.dom_serve.specs.Server.{Stands, IsSoFar}
 use Rattle.dom_serve.proofs.answering.serve_all.Given as goal
 
 abbrev pub invariant-loop-turn : goal.invariant-loop-turn
 invariant-loop-turn g l = record {
-  reads : g.R.Source.has_failed l.reader ≡ false;
-  writes : g.W.Sink.has_failed l.writer ≡ false;
+  passed : HasAnswered g.W.Sink.is_passed_on l.fn.writer 0 l.writer l.server.lines;
+  writer : IsWritten g.W.Sink.works g.W.Sink.fails false l.fn.writer l.writer;
   lines : l.server.lines ≤ 65536 * l._turn;
   size : length l.buffer ≡ 65536;
   so_far : (b : Bounds) → Stands b [] l.fn.server

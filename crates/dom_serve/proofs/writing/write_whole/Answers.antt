@@ -1,12 +1,20 @@
+use Rattle.std.proofs.Common.{true, false}
 use Rattle.dom_serve.proofs.Texts.{within, Appends-more, AppendsFront-kept}
+use Rattle.dom_serve.proofs.Calls.{IsWritten-one, IsWritten-failed, IsWritten-more}
 use Rattle.dom_serve.proofs.writing.write_whole.Goals as goal
 
 pub loop-at-preserved : goal.loop-at-preserved
 loop-at-preserved g c = record {
   bound = within c.args.bytes.now c.loop-at.at c.in-Ok.n c.loop-at.invariant.bound c.in-Ok.ensures.count;
   written = Appends-more _ _ _ c.args.bytes.now c.loop-at.at c.in-Ok.n c.loop-at.invariant.written c.in-Ok.ensures.bytes;
-  works = c.in-Ok.ensures.failed;
+  writer = IsWritten-more g.W.Sink.works g.W.Sink.fails false c.args.writer.now c.loop-at.writer c.write.new.self c.loop-at.invariant.writer
+      (IsWritten-one g.W.Sink.works g.W.Sink.fails c.loop-at.writer c.write.new.self c.in-Ok.ensures.works);
 }
 
 pub returns-in-Err-clause-written : goal.returns-in-Err-clause-written
 returns-in-Err-clause-written g c = AppendsFront-kept _ _ _ c.args.bytes.now c.loop-at.at c.loop-at.invariant.written c.in-Err.ensures.bytes
+
+pub returns-in-Err-clause-writer : goal.returns-in-Err-clause-writer
+returns-in-Err-clause-writer g c =
+    IsWritten-more g.W.Sink.works g.W.Sink.fails true c.args.writer.now c.loop-at.writer c.write.new.self c.loop-at.invariant.writer
+    (IsWritten-failed g.W.Sink.works g.W.Sink.fails c.loop-at.writer c.write.new.self c.in-Err.ensures.fails)

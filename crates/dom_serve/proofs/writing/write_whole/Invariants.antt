@@ -1,12 +1,13 @@
-use Rattle.std.proofs.Common.{◌≡◌, ◌≤◌, ◌-◌, false, length, take}
+use Rattle.std.proofs.Common.{◌≤◌, ◌-◌, false, length, take}
 use Rattle.std.specs.Io.KnownBytes.{Appends}
+use Rattle.dom_serve.specs.Calls.{IsWritten}
 use Rattle.dom_serve.proofs.writing.write_whole.Given as goal
 
 abbrev pub invariant-loop-at : goal.invariant-loop-at
 invariant-loop-at g l = record {
   bound : l.at ≤ length l.bytes;
   written : Appends (g.W.Sink.taken l.fn.writer) (g.W.Sink.taken l.writer) (take l.at l.bytes);
-  works : g.W.Sink.has_failed l.writer ≡ false;
+  writer : IsWritten g.W.Sink.works g.W.Sink.fails false l.fn.writer l.writer;
 }
 
 abbrev pub decreases-loop-at : goal.decreases-loop-at
