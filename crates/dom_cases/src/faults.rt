@@ -85,11 +85,13 @@ fn fails_after(rt: &impl Abort, alloc: Global, dialogue: &Dialogue, mut writer: 
     let name = dialogue.name;
     let limits = dialogue.limits();
     assert!(rt; 1 <= limits.numbers && limits.numbers <= 4294967295 && 1 <= limits.line);
-    assert!(rt; !writer.failed);
     let mut reader = in_pieces(dialogue.input(), writer.most);
     let ended = serve(alloc, limits, &mut reader, &mut writer);
     assert!(rt; writer.taken.as_slice() == due, "{name}");
-    assert!(rt; ended.is_ok() == !writer.failed, "{name}");
+    assert!(rt;
+        ended.is_ok() == !writer.failed && writer.later == 0,
+        "{name}"
+    );
     assert!(rt; ended.is_ok() || ended == Err(Fault::Write), "{name}");
 }
 

@@ -1,11 +1,11 @@
 //! A reader of stated pieces.
 
 ghost use Rattle.std.specs.Prelude.{◌≡◌, ◌++◌, Some, length, min, take, drop};
-ghost use Rattle.std.specs.Io.KnownBytes.{Consumes};
+ghost use Rattle.std.specs.Io.KnownBytes.{Consumes, Keeps};
 
 use dom_serve::{Failed, Source};
 
-/// A reader that gives its bytes in pieces, and may fail.
+/// A reader that gives its bytes in pieces. One read may fail, and later ones read on.
 #[derive(Drop)]
 pub struct Feeder<'a> {
     /// The bytes that are left.
@@ -14,10 +14,12 @@ pub struct Feeder<'a> {
     pub cut: usize,
     /// The most bytes that a read gives; 0 is taken for 1.
     pub most: usize,
-    /// How many reads do not fail.
+    /// How many reads are made ahead of the one that fails.
     pub reads: u64,
-    /// Whether a read has failed.
+    /// Whether that one was made.
     pub failed: bool,
+    /// How many reads were made after it.
+    pub later: u64,
 }
 
 // Copies as many bytes as both have, and says how many.
@@ -35,14 +37,16 @@ impl Source for Feeder<'_> {
 
     ghost gives = { λ s bytes t. Consumes (Some s.rest.now) (Some t.rest.now) bytes };
 
-    ghost has_failed = { λ s. s.failed };
+    ghost fails = { λ s t. Keeps (Some s.rest.now) (Some t.rest.now) };
 
     fn read(&mut self, buf: &mut [u8]) -> Result<usize, Failed> {
-        if self.failed || self.reads == 0 {
+        if self.failed {
+            self.later = self.later.saturating_add(1);
+        } else if self.reads == 0 {
             self.failed = true;
             return Err(Failed);
         }
-        self.reads -= 1;
+        self.reads = self.reads.saturating_sub(1);
         let most = if self.cut == 0 {
             self.most
         } else {
@@ -53,9 +57,5 @@ impl Source for Feeder<'_> {
         self.rest = &self.rest[count..];
         self.cut = self.cut.saturating_sub(count);
         Ok(count)
-    }
-
-    fn failed(&self) -> bool {
-        self.failed
     }
 }

@@ -18,6 +18,8 @@ mod large;
 #[cfg(test)]
 mod layers;
 #[cfg(test)]
+mod recovering;
+#[cfg(test)]
 mod refusals;
 #[cfg(test)]
 mod runs;

@@ -1,8 +1,6 @@
 //! Dialogues of which any growth may be refused. What the writer takes has its room before, so that a growth that is refused
 //! is one of the server's; where the room itself is refused, there is nothing to show.
 
-ghost use Rattle.std.specs.Prelude.{◌≡◌, false, IfOk};
-
 use crate::Taker;
 use crate::dialogues::Dialogue;
 use crate::dialogues::trees_and_data::TREE_PRINTED;
@@ -15,9 +13,7 @@ use std::test::Fail;
 const OUT_OF_MEMORY: &[u8] = b"{\"error\":\"out-of-memory\"}\n";
 
 // A writer with room for the replies of each dialogue.
-fn roomy(alloc: Global) -> Result<Taker, AllocError>
-    ensures { IfOk result (λ writer. writer.failed ≡ false) }
-{
+fn roomy(alloc: Global) -> Result<Taker, AllocError> {
     let mut writer = all_taken(alloc);
     writer.taken.reserve(2000)?;
     Ok(writer)

@@ -1,7 +1,5 @@
 //! Serving over the reader and the writer of stated pieces.
 
-ghost use Rattle.std.specs.Prelude.{◌≡◌, false};
-
 use crate::{Feeder, Taker};
 use dom_serve::{Fault, Limits, Summary, serve};
 use std::alloc::Global;
@@ -14,28 +12,27 @@ pub const USUAL: Limits = Limits {
 };
 
 /// A reader that gives all bytes in pieces of at most so many.
-pub fn in_pieces(bytes: &[u8], most: usize) -> Feeder<'_>
-    ensures { result.failed ≡ false }
-{
+pub fn in_pieces(bytes: &[u8], most: usize) -> Feeder<'_> {
     Feeder {
         rest: bytes,
         cut: 0,
         most,
         reads: u64::MAX,
         failed: false,
+        later: 0,
     }
 }
 
 /// A writer that takes all bytes.
-pub fn all_taken(alloc: Global) -> Taker
-    ensures { result.failed ≡ false }
-{
+pub fn all_taken(alloc: Global) -> Taker {
     Taker {
         taken: Vec::new(alloc),
+        flushed: true,
         most: usize::MAX,
         writes: u64::MAX,
         flushes: u64::MAX,
         failed: false,
+        later: 0,
     }
 }
 
@@ -46,13 +43,13 @@ pub struct Served {
     pub written: Vec<u8>,
 }
 
-/// Serves the reader, to a writer that takes all bytes.
+/// Serves the reader, to a writer that takes all bytes. No read is made after one that failed, and all that was written is passed on.
 pub fn serve_all(rt: &impl Abort, alloc: Global, limits: Limits, mut reader: Feeder<'_>) -> Served {
     assert!(rt; 1 <= limits.numbers && limits.numbers <= 4294967295);
     assert!(rt; 1 <= limits.line);
-    assert!(rt; !reader.failed);
     let mut writer = all_taken(alloc);
     let ended = serve(alloc, limits, &mut reader, &mut writer);
+    assert!(rt; reader.later == 0 && writer.flushed);
     Served {
         ended,
         written: writer.taken,

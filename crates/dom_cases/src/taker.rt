@@ -1,35 +1,58 @@
 //! A writer of stated pieces.
 
-ghost use Rattle.std.specs.Prelude.{◌≡◌, Some};
+ghost use Rattle.std.specs.Prelude.{◌≡◌, ℕ, List, Some};
+ghost use Rattle.std.specs.Io.KnownBytes.{Appends, Keeps};
 
 use dom_serve::{Failed, Sink};
 
-/// A writer that takes its bytes in pieces, and may fail.
+/// A writer that takes its bytes in pieces. One write and one flush may fail, and later ones work.
 #[derive(Drop)]
 pub struct Taker {
     /// The bytes that it took.
     pub taken: Vec<u8>,
+    /// Whether it was flushed after the last write.
+    pub flushed: bool,
     /// The most bytes that a write takes; 0 is taken for 1.
     pub most: usize,
-    /// How many writes do not fail.
+    /// How many writes are made ahead of the one that fails.
     pub writes: u64,
-    /// How many flushes do not fail.
+    /// How many flushes are made ahead of the one that fails.
     pub flushes: u64,
     /// Whether a write or a flush has failed.
     pub failed: bool,
+    /// How many writes and flushes were made after that.
+    pub later: u64,
+}
+
+impl Taker {
+    // Counts a call that is made after one that failed; says whether this one is the first to fail, of which so many are made ahead.
+    fn fails_at(&mut self, ahead: u64) -> bool
+        ensures taken { self.new.taken ≡ self.old.taken }
+    {
+        if self.failed {
+            self.later = self.later.saturating_add(1);
+            return false;
+        }
+        self.failed = ahead == 0;
+        self.failed
+    }
 }
 
 impl Sink for Taker {
     ghost taken = { λ s. Some s.taken.items };
 
-    ghost has_failed = { λ s. s.failed };
+    ghost is_passed_on = { λ s. s.flushed };
+
+    ghost works = { λ s t. (bytes : List ℕ) × Appends (Some s.taken.items) (Some t.taken.items) bytes };
+
+    ghost fails = { λ s t. Keeps (Some s.taken.items) (Some t.taken.items) };
 
     fn write(&mut self, buf: &[u8]) -> Result<usize, Failed> {
-        if self.failed || self.writes == 0 {
-            self.failed = true;
+        self.flushed = false;
+        if self.fails_at(self.writes) {
             return Err(Failed);
         }
-        self.writes -= 1;
+        self.writes = self.writes.saturating_sub(1);
         let count = self.most.max(1).min(buf.len());
         match self.taken.extend_from_slice(&buf[..count]) {
             Ok(()) => Ok(count),
@@ -41,15 +64,11 @@ impl Sink for Taker {
     }
 
     fn flush(&mut self) -> Result<(), Failed> {
-        if self.failed || self.flushes == 0 {
-            self.failed = true;
+        if self.fails_at(self.flushes) {
             return Err(Failed);
         }
-        self.flushes -= 1;
+        self.flushes = self.flushes.saturating_sub(1);
+        self.flushed = true;
         Ok(())
-    }
-
-    fn failed(&self) -> bool {
-        self.failed
     }
 }

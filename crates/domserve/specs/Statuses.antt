@@ -1,5 +1,5 @@
 -- The program's limits, its statuses, and what it says of faults.
-use Rattle.std.specs.Prelude.{ℕ, ◌≤◌, List, Option, codes}
+use Rattle.std.specs.Prelude.{◌≡◌, ℕ, ◌≤◌, Bool, true, false, ◌⊎◌, List, Option, codes}
 use Rattle.std.specs.Io.KnownBytes.{Appends}
 use Rattle.dom_model.specs.Commands.Answer.{Bounds}
 use Rattle.dom_model.specs.Commands.Table.{whole_table}
@@ -27,3 +27,7 @@ status_of Read = 3
 status_of Write = 3
 status_of Memory = 1
 status_of InputTooLong = 3
+
+-- no call failed; or the last one did, and the status says so
+abbrev pub TellsFailure : ℕ → (Bool → Type 0) → Type 0
+TellsFailure status calls = calls false ⊎ ((status ≡ 3) × calls true)

@@ -1,10 +1,11 @@
 //! Serving as the words ask, and the status.
 
-ghost use Rattle.std.specs.Prelude.{◌≡◌, ◌≤◌, ℕ, List, [], true, false, ◌⊎◌, IfSome, map};
+ghost use Rattle.std.specs.Prelude.{◌≡◌, ◌≢◌, ◌≤◌, ℕ, List, [], true, ◌⊎◌, IfSome, map};
 ghost use Rattle.std.specs.Io.KnownBytes.{Appends};
+ghost use Rattle.dom_serve.specs.Calls.{HasPassedOn, IsRead, IsWritten};
 ghost use Rattle.dom_serve.specs.Limits.{bounds_of};
 ghost use Rattle.domserve.specs.CommandLine.{asks_for_help, bounds_asked, faults_in, has_mistake};
-ghost use Rattle.domserve.specs.Statuses.{IsInRange, text_of, status_of, IsServed};
+ghost use Rattle.domserve.specs.Statuses.{IsInRange, text_of, status_of, IsServed, TellsFailure};
 
 use crate::options::{Refusal, limits_from};
 use dom_serve::{Failed, Fault, Limits, Sink, Source, serve, write_line};
@@ -62,13 +63,12 @@ fn served<R: Source, W: Sink, E: Write>(
     writer: &mut W,
     errors: &mut E,
 ) -> u8
-    requires reads { R.has_failed reader.old ≡ false }
-    requires writes { W.has_failed writer.old ≡ false }
     requires limits { IsInRange (bounds_of limits) }
     ensures range { (result ≤ 1) ⊎ (result ≡ 3) }
     ensures served { result ≡ 0 → IfSome (R.left reader.old) (IsServed (bounds_of limits) (W.taken writer.old) (W.taken writer.new)) }
-    ensures reader { R.has_failed reader.new ≡ true → result ≡ 3 }
-    ensures writer { W.has_failed writer.new ≡ true → result ≡ 3 }
+    ensures passed { result ≢ 3 → HasPassedOn W.is_passed_on writer.old writer.new }
+    ensures reader { TellsFailure result (λ failed. IsRead R.gives R.fails failed reader.old reader.new) }
+    ensures writer { TellsFailure result (λ failed. IsWritten W.works W.fails failed writer.old writer.new) }
 {
     match serve(alloc, limits, reader, writer) {
         Ok(_) => 0,
@@ -77,10 +77,10 @@ fn served<R: Source, W: Sink, E: Write>(
 }
 
 fn helped<W: Sink, E: Write>(text: &str, writer: &mut W, errors: &mut E) -> u8
-    requires writes { W.has_failed writer.old ≡ false }
     ensures range { (result ≡ 0) ⊎ (result ≡ 3) }
     ensures helped { result ≡ 0 → Appends (W.taken writer.old) (W.taken writer.new) text.now }
-    ensures writer { W.has_failed writer.new ≡ true → result ≡ 3 }
+    ensures passed { result ≢ 3 → HasPassedOn W.is_passed_on writer.old writer.new }
+    ensures writer { TellsFailure result (λ failed. IsWritten W.works W.fails failed writer.old writer.new) }
 {
     match write_line(writer, text.as_bytes()) {
         Ok(()) => 0,
@@ -98,8 +98,6 @@ pub fn run<S: AsStr, R: Source, W: Sink, E: Write>(
     writer: &mut W,
     errors: &mut E,
 ) -> u8
-    requires reads { R.has_failed reader.old ≡ false }
-    requires writes { W.has_failed writer.old ≡ false }
     ensures range { result ≤ 3 }
 
     // At status 0 clap finds no fault in the words, and the output for all bytes of the reader was written at the limits that
@@ -113,9 +111,12 @@ pub fn run<S: AsStr, R: Source, W: Sink, E: Write>(
     ensures refused { result ≡ 2 → (has_mistake (faults_in (map S.text words.now)) ≡ true)
         × (reader.new ≡ reader.old) × (writer.new ≡ writer.old) }
 
-    // After a failed read, write or flush the status is 3.
-    ensures reader { R.has_failed reader.new ≡ true → result ≡ 3 }
-    ensures writer { W.has_failed writer.new ≡ true → result ≡ 3 }
+    // Unless the status is 3, all that was written has been passed on.
+    ensures passed { result ≢ 3 → HasPassedOn W.is_passed_on writer.old writer.new }
+
+    // After a failed read, write or flush the status is 3, and nothing is asked of what failed.
+    ensures reader { TellsFailure result (λ failed. IsRead R.gives R.fails failed reader.old reader.new) }
+    ensures writer { TellsFailure result (λ failed. IsWritten W.works W.fails failed writer.old writer.new) }
 {
     match limits_from(alloc, words) {
         Ok(limits) => served(alloc, limits, reader, writer, errors),

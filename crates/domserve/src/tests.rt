@@ -1,7 +1,7 @@
 //! The program's statuses.
 
 use crate::{fault_text, run};
-use dom_serve::{Fault, FromRead, Source, ToWrite};
+use dom_serve::{Fault, FromRead, ToWrite};
 use std::io::{self, Read, Write};
 use std::test::Fail;
 
@@ -100,7 +100,7 @@ fn status_of(rt: &HostRuntime, option: &str, value: &str) -> Result<u8, Fail> {
         &mut writer,
         &mut errors,
     );
-    if errors.is_empty() || reader.failed() || !writer.into_inner().is_empty() {
+    if errors.is_empty() || !writer.into_inner().is_empty() {
         return Ok(9);
     }
     Ok(status)

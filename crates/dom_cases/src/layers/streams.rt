@@ -18,7 +18,27 @@ impl Write for Full {
     }
 }
 
-/// A reader that fails once, and would then read on.
+/// A writer that counts its flushes, of which the first fails.
+#[derive(Drop)]
+struct Counting {
+    flushes: u8,
+}
+
+impl Write for Counting {
+    fn write(&mut self, buf: &[u8]) -> io::Result<usize> {
+        Ok(buf.len())
+    }
+
+    fn flush(&mut self) -> io::Result<()> {
+        self.flushes = self.flushes.saturating_add(1);
+        if self.flushes == 1 {
+            return Err(io::Error::from(io::ErrorKind::Other));
+        }
+        Ok(())
+    }
+}
+
+/// A reader that fails once, and then reads on.
 #[derive(Drop)]
 struct FailsOnce {
     calls: u8,
@@ -43,7 +63,6 @@ fn reads_the_bytes_of_a_slice(rt: HostRuntime) {
     assert_eq!(rt; reader.read(&mut buffer), Ok(1));
     assert_eq!(rt; buffer[0], b'c');
     assert_eq!(rt; reader.read(&mut buffer), Ok(0));
-    assert_eq!(rt; reader.failed(), false);
 }
 
 #[test]
@@ -53,7 +72,6 @@ fn writes_the_bytes_to_a_vector(rt: HostRuntime) -> Result<(), Fail> {
     assert_eq!(rt; writer.write(b""), Ok(0));
     assert_eq!(rt; writer.write(b"c"), Ok(1));
     assert_eq!(rt; writer.flush(), Ok(()));
-    assert_eq!(rt; writer.failed(), false);
     let bytes = writer.into_inner();
     assert_eq!(rt; bytes.as_slice(), b"abc".as_slice());
     Ok(())
@@ -63,19 +81,25 @@ fn writes_the_bytes_to_a_vector(rt: HostRuntime) -> Result<(), Fail> {
 fn a_write_of_no_bytes_is_a_failure(rt: HostRuntime) {
     let mut writer = ToWrite::new(Full);
     assert_eq!(rt; writer.write(b""), Ok(0));
-    assert_eq!(rt; writer.failed(), false);
     assert_eq!(rt; writer.write(b"a"), Err(Failed));
-    assert_eq!(rt; writer.failed(), true);
-    assert_eq!(rt; writer.write(b""), Err(Failed));
-    assert_eq!(rt; writer.flush(), Err(Failed));
+    assert_eq!(rt; writer.write(b"a"), Err(Failed));
+    assert_eq!(rt; writer.flush(), Ok(()));
 }
 
 #[test]
-fn a_failed_read_is_not_tried_again(rt: HostRuntime) {
+fn a_read_after_one_that_failed_is_made(rt: HostRuntime) {
     let mut reader = FromRead::new(FailsOnce { calls: 0 });
     let mut buffer = [0u8; 2];
-    assert_eq!(rt; reader.failed(), false);
     assert_eq!(rt; reader.read(&mut buffer), Err(Failed));
-    assert_eq!(rt; reader.failed(), true);
-    assert_eq!(rt; reader.read(&mut buffer), Err(Failed));
+    assert_eq!(rt; reader.read(&mut buffer), Ok(0));
+}
+
+// No clause says that a flush reaches the std writer.
+#[test]
+fn each_flush_reaches_the_writer(rt: HostRuntime) {
+    let mut writer = ToWrite::new(Counting { flushes: 0 });
+    assert_eq!(rt; writer.flush(), Err(Failed));
+    assert_eq!(rt; writer.write(b"a"), Ok(1));
+    assert_eq!(rt; writer.flush(), Ok(()));
+    assert_eq!(rt; writer.into_inner().flushes, 2);
 }

@@ -1,0 +1,24 @@
+use Rattle.std.proofs.Common.{inl}
+use Rattle.dom_serve.specs.Calls.{HasPassedOn, IsRead, IsWritten}
+use Rattle.domserve.proofs.Faults.{reader-told, writer-told, passed-told}
+use Rattle.domserve.proofs.running.served.Goals as goal
+
+pub returns-in-Err-clause-passed : goal.returns-in-Err-clause-passed
+returns-in-Err-clause-passed g c =
+    passed-told c.in-Err.fault c.faulted.result (HasPassedOn g.W.Sink.is_passed_on c.args.writer.now c.serve.new.writer) c.faulted.ensures c.in-Err.ensures.passed
+
+pub returns-in-Ok-clause-reader : goal.returns-in-Ok-clause-reader
+returns-in-Ok-clause-reader g c = inl c.in-Ok.ensures.reader
+
+pub returns-in-Err-clause-reader : goal.returns-in-Err-clause-reader
+returns-in-Err-clause-reader g c =
+    reader-told c.in-Err.fault c.faulted.result (λ failed. IsRead g.R.Source.gives g.R.Source.fails failed c.args.reader.now c.serve.new.reader) c.faulted.ensures
+    c.in-Err.ensures.reader
+
+pub returns-in-Ok-clause-writer : goal.returns-in-Ok-clause-writer
+returns-in-Ok-clause-writer g c = inl c.in-Ok.ensures.writer
+
+pub returns-in-Err-clause-writer : goal.returns-in-Err-clause-writer
+returns-in-Err-clause-writer g c =
+    writer-told c.in-Err.fault c.faulted.result (λ failed. IsWritten g.W.Sink.works g.W.Sink.fails failed c.args.writer.now c.serve.new.writer) c.faulted.ensures
+    c.in-Err.ensures.writer
