@@ -1,8 +1,8 @@
--- The calls that were made of a reader or a writer, one after the other, and that nothing is asked of it after one that failed.
+-- The calls that were made of a reader or a writer, one after the other: some that did not fail, then at most one that did, and none after it.
 use Rattle.std.specs.Prelude.{◌≡◌, ℕ, zero, suc, Bool, true, false, List, ◌⊎◌}
 use Rattle.dom_serve.specs.Pieces.{Reads}
 
--- one more call, where one failed: its failure is the last that happened
+-- where a call failed, that one call and no other; else no call
 abbrev pub EndsWith : {S : Type 0} → (S → S → Type 0) → Bool → S → S → Type 0
 EndsWith fails true last new = fails last new
 EndsWith fails false last new = new ≡ last
@@ -24,6 +24,6 @@ IsWritten {W} works fails failed old new = (n : ℕ) × (last : W) × Works work
 abbrev pub HasPassedOn : {W : Type 0} → (W → Bool) → W → W → Type 0
 HasPassedOn is_passed_on old new = (new ≡ old) ⊎ (is_passed_on new ≡ true)
 
--- the same, of a writer to which so many lines were answered
+-- the same, beside the count of lines that were answered
 abbrev pub HasAnswered : {W : Type 0} → (W → Bool) → W → ℕ → W → ℕ → Type 0
 HasAnswered is_passed_on old lines new lines' = ((new ≡ old) × (lines' ≡ lines)) ⊎ (is_passed_on new ≡ true)
