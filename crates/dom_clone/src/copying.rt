@@ -14,9 +14,9 @@ ghost use Rattle.dom_data.specs.dom_edit.Whole.{IsWhole, Follows};
 ghost use Rattle.dom_data.specs.dom_edit.Refusals.{check_adopt, IsRefused};
 ghost use Rattle.dom_clone.specs.Growing.{made_under, waiting_for};
 
-use dom_data::dom_edit::{Content, Refusal, World};
-use dom_data::dom_kinds::{DomError, Kind};
-use dom_data::dom_tree::{NodeId, Tree};
+use dom_data::of_edit::{Content, Refusal, World};
+use dom_data::of_kinds::{DomError, Kind};
+use dom_data::of_tree::{NodeId, Tree};
 use std::alloc::{AllocError, Global};
 
 /// Copies a node, with its descendants where the copy is deep (clone).

@@ -11,9 +11,9 @@ ghost use Rattle.dom_model.proofs.Forests.Chains.{IsWay};
 ghost use Rattle.dom_clone.specs.dom_edit.Places.{IsAmong, from_optional, ahead_of};
 ghost use Rattle.dom_content.specs.Drawing.{index_behind, index_at};
 
-use dom_clone::dom_edit::Content;
-use dom_clone::dom_point::{Point, common};
-use dom_clone::dom_tree::{NodeId, Tree};
+use dom_clone::of_edit::Content;
+use dom_clone::of_point::{Point, common};
+use dom_clone::of_tree::{NodeId, Tree};
 use std::alloc::{AllocError, Global};
 
 // The children of a node from one of them on, and ahead of another.

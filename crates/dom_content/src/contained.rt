@@ -14,9 +14,9 @@ ghost use Rattle.dom_clone.specs.dom_edit.Whole.{IsWhole, unwatched};
 use crate::data::has_data;
 use crate::parts::parts_of;
 use crate::paths::{children_ahead, children_from, children_past, children_until};
-use dom_clone::dom_edit::{Content, World};
-use dom_clone::dom_point::Point;
-use dom_clone::dom_tree::{NodeId, Tree};
+use dom_clone::of_edit::{Content, World};
+use dom_clone::of_point::Point;
+use dom_clone::of_tree::{NodeId, Tree};
 use std::alloc::{AllocError, Global};
 
 // The children of a node from an offset on; none of a node with data.

@@ -5,10 +5,10 @@ ghost use Rattle.dom_model.specs.Forests.Forest.{HasNode};
 ghost use Rattle.dom_model.specs.Forests.Kinds.{is_character_data};
 ghost use Rattle.dom_model.specs.MutationAlgorithms.Checks.{kind_passes};
 
-use dom_clone::dom_edit::Content;
-use dom_clone::dom_kinds::Kind;
-use dom_clone::dom_point::Point;
-use dom_clone::dom_tree::{NodeId, Tree};
+use dom_clone::of_edit::Content;
+use dom_clone::of_kinds::Kind;
+use dom_clone::of_point::Point;
+use dom_clone::of_tree::{NodeId, Tree};
 
 // Whether a node has data.
 pub(crate) fn has_data(tree: &Tree<Content>, node: NodeId) -> bool

@@ -17,11 +17,11 @@ ghost use Rattle.dom_content.specs.Left.{IsLeftOf};
 
 use crate::contained::contained_tops;
 use crate::data::{has_data, is_in_one_data};
-use dom_clone::dom_data::replace_data;
-use dom_clone::dom_edit::{Content, World};
-use dom_clone::dom_point::{Point, common};
-use dom_clone::dom_ranges::RangeId;
-use dom_clone::dom_tree::{NodeId, Tree};
+use dom_clone::of_data::replace_data;
+use dom_clone::of_edit::{Content, World};
+use dom_clone::of_point::{Point, common};
+use dom_clone::of_ranges::RangeId;
+use dom_clone::of_tree::{NodeId, Tree};
 use std::alloc::{AllocError, Global};
 
 // Takes units of a node's data out. An offset within the data is not refused, so that only memory can be wanting.

@@ -24,11 +24,11 @@ use crate::deleting::{new_place, stand_at};
 use crate::parts::{Parts, parts_of};
 use crate::paths::{head_into, tail_into};
 use crate::pieces::{children_into, new_fragment, units_into};
-use dom_clone::dom_edit::{Content, Refusal, World};
-use dom_clone::dom_kinds::{DomError, Kind};
-use dom_clone::dom_point::Point;
-use dom_clone::dom_ranges::RangeId;
-use dom_clone::dom_tree::{NodeId, Tree};
+use dom_clone::of_edit::{Content, Refusal, World};
+use dom_clone::of_kinds::{DomError, Kind};
+use dom_clone::of_point::Point;
+use dom_clone::of_ranges::RangeId;
+use dom_clone::of_tree::{NodeId, Tree};
 use std::alloc::{AllocError, Global};
 
 // Whether a node is a doctype.

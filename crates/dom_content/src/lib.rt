@@ -16,64 +16,64 @@ pub use drawing::{clone_contents, extract};
 pub use texts::range_text;
 
 /// What crates above name of `dom_attrs`.
-pub mod dom_attrs {
-    pub use dom_clone::dom_attrs::Attrs;
+pub mod of_attrs {
+    pub use dom_clone::of_attrs::Attrs;
 }
 
 /// What crates above name of `dom_clone`.
-pub mod dom_clone {
+pub mod of_clone {
     pub use dom_clone::{clone_node, contains, import, is_equal, position};
 }
 
 /// What crates above name of `dom_data`.
-pub mod dom_data {
-    pub use dom_clone::dom_data::{
+pub mod of_data {
+    pub use dom_clone::of_data::{
         normalize, remove_attribute, replace_data, set_attribute, set_data, set_text_content,
         split, substring, text_content, toggle_attribute,
     };
 }
 
 /// What crates above name of `dom_edit`.
-pub mod dom_edit {
-    pub use dom_clone::dom_edit::{Content, Refusal, World, check_insert};
+pub mod of_edit {
+    pub use dom_clone::of_edit::{Content, Refusal, World, check_insert};
 }
 
 /// What crates above name of `dom_kinds`.
-pub mod dom_kinds {
-    pub use dom_clone::dom_kinds::{
+pub mod of_kinds {
+    pub use dom_clone::of_kinds::{
         DomError, Exception, Kind, Label, NodeType, is_attribute_name, is_doctype_name,
         is_element_name,
     };
 }
 
 /// What crates above name of `dom_observe`.
-pub mod dom_observe {
-    pub use dom_clone::dom_observe::{
+pub mod of_observe {
+    pub use dom_clone::of_observe::{
         Mutation, ObserverId, Observers, RawOptions, Record, RecordType, settle,
     };
 }
 
 /// What crates above name of `dom_point`.
-pub mod dom_point {
-    pub use dom_clone::dom_point::{Point, common, order};
+pub mod of_point {
+    pub use dom_clone::of_point::{Point, common, order};
 }
 
 /// What crates above name of `dom_ranges`.
-pub mod dom_ranges {
-    pub use dom_clone::dom_ranges::{RangeId, StaticId, Statics};
+pub mod of_ranges {
+    pub use dom_clone::of_ranges::{RangeId, StaticId, Statics};
 }
 
 /// What crates above name of `dom_traverse`.
-pub mod dom_traverse {
-    pub use dom_clone::dom_traverse::{Filter, IterId, Rule, WalkerId};
+pub mod of_traverse {
+    pub use dom_clone::of_traverse::{Filter, IterId, Rule, WalkerId};
 }
 
 /// What crates above name of `dom_tree`.
-pub mod dom_tree {
-    pub use dom_clone::dom_tree::{NodeId, Tree};
+pub mod of_tree {
+    pub use dom_clone::of_tree::{NodeId, Tree};
 }
 
 /// What crates above name of `dom_units`.
-pub mod dom_units {
-    pub use dom_clone::dom_units::Units;
+pub mod of_units {
+    pub use dom_clone::of_units::Units;
 }

@@ -6,9 +6,9 @@ ghost use Rattle.dom_content.specs.Drawing.{AreParts};
 
 use crate::children::contained_children;
 use crate::paths::path_below;
-use dom_clone::dom_edit::Content;
-use dom_clone::dom_point::{Point, common};
-use dom_clone::dom_tree::{NodeId, Tree};
+use dom_clone::of_edit::Content;
+use dom_clone::of_point::{Point, common};
+use dom_clone::of_tree::{NodeId, Tree};
 use std::alloc::{AllocError, Global};
 
 /// What lies in a range in part and what whole: the paths from the common ancestor of its two nodes down to them, and the children

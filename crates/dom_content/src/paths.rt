@@ -15,8 +15,8 @@ ghost use Rattle.dom_content.specs.Paths.{HasRoom, StillHeld, opened, inner_of, 
 use crate::children::children_between;
 use crate::data::has_data;
 use crate::pieces::{children_into, copy_of, document_in, new_fragment, put_last, units_into};
-use dom_clone::dom_edit::{Content, World};
-use dom_clone::dom_tree::{NodeId, Tree};
+use dom_clone::of_edit::{Content, World};
+use dom_clone::of_tree::{NodeId, Tree};
 use smallvec::SmallVec;
 use std::alloc::{AllocError, Global};
 use std::default::MadeWith;

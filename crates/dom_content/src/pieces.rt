@@ -18,12 +18,12 @@ ghost use Rattle.dom_clone.specs.dom_edit.Whole.{IsWhole, Follows};
 ghost use Rattle.dom_content.specs.Paths.{HasRoom, StillHeld, KindsStay};
 
 use dom_clone::clone_node;
-use dom_clone::dom_attrs::Attrs;
-use dom_clone::dom_data::replace_data;
-use dom_clone::dom_edit::{Content, World};
-use dom_clone::dom_kinds::{Kind, Label};
-use dom_clone::dom_tree::{NodeId, Tree};
-use dom_clone::dom_units::Units;
+use dom_clone::of_attrs::Attrs;
+use dom_clone::of_data::replace_data;
+use dom_clone::of_edit::{Content, World};
+use dom_clone::of_kinds::{Kind, Label};
+use dom_clone::of_tree::{NodeId, Tree};
+use dom_clone::of_units::Units;
 use std::alloc::{AllocError, Global};
 
 // The node document of a node.

@@ -17,12 +17,12 @@ ghost use Rattle.dom_clone.specs.dom_edit.Whole.{IsWhole, unwatched};
 ghost use Rattle.dom_content.specs.Texts.{part_of, text_within, texts_within};
 
 use crate::contained::last_ahead;
-use dom_clone::dom_edit::{Content, World};
-use dom_clone::dom_kinds::Kind;
-use dom_clone::dom_point::Point;
-use dom_clone::dom_ranges::RangeId;
-use dom_clone::dom_tree::{NodeId, Tree};
-use dom_clone::dom_units::Units;
+use dom_clone::of_edit::{Content, World};
+use dom_clone::of_kinds::Kind;
+use dom_clone::of_point::Point;
+use dom_clone::of_ranges::RangeId;
+use dom_clone::of_tree::{NodeId, Tree};
+use dom_clone::of_units::Units;
 use std::alloc::{AllocError, Global};
 
 // Whether a node is a Text.

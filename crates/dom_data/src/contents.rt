@@ -15,9 +15,9 @@ ghost use Rattle.dom_data.specs.Gathering.{text_at, gathered};
 use crate::bodies::{data_in, kind_in};
 use crate::making::{document_in, make_text};
 use crate::replacing::set_data;
-use dom_edit::dom_kinds::Kind;
-use dom_edit::dom_tree::{NodeId, Tree};
-use dom_edit::dom_units::Units;
+use dom_edit::of_kinds::Kind;
+use dom_edit::of_tree::{NodeId, Tree};
+use dom_edit::of_units::Units;
 use dom_edit::{Content, World};
 use std::alloc::{AllocError, Global};
 

@@ -18,51 +18,51 @@ pub use replacing::{replace_data, set_data, substring};
 pub use splitting::split;
 
 /// What crates above name of `dom_attrs`.
-pub mod dom_attrs {
-    pub use dom_edit::dom_attrs::Attrs;
+pub mod of_attrs {
+    pub use dom_edit::of_attrs::Attrs;
 }
 
 /// What crates above name of `dom_edit`.
-pub mod dom_edit {
+pub mod of_edit {
     pub use dom_edit::{Content, Refusal, World, check_insert};
 }
 
 /// What crates above name of `dom_kinds`.
-pub mod dom_kinds {
-    pub use dom_edit::dom_kinds::{
+pub mod of_kinds {
+    pub use dom_edit::of_kinds::{
         DomError, Exception, Kind, Label, NodeType, is_attribute_name, is_doctype_name,
         is_element_name,
     };
 }
 
 /// What crates above name of `dom_observe`.
-pub mod dom_observe {
-    pub use dom_edit::dom_observe::{
+pub mod of_observe {
+    pub use dom_edit::of_observe::{
         Mutation, ObserverId, Observers, RawOptions, Record, RecordType, settle,
     };
 }
 
 /// What crates above name of `dom_point`.
-pub mod dom_point {
-    pub use dom_edit::dom_point::{Point, common, order};
+pub mod of_point {
+    pub use dom_edit::of_point::{Point, common, order};
 }
 
 /// What crates above name of `dom_ranges`.
-pub mod dom_ranges {
-    pub use dom_edit::dom_ranges::{RangeId, StaticId, Statics};
+pub mod of_ranges {
+    pub use dom_edit::of_ranges::{RangeId, StaticId, Statics};
 }
 
 /// What crates above name of `dom_traverse`.
-pub mod dom_traverse {
-    pub use dom_edit::dom_traverse::{Filter, IterId, Rule, WalkerId};
+pub mod of_traverse {
+    pub use dom_edit::of_traverse::{Filter, IterId, Rule, WalkerId};
 }
 
 /// What crates above name of `dom_tree`.
-pub mod dom_tree {
-    pub use dom_edit::dom_tree::{NodeId, Tree};
+pub mod of_tree {
+    pub use dom_edit::of_tree::{NodeId, Tree};
 }
 
 /// What crates above name of `dom_units`.
-pub mod dom_units {
-    pub use dom_edit::dom_units::Units;
+pub mod of_units {
+    pub use dom_edit::of_units::Units;
 }

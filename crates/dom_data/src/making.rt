@@ -9,10 +9,10 @@ ghost use Rattle.dom_model.specs.MutationAlgorithms.Editing.{document_in};
 ghost use Rattle.dom_model.proofs.Worlds.Owners.{HasOwners};
 ghost use Rattle.dom_edit.specs.Whole.{IsWhole, Follows};
 
-use dom_edit::dom_attrs::Attrs;
-use dom_edit::dom_kinds::{Kind, Label};
-use dom_edit::dom_tree::{NodeId, Tree};
-use dom_edit::dom_units::Units;
+use dom_edit::of_attrs::Attrs;
+use dom_edit::of_kinds::{Kind, Label};
+use dom_edit::of_tree::{NodeId, Tree};
+use dom_edit::of_units::Units;
 use dom_edit::{Content, World};
 use std::alloc::{AllocError, Global};
 

@@ -16,9 +16,9 @@ ghost use Rattle.dom_data.specs.Joining.{next_text, texts_behind, data_among, Is
 
 use crate::bodies::{data_in, kind_in};
 use crate::replacing::replace_units;
-use dom_edit::dom_kinds::Kind;
-use dom_edit::dom_tree::{NodeId, Tree};
-use dom_edit::dom_units::Units;
+use dom_edit::of_kinds::Kind;
+use dom_edit::of_tree::{NodeId, Tree};
+use dom_edit::of_units::Units;
 use dom_edit::{Content, World};
 use std::alloc::{AllocError, Global};
 

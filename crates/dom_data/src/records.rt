@@ -11,9 +11,9 @@ ghost use Rattle.dom_data.specs.Changes.{Tells, Serves};
 
 use crate::bodies::data_in;
 use dom_edit::World;
-use dom_edit::dom_observe::Mutation;
-use dom_edit::dom_tree::NodeId;
-use dom_edit::dom_units::Units;
+use dom_edit::of_observe::Mutation;
+use dom_edit::of_tree::NodeId;
+use dom_edit::of_units::Units;
 use dom_model::RecordType;
 use std::alloc::{AllocError, Global};
 

@@ -13,9 +13,9 @@ ghost use Rattle.dom_data.specs.Reading.{IsNamed};
 
 use crate::bodies::{data_in, splice_data};
 use crate::records::tell_data;
-use dom_edit::dom_kinds::DomError;
-use dom_edit::dom_tree::NodeId;
-use dom_edit::dom_units::Units;
+use dom_edit::of_kinds::DomError;
+use dom_edit::of_tree::NodeId;
+use dom_edit::of_units::Units;
 use dom_edit::{Refusal, World};
 use std::alloc::{AllocError, Global};
 

@@ -16,9 +16,9 @@ use crate::bodies::data_in;
 use crate::making::{document_in, make_text};
 use crate::normalizing::index_if_asked;
 use crate::replacing::replace_data;
-use dom_edit::dom_kinds::DomError;
-use dom_edit::dom_tree::{NodeId, Tree};
-use dom_edit::dom_units::Units;
+use dom_edit::of_kinds::DomError;
+use dom_edit::of_tree::{NodeId, Tree};
+use dom_edit::of_units::Units;
 use dom_edit::{Content, Refusal, World};
 use std::alloc::{AllocError, Global};
 

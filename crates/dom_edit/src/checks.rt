@@ -11,8 +11,8 @@ ghost use Rattle.dom_edit.specs.Places.{child_of, conditions_at};
 
 use crate::content::Content;
 use crate::surroundings::{Place, is_refused};
-use dom_ranges::dom_kinds::{DomError, Kind};
-use dom_ranges::dom_tree::{NodeId, Tree};
+use dom_ranges::of_kinds::{DomError, Kind};
+use dom_ranges::of_tree::{NodeId, Tree};
 
 // Whether nodes of the kind may have children.
 fn may_be_parent(kind: Kind) -> bool

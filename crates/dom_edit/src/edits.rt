@@ -20,8 +20,8 @@ use crate::inserting::{children, entering};
 use crate::refusal::Refusal;
 use crate::replacing::{check_only_child, entering_if_any, reference_child};
 use crate::world::World;
-use dom_ranges::dom_kinds::{DomError, Kind};
-use dom_ranges::dom_tree::NodeId;
+use dom_ranges::of_kinds::{DomError, Kind};
+use dom_ranges::of_tree::NodeId;
 use std::alloc::{AllocError, Global};
 
 impl World {

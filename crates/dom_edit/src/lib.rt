@@ -20,46 +20,46 @@ pub use refusal::Refusal;
 pub use world::World;
 
 /// What crates above name of `dom_attrs`.
-pub mod dom_attrs {
+pub mod of_attrs {
     pub use dom_attrs::Attrs;
 }
 
 /// What crates above name of `dom_kinds`.
-pub mod dom_kinds {
-    pub use dom_ranges::dom_kinds::{
+pub mod of_kinds {
+    pub use dom_ranges::of_kinds::{
         DomError, Exception, Kind, Label, NodeType, is_attribute_name, is_doctype_name,
         is_element_name,
     };
 }
 
 /// What crates above name of `dom_observe`.
-pub mod dom_observe {
+pub mod of_observe {
     pub use dom_observe::{
         Mutation, ObserverId, Observers, RawOptions, Record, RecordType, settle,
     };
 }
 
 /// What crates above name of `dom_point`.
-pub mod dom_point {
-    pub use dom_ranges::dom_point::{Point, common, order};
+pub mod of_point {
+    pub use dom_ranges::of_point::{Point, common, order};
 }
 
 /// What crates above name of `dom_ranges`.
-pub mod dom_ranges {
+pub mod of_ranges {
     pub use dom_ranges::{RangeId, StaticId, Statics};
 }
 
 /// What crates above name of `dom_traverse`.
-pub mod dom_traverse {
+pub mod of_traverse {
     pub use dom_traverse::{Filter, IterId, Rule, WalkerId};
 }
 
 /// What crates above name of `dom_tree`.
-pub mod dom_tree {
-    pub use dom_ranges::dom_tree::{NodeId, Tree};
+pub mod of_tree {
+    pub use dom_ranges::of_tree::{NodeId, Tree};
 }
 
 /// What crates above name of `dom_units`.
-pub mod dom_units {
-    pub use dom_observe::dom_units::Units;
+pub mod of_units {
+    pub use dom_observe::of_units::Units;
 }

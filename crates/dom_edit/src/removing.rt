@@ -6,7 +6,7 @@ ghost use Rattle.dom_model.specs.MutationAlgorithms.Editing.{taken_out, transien
 ghost use Rattle.dom_edit.specs.Whole.{IsWhole, Follows};
 
 use crate::world::World;
-use dom_ranges::dom_tree::NodeId;
+use dom_ranges::of_tree::NodeId;
 use std::alloc::{AllocError, Global};
 
 impl World {

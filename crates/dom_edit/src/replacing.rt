@@ -15,8 +15,8 @@ use crate::content::Content;
 use crate::inserting::{NodeList, entering};
 use crate::surroundings::is_number;
 use crate::world::World;
-use dom_ranges::dom_kinds::DomError;
-use dom_ranges::dom_tree::{NodeId, Tree};
+use dom_ranges::of_kinds::DomError;
+use dom_ranges::of_tree::{NodeId, Tree};
 use std::alloc::{AllocError, Global};
 
 /// What a node comes in before: the child, or the node's next sibling where the child is the node itself.

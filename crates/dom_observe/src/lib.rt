@@ -21,6 +21,6 @@ pub use options::{Options, RawOptions, settle};
 pub use record::{Mutation, Record};
 
 /// What crates above name of `dom_units`.
-pub mod dom_units {
+pub mod of_units {
     pub use dom_units::Units;
 }

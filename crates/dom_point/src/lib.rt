@@ -14,19 +14,19 @@ pub use ordering::order;
 pub use point::Point;
 
 /// What crates above name of `dom_kinds`.
-pub mod dom_kinds {
-    pub use dom_tree::dom_kinds::{
+pub mod of_kinds {
+    pub use dom_tree::of_kinds::{
         DomError, Exception, Kind, Label, NodeType, is_attribute_name, is_doctype_name,
         is_element_name,
     };
 }
 
 /// What crates above name of `dom_pages`.
-pub mod dom_pages {
-    pub use dom_tree::dom_pages::Pages;
+pub mod of_pages {
+    pub use dom_tree::of_pages::Pages;
 }
 
 /// What crates above name of `dom_tree`.
-pub mod dom_tree {
+pub mod of_tree {
     pub use dom_tree::{Body, NodeId, Tree};
 }

@@ -6,7 +6,7 @@ ghost use Rattle.dom_model.specs.Forests.Forest.{HasNode};
 ghost use Rattle.dom_model.specs.MutationAlgorithms.Checks.{is_of_kind};
 
 use crate::{Point, common, order};
-use dom_tree::dom_kinds::{Kind, Label};
+use dom_tree::of_kinds::{Kind, Label};
 use dom_tree::{NodeId, Tree};
 use std::alloc::{AllocError, Global};
 use std::cmp::Ordering;

@@ -12,7 +12,7 @@ use crate::chains::{Chains, End};
 use crate::numbers::EndId;
 use crate::statics::is_inside;
 use dom_point::Point;
-use dom_point::dom_tree::{NodeId, Tree};
+use dom_point::of_tree::{NodeId, Tree};
 
 // Whether an end stands inside a node.
 fn stands_inside<X>(end: End, tree: &Tree<X>, top: NodeId) -> bool

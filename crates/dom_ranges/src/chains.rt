@@ -17,8 +17,8 @@ ghost use Rattle.dom_ranges.specs.Tables.{nodes_at};
 use crate::numbers::EndId;
 use crate::shift::Shift;
 use dom_point::Point;
-use dom_point::dom_pages::Pages;
-use dom_point::dom_tree::NodeId;
+use dom_point::of_pages::Pages;
+use dom_point::of_tree::NodeId;
 use std::alloc::{AllocError, Global};
 
 /// An end: where it stands, and the ends before and after it in the chain of its node. An end of no live range stands nowhere.

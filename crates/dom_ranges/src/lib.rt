@@ -19,19 +19,19 @@ pub use statics::{StaticId, Statics};
 mod tests;
 
 /// What crates above name of `dom_kinds`.
-pub mod dom_kinds {
-    pub use dom_point::dom_kinds::{
+pub mod of_kinds {
+    pub use dom_point::of_kinds::{
         DomError, Exception, Kind, Label, NodeType, is_attribute_name, is_doctype_name,
         is_element_name,
     };
 }
 
 /// What crates above name of `dom_point`.
-pub mod dom_point {
+pub mod of_point {
     pub use dom_point::{Point, common, order};
 }
 
 /// What crates above name of `dom_tree`.
-pub mod dom_tree {
-    pub use dom_point::dom_tree::{Body, NodeId, Tree};
+pub mod of_tree {
+    pub use dom_point::of_tree::{Body, NodeId, Tree};
 }

@@ -11,8 +11,8 @@ ghost use Rattle.dom_ranges.specs.Tables.{IsCovered, range_in, StandsIn, refused
 
 use crate::numbers::RangeId;
 use crate::ranges::Ranges;
-use dom_point::dom_kinds::{DomError, Kind};
-use dom_point::dom_tree::{Body, NodeId, Tree};
+use dom_point::of_kinds::{DomError, Kind};
+use dom_point::of_tree::{Body, NodeId, Tree};
 use dom_point::{Point, order};
 use std::cmp::Ordering;
 

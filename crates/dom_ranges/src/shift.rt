@@ -4,7 +4,7 @@ ghost use Rattle.std.specs.Prelude.{◌≡◌, ◌^◌, ◌<◌};
 ghost use Rattle.dom_ranges.specs.Shifting.{shifted, spliced_offset};
 
 use dom_point::Point;
-use dom_point::dom_tree::NodeId;
+use dom_point::of_tree::NodeId;
 
 /// A map of points (DOM Standard, "Live ranges").
 #[derive(Clone, Copy)]

@@ -13,8 +13,8 @@ ghost use Rattle.dom_ranges.specs.Tables.{refused};
 
 use crate::setting::{is_before, is_doctype, same_root};
 use dom_point::Point;
-use dom_point::dom_kinds::DomError;
-use dom_point::dom_tree::{Body, NodeId, Tree};
+use dom_point::of_kinds::DomError;
+use dom_point::of_tree::{Body, NodeId, Tree};
 use std::alloc::{AllocError, Global};
 use std::marker::Model;
 

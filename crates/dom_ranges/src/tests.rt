@@ -9,8 +9,8 @@ ghost use Rattle.dom_model.specs.MutationAlgorithms.Checks.{is_of_kind};
 
 use crate::setting::is_doctype;
 use crate::{RangeId, Ranges, StaticId, Statics};
-use dom_point::dom_kinds::{Kind, Label};
-use dom_point::dom_tree::{Body, NodeId, Tree};
+use dom_point::of_kinds::{Kind, Label};
+use dom_point::of_tree::{Body, NodeId, Tree};
 use dom_point::{Point, order};
 use std::alloc::{AllocError, Global};
 use std::cmp::Ordering;

@@ -10,7 +10,7 @@ ghost use Rattle.dom_session.specs.Limiting.{numbered};
 use crate::command::Command;
 use crate::making::make_nodes;
 use crate::reply::Reply;
-use dom_wrap::dom_edit::World;
+use dom_wrap::of_edit::World;
 use std::alloc::{AllocError, Global};
 
 /// Answers a command, where memory is there. Each group of commands hands the others on to the next.

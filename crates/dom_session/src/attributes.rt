@@ -20,11 +20,11 @@ use crate::command::Command;
 use crate::copies::copy_nodes;
 use crate::reply::{Answer, Reply};
 use dom_model::OwnError;
-use dom_wrap::dom_attrs::Attrs;
-use dom_wrap::dom_edit::{Content, World};
-use dom_wrap::dom_kinds::{DomError, Kind, is_attribute_name};
-use dom_wrap::dom_tree::{NodeId, Tree};
-use dom_wrap::dom_units::Units;
+use dom_wrap::of_attrs::Attrs;
+use dom_wrap::of_edit::{Content, World};
+use dom_wrap::of_kinds::{DomError, Kind, is_attribute_name};
+use dom_wrap::of_tree::{NodeId, Tree};
+use dom_wrap::of_units::Units;
 use std::alloc::{AllocError, Global};
 
 // Why a node has no attributes.
@@ -58,7 +58,7 @@ pub fn set_attribute(
     if !is_attribute_name(name.as_str()) {
         return Ok(Reply::Dom(DomError::InvalidCharacterError));
     }
-    dom_wrap::dom_data::set_attribute(world, alloc, element, name, value)?;
+    dom_wrap::of_data::set_attribute(world, alloc, element, name, value)?;
     Ok(Reply::Done(Answer::Nothing))
 }
 
@@ -136,7 +136,7 @@ pub fn remove_attribute(
     if let Some(reply) = refusal(world, element) {
         return Ok(reply);
     }
-    dom_wrap::dom_data::remove_attribute(world, alloc, element, name)?;
+    dom_wrap::of_data::remove_attribute(world, alloc, element, name)?;
     Ok(Reply::Done(Answer::Nothing))
 }
 
@@ -158,7 +158,7 @@ pub fn toggle_attribute(
     if !is_attribute_name(name.as_str()) {
         return Ok(Reply::Dom(DomError::InvalidCharacterError));
     }
-    let present = dom_wrap::dom_data::toggle_attribute(world, alloc, element, name, force)?;
+    let present = dom_wrap::of_data::toggle_attribute(world, alloc, element, name, force)?;
     Ok(Reply::Done(Answer::Flag(present)))
 }
 

@@ -1,12 +1,12 @@
 //! The commands that a session takes, one for each name of the table.
 
 use dom_model::Move;
-use dom_wrap::dom_observe::{ObserverId, RawOptions};
-use dom_wrap::dom_point::Point;
-use dom_wrap::dom_ranges::{RangeId, StaticId};
-use dom_wrap::dom_traverse::{Filter, IterId, WalkerId};
-use dom_wrap::dom_tree::NodeId;
-use dom_wrap::dom_units::Units;
+use dom_wrap::of_observe::{ObserverId, RawOptions};
+use dom_wrap::of_point::Point;
+use dom_wrap::of_ranges::{RangeId, StaticId};
+use dom_wrap::of_traverse::{Filter, IterId, WalkerId};
+use dom_wrap::of_tree::NodeId;
+use dom_wrap::of_units::Units;
 
 /// A command, with its arguments read.
 #[derive(Drop)]

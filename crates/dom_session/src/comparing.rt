@@ -20,11 +20,11 @@ use crate::command::Command;
 use crate::reply::{Answer, Reply};
 use crate::statics::act_on_statics;
 use dom_model::OwnError;
-use dom_wrap::dom_edit::{Content, World};
-use dom_wrap::dom_kinds::{DomError, Kind};
-use dom_wrap::dom_point::{Point, common, order};
-use dom_wrap::dom_ranges::RangeId;
-use dom_wrap::dom_tree::{NodeId, Tree};
+use dom_wrap::of_edit::{Content, World};
+use dom_wrap::of_kinds::{DomError, Kind};
+use dom_wrap::of_point::{Point, common, order};
+use dom_wrap::of_ranges::RangeId;
+use dom_wrap::of_tree::{NodeId, Tree};
 use std::alloc::{AllocError, Global};
 use std::cmp::Ordering;
 

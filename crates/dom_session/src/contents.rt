@@ -13,9 +13,9 @@ use crate::command::Command;
 use crate::copies::lacks_numbers;
 use crate::reply::{Answer, Reply};
 use dom_model::OwnError;
-use dom_wrap::dom_edit::{Refusal, World};
-use dom_wrap::dom_ranges::RangeId;
-use dom_wrap::dom_tree::NodeId;
+use dom_wrap::of_edit::{Refusal, World};
+use dom_wrap::of_ranges::RangeId;
+use dom_wrap::of_tree::NodeId;
 use std::alloc::{AllocError, Global};
 
 /// The data of the Texts that lie in a live range.

@@ -17,9 +17,9 @@ use crate::command::Command;
 use crate::contents::change_contents;
 use crate::reply::{Answer, Reply};
 use dom_model::OwnError;
-use dom_wrap::dom_edit::{Refusal, World};
-use dom_wrap::dom_kinds::{DomError, Kind, NodeType};
-use dom_wrap::dom_tree::NodeId;
+use dom_wrap::of_edit::{Refusal, World};
+use dom_wrap::of_kinds::{DomError, Kind, NodeType};
+use dom_wrap::of_tree::NodeId;
 use std::alloc::{AllocError, Global};
 
 /// Whether too few numbers are left for a command that copies: twice the nodes in use, and eight.
@@ -63,7 +63,7 @@ pub fn import_node(
     if lacks_numbers(world, numbers) {
         return Ok(Reply::Own(OwnError::Limit));
     }
-    match dom_wrap::dom_clone::import(world, alloc, document, node, deep) {
+    match dom_wrap::of_clone::import(world, alloc, document, node, deep) {
         Ok(copy) => Ok(Reply::Done(Answer::Number(copy.number()))),
         Err(Refusal::Dom(error)) => Ok(Reply::Dom(error)),
         Err(Refusal::Memory) => Err(AllocError),
@@ -89,7 +89,7 @@ pub fn clone_node(
     if lacks_numbers(world, numbers) {
         return Ok(Reply::Own(OwnError::Limit));
     }
-    let copy = dom_wrap::dom_clone::clone_node(world, alloc, node, deep)?;
+    let copy = dom_wrap::of_clone::clone_node(world, alloc, node, deep)?;
     Ok(Reply::Done(Answer::Number(copy.number())))
 }
 
@@ -107,7 +107,7 @@ pub fn is_equal(world: &World, node: NodeId, other: Option<NodeId>) -> Reply
     if !world.tree.holds(other) {
         return Reply::Own(OwnError::NoSuchObject);
     }
-    Reply::Done(Answer::Flag(dom_wrap::dom_clone::is_equal(&world.tree, node, other)))
+    Reply::Done(Answer::Flag(dom_wrap::of_clone::is_equal(&world.tree, node, other)))
 }
 
 /// Whether the second is an inclusive descendant of the first; none is of no node.
@@ -124,7 +124,7 @@ pub fn contains(world: &World, node: NodeId, other: Option<NodeId>) -> Reply
     if !world.tree.holds(other) {
         return Reply::Own(OwnError::NoSuchObject);
     }
-    Reply::Done(Answer::Flag(dom_wrap::dom_clone::contains(&world.tree, node, other)))
+    Reply::Done(Answer::Flag(dom_wrap::of_clone::contains(&world.tree, node, other)))
 }
 
 /// Where the second stands, seen from the first.
@@ -135,7 +135,7 @@ pub fn compare_position(world: &World, node: NodeId, other: NodeId) -> Reply
     if !world.tree.holds(node) || !world.tree.holds(other) {
         return Reply::Own(OwnError::NoSuchObject);
     }
-    let position = dom_wrap::dom_clone::position(&world.tree, node, other);
+    let position = dom_wrap::of_clone::position(&world.tree, node, other);
     Reply::Done(Answer::Number(u32::from(position)))
 }
 

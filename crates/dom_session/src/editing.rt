@@ -19,9 +19,9 @@ use crate::command::Command;
 use crate::questions::ask_tree;
 use crate::reply::{Answer, Reply};
 use dom_model::OwnError;
-use dom_wrap::dom_edit::{Refusal, World};
-use dom_wrap::dom_kinds::{DomError, Kind};
-use dom_wrap::dom_tree::NodeId;
+use dom_wrap::of_edit::{Refusal, World};
+use dom_wrap::of_kinds::{DomError, Kind};
+use dom_wrap::of_tree::NodeId;
 use std::alloc::{AllocError, Global};
 
 // Whether there is such a node, where one is given.

@@ -23,19 +23,19 @@ mod traversing;
 
 pub use command::Command;
 pub use dom_model::{Move, OwnError, RecordType, Verdict};
-pub use dom_wrap::dom_attrs::Attrs;
-pub use dom_wrap::dom_edit::Content;
-pub use dom_wrap::dom_kinds::{DomError, Kind, Label};
-pub use dom_wrap::dom_observe::{ObserverId, RawOptions, Record};
-pub use dom_wrap::dom_point::Point;
-pub use dom_wrap::dom_ranges::{RangeId, StaticId};
-pub use dom_wrap::dom_traverse::{Filter, IterId, Rule, WalkerId};
-pub use dom_wrap::dom_tree::NodeId;
-pub use dom_wrap::dom_units::Units;
+pub use dom_wrap::of_attrs::Attrs;
+pub use dom_wrap::of_edit::Content;
+pub use dom_wrap::of_kinds::{DomError, Kind, Label};
+pub use dom_wrap::of_observe::{ObserverId, RawOptions, Record};
+pub use dom_wrap::of_point::Point;
+pub use dom_wrap::of_ranges::{RangeId, StaticId};
+pub use dom_wrap::of_traverse::{Filter, IterId, Rule, WalkerId};
+pub use dom_wrap::of_tree::NodeId;
+pub use dom_wrap::of_units::Units;
 pub use reply::{Answer, Description, Reply, Told, TreeRow};
 pub use session::{Ended, Limits, Session};
 
 /// What crates above name of `dom_kinds`.
-pub mod dom_kinds {
-    pub use dom_wrap::dom_kinds::{Exception, NodeType};
+pub mod of_kinds {
+    pub use dom_wrap::of_kinds::{Exception, NodeType};
 }

@@ -16,10 +16,10 @@ use crate::command::Command;
 use crate::editing::edit_tree;
 use crate::reply::{Answer, Reply};
 use dom_model::OwnError;
-use dom_wrap::dom_edit::{Content, World};
-use dom_wrap::dom_kinds::{DomError, Kind, Label, is_doctype_name, is_element_name};
-use dom_wrap::dom_tree::NodeId;
-use dom_wrap::dom_units::Units;
+use dom_wrap::of_edit::{Content, World};
+use dom_wrap::of_kinds::{DomError, Kind, Label, is_doctype_name, is_element_name};
+use dom_wrap::of_tree::NodeId;
+use dom_wrap::of_units::Units;
 use std::alloc::{AllocError, Global};
 
 /// The label of a Document.

@@ -14,9 +14,9 @@ use crate::command::Command;
 use crate::reply::{Answer, Reply, Told};
 use crate::texts::change_texts;
 use dom_model::OwnError;
-use dom_wrap::dom_edit::World;
-use dom_wrap::dom_observe::{ObserverId, Observers, RawOptions, Record, settle};
-use dom_wrap::dom_tree::NodeId;
+use dom_wrap::of_edit::World;
+use dom_wrap::of_observe::{ObserverId, Observers, RawOptions, Record, settle};
+use dom_wrap::of_tree::NodeId;
 use std::alloc::{AllocError, Global};
 
 /// Makes a mutation observer, with nothing to observe yet (`new MutationObserver()`).

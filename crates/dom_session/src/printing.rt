@@ -11,8 +11,8 @@ ghost use Rattle.dom_session.specs.Printing.{row_at, waiting_for};
 
 use crate::reply::{Answer, Reply, TreeRow};
 use dom_model::OwnError;
-use dom_wrap::dom_edit::{Content, World};
-use dom_wrap::dom_tree::{NodeId, Tree};
+use dom_wrap::of_edit::{Content, World};
+use dom_wrap::of_tree::{NodeId, Tree};
 use std::alloc::{AllocError, Global};
 
 // A node that waits to be printed with its following siblings and all that stands below them.

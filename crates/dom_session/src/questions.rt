@@ -15,8 +15,8 @@ use crate::printing::print_tree;
 use crate::ranging::act_on_ranges;
 use crate::reply::{Answer, Description, Reply};
 use dom_model::OwnError;
-use dom_wrap::dom_edit::{Content, World};
-use dom_wrap::dom_tree::{NodeId, Tree};
+use dom_wrap::of_edit::{Content, World};
+use dom_wrap::of_tree::{NodeId, Tree};
 use std::alloc::{AllocError, Global};
 
 /// Tells where a node stands, and what it is.

@@ -13,11 +13,11 @@ use crate::command::Command;
 use crate::reply::{Answer, Reply};
 use crate::setting::set_ranges;
 use dom_model::OwnError;
-use dom_wrap::dom_edit::World;
-use dom_wrap::dom_kinds::{DomError, Kind};
-use dom_wrap::dom_point::Point;
-use dom_wrap::dom_ranges::RangeId;
-use dom_wrap::dom_tree::NodeId;
+use dom_wrap::of_edit::World;
+use dom_wrap::of_kinds::{DomError, Kind};
+use dom_wrap::of_point::Point;
+use dom_wrap::of_ranges::RangeId;
+use dom_wrap::of_tree::NodeId;
 use std::alloc::{AllocError, Global};
 
 /// Makes a live range whose ends both stand at the start of a document.

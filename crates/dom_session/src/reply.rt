@@ -1,12 +1,12 @@
 //! The replies that a session gives.
 
 use dom_model::OwnError;
-use dom_wrap::dom_edit::Content;
-use dom_wrap::dom_kinds::{DomError, Label};
-use dom_wrap::dom_observe::{ObserverId, Record};
-use dom_wrap::dom_point::Point;
-use dom_wrap::dom_tree::NodeId;
-use dom_wrap::dom_units::Units;
+use dom_wrap::of_edit::Content;
+use dom_wrap::of_kinds::{DomError, Label};
+use dom_wrap::of_observe::{ObserverId, Record};
+use dom_wrap::of_point::Point;
+use dom_wrap::of_tree::NodeId;
+use dom_wrap::of_units::Units;
 use std::cmp::Ordering;
 use std::marker::Model;
 

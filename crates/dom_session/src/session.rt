@@ -10,7 +10,7 @@ ghost use Rattle.dom_session.specs.Bounding.{bounds_of};
 use crate::answering::answered;
 use crate::command::Command;
 use crate::reply::Reply;
-use dom_wrap::dom_edit::World;
+use dom_wrap::of_edit::World;
 use std::alloc::{AllocError, Global};
 use std::marker::Model;
 

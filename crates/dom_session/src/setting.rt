@@ -19,11 +19,11 @@ use crate::command::Command;
 use crate::comparing::compare;
 use crate::reply::{Answer, Reply};
 use dom_model::OwnError;
-use dom_wrap::dom_edit::{Content, World};
-use dom_wrap::dom_kinds::DomError;
-use dom_wrap::dom_point::Point;
-use dom_wrap::dom_ranges::RangeId;
-use dom_wrap::dom_tree::{NodeId, Tree};
+use dom_wrap::of_edit::{Content, World};
+use dom_wrap::of_kinds::DomError;
+use dom_wrap::of_point::Point;
+use dom_wrap::of_ranges::RangeId;
+use dom_wrap::of_tree::{NodeId, Tree};
 use std::alloc::{AllocError, Global};
 
 // The point ahead of a node in its parent; none without a parent.

@@ -13,9 +13,9 @@ use crate::command::Command;
 use crate::reply::{Answer, Reply};
 use crate::traversing::traverse;
 use dom_model::OwnError;
-use dom_wrap::dom_edit::World;
-use dom_wrap::dom_point::Point;
-use dom_wrap::dom_ranges::{StaticId, Statics};
+use dom_wrap::of_edit::World;
+use dom_wrap::of_point::Point;
+use dom_wrap::of_ranges::{StaticId, Statics};
 use std::alloc::{AllocError, Global};
 
 /// Makes a static range. Its offsets may lie past the lengths of its nodes.

@@ -19,10 +19,10 @@ use crate::attributes::change_attributes;
 use crate::command::Command;
 use crate::reply::{Answer, Reply};
 use dom_model::OwnError;
-use dom_wrap::dom_edit::{Content, Refusal, World};
-use dom_wrap::dom_kinds::{DomError, Kind};
-use dom_wrap::dom_tree::{NodeId, Tree};
-use dom_wrap::dom_units::Units;
+use dom_wrap::of_edit::{Content, Refusal, World};
+use dom_wrap::of_kinds::{DomError, Kind};
+use dom_wrap::of_tree::{NodeId, Tree};
+use dom_wrap::of_units::Units;
 use std::alloc::{AllocError, Global};
 
 // Whether a kind has character data.
@@ -90,7 +90,7 @@ pub fn set_data(
     if let Some(reply) = refusal(world, node) {
         return Ok(reply);
     }
-    dom_wrap::dom_data::set_data(world, alloc, node, text)?;
+    dom_wrap::of_data::set_data(world, alloc, node, text)?;
     Ok(Reply::Done(Answer::Nothing))
 }
 
@@ -110,7 +110,7 @@ pub fn replace_data(
     if let Some(reply) = refusal(world, node) {
         return Ok(reply);
     }
-    match dom_wrap::dom_data::replace_data(world, alloc, node, offset, count, text) {
+    match dom_wrap::of_data::replace_data(world, alloc, node, offset, count, text) {
         Ok(()) => Ok(Reply::Done(Answer::Nothing)),
         Err(Refusal::Dom(error)) => Ok(Reply::Dom(error)),
         Err(Refusal::Memory) => Err(AllocError),
@@ -179,7 +179,7 @@ pub fn substring_data(
     if let Some(reply) = refusal(world, node) {
         return Ok(reply);
     }
-    match dom_wrap::dom_data::substring(world, alloc, node, offset, count) {
+    match dom_wrap::of_data::substring(world, alloc, node, offset, count) {
         Ok(units) => Ok(Reply::Done(Answer::Units(units))),
         Err(Refusal::Dom(error)) => Ok(Reply::Dom(error)),
         Err(Refusal::Memory) => Err(AllocError),
@@ -194,7 +194,7 @@ pub fn text_content(world: &World, alloc: Global, node: NodeId) -> Result<Reply,
     if !world.tree.holds(node) {
         return Ok(Reply::Own(OwnError::NoSuchObject));
     }
-    let text = dom_wrap::dom_data::text_content(world, alloc, node)?;
+    let text = dom_wrap::of_data::text_content(world, alloc, node)?;
     Ok(Reply::Done(Answer::MaybeUnits(text)))
 }
 
@@ -217,7 +217,7 @@ pub fn set_text_content(
     if numbers <= world.tree.made() {
         return Ok(Reply::Own(OwnError::Limit));
     }
-    dom_wrap::dom_data::set_text_content(world, alloc, node, text)?;
+    dom_wrap::of_data::set_text_content(world, alloc, node, text)?;
     Ok(Reply::Done(Answer::Nothing))
 }
 
@@ -253,7 +253,7 @@ pub fn split_text(
     if numbers <= world.tree.made() {
         return Ok(Reply::Own(OwnError::Limit));
     }
-    match dom_wrap::dom_data::split(world, alloc, text, offset) {
+    match dom_wrap::of_data::split(world, alloc, text, offset) {
         Ok(new) => Ok(Reply::Done(Answer::Number(new.number()))),
         Err(Refusal::Dom(error)) => Ok(Reply::Dom(error)),
         Err(Refusal::Memory) => Err(AllocError),
@@ -269,7 +269,7 @@ pub fn normalize(world: &mut World, alloc: Global, node: NodeId) -> Result<Reply
     if !world.tree.holds(node) {
         return Ok(Reply::Own(OwnError::NoSuchObject));
     }
-    dom_wrap::dom_data::normalize(world, alloc, node)?;
+    dom_wrap::of_data::normalize(world, alloc, node)?;
     Ok(Reply::Done(Answer::Nothing))
 }
 

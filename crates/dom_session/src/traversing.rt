@@ -13,9 +13,9 @@ use crate::command::Command;
 use crate::observing::watch;
 use crate::reply::{Answer, Reply};
 use dom_model::{Move, OwnError};
-use dom_wrap::dom_edit::World;
-use dom_wrap::dom_traverse::{Filter, IterId, WalkerId};
-use dom_wrap::dom_tree::NodeId;
+use dom_wrap::of_edit::World;
+use dom_wrap::of_traverse::{Filter, IterId, WalkerId};
+use dom_wrap::of_tree::NodeId;
 use std::alloc::{AllocError, Global};
 
 // The number of a node, where one is found.

@@ -6,7 +6,7 @@ ghost use Rattle.dom_model.specs.Traversal.Filters.{shows, is_rule_for, ruled, v
 ghost use Rattle.dom_model.specs.Forests.Forest.{HasNode};
 
 use dom_model::Verdict;
-use dom_tree::dom_kinds::{Kind, Label, NodeType};
+use dom_tree::of_kinds::{Kind, Label, NodeType};
 use dom_tree::{NodeId, Tree};
 use std::marker::Model;
 

@@ -1,6 +1,6 @@
 //! Worked examples on small trees of elements.
 use crate::{Filter, IterId, Iters, Move, Rule, Verdict, WalkerId, Walkers};
-use dom_tree::dom_kinds::{Kind, Label};
+use dom_tree::of_kinds::{Kind, Label};
 use dom_tree::{NodeId, Tree};
 use std::alloc::{AllocError, Global};
 use std::process::Abort;

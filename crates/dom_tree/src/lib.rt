@@ -18,7 +18,7 @@ pub use node_id::NodeId;
 pub use tree::Tree;
 
 /// What crates above name of `dom_kinds`.
-pub mod dom_kinds {
+pub mod of_kinds {
     pub use dom_kinds::{
         DomError, Exception, Kind, Label, NodeType, is_attribute_name, is_doctype_name,
         is_element_name,
@@ -26,6 +26,6 @@ pub mod dom_kinds {
 }
 
 /// What crates above name of `dom_pages`.
-pub mod dom_pages {
+pub mod of_pages {
     pub use dom_pages::Pages;
 }

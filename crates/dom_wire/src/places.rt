@@ -11,7 +11,7 @@ ghost use Rattle.dom_wire.specs.Prints.{tokens_of, tokens_of_all, Adds};
 
 use crate::rows::node_name;
 use crate::values::write_maybe_node;
-use dom_session::dom_kinds::NodeType;
+use dom_session::of_kinds::NodeType;
 use dom_session::{Description, Kind, Label, NodeId, Point};
 use json::Writer;
 use std::alloc::AllocError;

@@ -16,11 +16,11 @@ ghost use Rattle.dom_content.specs.dom_edit.Places.{from_optional, IsAmong};
 ghost use Rattle.dom_wrap.specs.Allowing.{is_near, is_refused_at, is_refused_between, is_refused, is_unplaceable, is_left_element, first_behind};
 
 use crate::inserting::{is_of_kind, parent_at, reference_at};
-use dom_content::dom_edit::{Content, World, check_insert};
-use dom_content::dom_kinds::{DomError, Kind};
-use dom_content::dom_point::{Point, common, order};
-use dom_content::dom_ranges::RangeId;
-use dom_content::dom_tree::{NodeId, Tree};
+use dom_content::of_edit::{Content, World, check_insert};
+use dom_content::of_kinds::{DomError, Kind};
+use dom_content::of_point::{Point, common, order};
+use dom_content::of_ranges::RangeId;
+use dom_content::of_tree::{NodeId, Tree};
 use std::cmp::Ordering;
 
 // Whether an end stands in a node, or in a Text that is a child of it.

@@ -15,12 +15,12 @@ ghost use Rattle.dom_content.specs.dom_edit.Markers.{StandByEdits};
 ghost use Rattle.dom_content.specs.dom_edit.Refusals.{IsRefused};
 ghost use Rattle.dom_wrap.specs.Outcomes.{left_by, HasRoom, IsPlaceable, MayEndAt};
 
-use dom_content::dom_data::split;
-use dom_content::dom_edit::{Content, Refusal, World, check_insert};
-use dom_content::dom_kinds::{DomError, Kind};
-use dom_content::dom_point::Point;
-use dom_content::dom_ranges::RangeId;
-use dom_content::dom_tree::{NodeId, Tree};
+use dom_content::of_data::split;
+use dom_content::of_edit::{Content, Refusal, World, check_insert};
+use dom_content::of_kinds::{DomError, Kind};
+use dom_content::of_point::Point;
+use dom_content::of_ranges::RangeId;
+use dom_content::of_tree::{NodeId, Tree};
 use std::alloc::{AllocError, Global};
 
 // Whether a node is of that kind.

@@ -14,10 +14,10 @@ ghost use Rattle.dom_wrap.specs.Outcomes.{left_by, put_around, HasRoom, Passes};
 
 use crate::allowing::can_surround;
 use crate::inserting::insert_at_start;
-use dom_content::dom_edit::{Refusal, World};
-use dom_content::dom_ranges::RangeId;
-use dom_content::dom_tree::NodeId;
 use dom_content::extract;
+use dom_content::of_edit::{Refusal, World};
+use dom_content::of_ranges::RangeId;
+use dom_content::of_tree::NodeId;
 use std::alloc::{AllocError, Global};
 
 // Takes all children out of a node.

@@ -1,10 +1,10 @@
 //! Observers at work, with ample memory. The nodes are roots: what stands above a node is told by the contracts.
-use dom_wrap::dom_kinds::{DomError, Kind, Label};
-use dom_wrap::dom_observe::{
+use dom_wrap::of_kinds::{DomError, Kind, Label};
+use dom_wrap::of_observe::{
     Mutation, ObserverId, Observers, RawOptions, Record, RecordType, settle,
 };
-use dom_wrap::dom_tree::{NodeId, Tree};
-use dom_wrap::dom_units::Units;
+use dom_wrap::of_tree::{NodeId, Tree};
+use dom_wrap::of_units::Units;
 use std::alloc::{AllocError, Global};
 use std::process::Abort;
 use std::test::Fail;

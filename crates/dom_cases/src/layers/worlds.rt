@@ -2,11 +2,11 @@
 
 ghost use Rattle.dom_wrap.specs.dom_edit.Whole.{IsWhole};
 
-use dom_wrap::dom_attrs::Attrs;
-use dom_wrap::dom_edit::{Content, Refusal, World};
-use dom_wrap::dom_kinds::{DomError, Kind, Label};
-use dom_wrap::dom_tree::NodeId;
-use dom_wrap::dom_units::Units;
+use dom_wrap::of_attrs::Attrs;
+use dom_wrap::of_edit::{Content, Refusal, World};
+use dom_wrap::of_kinds::{DomError, Kind, Label};
+use dom_wrap::of_tree::NodeId;
+use dom_wrap::of_units::Units;
 use std::alloc::{AllocError, Global};
 use std::process::Abort;
 use std::test::Fail;
