@@ -36,6 +36,7 @@ SAYS = {
     "dom_pages": "tables in pages that are given back",
     "dom_units": "texts as UTF-16 units",
     "dom_kinds": "kinds, labels, names, exceptions",
+    "dom_c": "the core as a C library",
     "dom_cases": "tests that cross crates",
     MODEL: "the definitions that the others speak of, and their laws",
 }

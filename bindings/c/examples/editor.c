@@ -1,0 +1,128 @@
+/* A small editor's core: a document with a paragraph of text, a bookmark that stays at its words while they are edited, and an observer
+ * that tells what changed. Build: gcc editor.c $(pkg-config --cflags --libs huckleport)
+ */
+#include "huckleport.h"
+#include <stdio.h>
+#include <stdlib.h>
+
+typedef struct editor {
+    hp_session session;
+    uint32_t paragraph, text;
+    uint32_t bookmark;
+    uint32_t observer;
+} editor;
+
+/* Every call tells by its status whether it did what it says. */
+static void must(uint8_t status)
+{
+    if (status == HP_OK)
+        return;
+    fprintf(stderr, "editor: %s\n", hp_status_word(status));
+    exit(1);
+}
+
+/* Prints UTF-16 units as UTF-8; a lone surrogate is U+FFFD. */
+static void put_units(const uint16_t *units, size_t length)
+{
+    for (size_t i = 0; i < length; i++) {
+        uint32_t code = units[i];
+        if ((code & 0xfc00) == 0xd800 && i + 1 < length && (units[i + 1] & 0xfc00) == 0xdc00)
+            code = 0x10000 + ((code & 0x3ff) << 10) + (units[++i] & 0x3ff);
+        else if ((code & 0xf800) == 0xd800)
+            code = 0xfffd;
+        if (code < 0x80)
+            putchar((int)code);
+        else if (code < 0x800)
+            printf("%c%c", (int)(0xc0 | code >> 6), (int)(0x80 | (code & 63)));
+        else if (code < 0x10000)
+            printf("%c%c%c", (int)(0xe0 | code >> 12), (int)(0x80 | (code >> 6 & 63)), (int)(0x80 | (code & 63)));
+        else
+            printf("%c%c%c%c", (int)(0xf0 | code >> 18), (int)(0x80 | (code >> 12 & 63)), (int)(0x80 | (code >> 6 & 63)),
+                (int)(0x80 | (code & 63)));
+    }
+}
+
+/* Prints the text that the last call answered with: it is lent until the next call, so it is printed at once. */
+static void put_answer(editor *it)
+{
+    hp_text_view text;
+    must(hp_text(&it->session, &text));
+    put_units(text.units, text.length);
+}
+
+static void open_editor(editor *it)
+{
+    hp_options options = HP_OPTIONS_INIT;
+    it->session = (hp_session)HP_SESSION_INIT;
+    must(hp_open(&it->session, 4294967295u, 1));
+    must(hp_create_element(&it->session, 0, hp_name("p"), &it->paragraph));
+    must(hp_append_child(&it->session, 0, it->paragraph));
+    must(hp_create_text(&it->session, 0, hp_text_literal("A document core that keeps its bookmarks."), &it->text));
+    must(hp_append_child(&it->session, it->paragraph, it->text));
+    must(hp_create_range(&it->session, 0, &it->bookmark));
+    must(hp_create_observer(&it->session, &it->observer));
+    options.child_list = options.character_data = options.attributes = options.subtree = 1;
+    must(hp_observe(&it->session, it->observer, it->paragraph, &options, NULL, 0, NULL, 0));
+}
+
+/* Sets the bookmark around units of the text. */
+static void mark(editor *it, uint32_t from, uint32_t to)
+{
+    must(hp_set_start(&it->session, it->bookmark, it->text, from));
+    must(hp_set_end(&it->session, it->bookmark, it->text, to));
+}
+
+/* Tells where the bookmark is and what it holds. */
+static void tell_bookmark(editor *it)
+{
+    hp_ends ends;
+    must(hp_range(&it->session, it->bookmark, &ends));
+    printf("bookmark (%u,%zu)-(%u,%zu): \"", ends.start, ends.start_offset, ends.end, ends.end_offset);
+    must(hp_range_text(&it->session, it->bookmark));
+    put_answer(it);
+    printf("\"\n");
+}
+
+/* Tells what changed since it was asked last, and what the paragraph has now. */
+static void tell_changes(editor *it)
+{
+    size_t changes;
+    must(hp_take_records(&it->session, it->observer));
+    must(hp_count(&it->session, &changes));
+    printf("%zu changes: \"", changes);
+    must(hp_text_content(&it->session, it->paragraph));
+    put_answer(it);
+    printf("\"\n");
+}
+
+/* Puts what is marked into an element of that name, as an editor makes words bold. */
+static void wrap_bookmark(editor *it, const char *name, size_t length)
+{
+    uint32_t element;
+    must(hp_create_element(&it->session, 0, (const uint8_t *)name, length, &element));
+    must(hp_surround_contents(&it->session, it->bookmark, element));
+    must(hp_set_attribute(&it->session, element, hp_name("class"), hp_text_literal("marked")));
+}
+
+int main(void)
+{
+    editor it;
+    open_editor(&it);
+    mark(&it, 2, 15);
+    tell_bookmark(&it);
+
+    must(hp_insert_data(&it.session, it.text, 0, hp_text_literal("Huckleport: ")));
+    must(hp_insert_data(&it.session, it.text, 22, hp_text_literal("'s")));
+    tell_changes(&it);
+    tell_bookmark(&it);
+
+    wrap_bookmark(&it, "b", 1);
+    tell_changes(&it);
+    tell_bookmark(&it);
+
+    /* A refusal is told, and changes nothing. */
+    printf("a text in a document: %s\n", hp_status_word(hp_append_child(&it.session, 0, it.text)));
+    tell_changes(&it);
+    must(hp_close(&it.session));
+    return 0;
+}

@@ -1,0 +1,224 @@
+#!/usr/bin/env python3
+"""Writes huckleport.h from the exports of crates/dom_c: their signatures, comments, structs and constants.
+
+A signature that has no known form in C ends it with a message, and nothing is written.
+"""
+import argparse
+import sys
+import textwrap
+
+from exports import SOURCES, modules, status_word
+from sections import section
+
+HEAD = """\
+/* huckleport.h: documents by the DOM Standard. Made by bindings/c/header.py from the exports of the library; not to be edited.
+ *
+ * Every call answers a status: HP_OK, or why it was refused. A refused call changes nothing of the session, and leaves what its out
+ * pointers point at. Every call with a session can also answer HP_CLOSED and HP_OUT_OF_MEMORY; after the latter the session answers
+ * nothing else, and hp_close still frees all of it.
+ *
+ * Objects are told by numbers, each kind from 0 on, and no number is used again. Node 0 is a Document. HP_NONE stands for null.
+ * Names are UTF-8: bytes and their count. Texts are UTF-16: units and their count. Null with a count of 0 is an empty one.
+ * What is lent (hp_bytes, and the structs whose name ends in _view) is read only, and lies there until the next call with the session.
+ *
+ * C has to keep, since no call can test it:
+ * - a session is HP_SESSION_INIT, all zero bytes, before its first hp_open; only calls change it, and no two copies of it are used;
+ * - pointers point at what their type says, and a count is how many units or bytes stand at the pointer before it;
+ * - what a call is handed stands apart: no two out pointers at one place, and nothing that the same session lent (copy it first);
+ * - a session is used by one thread at a time. Different sessions may be used by different threads at once;
+ * - no call is made in a signal handler, nor in the forked child of a process with threads; malloc, realloc and free are one allocator's.
+ */
+#ifndef HUCKLEPORT_H
+#define HUCKLEPORT_H
+
+#include <stdbool.h>
+#include <stddef.h>
+#include <stdint.h>
+
+#ifdef __cplusplus
+extern "C" {
+#endif
+"""
+
+LITERALS = """\
+/* A session before its first hp_open. */
+#define HP_SESSION_INIT { { NULL }, false }
+
+/* The options of an observer, each of them absent. */
+#define HP_OPTIONS_INIT { 2, 2, 2, 2, 2, 2, 0 }
+
+/* A name that is a literal: two arguments of a call, the bytes and their count. */
+#define hp_name(literal) ((const uint8_t *)("" literal)), (sizeof(literal) - 1)
+
+/* A text that is a literal: two arguments of a call, the units and their count. C99 has no such literals; C11 and C++11 have. */
+#if (defined(__STDC_VERSION__) && __STDC_VERSION__ >= 201112L) || (defined(__cplusplus) && __cplusplus >= 201103L)
+#define hp_text_literal(literal) ((const uint16_t *)(u"" literal)), (sizeof(u"" literal) / sizeof(uint16_t) - 1)
+#endif
+"""
+
+TAIL = """
+#ifdef __cplusplus
+}
+#endif
+
+#endif
+"""
+
+WIDTH = 120
+
+
+def comment(text, indent=""):
+    """A text as a comment. Rust's marks of code have none in C."""
+    lines = textwrap.wrap(text.replace("`", ""), WIDTH - 6 - len(indent))
+    if len(lines) == 1:
+        return f"{indent}/* {lines[0]} */\n"
+    return f"{indent}/* " + f"\n{indent} * ".join(lines) + " */\n"
+
+
+def constant(it):
+    value = f"((uint32_t){it.value}u)" if it.type == "uint32_t" else str(it.value)
+    return (comment(it.doc) if it.doc else "") + f"#define {it.name} {value}\n"
+
+
+def field(it, is_alone):
+    said = comment(it.doc, "    ") if it.doc else ""
+    if it.kind == "slice":
+        length = "length" if is_alone else it.name + "_length"
+        return f"{said}    const {it.type} *{it.name};\n    size_t {length};\n"
+    return f"{said}    {it.type} {'*' if it.kind == 'pointer' else ''}{it.name};\n"
+
+
+def struct(it):
+    text = comment(it.doc) if it.doc else ""
+    fields = "".join(field(its, len(it.fields) == 1) for its in it.fields)
+    return text + f"typedef struct {it.name} {{\n{fields}}} {it.name};\n"
+
+
+def declared(it):
+    """A parameter as it is declared."""
+    if it.kind == "scalar":
+        return f"{it.type} {it.name}"
+    if it.kind == "slice":
+        return f"const {it.type} *{it.name}, size_t {it.name}_length"
+    return f"{'const ' if it.kind == 'in' else ''}{it.type} *{it.name}"
+
+
+def prototype(name, parameters):
+    return f"uint8_t {name}({', '.join(map(declared, parameters)) or 'void'})"
+
+
+def call_beside(export):
+    """What a call answers beside those statuses that each can answer."""
+    forms = {(it.kind, it.type) for it in export.parameters}
+    has_names = ("slice", "uint8_t") in forms and export.name != "hp_line"
+    has_lengths = ("slice", "uint32_t") in forms
+    found = ["HP_NOT_UTF8"] * has_names + ["HP_BAD_LENGTHS"] * has_lengths
+    found += ["HP_BAD_CHOICE"] * (has_lengths or ("scalar", "uint8_t") in forms)
+    return f" Also {', '.join(found)}." if found else ""
+
+
+def lends(structs):
+    """For each struct the statements that leave it with nothing lent."""
+    found = {}
+    for it in structs:
+        lines = []
+        for part in it.fields:
+            if part.kind == "slice":
+                length = "length" if len(it.fields) == 1 else part.name + "_length"
+                lines += [f"{part.name} = ({'const ' + part.type} *)hp_nothing", f"{length} = 0"]
+            elif part.kind == "struct":
+                lines += [f"{part.name}.{line}" for line in found.get(part.type, [])]
+        if lines:
+            found[it.name] = lines
+    return found
+
+
+def handed(it):
+    """A parameter as the inline form of a call hands it on."""
+    if it.kind == "slice":
+        return f"{it.name} ? {it.name} : (const {it.type} *)hp_nothing, {it.name}_length"
+    return it.name
+
+
+def mended(export, lent):
+    """The inline form of a call, which asks less than the export: null for nothing, and any value where something is lent."""
+    slices = [it for it in export.parameters if it.kind == "slice"]
+    outs = [it for it in export.parameters if it.kind == "out" and it.type in lent]
+    if not slices and not outs:
+        return ""
+    text = f"static inline {prototype(export.name + '_mended', export.parameters)}\n{{\n"
+    if slices:
+        text += f"    if ({' || '.join(f'(!{it.name} && {it.name}_length)' for it in slices)})\n        return HP_BAD_LENGTHS;\n"
+    for it in outs:
+        text += "".join(f"    {it.name}->{line};\n" for line in lent[it.type])
+    text += f"    return {export.name}({', '.join(handed(it) for it in export.parameters)});\n}}\n"
+    return text + f"#define {export.name}(...) {export.name}_mended(__VA_ARGS__)\n"
+
+
+def words(constants):
+    """The inline call that tells how a status is printed."""
+    text = comment("How a status is printed, as in the reply to a line.")
+    text += "static inline const char *hp_status_word(uint8_t status)\n{\n    switch (status) {\n"
+    for it in constants:
+        if it.type == "uint8_t":
+            text += f"    case {it.name}: return \"{status_word(it.name)}\";\n"
+    return text + '    default: return "";\n    }\n}\n'
+
+
+def ordered(structs):
+    """The structs, each behind those that it has."""
+    found, left = [], list(structs)
+    while left:
+        names = {it.name for it in left}
+        ready = [it for it in left if not any(part.type in names for part in it.fields)]
+        found += ready
+        left = [it for it in left if it not in ready]
+        if not ready:
+            sys.exit("structs that have one another have no form in C")
+    return found
+
+
+def options_are_known(structs):
+    """Whether HP_SESSION_INIT and HP_OPTIONS_INIT still fit their structs."""
+    forms = {it.name: [part.kind + " " + part.type for part in it.fields] for it in structs}
+    options = ["scalar uint8_t"] * 7
+    known = {"hp_session": ["struct hp_slot", "scalar bool"], "hp_slot": ["pointer uint8_t"], "hp_options": options}
+    for name, form in known.items():
+        if forms.get(name) != form:
+            sys.exit(f"{name} has other fields than its initial value in header.py")
+
+
+def header(found):
+    """The header of what a crate's modules offer."""
+    constants = [it for module in found for it in module.constants]
+    structs = ordered(it for module in found for it in module.structs)
+    exports = [it for module in found for it in module.exports]
+    options_are_known(structs)
+    lent = lends(structs)
+    text = HEAD + "\n" + "".join(map(constant, constants)) + "\n" + "\n".join(map(struct, structs)) + "\n" + LITERALS
+    for module in found:
+        if module.exports:
+            text += "\n" + comment("---- " + module.doc)
+        for it in module.exports:
+            text += "\n" + comment(it.doc + section(it.name) + call_beside(it)) + prototype(it.name, it.parameters) + ";\n"
+    text += "\n/* ---- What stands in for null and for what is not set yet: the calls below are reached by the names of those above. */\n\n"
+    text += "static const uint64_t hp_nothing[1] = { 0 };\n\n"
+    text += "\n".join(filter(None, (mended(it, lent) for it in exports))) + "\n" + words(constants)
+    return text + TAIL
+
+
+def main():
+    parser = argparse.ArgumentParser(description=__doc__, formatter_class=argparse.RawDescriptionHelpFormatter)
+    parser.add_argument("--sources", default=SOURCES, help="the folder of the exports (crates/dom_c/src)")
+    parser.add_argument("-o", dest="to", help="the file that is written (standard output)")
+    given = parser.parse_args()
+    text = header(modules(given.sources))
+    if not given.to:
+        sys.stdout.write(text)
+        return
+    with open(given.to, "w", encoding="utf-8") as file:
+        file.write(text)
+
+
+if __name__ == "__main__":
+    main()

@@ -1,0 +1,222 @@
+#!/usr/bin/env python3
+"""Makes the library for C, and tries all that it offers; says what it leaves out where gcc, g++ or valgrind is missing.
+
+- the header compiles as C99 and as C++, and the shared object shows its calls alone;
+- each dialogue of tools/dialogues through hp_line, byte for byte, and again through the calls of the header, from Python and from C;
+- each call with a closed session, and what is handed in wrongly;
+- each allocation refused in turn over all dialogues, and over one of the calls that copy names and texts;
+- two sessions on two threads;
+- the example, as docs/c-library.md shows it;
+- the programs above under valgrind: no bad access, nothing in use at the end.
+"""
+import os
+import shutil
+import subprocess
+import sys
+import tempfile
+from concurrent.futures import ThreadPoolExecutor
+
+from exports import ROOT
+from make import HERE, make, words_of
+
+sys.path.insert(0, os.path.join(ROOT, "tools"))
+from running import content, dialogues
+
+TESTS = os.path.join(HERE, "tests")
+STRICT = ["-Wall", "-Wextra", "-Werror", "-pedantic"]
+WATCHED = ["valgrind", "-q", "--error-exitcode=9", "--leak-check=full", "--show-leak-kinds=all", "--errors-for-leak-kinds=all"]
+WRAPPED = ["-Wl,--wrap=malloc,--wrap=realloc,--wrap=free"]
+# The longest that one program may take, in seconds.
+LIMIT = 3600
+
+LITERAL = """\
+#include "huckleport.h"
+int main()
+{
+    hp_session session = HP_SESSION_INIT;
+    hp_options options = HP_OPTIONS_INIT;
+    uint32_t made;
+    (void)options;
+    hp_open(&session, 10, 100);
+    hp_create_element(&session, 0, hp_name("a"), &made);
+    hp_create_text(&session, 0, NULL, 0, &made);
+#ifdef hp_text_literal
+    hp_create_text(&session, 0, hp_text_literal("a"), &made);
+#endif
+    return hp_close(&session);
+}
+"""
+
+
+class Tests:
+    def __init__(self, given, folder, work):
+        self.given, self.folder, self.work = given, folder, work
+        self.has_valgrind = shutil.which("valgrind") is not None
+        self.faults = []
+        self.dialogues = dialogues([])
+
+    def say(self, text):
+        print(text, flush=True)
+
+    def run(self, *words, given=b""):
+        ran = subprocess.run(words, input=given, stdout=subprocess.PIPE, stderr=subprocess.PIPE, timeout=LIMIT)
+        return ran.returncode, ran.stdout, ran.stderr.decode(errors="replace")
+
+    def must(self, what, *words):
+        """Runs a command that is to pass, and returns what it wrote."""
+        status, out, said = self.run(*words)
+        if status:
+            self.faults.append(what)
+            self.say(f"FAILED {what}: status {status}\n{out.decode(errors='replace')[-3000:]}{said[-3000:]}")
+        return None if status else out
+
+    def compile(self, name, *words, source=None, standard="-std=c11"):
+        """Compiles a test over the archive, and returns its program."""
+        to = os.path.join(self.work, name)
+        source = source or os.path.join(TESTS, name + ".c")
+        words = [standard, "-O1", "-g", *STRICT, f"-I{self.folder}", f"-I{TESTS}", source, "-o", to, *words]
+        made = self.must(f"compiling {name}", self.given.compiler, *words, os.path.join(self.folder, "libhuckleport.a"))
+        return None if made is None else to
+
+    def watched(self, *words):
+        """A command under valgrind, where that is there."""
+        return [*WATCHED, *words] if self.has_valgrind else None
+
+    def words_of_dialogues(self):
+        return [word for it in self.dialogues for word in [*it.words, it.path, it.path[:-3] + ".out"]]
+
+    # what is tried
+
+    def header(self):
+        ways = [(self.given.compiler, "c", ["-std=c99", "-std=c11"])]
+        if shutil.which("g++"):
+            ways.append(("g++", "cc", ["-std=c++11", "-std=c++20"]))
+        else:
+            self.say("left out: the header as C++, since there is no g++")
+        for compiler, ending, standards in ways:
+            path = os.path.join(self.work, "literal." + ending)
+            with open(path, "w", encoding="utf-8") as file:
+                file.write(LITERAL)
+            for it in standards:
+                if self.must(f"the header by {it}", compiler, it, *STRICT, f"-I{self.folder}", "-fsyntax-only", path) is not None:
+                    self.say(f"the header compiles by {it}")
+
+    def line_faults(self, it, program):
+        """What is wrong where a dialogue goes through hp_line; and whether it is under valgrind too."""
+        status, out, said = self.run(program, *it.words, given=it.given)
+        if status or out != it.due:
+            return f"{it.name} through hp_line: status {status}, {'the same' if out == it.due else 'other'} bytes {said[-500:]}"
+        if not self.has_valgrind:
+            return None
+        status, out, said = self.run(*self.watched(program, *it.words), given=it.given)
+        return f"{it.name} under valgrind: status {status} {said[-1500:]}" if status or out != it.due else None
+
+    def lines(self):
+        program = self.compile("lines")
+        if not program:
+            return
+        with ThreadPoolExecutor(min(os.cpu_count() or 1, 4)) as pool:
+            faults = [it for it in pool.map(lambda it: self.line_faults(it, program), self.dialogues) if it]
+        for it in faults:
+            self.say(f"FAILED {it}")
+        self.faults += faults
+        self.say(f"{len(self.dialogues)} dialogues through hp_line, byte for byte: {len(faults)} faults")
+        self.unended(program)
+
+    def unended(self, program):
+        """A last line without a newline is answered as well."""
+        it = next(it for it in self.dialogues if it.due.endswith(b"\n") and it.given.endswith(b"\n"))
+        status, out, _ = self.run(program, *it.words, given=it.given[:-1])
+        if status or out != it.due:
+            self.faults.append("a last line without a newline")
+            self.say("FAILED a last line without a newline")
+
+    def typed(self):
+        words = ["--library", os.path.join(self.folder, "libhuckleport.so"), "--header", os.path.join(self.folder, "huckleport.h")]
+        source = os.path.join(self.work, "said.c")
+        out = self.must("the dialogues through the calls", sys.executable, os.path.join(TESTS, "typed.py"), *words, "--write", source)
+        if out is not None:
+            self.say(f"through the calls of the header, byte for byte: {out.decode().strip()}")
+            self.alone("said", source=source, standard="-std=c99")
+
+    def alone(self, name, *words, source=None, standard="-std=c11", link=()):
+        """A program that tells by its status, also under valgrind."""
+        program = self.compile(name, *link, source=source, standard=standard)
+        out = program and self.must(name, program, *words)
+        if not program or out is None:
+            return None
+        under = ""
+        if self.has_valgrind:
+            under = "; the same under valgrind" if self.must(f"{name} under valgrind", *self.watched(program, *words)) is not None else ""
+        lines = out.decode().strip().split("\n")
+        self.say(f"{name}: {lines[-1] or 'passed'}{under}")
+        return out
+
+    def closed(self):
+        out = self.must("closed.py", sys.executable, os.path.join(TESTS, "closed.py"), os.path.join(self.folder, "huckleport.h"))
+        source = os.path.join(self.work, "closed.c")
+        with open(source, "wb") as file:
+            file.write(out or b"")
+        self.alone("closed", source=source, standard="-std=c99")
+
+    def refused(self):
+        program = self.compile("refused", *WRAPPED)
+        words = self.words_of_dialogues()
+        out = program and self.must("allocations refused", program, "1", *words)
+        if out:
+            self.say(f"each allocation refused: {out.decode().strip()}")
+        if program and self.has_valgrind:
+            out = self.must("allocations refused under valgrind", *self.watched(program, str(self.given.step), *words))
+            self.say(f"under valgrind, in steps of {self.given.step}: {(out or b'FAILED').decode().strip()}")
+        self.alone("refused_calls", link=WRAPPED)
+
+    def misuse(self):
+        self.alone("misuse", standard="-std=c99")
+
+    def threads(self):
+        self.alone("threads", "2", *self.words_of_dialogues(), link=["-pthread"])
+
+    def example(self):
+        source = os.path.join(HERE, "examples/editor.c")
+        out = self.alone("editor", source=source)
+        if out is not None and out != content(os.path.join(HERE, "examples/editor.out")):
+            self.faults.append("editor.out")
+            self.say("FAILED the example wrote other bytes than examples/editor.out")
+        # linked to the shared object as well
+        program = os.path.join(self.work, "editor_shared")
+        words = ["-std=c11", f"-I{self.folder}", source, f"-L{self.folder}", "-lhuckleport", f"-Wl,-rpath,{self.folder}", "-o", program]
+        if self.must("the example over the shared object", self.given.compiler, *words) is not None:
+            if self.must("the example over the shared object", program) == out:
+                self.say("editor: the same over the shared object")
+
+    def all(self):
+        if not self.has_valgrind:
+            self.say("left out: what runs under valgrind, since there is no valgrind")
+        for it in self.given.only or PARTS:
+            getattr(self, it)()
+        self.say(f"{len(self.faults)} faults")
+        return 1 if self.faults else 0
+
+
+PARTS = ("header", "lines", "typed", "closed", "misuse", "refused", "threads", "example")
+
+
+def main():
+    parser = words_of(__doc__)
+    parser.add_argument("--step", type=int, default=37, help="under valgrind each so many-th allocation is refused (37)")
+    parser.add_argument("only", nargs="*", metavar="PART", help=f"only these parts: {', '.join(PARTS)}")
+    given = parser.parse_args()
+    unknown = [it for it in given.only if it not in PARTS]
+    if unknown or given.step < 1:
+        parser.error(f"the parts are {', '.join(PARTS)}, and a step is at least 1")
+    if not shutil.which(given.compiler):
+        print(f"left out: all of it, since there is no {given.compiler}")
+        return 0
+    folder, count = make(given)
+    print(f"{folder}: the shared object shows the header's {count} calls and no other name", flush=True)
+    with tempfile.TemporaryDirectory() as work:
+        return Tests(given, folder, work).all()
+
+
+if __name__ == "__main__":
+    sys.exit(main())

@@ -1,0 +1,80 @@
+/* Each allocation of each dialogue refused in turn: refused STEP ([--line BYTES] [--numbers N] LINES REPLIES)..
+ * Up to the refusal the replies are the ones that are due; from then on each call says that memory was wanting; and hp_close leaves
+ * nothing in use. Linked with --wrap for malloc, realloc and free. */
+#include "dialogues.h"
+#include "refusing.h"
+
+/* Says all lines; returns the first fault, or NULL. `was_refused` tells whether the session said that memory was wanting. */
+static const char *run(hp_session *session, const struct dialogue *it, bool *was_refused)
+{
+    size_t due = 0;
+    for (size_t at = 0; at < it->given.length;) {
+        size_t length = line_length(&it->given, at);
+        hp_bytes reply;
+        uint8_t status = say(session, it->given.bytes + at, length, &reply);
+        at += length + 1;
+        if (status == 255 || status == HP_CLOSED || (*was_refused && status != HP_OUT_OF_MEMORY))
+            return "a status that does not belong to what is lent, or another after memory was wanting";
+        *was_refused = *was_refused || status == HP_OUT_OF_MEMORY;
+        if (*was_refused)
+            continue;
+        if (due + reply.length > it->due.length || memcmp(it->due.bytes + due, reply.bytes, reply.length) != 0)
+            return "another reply than the one that is due";
+        due += reply.length;
+    }
+    return *was_refused || due == it->due.length ? NULL : "fewer replies than are due";
+}
+
+/* One run with one refusal; `was_met` tells whether the refusal was met. */
+static const char *once(const struct dialogue *it, unsigned long at, bool *was_met)
+{
+    hp_session session = HP_SESSION_INIT;
+    const char *fault = NULL;
+    bool was_refused = false;
+    refuse(at);
+    uint8_t status = hp_open(&session, it->numbers, it->line);
+    if (status == HP_OK) {
+        fault = run(&session, it, &was_refused);
+        if (hp_close(&session) != HP_OK)
+            fault = "hp_close did not close";
+    } else if (status != HP_OUT_OF_MEMORY) {
+        fault = "hp_open said something else than that memory was wanting";
+    }
+    counts = false;
+    *was_met = asked >= at;
+    if (!fault && session.is_open)
+        fault = "the session is still open";
+    if (!fault && (status == HP_OUT_OF_MEMORY || was_refused) && !*was_met)
+        fault = "memory was wanting where none was refused";
+    if (!fault && *was_met && status == HP_OK && !was_refused)
+        fault = "a refusal that no call told of";
+    return fault || in_use == 0 ? fault : "something is in use after hp_close";
+}
+
+static unsigned long turns(const struct dialogue *it, unsigned long step)
+{
+    unsigned long runs = 0;
+    bool was_met = true;
+    for (unsigned long at = 1; was_met; at += step, runs++) {
+        const char *fault = once(it, at, &was_met);
+        if (fault) {
+            fprintf(stderr, "%s, allocation %lu refused: %s\n", it->name, at, fault);
+            exit(1);
+        }
+    }
+    return runs - 1;
+}
+
+int main(int count, char **words)
+{
+    unsigned long runs = 0, step = count > 1 ? strtoul(words[1], NULL, 10) : 0;
+    struct dialogue *found = malloc((size_t)count * sizeof *found);
+    if (!step || !found)
+        return 2;
+    int n = dialogues(count, words, 2, found);
+    for (int i = 0; i < n; i++)
+        runs += turns(&found[i], step);
+    printf("%d dialogues, %lu runs with an allocation refused\n", n, runs);
+    forget(found, n);
+    return 0;
+}

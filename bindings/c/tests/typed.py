@@ -1,0 +1,296 @@
+#!/usr/bin/env python3
+"""Says each dialogue by the calls of the header, over the shared object, and compares the replies byte for byte.
+
+A line's command gives the call, its arguments go in by the call's own types, and the reply's line is put together from the status, the out
+pointers and what the session lends. Lines whose due reply refuses their form (no JSON, no command, arguments of another shape) have no
+call, and are left out; how many is told.
+"""
+import argparse
+import ctypes
+import json
+import os
+import re
+import sys
+
+HERE = os.path.dirname(os.path.abspath(__file__))
+sys.path.insert(0, os.path.dirname(HERE))
+from declared import SCALARS, header, library
+from exports import ROOT, status_word
+from said import Program
+
+sys.path.insert(0, os.path.join(ROOT, "tools"))
+from running import dialogues
+
+# Refusals of a line's form: there is no call that could say such a line.
+OF_LINES = {"line-too-long", "bad-json", "bad-command", "bad-arguments"}
+
+MOVES = ("parentNode", "firstChild", "lastChild", "previousSibling", "nextSibling", "previousNode", "nextNode")
+VERDICTS = {"accept": 1, "reject": 2, "skip": 3}
+OPTIONS = ("childList", "attributes", "characterData", "subtree", "attributeOldValue", "characterDataOldValue")
+RECORDS = ("childList", "attributes", "characterData")
+
+# Replies that hand back what the line has: the place of that among the arguments.
+HANDED_BACK = {"insertBefore": 1, "appendChild": 1, "adoptNode": 1, "replaceChild": 2, "removeChild": 1}
+TEXTS = ("data", "substringData", "rangeText", "textContent", "getAttribute")
+ROWS = ("tree", "takeRecords", "notify")
+NUMBERS = ("children", "pending")
+MAYBE = ("nextNode", "previousNode", "walk")
+MOST = 4294967295
+
+
+class NoCall(Exception):
+    """The header has no call for what a reply needs."""
+
+
+def snake(name):
+    return re.sub(r"(?<=[a-z0-9])(?=[A-Z])", "_", name).lower()
+
+
+def of_units(units):
+    """A text as replies have it: a string where it is well-formed, or else the list of its units."""
+    try:
+        return b"".join(it.to_bytes(2, "little") for it in units).decode("utf-16-le")
+    except UnicodeDecodeError:
+        return list(units)
+
+
+def units_of(text):
+    if text is None or isinstance(text, list):
+        return text or []
+    raw = text.encode("utf-16-le", "surrogatepass")
+    return [raw[at] | raw[at + 1] << 8 for at in range(0, len(raw), 2)]
+
+
+class Array:
+    """An argument that is a pointer and a length."""
+
+    def __init__(self, form, values):
+        values = list(values)
+        self.words = [(form * max(len(values), 1))(*values), len(values)]
+
+
+class Session:
+    def __init__(self, path, header_path):
+        self.header = header(header_path)
+        self.library, self.structs = library(path, self.header)
+        self.calls = {it.name: it for it in self.header.calls}
+        self.words = {value: status_word(name) for name, value in self.header.constants.items() if name != "HP_NONE"}
+        self.session = self.structs["hp_session"]()
+        self.seen = set()
+        self.program = Program(self.header)
+        assert self.header.constants["HP_NONE"] == MOST
+
+    def call(self, name, *words):
+        if name not in self.calls:
+            raise NoCall(name)
+        self.seen.add(name)
+        status = getattr(self.library, name)(ctypes.byref(self.session), *words)
+        self.program.say(name, words, status)
+        return status
+
+    def must(self, name, *words):
+        status = self.call(name, *words)
+        assert status == 0, f"{name}: {self.words[status]}"
+
+    # what a session lends
+
+    def nothing(self, form):
+        """A struct whose pointers are real ones."""
+        found = form()
+        for name, its in form._fields_:
+            if isinstance(its, type) and issubclass(its, ctypes.Structure):
+                setattr(found, name, self.nothing(its))
+            elif hasattr(its, "contents"):
+                setattr(found, name, ctypes.cast((ctypes.c_uint64 * 1)(), its))
+        return found
+
+    def lent(self, form, name, *words):
+        """What a call lends, as a list of units or bytes; None where it is not there."""
+        out = self.nothing(self.structs[form])
+        status = self.call(name, *words, ctypes.byref(out))
+        if self.words[status] == "not-there":
+            return None
+        assert status == 0, f"{name}: {self.words[status]}"
+        return getattr(out, out._fields_[0][0])[: out.length]
+
+    def name(self, call, *words):
+        found = self.lent("hp_bytes", call, *words)
+        return None if found is None else bytes(found).decode()
+
+    def text(self, call, *words):
+        found = self.lent("hp_text_view", call, *words)
+        return None if found is None else of_units(found)
+
+    def count(self, call="hp_count", *words):
+        found = ctypes.c_size_t(7)
+        self.must(call, *words, ctypes.byref(found))
+        return found.value
+
+    def number_at(self, at):
+        found = ctypes.c_uint32(7)
+        self.must("hp_number_at", at, ctypes.byref(found))
+        return found.value
+
+    # arguments
+
+    def scalar(self, value, form):
+        if form is ctypes.c_bool:
+            return [form(value)]
+        if form is ctypes.c_uint8:
+            # a choice: a move by its place, or no, yes and neither
+            return [MOVES.index(value) if isinstance(value, str) else 2 if value is None else int(value)]
+        return [MOST if value is None else value]
+
+    def rules(self, rules):
+        names = [name.encode() for name, _ in rules]
+        verdicts = Array(ctypes.c_uint8, [VERDICTS[it] for _, it in rules])
+        return self.names(names) + verdicts.words
+
+    def names(self, names):
+        return Array(ctypes.c_uint8, b"".join(names)).words + Array(ctypes.c_uint32, map(len, names)).words
+
+    def options(self, given):
+        found = self.structs["hp_options"]()
+        for it in OPTIONS:
+            setattr(found, snake(it), self.scalar(given.get(it), ctypes.c_uint8)[0])
+        names = given.get("attributeFilter")
+        found.attribute_filter = int(names is not None)
+        return [ctypes.byref(found)] + self.names([it.encode() for it in names or []])
+
+    def argument(self, it, value):
+        """A line's argument as the words of a call, from the parameter at which it begins."""
+        if it.type == "hp_options":
+            return self.options(value)
+        if it.name == "names":
+            return self.rules(value)
+        if it.is_pointer and it.type == "uint8_t":
+            return Array(ctypes.c_uint8, value.encode()).words
+        if it.is_pointer:
+            return Array(ctypes.c_uint16, units_of(value)).words
+        return self.scalar(value, self.form(it))
+
+    def form(self, it):
+        return {"bool": ctypes.c_bool, "uint8_t": ctypes.c_uint8}.get(it.type, ctypes.c_uint32)
+
+    def arguments(self, call, values):
+        parameters = [it for it in call.parameters if it.type != "hp_session" and (it.is_const or not it.is_pointer)]
+        words, left = [], list(values)
+        while len(words) < len(parameters):
+            words += self.argument(parameters[len(words)], left.pop(0))
+        assert not left, f"{call.name}: {len(left)} arguments too many"
+        return words
+
+    # answers
+
+    def out(self, call):
+        """What a call's out pointer points at, before the call."""
+        outs = [it for it in call.parameters if it.type != "hp_session" and it.is_pointer and not it.is_const]
+        assert len(outs) < 2, call.name
+        if not outs:
+            return None
+        return self.structs[outs[0].type]() if outs[0].type in self.structs else SCALARS[outs[0].type](7)
+
+    def place(self, it):
+        maybe = lambda number: None if number == MOST else number
+        found = {"document": it.document, "next": maybe(it.next), "parent": maybe(it.parent)}
+        found.update({"previous": maybe(it.previous), "type": it.kind})
+        # the names are read off the printed answer
+        return {**json.loads(self.printed())["ok"], **found}
+
+    def told(self, name, out):
+        """The answer that an out pointer has."""
+        if isinstance(out, ctypes.Structure):
+            if "document" in dict(out._fields_):
+                return self.place(out)
+            flags = {field for field, _ in out._fields_ if field.startswith("is_")}
+            return [bool(getattr(out, field)) if field in flags else getattr(out, field) for field, _ in out._fields_]
+        if isinstance(out, ctypes.c_uint8):
+            assert out.value in (0, 1)
+            return bool(out.value)
+        return None if name in MAYBE and out.value == MOST else out.value
+
+    def kept(self, name):
+        """The answer that the session keeps."""
+        if name in TEXTS:
+            return self.text("hp_text")
+        if name in NUMBERS:
+            return [self.number_at(at) for at in range(self.count())]
+        if name == "attributeNames":
+            return [self.name("hp_name_at", at) for at in range(self.count())]
+        if name in ROWS:
+            rows = json.loads(self.printed())["ok"]
+            assert len(rows) == self.count()
+            return rows
+        return None
+
+    def printed(self):
+        """The line of the answer that the session keeps."""
+        self.must("hp_print")
+        return bytes(self.lent("hp_bytes", "hp_reply_line"))
+
+    def answer(self, name, values):
+        """Says a command by its call, and returns its reply."""
+        call = self.calls["hp_" + snake(name)]
+        out = self.out(call)
+        words = self.arguments(call, values)
+        status = self.call(call.name, *words, *([] if out is None else [ctypes.byref(out)]))
+        if status:
+            return {"error": self.words[status]}
+        if out is not None:
+            return {"ok": self.told(name, out)}
+        return {"ok": values[HANDED_BACK[name]] if name in HANDED_BACK else self.kept(name)}
+
+
+def line_of(reply):
+    return json.dumps(reply, ensure_ascii=False, separators=(",", ":")).encode("utf-8", "surrogatepass") + b"\n"
+
+
+def say(session, it, left_out):
+    """Says a dialogue; returns how many lines were said, and tells of the first reply that is another."""
+    session.program.dialogue(it.name)
+    limits = dict(zip(it.words[::2], map(int, it.words[1::2])))
+    session.must("hp_open", limits.get("--numbers", MOST), limits.get("--line", 1048576))
+    said = 0
+    for line, due in zip(it.given.split(b"\n"), it.due.splitlines(True)):
+        if json.loads(due).get("error") in OF_LINES:
+            left_out["lines that no call can say"] = left_out.get("lines that no call can say", 0) + 1
+            continue
+        name, *values = json.loads(line)
+        try:
+            reply = line_of(session.answer(name, values))
+        except NoCall as missing:
+            left_out[f"replies that need {missing}"] = left_out.get(f"replies that need {missing}", 0) + 1
+            continue
+        if session.printed() != due:
+            sys.exit(f"{it.name}: {line.decode(errors='replace')}\n  printed {session.printed()}\n  due     {due}")
+        if reply != due:
+            sys.exit(f"{it.name}: {line.decode(errors='replace')}\n  answered {reply}\n  due      {due}")
+        said += 1
+    session.must("hp_close")
+    return said
+
+
+def main():
+    parser = argparse.ArgumentParser(description=__doc__, formatter_class=argparse.RawDescriptionHelpFormatter)
+    parser.add_argument("--library", required=True, help="the libhuckleport.so")
+    parser.add_argument("--header", required=True, help="the huckleport.h")
+    parser.add_argument("--only", default="", metavar="PATTERN", help="only dialogues whose name has it")
+    parser.add_argument("folders", nargs="*", metavar="FOLDER", help="the dialogues below these folders (tools/dialogues)")
+    parser.add_argument("--write", metavar="FILE", help="the calls that were made as a program in C, which wants the same statuses")
+    given = parser.parse_args()
+    session, left_out = Session(given.library, given.header), {}
+    found = [it for it in dialogues(given.folders) if given.only in it.name]
+    said = sum(say(session, it, left_out) for it in found)
+    print(f"{len(found)} dialogues, {said} lines by {len(session.seen)} of {len(session.calls)} calls")
+    if given.write:
+        with open(given.write, "w", encoding="utf-8") as file:
+            file.write(session.program.text())
+    for what, count in sorted(left_out.items()):
+        print(f"left out: {count} {what}")
+    missed = sorted(set(session.calls) - session.seen - {"hp_line"})
+    if missed:
+        print(f"not called: {', '.join(missed)}")
+
+
+if __name__ == "__main__":
+    main()

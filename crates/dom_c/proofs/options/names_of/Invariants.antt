@@ -1,0 +1,9 @@
+use Rattle.std.proofs.Common.{◌≡◌, [], drop}
+use Rattle.std.specs.Prelude.{map, string_bytes}
+use Rattle.dom_c.specs.Lists.{names_from}
+use Rattle.dom_c.proofs.options.names_of.Given as goal
+
+-- what is left is read onto what was read
+abbrev pub invariant-loop-length : goal.invariant-loop-length
+invariant-loop-length l =
+    names_from [] l.lengths l.fn.names ≡ names_from (map string_bytes l.given.items) (drop l.length-index l.lengths) l.bytes

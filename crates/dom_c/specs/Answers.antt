@@ -1,0 +1,49 @@
+-- What a call does: its status, the reply that is kept, and the session afterwards.
+use Rattle.std.specs.Prelude.{◌≡◌, ℕ, Bool, true, false, Option, Some, None, option_map, Result, Ok, Err}
+use Rattle.dom_model.specs.Worlds.World.{World}
+use Rattle.dom_model.specs.Commands.Command.{Command}
+use Rattle.dom_model.specs.Commands.Reply as model
+use Rattle.dom_model.specs.Commands.Answer.{Step, answer}
+use Rattle.dom_wire.specs.Sessions.{StandsFor, reply_view}
+use Rattle.dom_c.specs.Statuses.{status_of, out_of_memory, closed}
+use Rattle.dom_c.specs.declared.kept.Kept.{Kept}
+use Rattle.dom_c.specs.declared.handle.Handle.{Handle}
+
+-- For each world that the session stood for, the reply is the one of that world's step, and the session stands for its next world.
+-- The status tells of that reply, and a refusal leaves the session.
+pub record IsTaken (reply : model.Reply) (old new : Kept) (step : World → Step) (status : ℕ) : Type 0 where
+  pub reply_is : (w : World) → StandsFor old.session w → reply ≡ (step w).reply
+  pub world_is : (w : World) → StandsFor old.session w → StandsFor new.session (step w).world
+  pub status_is : status ≡ status_of reply
+  pub refused : model.is_refusal reply ≡ true → new.session ≡ old.session
+
+-- the step is taken, and its reply is kept; arguments that make no command give their own status, and change nothing
+abbrev pub Goes : Result (World → Step) ℕ → Option model.Reply → Kept → Kept → ℕ → Type 0
+Goes (Ok step) None old new status = ⊥
+Goes (Ok step) (Some reply) old new status = IsTaken reply old new step status
+Goes (Err malformed) reply old new status = (new ≡ old) × (status ≡ malformed)
+
+-- memory was wanting, now or before, and nothing more is answered; or all went on
+abbrev pub Ends : Bool → Result (World → Step) ℕ → Kept → Kept → ℕ → Type 0
+Ends true step old new status = status ≡ out_of_memory
+Ends false step old new status = (old.ended ≡ false) × Goes step (option_map reply_view new.reply) old new status
+
+pub record Steps (step : Result (World → Step) ℕ) (old new : Kept) (status : ℕ) : Type 0 where
+  pub ends : Ends new.ended step old new status
+  pub bounds : new.session.bounds ≡ old.session.bounds
+  pub limit : new.limit ≡ old.limit
+
+-- the step of a command, or the status of arguments that make none
+abbrev pub step_for : Kept → Result Command ℕ → Result (World → Step) ℕ
+step_for old (Ok c) = Ok (λ w. answer old.session.bounds w c)
+step_for old (Err malformed) = Err malformed
+
+-- a closed handle says so
+abbrev pub StepsIn : (Kept → Result (World → Step) ℕ) → Option Kept → Option Kept → ℕ → Type 0
+StepsIn step None new status = (new ≡ None) × (status ≡ closed)
+StepsIn step (Some old) None status = ⊥
+StepsIn step (Some old) (Some new) status = Steps (step old) old new status
+
+-- what a call for a command does
+abbrev pub Answers : Handle → Handle → Result Command ℕ → ℕ → Type 0
+Answers old new c status = StepsIn (λ kept. step_for kept c) old.slot.kept new.slot.kept status

@@ -1,0 +1,12 @@
+pub mod Lends
+pub mod Ownership
+pub mod Statuses
+pub mod Reads
+pub mod Answers
+pub mod Told
+pub mod Places
+pub mod Opens
+pub mod Lines
+pub mod Lists
+pub mod Codes
+pub mod Reading

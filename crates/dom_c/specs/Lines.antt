@@ -1,0 +1,69 @@
+-- What a line of JSON does.
+use Rattle.std.specs.Prelude.{◌≡◌, ℕ, Bool, true, false, List, Option, Some, None, option_map, Result, Ok}
+use Rattle.dom_model.specs.Worlds.World.{World}
+use Rattle.dom_model.specs.Commands.Reply.{Reply}
+use Rattle.dom_model.specs.Commands.Answer.{Step}
+use Rattle.dom_model.specs.Commands.Table.{whole_table}
+use Rattle.dom_model.specs.Commands.Line.{command_within}
+use Rattle.dom_model.specs.Commands.Output.{step_of}
+use Rattle.dom_model.specs.Commands.Printed.{reply_line}
+use Rattle.dom_wire.specs.Sessions.{Held, StandsFor, reply_view}
+use Rattle.dom_c.specs.Statuses.{out_of_memory, closed, not_there}
+use Rattle.dom_c.specs.Answers.{StepsIn}
+use Rattle.dom_c.specs.declared.kept.Kept.{Kept}
+use Rattle.dom_c.specs.declared.handle.Handle.{Handle}
+
+-- the step of a line, as the server takes it
+abbrev pub step_in : Held → ℕ → List ℕ → World → Step
+step_in s limit line w = step_of s.bounds (command_within whole_table limit line) w
+
+abbrev pub step_for_line : List ℕ → Kept → Result (World → Step) ℕ
+step_for_line line old = Ok (step_in old.session old.limit line)
+
+-- unless memory was wanting, the line that is kept is the one of the reply that is kept, with its newline
+abbrev pub Prints : Bool → Option Reply → List ℕ → Type 0
+Prints false (Some reply) line = line ≡ reply_line reply
+Prints false None line = ⊥
+Prints true reply line = Unit {0}
+
+abbrev pub IsPrinted : Kept → Type 0
+IsPrinted k = Prints k.ended (option_map reply_view k.reply) k.line.items
+
+abbrev pub IsPrintedIn : Option Kept → Type 0
+IsPrintedIn None = Unit {0}
+IsPrintedIn (Some k) = IsPrinted k
+
+pub record AnswersLine (old new : Handle) (line : List ℕ) (status : ℕ) : Type 0 where
+  pub steps : StepsIn (step_for_line line) old.slot.kept new.slot.kept status
+  pub printed : IsPrintedIn new.slot.kept
+
+-- the reply to a line is the one of the step, and the session took it
+pub record IsReply (reply : Reply) (old new : Held) (step : World → Step) : Type 0 where
+  pub reply_is : (w : World) → StandsFor old w → reply ≡ (step w).reply
+  pub world_is : (w : World) → StandsFor old w → StandsFor new (step w).world
+
+-- the line that is kept is the one of this reply; where there is none, that is said
+abbrev pub SaysLast : Option Reply → List ℕ → List ℕ → ℕ → Type 0
+SaysLast None old new status = (new ≡ old) × (status ≡ not_there)
+SaysLast (Some reply) old new status = (new ≡ reply_line reply) × (status ≡ 0)
+
+-- the same, or memory was wanting, now or before
+abbrev pub SaysOrEnds : Bool → Kept → Kept → ℕ → Type 0
+SaysOrEnds true old new status = status ≡ out_of_memory
+SaysOrEnds false old new status = (old.ended ≡ false) × SaysLast (option_map reply_view old.reply) old.line.items new.line.items status
+
+-- the last reply is printed; the session and the reply stay
+pub record PrintsLast (old new : Kept) (status : ℕ) : Type 0 where
+  pub session : new.session ≡ old.session
+  pub reply : new.reply ≡ old.reply
+  pub limit : new.limit ≡ old.limit
+  pub says : SaysOrEnds new.ended old new status
+
+-- a closed handle says so
+abbrev pub PrintsLastKept : Option Kept → Option Kept → ℕ → Type 0
+PrintsLastKept None new status = (new ≡ None) × (status ≡ closed)
+PrintsLastKept (Some old) None status = ⊥
+PrintsLastKept (Some old) (Some new) status = PrintsLast old new status
+
+abbrev pub PrintsLastIn : Handle → Handle → ℕ → Type 0
+PrintsLastIn old new status = PrintsLastKept old.slot.kept new.slot.kept status

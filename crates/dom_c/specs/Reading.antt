@@ -1,0 +1,69 @@
+-- What is read of the last answer: its text, and its parts by their index.
+use Rattle.std.specs.Prelude.{◌≡◌, ℕ, Bool, true, false, if◌then◌else◌, List, length, slice_get, Option, Some, None, option_map, option_and_then}
+use Rattle.dom_model.specs.Commands.Reply.{Answer, Numbers, Units, MaybeUnits, Names, Rows, Records, Notified}
+use Rattle.dom_c.specs.Statuses.{out_of_memory, closed, not_there}
+use Rattle.dom_c.specs.Told.{last_of}
+use Rattle.dom_c.specs.declared.kept.Kept.{Kept}
+use Rattle.dom_c.specs.declared.handle.Handle.{Handle}
+
+-- the part was found, or it is not there
+abbrev pub status_found : {A : Type 0} → Option A → ℕ
+status_found None = not_there
+status_found (Some a) = 0
+
+-- what is found in the last answer, and the status of looking for it
+abbrev pub looked_up_of : {A : Type 0} → Kept → (Answer → Option A) → Option A
+looked_up_of k find = if k.ended then None else option_and_then find (last_of k)
+
+abbrev pub look_up_status_of : {A : Type 0} → Kept → (Answer → Option A) → ℕ
+look_up_status_of k find = if k.ended then out_of_memory else status_found (looked_up_of k find)
+
+abbrev pub looked_up : {A : Type 0} → Handle → (Answer → Option A) → Option A
+looked_up h find = option_and_then (λ k. looked_up_of k find) h.slot.kept
+
+abbrev pub status_in : {A : Type 0} → Option Kept → (Answer → Option A) → ℕ
+status_in None find = closed
+status_in (Some k) find = look_up_status_of k find
+
+abbrev pub look_up_status : {A : Type 0} → Handle → (Answer → Option A) → ℕ
+look_up_status h find = status_in h.slot.kept find
+
+-- what is written where it was found
+abbrev pub or_before : {A : Type 0} → Option A → A → A
+or_before None before = before
+or_before (Some a) before = a
+
+abbrev pub text_in : Answer → Option (List ℕ)
+text_in (Units text) = Some text
+text_in (MaybeUnits text) = text
+text_in _ = None
+
+abbrev pub count_in : Answer → Option ℕ
+count_in (Numbers ns) = Some (length ns)
+count_in (Names ns) = Some (length ns)
+count_in (Rows rs) = Some (length rs)
+count_in (Records rs) = Some (length rs)
+count_in (Notified ts) = Some (length ts)
+count_in _ = None
+
+abbrev pub number_at : ℕ → Answer → Option ℕ
+number_at i (Numbers ns) = slice_get ns i
+number_at i _ = None
+
+abbrev pub name_at : ℕ → Answer → Option (List ℕ)
+name_at i (Names ns) = slice_get ns i
+name_at i _ = None
+
+-- the line that was printed last, unless memory was wanting
+abbrev pub line_of : Kept → Option (List ℕ)
+line_of k = if k.ended then None else Some k.line.items
+
+abbrev pub line_lent : Handle → Option (List ℕ)
+line_lent h = option_and_then line_of h.slot.kept
+
+abbrev pub line_status_in : Option Kept → ℕ
+line_status_in None = closed
+line_status_in (Some k) = if k.ended then out_of_memory else 0
+
+abbrev pub line_status : Handle → ℕ
+line_status h = line_status_in h.slot.kept

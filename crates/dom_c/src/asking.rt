@@ -1,0 +1,115 @@
+//! The questions about nodes.
+
+ghost use Rattle.std.specs.Prelude.{◌≡◌, Ok};
+ghost use Rattle.dom_model.specs.Commands.Command.{DescribeNode, Children, Index, Length, Root, IsContaining, IsEqual, ComparePosition, TextContent, Tree};
+ghost use Rattle.dom_c.specs.Answers.{Answers};
+ghost use Rattle.dom_c.specs.Reads.{number_or_none};
+ghost use Rattle.dom_c.specs.Told.{told, count_told, flag_told, number_told};
+ghost use Rattle.dom_c.specs.Places.{place_told};
+
+use crate::handle::Handle;
+use crate::places::Place;
+use crate::reading::node_or_none;
+use dom_session::NodeId;
+use dom_wire::Command;
+
+/// Tells where a node stands, and of which kind it is; `hp_print` prints its names too.
+#[unsafe(no_mangle)]
+pub extern "C" fn hp_node(handle: &mut Handle, node: u32, place: &mut Place) -> u8
+    ensures answers { Answers handle.old handle.new (Ok (DescribeNode node)) result }
+    ensures told { place.new ≡ place_told (told handle.new result) place.old }
+{
+    handle.take_place(Ok(Command::DescribeNode(NodeId::new(node))), place)
+}
+
+/// The children of a node: `hp_count` and `hp_number_at` read the answer.
+#[unsafe(no_mangle)]
+pub extern "C" fn hp_children(handle: &mut Handle, node: u32) -> u8
+    ensures { Answers handle.old handle.new (Ok (Children node)) result }
+{
+    handle.take(Ok(Command::Children(NodeId::new(node))))
+}
+
+/// How many siblings stand before a node.
+#[unsafe(no_mangle)]
+pub extern "C" fn hp_index(handle: &mut Handle, node: u32, index: &mut usize) -> u8
+    ensures answers { Answers handle.old handle.new (Ok (Index node)) result }
+    ensures told { index.new ≡ count_told (told handle.new result) index.old }
+{
+    handle.take_count(Ok(Command::Index(NodeId::new(node))), index)
+}
+
+/// The length of a node.
+#[unsafe(no_mangle)]
+pub extern "C" fn hp_length(handle: &mut Handle, node: u32, length: &mut usize) -> u8
+    ensures answers { Answers handle.old handle.new (Ok (Length node)) result }
+    ensures told { length.new ≡ count_told (told handle.new result) length.old }
+{
+    handle.take_count(Ok(Command::Length(NodeId::new(node))), length)
+}
+
+/// The root of a node.
+#[unsafe(no_mangle)]
+pub extern "C" fn hp_root(handle: &mut Handle, node: u32, root: &mut u32) -> u8
+    ensures answers { Answers handle.old handle.new (Ok (Root node)) result }
+    ensures told { root.new ≡ number_told (told handle.new result) root.old }
+{
+    handle.take_number(Ok(Command::Root(NodeId::new(node))), root)
+}
+
+/// Whether another node is an inclusive descendant; `HP_NONE` is none.
+#[unsafe(no_mangle)]
+pub extern "C" fn hp_contains(handle: &mut Handle, node: u32, other: u32, contains: &mut u8) -> u8
+    ensures answers { Answers handle.old handle.new (Ok (IsContaining node (number_or_none other))) result }
+    ensures told { contains.new ≡ flag_told (told handle.new result) contains.old }
+{
+    handle.take_flag(
+        Ok(Command::IsContaining(NodeId::new(node), node_or_none(other))),
+        contains,
+    )
+}
+
+/// Whether both nodes are equal; `HP_NONE` is equal to none.
+#[unsafe(no_mangle)]
+pub extern "C" fn hp_is_equal(handle: &mut Handle, node: u32, other: u32, is_equal: &mut u8) -> u8
+    ensures answers { Answers handle.old handle.new (Ok (IsEqual node (number_or_none other))) result }
+    ensures told { is_equal.new ≡ flag_told (told handle.new result) is_equal.old }
+{
+    handle.take_flag(
+        Ok(Command::IsEqual(NodeId::new(node), node_or_none(other))),
+        is_equal,
+    )
+}
+
+/// Where the second node stands, seen from the first, as the bits of the standard.
+#[unsafe(no_mangle)]
+pub extern "C" fn hp_compare_position(
+    handle: &mut Handle,
+    node: u32,
+    other: u32,
+    position: &mut u32,
+) -> u8
+    ensures answers { Answers handle.old handle.new (Ok (ComparePosition node other)) result }
+    ensures told { position.new ≡ number_told (told handle.new result) position.old }
+{
+    handle.take_number(
+        Ok(Command::ComparePosition(NodeId::new(node), NodeId::new(other))),
+        position,
+    )
+}
+
+/// The text in a node: `hp_text` reads the answer, and there is none where it is null.
+#[unsafe(no_mangle)]
+pub extern "C" fn hp_text_content(handle: &mut Handle, node: u32) -> u8
+    ensures { Answers handle.old handle.new (Ok (TextContent node)) result }
+{
+    handle.take(Ok(Command::TextContent(NodeId::new(node))))
+}
+
+/// A node and all below it, in tree order: `hp_count` counts the rows, `hp_print` prints them.
+#[unsafe(no_mangle)]
+pub extern "C" fn hp_tree(handle: &mut Handle, node: u32) -> u8
+    ensures { Answers handle.old handle.new (Ok (Tree node)) result }
+{
+    handle.take(Ok(Command::Tree(NodeId::new(node))))
+}

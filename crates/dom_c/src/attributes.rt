@@ -1,0 +1,156 @@
+//! The commands on attributes.
+
+ghost use Rattle.std.specs.Prelude.{◌≡◌, Ok};
+ghost use Rattle.dom_model.specs.Commands.Command.{SetAttribute, GetAttribute, HasAttribute, RemoveAttribute, ToggleAttribute, AttributeNames};
+ghost use Rattle.dom_wire.specs.Sessions.{command_view};
+ghost use Rattle.dom_c.specs.Answers.{Answers};
+ghost use Rattle.dom_c.specs.Reads.{Reads, choice_in, name_in, then_make};
+ghost use Rattle.dom_c.specs.Told.{told, flag_told};
+
+use crate::fault::Fault;
+use crate::handle::Handle;
+use crate::reading::{choice_of, name_of, units_of};
+use dom_session::NodeId;
+use dom_wire::Command;
+use std::alloc::Global;
+
+// Reads the arguments of `hp_set_attribute`.
+fn read_set_attribute(
+    alloc: Global,
+    element: u32,
+    name: &[u8],
+    value: &[u16],
+) -> Result<Command, Fault>
+    ensures { Reads command_view result
+        (then_make (name_in name.now) (λ name. Ok (SetAttribute element name value.now))) }
+{
+    let name = name_of(alloc, name)?;
+    let value = units_of(alloc, value)?;
+    Ok(Command::SetAttribute(NodeId::new(element), name, value))
+}
+
+/// Sets an attribute.
+#[unsafe(no_mangle)]
+pub extern "C" fn hp_set_attribute(
+    handle: &mut Handle,
+    alloc: Global,
+    element: u32,
+    name: &[u8],
+    value: &[u16],
+) -> u8
+    ensures { Answers handle.old handle.new
+        (then_make (name_in name.now) (λ name. Ok (SetAttribute element name value.now))) result }
+{
+    handle.take(read_set_attribute(alloc, element, name, value))
+}
+
+// Reads the arguments of `hp_get_attribute`.
+fn read_get_attribute(alloc: Global, element: u32, name: &[u8]) -> Result<Command, Fault>
+    ensures { Reads command_view result
+        (then_make (name_in name.now) (λ name. Ok (GetAttribute element name))) }
+{
+    let name = name_of(alloc, name)?;
+    Ok(Command::GetAttribute(NodeId::new(element), name))
+}
+
+/// The value of an attribute: `hp_text` reads the answer, and there is none where it is null.
+#[unsafe(no_mangle)]
+pub extern "C" fn hp_get_attribute(
+    handle: &mut Handle,
+    alloc: Global,
+    element: u32,
+    name: &[u8],
+) -> u8
+    ensures { Answers handle.old handle.new
+        (then_make (name_in name.now) (λ name. Ok (GetAttribute element name))) result }
+{
+    handle.take(read_get_attribute(alloc, element, name))
+}
+
+// Reads the arguments of `hp_has_attribute`.
+fn read_has_attribute(alloc: Global, element: u32, name: &[u8]) -> Result<Command, Fault>
+    ensures { Reads command_view result
+        (then_make (name_in name.now) (λ name. Ok (HasAttribute element name))) }
+{
+    let name = name_of(alloc, name)?;
+    Ok(Command::HasAttribute(NodeId::new(element), name))
+}
+
+/// Whether there is an attribute of that name.
+#[unsafe(no_mangle)]
+pub extern "C" fn hp_has_attribute(
+    handle: &mut Handle,
+    alloc: Global,
+    element: u32,
+    name: &[u8],
+    is_there: &mut u8,
+) -> u8
+    ensures answers { Answers handle.old handle.new
+        (then_make (name_in name.now) (λ name. Ok (HasAttribute element name))) result }
+    ensures told { is_there.new ≡ flag_told (told handle.new result) is_there.old }
+{
+    handle.take_flag(read_has_attribute(alloc, element, name), is_there)
+}
+
+// Reads the arguments of `hp_remove_attribute`.
+fn read_remove_attribute(alloc: Global, element: u32, name: &[u8]) -> Result<Command, Fault>
+    ensures { Reads command_view result
+        (then_make (name_in name.now) (λ name. Ok (RemoveAttribute element name))) }
+{
+    let name = name_of(alloc, name)?;
+    Ok(Command::RemoveAttribute(NodeId::new(element), name))
+}
+
+/// Removes an attribute.
+#[unsafe(no_mangle)]
+pub extern "C" fn hp_remove_attribute(
+    handle: &mut Handle,
+    alloc: Global,
+    element: u32,
+    name: &[u8],
+) -> u8
+    ensures { Answers handle.old handle.new
+        (then_make (name_in name.now) (λ name. Ok (RemoveAttribute element name))) result }
+{
+    handle.take(read_remove_attribute(alloc, element, name))
+}
+
+// Reads the arguments of `hp_toggle_attribute`.
+fn read_toggle_attribute(
+    alloc: Global,
+    element: u32,
+    name: &[u8],
+    force: u8,
+) -> Result<Command, Fault>
+    ensures { Reads command_view result
+        (then_make (name_in name.now) (λ name. then_make (choice_in force) (λ force. Ok (ToggleAttribute element name force)))) }
+{
+    let name = name_of(alloc, name)?;
+    let force = choice_of(force)?;
+    Ok(Command::ToggleAttribute(NodeId::new(element), name, force))
+}
+
+/// Adds or removes an attribute. `force` is 0 to remove, 1 to add, and 2 for what turns it.
+#[unsafe(no_mangle)]
+pub extern "C" fn hp_toggle_attribute(
+    handle: &mut Handle,
+    alloc: Global,
+    element: u32,
+    name: &[u8],
+    force: u8,
+    is_there: &mut u8,
+) -> u8
+    ensures answers { Answers handle.old handle.new
+        (then_make (name_in name.now) (λ name. then_make (choice_in force) (λ force. Ok (ToggleAttribute element name force)))) result }
+    ensures told { is_there.new ≡ flag_told (told handle.new result) is_there.old }
+{
+    handle.take_flag(read_toggle_attribute(alloc, element, name, force), is_there)
+}
+
+/// The names of the attributes, in order: `hp_count` and `hp_name_at` read the answer.
+#[unsafe(no_mangle)]
+pub extern "C" fn hp_attribute_names(handle: &mut Handle, element: u32) -> u8
+    ensures { Answers handle.old handle.new (Ok (AttributeNames element)) result }
+{
+    handle.take(Ok(Command::AttributeNames(NodeId::new(element))))
+}

@@ -1,0 +1,37 @@
+//! The commands that copy nodes.
+
+ghost use Rattle.std.specs.Prelude.{◌≡◌, Ok};
+ghost use Rattle.dom_model.specs.Commands.Command.{ImportNode, CloneNode};
+ghost use Rattle.dom_c.specs.Answers.{Answers};
+ghost use Rattle.dom_c.specs.Told.{told, number_told};
+
+use crate::handle::Handle;
+use dom_session::NodeId;
+use dom_wire::Command;
+
+/// A copy of a node for another document, with or without all below it.
+#[unsafe(no_mangle)]
+pub extern "C" fn hp_import_node(
+    handle: &mut Handle,
+    document: u32,
+    node: u32,
+    deep: bool,
+    copy: &mut u32,
+) -> u8
+    ensures answers { Answers handle.old handle.new (Ok (ImportNode document node deep)) result }
+    ensures told { copy.new ≡ number_told (told handle.new result) copy.old }
+{
+    handle.take_number(
+        Ok(Command::ImportNode(NodeId::new(document), NodeId::new(node), deep)),
+        copy,
+    )
+}
+
+/// A copy of a node, with or without all below it.
+#[unsafe(no_mangle)]
+pub extern "C" fn hp_clone_node(handle: &mut Handle, node: u32, deep: bool, copy: &mut u32) -> u8
+    ensures answers { Answers handle.old handle.new (Ok (CloneNode node deep)) result }
+    ensures told { copy.new ≡ number_told (told handle.new result) copy.old }
+{
+    handle.take_number(Ok(Command::CloneNode(NodeId::new(node), deep)), copy)
+}

@@ -1,0 +1,118 @@
+//! The commands that change a tree.
+
+ghost use Rattle.std.specs.Prelude.{Ok};
+ghost use Rattle.dom_model.specs.Commands.Command.{InsertBefore, AppendChild, AdoptNode, ReplaceChild, RemoveChild, Remove, ReplaceChildren, Normalize, SetTextContent, Discard};
+ghost use Rattle.dom_wire.specs.Sessions.{command_view};
+ghost use Rattle.dom_c.specs.Answers.{Answers};
+ghost use Rattle.dom_c.specs.Reads.{Reads, number_or_none};
+
+use crate::fault::Fault;
+use crate::handle::Handle;
+use crate::reading::{node_or_none, units_of};
+use dom_session::NodeId;
+use dom_wire::Command;
+use std::alloc::Global;
+
+/// Inserts a node into a parent, before a child; with `HP_NONE` as the child, last.
+#[unsafe(no_mangle)]
+pub extern "C" fn hp_insert_before(handle: &mut Handle, parent: u32, node: u32, child: u32) -> u8
+    ensures { Answers handle.old handle.new
+        (Ok (InsertBefore parent node (number_or_none child))) result }
+{
+    handle.take(Ok(Command::InsertBefore(
+        NodeId::new(parent),
+        NodeId::new(node),
+        node_or_none(child),
+    )))
+}
+
+/// Appends a node to the children of a parent.
+#[unsafe(no_mangle)]
+pub extern "C" fn hp_append_child(handle: &mut Handle, parent: u32, node: u32) -> u8
+    ensures { Answers handle.old handle.new (Ok (AppendChild parent node)) result }
+{
+    handle.take(Ok(Command::AppendChild(NodeId::new(parent), NodeId::new(node))))
+}
+
+/// Adopts a node into a document.
+#[unsafe(no_mangle)]
+pub extern "C" fn hp_adopt_node(handle: &mut Handle, document: u32, node: u32) -> u8
+    ensures { Answers handle.old handle.new (Ok (AdoptNode document node)) result }
+{
+    handle.take(Ok(Command::AdoptNode(NodeId::new(document), NodeId::new(node))))
+}
+
+/// Puts a node in place of a child.
+#[unsafe(no_mangle)]
+pub extern "C" fn hp_replace_child(handle: &mut Handle, parent: u32, node: u32, child: u32) -> u8
+    ensures { Answers handle.old handle.new (Ok (ReplaceChild parent node child)) result }
+{
+    handle.take(Ok(Command::ReplaceChild(
+        NodeId::new(parent),
+        NodeId::new(node),
+        NodeId::new(child),
+    )))
+}
+
+/// Removes a child.
+#[unsafe(no_mangle)]
+pub extern "C" fn hp_remove_child(handle: &mut Handle, parent: u32, child: u32) -> u8
+    ensures { Answers handle.old handle.new (Ok (RemoveChild parent child)) result }
+{
+    handle.take(Ok(Command::RemoveChild(NodeId::new(parent), NodeId::new(child))))
+}
+
+/// Removes a node from its parent, where it has one.
+#[unsafe(no_mangle)]
+pub extern "C" fn hp_remove(handle: &mut Handle, node: u32) -> u8
+    ensures { Answers handle.old handle.new (Ok (Remove node)) result }
+{
+    handle.take(Ok(Command::Remove(NodeId::new(node))))
+}
+
+/// Puts a node, or with `HP_NONE` none, in place of all children.
+#[unsafe(no_mangle)]
+pub extern "C" fn hp_replace_children(handle: &mut Handle, parent: u32, node: u32) -> u8
+    ensures { Answers handle.old handle.new
+        (Ok (ReplaceChildren parent (number_or_none node))) result }
+{
+    handle.take(Ok(Command::ReplaceChildren(NodeId::new(parent), node_or_none(node))))
+}
+
+/// Joins Text nodes below a node that stand side by side, and drops empty ones.
+#[unsafe(no_mangle)]
+pub extern "C" fn hp_normalize(handle: &mut Handle, node: u32) -> u8
+    ensures { Answers handle.old handle.new (Ok (Normalize node)) result }
+{
+    handle.take(Ok(Command::Normalize(NodeId::new(node))))
+}
+
+// Reads the arguments of `hp_set_text_content`.
+fn read_set_text_content(alloc: Global, node: u32, text: &[u16]) -> Result<Command, Fault>
+    ensures { Reads command_view result
+        (Ok (SetTextContent node text.now)) }
+{
+    let text = units_of(alloc, text)?;
+    Ok(Command::SetTextContent(NodeId::new(node), text))
+}
+
+/// Puts a text in place of what a node has.
+#[unsafe(no_mangle)]
+pub extern "C" fn hp_set_text_content(
+    handle: &mut Handle,
+    alloc: Global,
+    node: u32,
+    text: &[u16],
+) -> u8
+    ensures { Answers handle.old handle.new (Ok (SetTextContent node text.now)) result }
+{
+    handle.take(read_set_text_content(alloc, node, text))
+}
+
+/// Lets a node and all below it go.
+#[unsafe(no_mangle)]
+pub extern "C" fn hp_discard(handle: &mut Handle, node: u32) -> u8
+    ensures { Answers handle.old handle.new (Ok (Discard node)) result }
+{
+    handle.take(Ok(Command::Discard(NodeId::new(node))))
+}

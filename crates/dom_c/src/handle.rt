@@ -1,0 +1,14 @@
+//! What C holds of a session.
+
+ghost use Rattle.std.specs.Prelude.{◌≡◌, is_some};
+
+use crate::slot::Slot;
+
+/// A session, or none. All zero bytes are a closed handle.
+#[repr(C)]
+pub struct Handle {
+    pub slot: Slot,
+    pub is_open: bool,
+    // a handle is open where something is kept
+    ghost tied: { is_open ≡ is_some slot.kept },
+}

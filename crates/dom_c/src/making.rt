@@ -1,0 +1,176 @@
+//! The commands that make nodes.
+
+ghost use Rattle.std.specs.Prelude.{◌≡◌, Ok};
+ghost use Rattle.dom_model.specs.Commands.Command.{NewDocument, CreateElement, CreateText, CreateComment, CreatePI, CreateDoctype, CreateFragment};
+ghost use Rattle.dom_wire.specs.Sessions.{command_view};
+ghost use Rattle.dom_c.specs.Answers.{Answers};
+ghost use Rattle.dom_c.specs.Reads.{Reads, name_in, then_make};
+ghost use Rattle.dom_c.specs.Told.{told, number_told};
+
+use crate::fault::Fault;
+use crate::handle::Handle;
+use crate::reading::{name_of, units_of};
+use dom_session::NodeId;
+use dom_wire::Command;
+use std::alloc::Global;
+
+/// Makes a Document.
+#[unsafe(no_mangle)]
+pub extern "C" fn hp_new_document(handle: &mut Handle, document: &mut u32) -> u8
+    ensures answers { Answers handle.old handle.new (Ok NewDocument) result }
+    ensures told { document.new ≡ number_told (told handle.new result) document.old }
+{
+    handle.take_number(Ok(Command::NewDocument), document)
+}
+
+// Reads the arguments of `hp_create_element`.
+fn read_create_element(alloc: Global, document: u32, name: &[u8]) -> Result<Command, Fault>
+    ensures { Reads command_view result
+        (then_make (name_in name.now) (λ name. Ok (CreateElement document name))) }
+{
+    let name = name_of(alloc, name)?;
+    Ok(Command::CreateElement(NodeId::new(document), name))
+}
+
+/// Makes an Element of that name.
+#[unsafe(no_mangle)]
+pub extern "C" fn hp_create_element(
+    handle: &mut Handle,
+    alloc: Global,
+    document: u32,
+    name: &[u8],
+    element: &mut u32,
+) -> u8
+    ensures answers { Answers handle.old handle.new
+        (then_make (name_in name.now) (λ name. Ok (CreateElement document name))) result }
+    ensures told { element.new ≡ number_told (told handle.new result) element.old }
+{
+    handle.take_number(read_create_element(alloc, document, name), element)
+}
+
+// Reads the arguments of `hp_create_text`.
+fn read_create_text(alloc: Global, document: u32, data: &[u16]) -> Result<Command, Fault>
+    ensures { Reads command_view result
+        (Ok (CreateText document data.now)) }
+{
+    let data = units_of(alloc, data)?;
+    Ok(Command::CreateText(NodeId::new(document), data))
+}
+
+/// Makes a Text of that data.
+#[unsafe(no_mangle)]
+pub extern "C" fn hp_create_text(
+    handle: &mut Handle,
+    alloc: Global,
+    document: u32,
+    data: &[u16],
+    text: &mut u32,
+) -> u8
+    ensures answers { Answers handle.old handle.new (Ok (CreateText document data.now)) result }
+    ensures told { text.new ≡ number_told (told handle.new result) text.old }
+{
+    handle.take_number(read_create_text(alloc, document, data), text)
+}
+
+// Reads the arguments of `hp_create_comment`.
+fn read_create_comment(alloc: Global, document: u32, data: &[u16]) -> Result<Command, Fault>
+    ensures { Reads command_view result
+        (Ok (CreateComment document data.now)) }
+{
+    let data = units_of(alloc, data)?;
+    Ok(Command::CreateComment(NodeId::new(document), data))
+}
+
+/// Makes a Comment of that data.
+#[unsafe(no_mangle)]
+pub extern "C" fn hp_create_comment(
+    handle: &mut Handle,
+    alloc: Global,
+    document: u32,
+    data: &[u16],
+    comment: &mut u32,
+) -> u8
+    ensures answers { Answers handle.old handle.new (Ok (CreateComment document data.now)) result }
+    ensures told { comment.new ≡ number_told (told handle.new result) comment.old }
+{
+    handle.take_number(read_create_comment(alloc, document, data), comment)
+}
+
+// Reads the arguments of `hp_create_pi`.
+fn read_create_pi(
+    alloc: Global,
+    document: u32,
+    target: &[u8],
+    data: &[u16],
+) -> Result<Command, Fault>
+    ensures { Reads command_view result
+        (then_make (name_in target.now) (λ target. Ok (CreatePI document target data.now))) }
+{
+    let target = name_of(alloc, target)?;
+    let data = units_of(alloc, data)?;
+    Ok(Command::CreatePI(NodeId::new(document), target, data))
+}
+
+/// Makes a ProcessingInstruction of that target and data.
+#[unsafe(no_mangle)]
+pub extern "C" fn hp_create_pi(
+    handle: &mut Handle,
+    alloc: Global,
+    document: u32,
+    target: &[u8],
+    data: &[u16],
+    instruction: &mut u32,
+) -> u8
+    ensures answers { Answers handle.old handle.new
+        (then_make (name_in target.now) (λ target. Ok (CreatePI document target data.now))) result }
+    ensures told { instruction.new ≡ number_told (told handle.new result) instruction.old }
+{
+    handle.take_number(read_create_pi(alloc, document, target, data), instruction)
+}
+
+// Reads the arguments of `hp_create_doctype`.
+fn read_create_doctype(
+    alloc: Global,
+    document: u32,
+    name: &[u8],
+    public_id: &[u8],
+    system_id: &[u8],
+) -> Result<Command, Fault>
+    ensures { Reads command_view result
+        (then_make (name_in name.now) (λ name. then_make (name_in public_id.now) (λ public_id. then_make (name_in system_id.now) (λ system_id. Ok (CreateDoctype document name public_id system_id))))) }
+{
+    let name = name_of(alloc, name)?;
+    let public_id = name_of(alloc, public_id)?;
+    let system_id = name_of(alloc, system_id)?;
+    Ok(Command::CreateDoctype(NodeId::new(document), name, public_id, system_id))
+}
+
+/// Makes a DocumentType of that name, with its public and its system id.
+#[unsafe(no_mangle)]
+pub extern "C" fn hp_create_doctype(
+    handle: &mut Handle,
+    alloc: Global,
+    document: u32,
+    name: &[u8],
+    public_id: &[u8],
+    system_id: &[u8],
+    doctype: &mut u32,
+) -> u8
+    ensures answers { Answers handle.old handle.new
+        (then_make (name_in name.now) (λ name. then_make (name_in public_id.now) (λ public_id. then_make (name_in system_id.now) (λ system_id. Ok (CreateDoctype document name public_id system_id))))) result }
+    ensures told { doctype.new ≡ number_told (told handle.new result) doctype.old }
+{
+    handle.take_number(
+        read_create_doctype(alloc, document, name, public_id, system_id),
+        doctype,
+    )
+}
+
+/// Makes a DocumentFragment.
+#[unsafe(no_mangle)]
+pub extern "C" fn hp_create_fragment(handle: &mut Handle, document: u32, fragment: &mut u32) -> u8
+    ensures answers { Answers handle.old handle.new (Ok (CreateFragment document)) result }
+    ensures told { fragment.new ≡ number_told (told handle.new result) fragment.old }
+{
+    handle.take_number(Ok(Command::CreateFragment(NodeId::new(document))), fragment)
+}

@@ -1,0 +1,90 @@
+//! The commands of mutation observers.
+
+ghost use Rattle.std.specs.Prelude.{◌≡◌, Ok};
+ghost use Rattle.dom_model.specs.Commands.Command.{CreateObserver, Observe, Disconnect, TakeRecords, Notify, Pending};
+ghost use Rattle.dom_wire.specs.Sessions.{command_view};
+ghost use Rattle.dom_c.specs.Answers.{Answers};
+ghost use Rattle.dom_c.specs.Reads.{Reads, then_make};
+ghost use Rattle.dom_c.specs.Lists.{options_in};
+ghost use Rattle.dom_c.specs.Told.{told, number_told};
+
+use crate::fault::Fault;
+use crate::handle::Handle;
+use crate::options::{Options, options_of};
+use dom_session::{NodeId, ObserverId};
+use dom_wire::Command;
+use std::alloc::Global;
+
+/// Makes a mutation observer.
+#[unsafe(no_mangle)]
+pub extern "C" fn hp_create_observer(handle: &mut Handle, observer: &mut u32) -> u8
+    ensures answers { Answers handle.old handle.new (Ok CreateObserver) result }
+    ensures told { observer.new ≡ number_told (told handle.new result) observer.old }
+{
+    handle.take_number(Ok(Command::CreateObserver), observer)
+}
+
+// Reads the arguments of `hp_observe`.
+fn read_observe(
+    alloc: Global,
+    observer: u32,
+    node: u32,
+    options: &Options,
+    names: &[u8],
+    lengths: &[u32],
+) -> Result<Command, Fault>
+    ensures { Reads command_view result
+        (then_make (options_in options.now names.now lengths.now) (λ options. Ok (Observe observer node options))) }
+{
+    let options = options_of(alloc, options, names, lengths)?;
+    Ok(Command::Observe(ObserverId::new(observer), NodeId::new(node), options))
+}
+
+/// Lets an observer watch a node.
+#[unsafe(no_mangle)]
+pub extern "C" fn hp_observe(
+    handle: &mut Handle,
+    alloc: Global,
+    observer: u32,
+    node: u32,
+    options: &Options,
+    names: &[u8],
+    lengths: &[u32],
+) -> u8
+    ensures { Answers handle.old handle.new
+        (then_make (options_in options.now names.now lengths.now) (λ options. Ok (Observe observer node options))) result }
+{
+    handle.take(read_observe(alloc, observer, node, options, names, lengths))
+}
+
+/// Lets an observer watch nothing more.
+#[unsafe(no_mangle)]
+pub extern "C" fn hp_disconnect(handle: &mut Handle, observer: u32) -> u8
+    ensures { Answers handle.old handle.new (Ok (Disconnect observer)) result }
+{
+    handle.take(Ok(Command::Disconnect(ObserverId::new(observer))))
+}
+
+/// Takes the records of an observer: `hp_count` counts them, `hp_print` prints them.
+#[unsafe(no_mangle)]
+pub extern "C" fn hp_take_records(handle: &mut Handle, observer: u32) -> u8
+    ensures { Answers handle.old handle.new (Ok (TakeRecords observer)) result }
+{
+    handle.take(Ok(Command::TakeRecords(ObserverId::new(observer))))
+}
+
+/// Hands its records to each observer that waits: `hp_count` counts the observers, `hp_print` prints what each is told.
+#[unsafe(no_mangle)]
+pub extern "C" fn hp_notify(handle: &mut Handle) -> u8
+    ensures { Answers handle.old handle.new (Ok Notify) result }
+{
+    handle.take(Ok(Command::Notify))
+}
+
+/// The observers that wait to be told: `hp_count` and `hp_number_at` read the answer.
+#[unsafe(no_mangle)]
+pub extern "C" fn hp_pending(handle: &mut Handle) -> u8
+    ensures { Answers handle.old handle.new (Ok Pending) result }
+{
+    handle.take(Ok(Command::Pending))
+}

@@ -1,0 +1,243 @@
+//! What is written of an answer through the pointers of C: where things stand.
+
+ghost use Rattle.std.specs.Prelude.{◌≡◌, ℕ, Result, Some};
+ghost use Rattle.dom_model.specs.Commands.Command.{Command as PlainCommand};
+ghost use Rattle.dom_wire.specs.Sessions.{command_view, answer_view};
+ghost use Rattle.dom_c.specs.Answers.{Answers};
+ghost use Rattle.dom_c.specs.Reads.{Reads};
+ghost use Rattle.dom_c.specs.Told.{told, told_of, number_or_null};
+ghost use Rattle.dom_c.specs.Places.{kind_number, ends_told, static_ends_told, iterator_at_told, walker_at_told, place_told};
+
+use crate::fault::Fault;
+use crate::handle::Handle;
+use crate::kept::Kept;
+use crate::places::{Ends, IteratorAt, Place, StaticEnds, WalkerAt};
+use crate::status::{HP_NONE, HP_OK};
+use crate::telling::flag_number;
+use dom_session::{Answer, Kind, NodeId};
+use dom_wire::{Command, Reply};
+
+/// The number of a node, or `HP_NONE`.
+pub(crate) fn node_number(node: Option<NodeId>) -> u32
+    ensures { result ≡ number_or_null node }
+{
+    match node {
+        None => HP_NONE,
+        Some(node) => node.number(),
+    }
+}
+
+/// The standard's number of a kind.
+pub(crate) fn kind_number(kind: Kind) -> u8
+    ensures { result ≡ kind_number kind }
+{
+    match kind {
+        Kind::Element => 1,
+        Kind::Text => 3,
+        Kind::ProcessingInstruction => 7,
+        Kind::Comment => 8,
+        Kind::Document => 9,
+        Kind::DocumentType => 10,
+        Kind::DocumentFragment => 11,
+    }
+}
+
+// Writes the ends of a live range.
+fn write_ends(answer: &Answer, ends: &mut Ends)
+    ensures { ends.new ≡ ends_told (Some (answer_view answer.now)) ends.old }
+{
+    if let Answer::Ends(start, end) = answer {
+        *ends = Ends {
+            start: start.node.number(),
+            start_offset: start.offset,
+            end: end.node.number(),
+            end_offset: end.offset,
+        };
+    }
+}
+
+// Writes the ends of a static range, and whether it is valid.
+fn write_static_ends(answer: &Answer, ends: &mut StaticEnds)
+    ensures { ends.new ≡ static_ends_told (Some (answer_view answer.now)) ends.old }
+{
+    if let Answer::StaticEnds(start, end, is_valid) = answer {
+        *ends = StaticEnds {
+            start: start.node.number(),
+            start_offset: start.offset,
+            end: end.node.number(),
+            end_offset: end.offset,
+            is_valid: flag_number(*is_valid),
+        };
+    }
+}
+
+// Writes where an iterator stands.
+fn write_iterator_at(answer: &Answer, place: &mut IteratorAt)
+    ensures { place.new ≡ iterator_at_told (Some (answer_view answer.now)) place.old }
+{
+    if let Answer::IteratorAt(root, reference, is_before) = answer {
+        *place = IteratorAt {
+            root: root.number(),
+            reference: reference.number(),
+            is_before: flag_number(*is_before),
+        };
+    }
+}
+
+// Writes where a walker stands.
+fn write_walker_at(answer: &Answer, place: &mut WalkerAt)
+    ensures { place.new ≡ walker_at_told (Some (answer_view answer.now)) place.old }
+{
+    if let Answer::WalkerAt(root, current) = answer {
+        *place = WalkerAt {
+            root: root.number(),
+            current: current.number(),
+        };
+    }
+}
+
+// Writes where a node stands, and of which kind it is.
+fn write_place(answer: &Answer, place: &mut Place)
+    ensures { place.new ≡ place_told (Some (answer_view answer.now)) place.old }
+{
+    if let Answer::NodeAt(found) = answer {
+        *place = Place {
+            document: found.document.number(),
+            kind: kind_number(found.label.kind),
+            next: node_number(found.next),
+            parent: node_number(found.parent),
+            previous: node_number(found.previous),
+        };
+    }
+}
+
+impl Kept {
+    // Writes the ends of a live range.
+    fn write_ends(&self, status: u8, ends: &mut Ends)
+        ensures { ends.new ≡ ends_told (told_of self.now status) ends.old }
+    {
+        if status == HP_OK
+            && let Some(Reply::Done(answer)) = &self.reply
+        {
+            write_ends(answer, ends);
+        }
+    }
+
+    // Writes the ends of a static range, and whether it is valid.
+    fn write_static_ends(&self, status: u8, ends: &mut StaticEnds)
+        ensures { ends.new ≡ static_ends_told (told_of self.now status) ends.old }
+    {
+        if status == HP_OK
+            && let Some(Reply::Done(answer)) = &self.reply
+        {
+            write_static_ends(answer, ends);
+        }
+    }
+
+    // Writes where an iterator stands.
+    fn write_iterator_at(&self, status: u8, place: &mut IteratorAt)
+        ensures { place.new ≡ iterator_at_told (told_of self.now status) place.old }
+    {
+        if status == HP_OK
+            && let Some(Reply::Done(answer)) = &self.reply
+        {
+            write_iterator_at(answer, place);
+        }
+    }
+
+    // Writes where a walker stands.
+    fn write_walker_at(&self, status: u8, place: &mut WalkerAt)
+        ensures { place.new ≡ walker_at_told (told_of self.now status) place.old }
+    {
+        if status == HP_OK
+            && let Some(Reply::Done(answer)) = &self.reply
+        {
+            write_walker_at(answer, place);
+        }
+    }
+
+    // Writes where a node stands, and of which kind it is.
+    fn write_place(&self, status: u8, place: &mut Place)
+        ensures { place.new ≡ place_told (told_of self.now status) place.old }
+    {
+        if status == HP_OK
+            && let Some(Reply::Done(answer)) = &self.reply
+        {
+            write_place(answer, place);
+        }
+    }
+}
+
+impl Handle {
+    /// Takes a command. Writes the ends of a live range.
+    pub(crate) fn take_ends(&mut self, command: Result<Command, Fault>, ends: &mut Ends) -> u8
+        ensures answers { (c : Result PlainCommand ℕ) → Reads command_view command c → Answers self.old self.new c result }
+        ensures told { ends.new ≡ ends_told (told self.new result) ends.old }
+    {
+        let status = self.take(command);
+        if self.is_open {
+            self.slot.lend().kept.write_ends(status, ends);
+        }
+        status
+    }
+
+    /// Takes a command. Writes the ends of a static range, and whether it is valid.
+    pub(crate) fn take_static_ends(
+        &mut self,
+        command: Result<Command, Fault>,
+        ends: &mut StaticEnds,
+    ) -> u8
+        ensures answers { (c : Result PlainCommand ℕ) → Reads command_view command c → Answers self.old self.new c result }
+        ensures told { ends.new ≡ static_ends_told (told self.new result) ends.old }
+    {
+        let status = self.take(command);
+        if self.is_open {
+            self.slot.lend().kept.write_static_ends(status, ends);
+        }
+        status
+    }
+
+    /// Takes a command. Writes where an iterator stands.
+    pub(crate) fn take_iterator_at(
+        &mut self,
+        command: Result<Command, Fault>,
+        place: &mut IteratorAt,
+    ) -> u8
+        ensures answers { (c : Result PlainCommand ℕ) → Reads command_view command c → Answers self.old self.new c result }
+        ensures told { place.new ≡ iterator_at_told (told self.new result) place.old }
+    {
+        let status = self.take(command);
+        if self.is_open {
+            self.slot.lend().kept.write_iterator_at(status, place);
+        }
+        status
+    }
+
+    /// Takes a command. Writes where a walker stands.
+    pub(crate) fn take_walker_at(
+        &mut self,
+        command: Result<Command, Fault>,
+        place: &mut WalkerAt,
+    ) -> u8
+        ensures answers { (c : Result PlainCommand ℕ) → Reads command_view command c → Answers self.old self.new c result }
+        ensures told { place.new ≡ walker_at_told (told self.new result) place.old }
+    {
+        let status = self.take(command);
+        if self.is_open {
+            self.slot.lend().kept.write_walker_at(status, place);
+        }
+        status
+    }
+
+    /// Takes a command. Writes where a node stands, and of which kind it is.
+    pub(crate) fn take_place(&mut self, command: Result<Command, Fault>, place: &mut Place) -> u8
+        ensures answers { (c : Result PlainCommand ℕ) → Reads command_view command c → Answers self.old self.new c result }
+        ensures told { place.new ≡ place_told (told self.new result) place.old }
+    {
+        let status = self.take(command);
+        if self.is_open {
+            self.slot.lend().kept.write_place(status, place);
+        }
+        status
+    }
+}

@@ -1,0 +1,119 @@
+//! The commands that make live ranges and set their ends.
+
+ghost use Rattle.std.specs.Prelude.{◌≡◌, Ok};
+ghost use Rattle.dom_model.specs.Commands.Command.{CreateRange, CloneRange, DescribeRange, SetStart, SetEnd, SetStartBefore, SetStartAfter, SetEndBefore, SetEndAfter, Collapse, SelectNode, SelectNodeContents, ReleaseRange};
+ghost use Rattle.dom_c.specs.Answers.{Answers};
+ghost use Rattle.dom_c.specs.Told.{told, number_told};
+ghost use Rattle.dom_c.specs.Places.{ends_told};
+
+use crate::handle::Handle;
+use crate::places::Ends;
+use dom_session::{NodeId, RangeId};
+use dom_wire::Command;
+
+/// Makes a live range at the start of a document.
+#[unsafe(no_mangle)]
+pub extern "C" fn hp_create_range(handle: &mut Handle, document: u32, range: &mut u32) -> u8
+    ensures answers { Answers handle.old handle.new (Ok (CreateRange document)) result }
+    ensures told { range.new ≡ number_told (told handle.new result) range.old }
+{
+    handle.take_number(Ok(Command::CreateRange(NodeId::new(document))), range)
+}
+
+/// Makes a live range with the ends of another.
+#[unsafe(no_mangle)]
+pub extern "C" fn hp_clone_range(handle: &mut Handle, range: u32, copy: &mut u32) -> u8
+    ensures answers { Answers handle.old handle.new (Ok (CloneRange range)) result }
+    ensures told { copy.new ≡ number_told (told handle.new result) copy.old }
+{
+    handle.take_number(Ok(Command::CloneRange(RangeId::new(range))), copy)
+}
+
+/// The ends of a live range.
+#[unsafe(no_mangle)]
+pub extern "C" fn hp_range(handle: &mut Handle, range: u32, ends: &mut Ends) -> u8
+    ensures answers { Answers handle.old handle.new (Ok (DescribeRange range)) result }
+    ensures told { ends.new ≡ ends_told (told handle.new result) ends.old }
+{
+    handle.take_ends(Ok(Command::DescribeRange(RangeId::new(range))), ends)
+}
+
+/// Sets the start.
+#[unsafe(no_mangle)]
+pub extern "C" fn hp_set_start(handle: &mut Handle, range: u32, node: u32, offset: u32) -> u8
+    ensures { Answers handle.old handle.new (Ok (SetStart range node offset)) result }
+{
+    handle.take(Ok(Command::SetStart(RangeId::new(range), NodeId::new(node), offset)))
+}
+
+/// Sets the end.
+#[unsafe(no_mangle)]
+pub extern "C" fn hp_set_end(handle: &mut Handle, range: u32, node: u32, offset: u32) -> u8
+    ensures { Answers handle.old handle.new (Ok (SetEnd range node offset)) result }
+{
+    handle.take(Ok(Command::SetEnd(RangeId::new(range), NodeId::new(node), offset)))
+}
+
+/// Sets the start before a node.
+#[unsafe(no_mangle)]
+pub extern "C" fn hp_set_start_before(handle: &mut Handle, range: u32, node: u32) -> u8
+    ensures { Answers handle.old handle.new (Ok (SetStartBefore range node)) result }
+{
+    handle.take(Ok(Command::SetStartBefore(RangeId::new(range), NodeId::new(node))))
+}
+
+/// Sets the start after a node.
+#[unsafe(no_mangle)]
+pub extern "C" fn hp_set_start_after(handle: &mut Handle, range: u32, node: u32) -> u8
+    ensures { Answers handle.old handle.new (Ok (SetStartAfter range node)) result }
+{
+    handle.take(Ok(Command::SetStartAfter(RangeId::new(range), NodeId::new(node))))
+}
+
+/// Sets the end before a node.
+#[unsafe(no_mangle)]
+pub extern "C" fn hp_set_end_before(handle: &mut Handle, range: u32, node: u32) -> u8
+    ensures { Answers handle.old handle.new (Ok (SetEndBefore range node)) result }
+{
+    handle.take(Ok(Command::SetEndBefore(RangeId::new(range), NodeId::new(node))))
+}
+
+/// Sets the end after a node.
+#[unsafe(no_mangle)]
+pub extern "C" fn hp_set_end_after(handle: &mut Handle, range: u32, node: u32) -> u8
+    ensures { Answers handle.old handle.new (Ok (SetEndAfter range node)) result }
+{
+    handle.take(Ok(Command::SetEndAfter(RangeId::new(range), NodeId::new(node))))
+}
+
+/// Moves one end to the other: the end to the start, or the start to the end.
+#[unsafe(no_mangle)]
+pub extern "C" fn hp_collapse(handle: &mut Handle, range: u32, to_start: bool) -> u8
+    ensures { Answers handle.old handle.new (Ok (Collapse range to_start)) result }
+{
+    handle.take(Ok(Command::Collapse(RangeId::new(range), to_start)))
+}
+
+/// Sets the ends around a node.
+#[unsafe(no_mangle)]
+pub extern "C" fn hp_select_node(handle: &mut Handle, range: u32, node: u32) -> u8
+    ensures { Answers handle.old handle.new (Ok (SelectNode range node)) result }
+{
+    handle.take(Ok(Command::SelectNode(RangeId::new(range), NodeId::new(node))))
+}
+
+/// Sets the ends around what a node has.
+#[unsafe(no_mangle)]
+pub extern "C" fn hp_select_node_contents(handle: &mut Handle, range: u32, node: u32) -> u8
+    ensures { Answers handle.old handle.new (Ok (SelectNodeContents range node)) result }
+{
+    handle.take(Ok(Command::SelectNodeContents(RangeId::new(range), NodeId::new(node))))
+}
+
+/// Lets a live range go.
+#[unsafe(no_mangle)]
+pub extern "C" fn hp_release_range(handle: &mut Handle, range: u32) -> u8
+    ensures { Answers handle.old handle.new (Ok (ReleaseRange range)) result }
+{
+    handle.take(Ok(Command::ReleaseRange(RangeId::new(range))))
+}

@@ -1,0 +1,70 @@
+//! How the arguments of C are read.
+
+ghost use Rattle.std.specs.Prelude.{◌≡◌, Ok, string_bytes};
+ghost use Rattle.dom_c.specs.Reads.{Reads, name_in, number_or_none, choice_in, move_in};
+
+use crate::fault::Fault;
+use crate::status::HP_NONE;
+use dom_session::{Move, NodeId, Units};
+use std::alloc::Global;
+
+/// A name, which is UTF-8.
+pub(crate) fn name_of(alloc: Global, bytes: &[u8]) -> Result<String, Fault>
+    ensures { Reads string_bytes result (name_in bytes.now) }
+{
+    let Ok(text) = str::from_utf8(bytes) else {
+        return Err(Fault::NotUtf8);
+    };
+    match String::from_str(alloc, text) {
+        Ok(name) => Ok(name),
+        Err(_) => Err(Fault::Memory),
+    }
+}
+
+/// A text.
+pub(crate) fn units_of(alloc: Global, units: &[u16]) -> Result<Units, Fault>
+    ensures { Reads (λ text. text) result (Ok units.now) }
+{
+    match Units::from_units(alloc, units) {
+        Ok(text) => Ok(text),
+        Err(_) => Err(Fault::Memory),
+    }
+}
+
+/// The node of a number, or none.
+pub(crate) fn node_or_none(number: u32) -> Option<NodeId>
+    ensures { result ≡ number_or_none number }
+{
+    if number == HP_NONE {
+        return None;
+    }
+    Some(NodeId::new(number))
+}
+
+/// A yes or a no, or neither.
+pub(crate) fn choice_of(number: u8) -> Result<Option<bool>, Fault>
+    ensures { Reads (λ choice. choice) result (choice_in number) }
+{
+    match number {
+        0 => Ok(Some(false)),
+        1 => Ok(Some(true)),
+        2 => Ok(None),
+        _ => Err(Fault::BadChoice),
+    }
+}
+
+/// The move of a walker.
+pub(crate) fn move_of(number: u8) -> Result<Move, Fault>
+    ensures { Reads (λ course. course) result (move_in number) }
+{
+    match number {
+        0 => Ok(Move::ParentNode),
+        1 => Ok(Move::FirstChild),
+        2 => Ok(Move::LastChild),
+        3 => Ok(Move::PreviousSibling),
+        4 => Ok(Move::NextSibling),
+        5 => Ok(Move::PreviousNode),
+        6 => Ok(Move::NextNode),
+        _ => Err(Fault::BadChoice),
+    }
+}

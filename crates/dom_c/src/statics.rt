@@ -1,0 +1,50 @@
+//! The commands of static ranges.
+
+ghost use Rattle.std.specs.Prelude.{◌≡◌, Ok};
+ghost use Rattle.dom_model.specs.Commands.Command.{CreateStaticRange, DescribeStaticRange};
+ghost use Rattle.dom_c.specs.Answers.{Answers};
+ghost use Rattle.dom_c.specs.Told.{told, number_told};
+ghost use Rattle.dom_c.specs.Places.{static_ends_told};
+
+use crate::handle::Handle;
+use crate::places::StaticEnds;
+use dom_session::{NodeId, Point, StaticId};
+use dom_wire::Command;
+
+/// Makes a static range.
+#[unsafe(no_mangle)]
+pub extern "C" fn hp_create_static_range(
+    handle: &mut Handle,
+    start: u32,
+    start_offset: u32,
+    end: u32,
+    end_offset: u32,
+    range: &mut u32,
+) -> u8
+    ensures answers { Answers handle.old handle.new
+        (Ok (CreateStaticRange (record { node = start; offset = start_offset }) (record { node = end; offset = end_offset }))) result }
+    ensures told { range.new ≡ number_told (told handle.new result) range.old }
+{
+    handle.take_number(
+        Ok(Command::CreateStaticRange(
+            Point {
+                node: NodeId::new(start),
+                offset: start_offset as usize,
+            },
+            Point {
+                node: NodeId::new(end),
+                offset: end_offset as usize,
+            },
+        )),
+        range,
+    )
+}
+
+/// The ends of a static range, and whether it is valid.
+#[unsafe(no_mangle)]
+pub extern "C" fn hp_static_range(handle: &mut Handle, range: u32, ends: &mut StaticEnds) -> u8
+    ensures answers { Answers handle.old handle.new (Ok (DescribeStaticRange range)) result }
+    ensures told { ends.new ≡ static_ends_told (told handle.new result) ends.old }
+{
+    handle.take_static_ends(Ok(Command::DescribeStaticRange(StaticId::new(range))), ends)
+}

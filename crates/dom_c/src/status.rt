@@ -1,0 +1,103 @@
+//! The statuses of calls: the standard's codes for its exceptions, and ours from 32 on.
+
+ghost use Rattle.std.specs.Prelude.{◌≡◌};
+ghost use Rattle.dom_wire.specs.Sessions.{reply_view};
+ghost use Rattle.dom_c.specs.Statuses.{status_of, status_of_dom, status_of_own};
+
+use dom_session::DomError;
+use dom_wire::{OwnError, Reply};
+
+/// The call did what it says.
+pub const HP_OK: u8 = 0;
+
+pub const HP_INDEX_SIZE_ERROR: u8 = 1;
+
+pub const HP_HIERARCHY_REQUEST_ERROR: u8 = 3;
+
+pub const HP_WRONG_DOCUMENT_ERROR: u8 = 4;
+
+pub const HP_INVALID_CHARACTER_ERROR: u8 = 5;
+
+pub const HP_NOT_FOUND_ERROR: u8 = 8;
+
+pub const HP_NOT_SUPPORTED_ERROR: u8 = 9;
+
+pub const HP_INVALID_STATE_ERROR: u8 = 11;
+
+pub const HP_INVALID_NODE_TYPE_ERROR: u8 = 24;
+
+pub const HP_TYPE_ERROR: u8 = 32;
+/// There is no object of that number.
+pub const HP_NO_SUCH_OBJECT: u8 = 33;
+/// There is no number left for a new object.
+pub const HP_LIMIT: u8 = 34;
+/// What was to be discarded is still referred to.
+pub const HP_IN_USE: u8 = 35;
+
+pub const HP_LINE_TOO_LONG: u8 = 36;
+
+pub const HP_BAD_JSON: u8 = 37;
+
+pub const HP_BAD_COMMAND: u8 = 38;
+
+pub const HP_BAD_ARGUMENTS: u8 = 39;
+/// Memory was wanting, now or at an earlier call: the session answers nothing more.
+pub const HP_OUT_OF_MEMORY: u8 = 48;
+/// The handle is closed.
+pub const HP_CLOSED: u8 = 49;
+/// The handle is open already.
+pub const HP_ALREADY_OPEN: u8 = 50;
+/// The limits of a session are out of their range.
+pub const HP_BAD_LIMITS: u8 = 51;
+/// The bytes of a name are no UTF-8.
+pub const HP_NOT_UTF8: u8 = 52;
+/// Lengths and what they measure do not belong together.
+pub const HP_BAD_LENGTHS: u8 = 53;
+/// A number stands for none of the choices.
+pub const HP_BAD_CHOICE: u8 = 54;
+/// The last answer has no such part.
+pub const HP_NOT_THERE: u8 = 55;
+
+/// The number that stands for null; no object has it.
+pub const HP_NONE: u32 = 4294967295;
+
+fn status_of_dom(error: DomError) -> u8
+    ensures { result ≡ status_of_dom error }
+{
+    match error {
+        DomError::IndexSizeError => HP_INDEX_SIZE_ERROR,
+        DomError::HierarchyRequestError => HP_HIERARCHY_REQUEST_ERROR,
+        DomError::WrongDocumentError => HP_WRONG_DOCUMENT_ERROR,
+        DomError::InvalidCharacterError => HP_INVALID_CHARACTER_ERROR,
+        DomError::NotFoundError => HP_NOT_FOUND_ERROR,
+        DomError::NotSupportedError => HP_NOT_SUPPORTED_ERROR,
+        DomError::InvalidStateError => HP_INVALID_STATE_ERROR,
+        DomError::InvalidNodeTypeError => HP_INVALID_NODE_TYPE_ERROR,
+        DomError::TypeError => HP_TYPE_ERROR,
+    }
+}
+
+fn status_of_own(error: OwnError) -> u8
+    ensures { result ≡ status_of_own error }
+{
+    match error {
+        OwnError::NoSuchObject => HP_NO_SUCH_OBJECT,
+        OwnError::Limit => HP_LIMIT,
+        OwnError::InUse => HP_IN_USE,
+        OwnError::LineTooLong => HP_LINE_TOO_LONG,
+        OwnError::BadJson => HP_BAD_JSON,
+        OwnError::BadCommand => HP_BAD_COMMAND,
+        OwnError::BadArguments => HP_BAD_ARGUMENTS,
+    }
+}
+
+/// The status of a reply.
+pub fn status_of(reply: &Reply) -> u8
+    ensures { result ≡ status_of (reply_view reply.now) }
+{
+    match reply {
+        Reply::Done(_) => HP_OK,
+        Reply::Dom(error) => status_of_dom(*error),
+        Reply::Own(error) => status_of_own(*error),
+    }
+}

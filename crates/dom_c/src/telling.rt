@@ -1,0 +1,219 @@
+//! What is written of an answer through the pointers of C: numbers, flags and orders.
+
+ghost use Rattle.std.specs.Prelude.{◌≡◌, ℕ, Result, Some};
+ghost use Rattle.dom_model.specs.Commands.Command.{Command as PlainCommand};
+ghost use Rattle.dom_wire.specs.Sessions.{command_view, answer_view};
+ghost use Rattle.dom_c.specs.Answers.{Answers};
+ghost use Rattle.dom_c.specs.Reads.{Reads};
+ghost use Rattle.dom_c.specs.Told.{told, told_of, number_told, count_told, number_or_null, maybe_number_told, flag_number, flag_told, order_number, order_told};
+
+use crate::fault::Fault;
+use crate::handle::Handle;
+use crate::kept::Kept;
+use crate::status::{HP_NONE, HP_OK};
+use dom_session::Answer;
+use dom_wire::{Command, Reply};
+use std::cmp::Ordering;
+
+/// 1 for a yes, and 0 for a no.
+pub(crate) fn flag_number(flag: bool) -> u8
+    ensures { result ≡ flag_number flag }
+{
+    if flag { 1 } else { 0 }
+}
+
+fn order_number(order: Ordering) -> i8
+    ensures { result ≡ order_number order }
+{
+    match order {
+        Ordering::Less => -1,
+        Ordering::Equal => 0,
+        Ordering::Greater => 1,
+    }
+}
+
+// A number, or `HP_NONE`.
+fn number_or_null(number: Option<u32>) -> u32
+    ensures { result ≡ number_or_null number }
+{
+    match number {
+        None => HP_NONE,
+        Some(number) => number,
+    }
+}
+
+// Writes a number.
+fn write_number(answer: &Answer, number: &mut u32)
+    ensures { number.new ≡ number_told (Some (answer_view answer.now)) number.old }
+{
+    match answer {
+        Answer::Number(found) => *number = *found,
+        Answer::Count(found) => {
+            if let Ok(found) = u32::try_from(*found) {
+                *number = found;
+            }
+        }
+        _ => {}
+    }
+}
+
+// Writes an index or a length.
+fn write_count(answer: &Answer, count: &mut usize)
+    ensures { count.new ≡ count_told (Some (answer_view answer.now)) count.old }
+{
+    match answer {
+        Answer::Number(found) => *count = *found as usize,
+        Answer::Count(found) => *count = *found,
+        _ => {}
+    }
+}
+
+// Writes a number, or `HP_NONE`.
+fn write_maybe_number(answer: &Answer, number: &mut u32)
+    ensures { number.new ≡ maybe_number_told (Some (answer_view answer.now)) number.old }
+{
+    if let Answer::MaybeNumber(found) = answer {
+        *number = number_or_null(*found);
+    }
+}
+
+// Writes a yes or a no: 1 or 0.
+fn write_flag(answer: &Answer, flag: &mut u8)
+    ensures { flag.new ≡ flag_told (Some (answer_view answer.now)) flag.old }
+{
+    if let Answer::Flag(found) = answer {
+        *flag = flag_number(*found);
+    }
+}
+
+// Writes how one place stands to another: -1, 0 or 1.
+fn write_order(answer: &Answer, order: &mut i8)
+    ensures { order.new ≡ order_told (Some (answer_view answer.now)) order.old }
+{
+    if let Answer::Order(found) = answer {
+        *order = order_number(*found);
+    }
+}
+
+impl Kept {
+    // Writes a number.
+    fn write_number(&self, status: u8, number: &mut u32)
+        ensures { number.new ≡ number_told (told_of self.now status) number.old }
+    {
+        if status == HP_OK
+            && let Some(Reply::Done(answer)) = &self.reply
+        {
+            write_number(answer, number);
+        }
+    }
+
+    // Writes an index or a length.
+    fn write_count(&self, status: u8, count: &mut usize)
+        ensures { count.new ≡ count_told (told_of self.now status) count.old }
+    {
+        if status == HP_OK
+            && let Some(Reply::Done(answer)) = &self.reply
+        {
+            write_count(answer, count);
+        }
+    }
+
+    // Writes a number, or `HP_NONE`.
+    fn write_maybe_number(&self, status: u8, number: &mut u32)
+        ensures { number.new ≡ maybe_number_told (told_of self.now status) number.old }
+    {
+        if status == HP_OK
+            && let Some(Reply::Done(answer)) = &self.reply
+        {
+            write_maybe_number(answer, number);
+        }
+    }
+
+    // Writes a yes or a no: 1 or 0.
+    fn write_flag(&self, status: u8, flag: &mut u8)
+        ensures { flag.new ≡ flag_told (told_of self.now status) flag.old }
+    {
+        if status == HP_OK
+            && let Some(Reply::Done(answer)) = &self.reply
+        {
+            write_flag(answer, flag);
+        }
+    }
+
+    // Writes how one place stands to another: -1, 0 or 1.
+    fn write_order(&self, status: u8, order: &mut i8)
+        ensures { order.new ≡ order_told (told_of self.now status) order.old }
+    {
+        if status == HP_OK
+            && let Some(Reply::Done(answer)) = &self.reply
+        {
+            write_order(answer, order);
+        }
+    }
+}
+
+impl Handle {
+    /// Takes a command. Writes a number.
+    pub(crate) fn take_number(&mut self, command: Result<Command, Fault>, number: &mut u32) -> u8
+        ensures answers { (c : Result PlainCommand ℕ) → Reads command_view command c → Answers self.old self.new c result }
+        ensures told { number.new ≡ number_told (told self.new result) number.old }
+    {
+        let status = self.take(command);
+        if self.is_open {
+            self.slot.lend().kept.write_number(status, number);
+        }
+        status
+    }
+
+    /// Takes a command. Writes an index or a length.
+    pub(crate) fn take_count(&mut self, command: Result<Command, Fault>, count: &mut usize) -> u8
+        ensures answers { (c : Result PlainCommand ℕ) → Reads command_view command c → Answers self.old self.new c result }
+        ensures told { count.new ≡ count_told (told self.new result) count.old }
+    {
+        let status = self.take(command);
+        if self.is_open {
+            self.slot.lend().kept.write_count(status, count);
+        }
+        status
+    }
+
+    /// Takes a command. Writes a number, or `HP_NONE`.
+    pub(crate) fn take_maybe_number(
+        &mut self,
+        command: Result<Command, Fault>,
+        number: &mut u32,
+    ) -> u8
+        ensures answers { (c : Result PlainCommand ℕ) → Reads command_view command c → Answers self.old self.new c result }
+        ensures told { number.new ≡ maybe_number_told (told self.new result) number.old }
+    {
+        let status = self.take(command);
+        if self.is_open {
+            self.slot.lend().kept.write_maybe_number(status, number);
+        }
+        status
+    }
+
+    /// Takes a command. Writes a yes or a no: 1 or 0.
+    pub(crate) fn take_flag(&mut self, command: Result<Command, Fault>, flag: &mut u8) -> u8
+        ensures answers { (c : Result PlainCommand ℕ) → Reads command_view command c → Answers self.old self.new c result }
+        ensures told { flag.new ≡ flag_told (told self.new result) flag.old }
+    {
+        let status = self.take(command);
+        if self.is_open {
+            self.slot.lend().kept.write_flag(status, flag);
+        }
+        status
+    }
+
+    /// Takes a command. Writes how one place stands to another: -1, 0 or 1.
+    pub(crate) fn take_order(&mut self, command: Result<Command, Fault>, order: &mut i8) -> u8
+        ensures answers { (c : Result PlainCommand ℕ) → Reads command_view command c → Answers self.old self.new c result }
+        ensures told { order.new ≡ order_told (told self.new result) order.old }
+    {
+        let status = self.take(command);
+        if self.is_open {
+            self.slot.lend().kept.write_order(status, order);
+        }
+        status
+    }
+}

@@ -1,0 +1,135 @@
+//! The commands on character data.
+
+ghost use Rattle.std.specs.Prelude.{◌≡◌, Ok};
+ghost use Rattle.dom_model.specs.Commands.Command.{GetData, SetData, AppendData, InsertData, DeleteData, ReplaceData, SubstringData, SplitText};
+ghost use Rattle.dom_wire.specs.Sessions.{command_view};
+ghost use Rattle.dom_c.specs.Answers.{Answers};
+ghost use Rattle.dom_c.specs.Reads.{Reads};
+ghost use Rattle.dom_c.specs.Told.{told, number_told};
+
+use crate::fault::Fault;
+use crate::handle::Handle;
+use crate::reading::units_of;
+use dom_session::NodeId;
+use dom_wire::Command;
+use std::alloc::Global;
+
+/// The data of a node: `hp_text` reads the answer.
+#[unsafe(no_mangle)]
+pub extern "C" fn hp_data(handle: &mut Handle, node: u32) -> u8
+    ensures { Answers handle.old handle.new (Ok (GetData node)) result }
+{
+    handle.take(Ok(Command::GetData(NodeId::new(node))))
+}
+
+// Reads the arguments of `hp_set_data`.
+fn read_set_data(alloc: Global, node: u32, data: &[u16]) -> Result<Command, Fault>
+    ensures { Reads command_view result
+        (Ok (SetData node data.now)) }
+{
+    let data = units_of(alloc, data)?;
+    Ok(Command::SetData(NodeId::new(node), data))
+}
+
+/// Sets the data of a node.
+#[unsafe(no_mangle)]
+pub extern "C" fn hp_set_data(handle: &mut Handle, alloc: Global, node: u32, data: &[u16]) -> u8
+    ensures { Answers handle.old handle.new (Ok (SetData node data.now)) result }
+{
+    handle.take(read_set_data(alloc, node, data))
+}
+
+// Reads the arguments of `hp_append_data`.
+fn read_append_data(alloc: Global, node: u32, data: &[u16]) -> Result<Command, Fault>
+    ensures { Reads command_view result
+        (Ok (AppendData node data.now)) }
+{
+    let data = units_of(alloc, data)?;
+    Ok(Command::AppendData(NodeId::new(node), data))
+}
+
+/// Appends to the data of a node.
+#[unsafe(no_mangle)]
+pub extern "C" fn hp_append_data(handle: &mut Handle, alloc: Global, node: u32, data: &[u16]) -> u8
+    ensures { Answers handle.old handle.new (Ok (AppendData node data.now)) result }
+{
+    handle.take(read_append_data(alloc, node, data))
+}
+
+// Reads the arguments of `hp_insert_data`.
+fn read_insert_data(alloc: Global, node: u32, offset: u32, data: &[u16]) -> Result<Command, Fault>
+    ensures { Reads command_view result
+        (Ok (InsertData node offset data.now)) }
+{
+    let data = units_of(alloc, data)?;
+    Ok(Command::InsertData(NodeId::new(node), offset, data))
+}
+
+/// Inserts at an offset.
+#[unsafe(no_mangle)]
+pub extern "C" fn hp_insert_data(
+    handle: &mut Handle,
+    alloc: Global,
+    node: u32,
+    offset: u32,
+    data: &[u16],
+) -> u8
+    ensures { Answers handle.old handle.new (Ok (InsertData node offset data.now)) result }
+{
+    handle.take(read_insert_data(alloc, node, offset, data))
+}
+
+/// Deletes so many units from an offset on.
+#[unsafe(no_mangle)]
+pub extern "C" fn hp_delete_data(handle: &mut Handle, node: u32, offset: u32, count: u32) -> u8
+    ensures { Answers handle.old handle.new (Ok (DeleteData node offset count)) result }
+{
+    handle.take(Ok(Command::DeleteData(NodeId::new(node), offset, count)))
+}
+
+// Reads the arguments of `hp_replace_data`.
+fn read_replace_data(
+    alloc: Global,
+    node: u32,
+    offset: u32,
+    count: u32,
+    data: &[u16],
+) -> Result<Command, Fault>
+    ensures { Reads command_view result
+        (Ok (ReplaceData node offset count data.now)) }
+{
+    let data = units_of(alloc, data)?;
+    Ok(Command::ReplaceData(NodeId::new(node), offset, count, data))
+}
+
+/// Puts a text in place of so many units from an offset on.
+#[unsafe(no_mangle)]
+pub extern "C" fn hp_replace_data(
+    handle: &mut Handle,
+    alloc: Global,
+    node: u32,
+    offset: u32,
+    count: u32,
+    data: &[u16],
+) -> u8
+    ensures { Answers handle.old handle.new (Ok (ReplaceData node offset count data.now)) result }
+{
+    handle.take(read_replace_data(alloc, node, offset, count, data))
+}
+
+/// So many units from an offset on: `hp_text` reads the answer.
+#[unsafe(no_mangle)]
+pub extern "C" fn hp_substring_data(handle: &mut Handle, node: u32, offset: u32, count: u32) -> u8
+    ensures { Answers handle.old handle.new (Ok (SubstringData node offset count)) result }
+{
+    handle.take(Ok(Command::SubstringData(NodeId::new(node), offset, count)))
+}
+
+/// Splits a Text at an offset, and tells the new one.
+#[unsafe(no_mangle)]
+pub extern "C" fn hp_split_text(handle: &mut Handle, text: u32, offset: u32, rest: &mut u32) -> u8
+    ensures answers { Answers handle.old handle.new (Ok (SplitText text offset)) result }
+    ensures told { rest.new ≡ number_told (told handle.new result) rest.old }
+{
+    handle.take_number(Ok(Command::SplitText(NodeId::new(text), offset)), rest)
+}

@@ -1,0 +1,158 @@
+//! The commands of node iterators and tree walkers.
+
+ghost use Rattle.std.specs.Prelude.{◌≡◌, Ok};
+ghost use Rattle.dom_model.specs.Commands.Command.{CreateIterator, CreateWalker, DescribeIterator, NextNode, PreviousNode, DescribeWalker, SetCurrent, Walk};
+ghost use Rattle.dom_wire.specs.Sessions.{command_view};
+ghost use Rattle.dom_c.specs.Answers.{Answers};
+ghost use Rattle.dom_c.specs.Reads.{Reads, move_in, then_make};
+ghost use Rattle.dom_c.specs.Lists.{rules_in};
+ghost use Rattle.dom_c.specs.Told.{told, maybe_number_told, number_told};
+ghost use Rattle.dom_c.specs.Places.{iterator_at_told, walker_at_told};
+
+use crate::fault::Fault;
+use crate::filters::rules_of;
+use crate::handle::Handle;
+use crate::places::{IteratorAt, WalkerAt};
+use crate::reading::move_of;
+use dom_session::{Filter, IterId, NodeId, WalkerId};
+use dom_wire::Command;
+use std::alloc::Global;
+
+// Reads the arguments of `hp_create_iterator`.
+fn read_create_iterator(
+    alloc: Global,
+    root: u32,
+    show: u32,
+    names: &[u8],
+    lengths: &[u32],
+    verdicts: &[u8],
+) -> Result<Command, Fault>
+    ensures { Reads command_view result
+        (then_make (rules_in names.now lengths.now verdicts.now) (λ rules. Ok (CreateIterator root (record { show = show; rules = rules })))) }
+{
+    let rules = rules_of(alloc, names, lengths, verdicts)?;
+    Ok(Command::CreateIterator(NodeId::new(root), Filter { show, rules }))
+}
+
+/// Makes a node iterator.
+#[unsafe(no_mangle)]
+pub extern "C" fn hp_create_iterator(
+    handle: &mut Handle,
+    alloc: Global,
+    root: u32,
+    show: u32,
+    names: &[u8],
+    lengths: &[u32],
+    verdicts: &[u8],
+    iterator: &mut u32,
+) -> u8
+    ensures answers { Answers handle.old handle.new
+        (then_make (rules_in names.now lengths.now verdicts.now) (λ rules. Ok (CreateIterator root (record { show = show; rules = rules })))) result }
+    ensures told { iterator.new ≡ number_told (told handle.new result) iterator.old }
+{
+    handle.take_number(
+        read_create_iterator(alloc, root, show, names, lengths, verdicts),
+        iterator,
+    )
+}
+
+// Reads the arguments of `hp_create_walker`.
+fn read_create_walker(
+    alloc: Global,
+    root: u32,
+    show: u32,
+    names: &[u8],
+    lengths: &[u32],
+    verdicts: &[u8],
+) -> Result<Command, Fault>
+    ensures { Reads command_view result
+        (then_make (rules_in names.now lengths.now verdicts.now) (λ rules. Ok (CreateWalker root (record { show = show; rules = rules })))) }
+{
+    let rules = rules_of(alloc, names, lengths, verdicts)?;
+    Ok(Command::CreateWalker(NodeId::new(root), Filter { show, rules }))
+}
+
+/// Makes a tree walker.
+#[unsafe(no_mangle)]
+pub extern "C" fn hp_create_walker(
+    handle: &mut Handle,
+    alloc: Global,
+    root: u32,
+    show: u32,
+    names: &[u8],
+    lengths: &[u32],
+    verdicts: &[u8],
+    walker: &mut u32,
+) -> u8
+    ensures answers { Answers handle.old handle.new
+        (then_make (rules_in names.now lengths.now verdicts.now) (λ rules. Ok (CreateWalker root (record { show = show; rules = rules })))) result }
+    ensures told { walker.new ≡ number_told (told handle.new result) walker.old }
+{
+    handle.take_number(
+        read_create_walker(alloc, root, show, names, lengths, verdicts),
+        walker,
+    )
+}
+
+/// Tells where an iterator stands.
+#[unsafe(no_mangle)]
+pub extern "C" fn hp_iterator(handle: &mut Handle, iterator: u32, place: &mut IteratorAt) -> u8
+    ensures answers { Answers handle.old handle.new (Ok (DescribeIterator iterator)) result }
+    ensures told { place.new ≡ iterator_at_told (told handle.new result) place.old }
+{
+    handle.take_iterator_at(Ok(Command::DescribeIterator(IterId::new(iterator))), place)
+}
+
+/// Moves an iterator on, and tells the node, or `HP_NONE`.
+#[unsafe(no_mangle)]
+pub extern "C" fn hp_next_node(handle: &mut Handle, iterator: u32, node: &mut u32) -> u8
+    ensures answers { Answers handle.old handle.new (Ok (NextNode iterator)) result }
+    ensures told { node.new ≡ maybe_number_told (told handle.new result) node.old }
+{
+    handle.take_maybe_number(Ok(Command::NextNode(IterId::new(iterator))), node)
+}
+
+/// Moves an iterator back, and tells the node, or `HP_NONE`.
+#[unsafe(no_mangle)]
+pub extern "C" fn hp_previous_node(handle: &mut Handle, iterator: u32, node: &mut u32) -> u8
+    ensures answers { Answers handle.old handle.new (Ok (PreviousNode iterator)) result }
+    ensures told { node.new ≡ maybe_number_told (told handle.new result) node.old }
+{
+    handle.take_maybe_number(Ok(Command::PreviousNode(IterId::new(iterator))), node)
+}
+
+/// Tells where a walker stands.
+#[unsafe(no_mangle)]
+pub extern "C" fn hp_walker(handle: &mut Handle, walker: u32, place: &mut WalkerAt) -> u8
+    ensures answers { Answers handle.old handle.new (Ok (DescribeWalker walker)) result }
+    ensures told { place.new ≡ walker_at_told (told handle.new result) place.old }
+{
+    handle.take_walker_at(Ok(Command::DescribeWalker(WalkerId::new(walker))), place)
+}
+
+/// Sets a walker on a node.
+#[unsafe(no_mangle)]
+pub extern "C" fn hp_set_current(handle: &mut Handle, walker: u32, node: u32) -> u8
+    ensures { Answers handle.old handle.new (Ok (SetCurrent walker node)) result }
+{
+    handle.take(Ok(Command::SetCurrent(WalkerId::new(walker), NodeId::new(node))))
+}
+
+// Reads the arguments of `hp_walk`.
+fn read_walk(walker: u32, course: u8) -> Result<Command, Fault>
+    ensures { Reads command_view result
+        (then_make (move_in course) (λ course. Ok (Walk walker course))) }
+{
+    let course = move_of(course)?;
+    Ok(Command::Walk(WalkerId::new(walker), course))
+}
+
+/// Moves a walker, and tells the node, or `HP_NONE`. The courses are numbered in the order of the standard: parentNode 0, firstChild 1, lastChild 2, previousSibling 3, nextSibling 4, previousNode 5, nextNode 6.
+#[unsafe(no_mangle)]
+pub extern "C" fn hp_walk(handle: &mut Handle, walker: u32, course: u8, node: &mut u32) -> u8
+    ensures answers { Answers handle.old handle.new
+        (then_make (move_in course) (λ course. Ok (Walk walker course))) result }
+    ensures told { node.new ≡ maybe_number_told (told handle.new result) node.old }
+{
+    handle.take_maybe_number(read_walk(walker, course), node)
+}
