@@ -84,6 +84,21 @@ def is_fresh(crates, name, known):
     return known[name]
 
 
+def take(crates, wanted):
+    """Marks as proved the libraries that `rt ci` has proved and left, of the files that are there, where all below them are too."""
+    known = {}
+    for name in wanted:
+        rlib = f"{ROOT}/crates/{name}/out/rlib/{name}.rlib"
+        is_new = os.path.isdir(rlib) and not os.path.exists(f"{ROOT}/crates/{name}/out/rlib/stamp") and os.path.getmtime(rlib) >= newest(name)
+        if is_new and all(known[it] for it in crates[name]):
+            with open(made(name), "a", encoding="utf-8"):
+                os.utime(made(name))
+            known[name] = True
+        else:
+            known[name] = False
+    return [name for name in wanted if not known[name]]
+
+
 class Start:
     """One start: what is to be proved, and how far it is."""
 
@@ -152,8 +167,13 @@ def end(number, _):
 def main():
     words = argparse.ArgumentParser(description=__doc__, formatter_class=argparse.RawDescriptionHelpFormatter)
     words.add_argument("--is-fresh", action="store_true", help="only tell by the status whether the program is built of the files that are there")
+    words.add_argument("--take", action="store_true", help="take the libraries that `rt ci` has just proved and left, so that none is proved again")
     given = words.parse_args()
     crates, known = graph(), {}
+    if given.take:
+        left = take(crates, below(crates, PROGRAM))
+        print(f"{PROGRAM}: not taken, since rt ci has left no library of the files that are there: {', '.join(left)}" if left else f"{PROGRAM}: every library is taken")
+        return 1 if left else 0
     all_of_it = [*below(crates, PROGRAM), PROGRAM]
     wanted = [it for it in all_of_it if not is_fresh(crates, it, known)]
     if given.is_fresh or not wanted:
