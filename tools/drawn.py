@@ -16,7 +16,7 @@ import sys
 
 import drawn_svg
 from running import DIALOGUES, PROGRAM, ROOT, content
-from token_texts import CLOSE, MARK, OPEN, joined_pairs, steps
+from token_texts import MARK, OPEN, UNIT, joined_pairs, steps
 
 PAGE = "docs/definitions.md"
 
@@ -81,8 +81,8 @@ def written(text, is_coloured=False, with_nodes=False):
     for token in joined_pairs(text):
         if token.what == OPEN and with_nodes:
             found.append(paint(f"{token.number}:", "36", is_coloured))
-        code = f"1;{31 + token.number % 5}" if token.what == MARK else "2" if token.what in (OPEN, CLOSE) else "0"
-        found.append(paint(token.shown, code, is_coloured))
+        code = f"1;{31 + token.number % 5}" if token.what == MARK else "2"
+        found.append(paint(token.shown, code, is_coloured and token.what != UNIT))
     return "".join(found)
 
 
@@ -103,7 +103,8 @@ def is_terminal():
 def page_pictures(program):
     """The pictures of the page, by their files."""
     for file, commands, first, last in PICTURES:
-        yield file, drawn_svg.picture(drawn_steps(program, os.path.join(ROOT, commands), 1, first, last), f"drawn by tools/drawn.py from {commands}")
+        found = drawn_steps(program, os.path.join(ROOT, commands), 1, first, last)
+        yield file, drawn_svg.picture(found, f"drawn by tools/drawn.py from {commands}")
 
 
 def text_of(file):
@@ -132,7 +133,7 @@ def check(program):
     found = wrongs(program)
     for it in found:
         print(f"{it}: not what is drawn")
-    print(f"{len(PICTURES)} pictures and {len(EXAMPLES)} examples: {len(found)} wrong" if found else f"{len(PICTURES)} pictures and {len(EXAMPLES)} examples: as drawn")
+    print(f"{len(PICTURES)} pictures and {len(EXAMPLES)} examples: {f'{len(found)} wrong' if found else 'as drawn'}")
     return 1 if found else 0
 
 

@@ -10,9 +10,11 @@ import glob
 import os
 import re
 import shutil
+import signal
 import subprocess
 import sys
 import tempfile
+import threading
 from collections import namedtuple
 
 from running import PROGRAM, ROOT
@@ -31,8 +33,8 @@ LEFT_OUT = (
     (r"\bNAME\b|\bFILE\b|\bPREFIX\b", "a form, with words to put in"),
 )
 
-# The longest that a block may take, in seconds.
-LIMIT = 300
+# The longest that a block may take, in seconds; what it left running is ended then.
+LIMIT = 120
 
 
 def words():
@@ -106,17 +108,28 @@ def scratch(program, folder):
     return clone
 
 
+def end_all(process):
+    """Ends a block's script with all that it started, which is one session."""
+    try:
+        os.killpg(process.pid, signal.SIGKILL)
+    except ProcessLookupError:
+        pass
+
+
 def run(block, folder):
     """What is wrong with a block once it has run, if anything is."""
     bash = ["bash", "-euo", "pipefail", "-c", block.script]
-    try:
-        done = subprocess.run(bash, cwd=folder, stdin=subprocess.DEVNULL, capture_output=True, timeout=LIMIT, check=False)
-    except subprocess.TimeoutExpired:
-        return f"it took more than {LIMIT} seconds"
-    if done.returncode:
-        said = done.stderr.decode(errors="replace").strip().splitlines()
-        return f"status {done.returncode}{': ' + said[-1] if said else ''}"
-    written = done.stdout.decode(errors="replace").rstrip("\n")
+    pipes = {"stdin": subprocess.DEVNULL, "stdout": subprocess.PIPE, "stderr": subprocess.PIPE}
+    process = subprocess.Popen(bash, cwd=folder, start_new_session=True, **pipes)
+    # what a block leaves running holds the pipes, and is ended with it
+    timer = threading.Timer(LIMIT, end_all, [process])
+    timer.start()
+    out, err = process.communicate()
+    timer.cancel()
+    if process.returncode:
+        said = err.decode(errors="replace").strip().splitlines()
+        return f"status {process.returncode}{': ' + said[-1] if said else ''}"
+    written = out.decode(errors="replace").rstrip("\n")
     return None if block.shown is None or written == block.shown else f"it wrote\n{written}\nwhere the page has\n{block.shown}"
 
 
