@@ -28,10 +28,12 @@ LEFT_OUT = (
     (r"\brt \w+", "needs the kit, and compiles or proves"),
     (r"--install|\binstall -m|\bapt(-get)? |\bsystemctl\b|\bdocker\b|\bpodman\b", "installs, or needs what is not here"),
     (r"bindings/c/(make|test|bench)\.py", "proves and builds the library for C"),
-    (r"bindings/c/out|\bpkg-config\b", "needs the built library for C"),
     (r"\btools/(refused_|leaks|independence|size)|\bbench/", "a long run by hand"),
     (r"\bNAME\b|\bFILE\b|\bPREFIX\b", "a form, with words to put in"),
 )
+
+# What runs with --library alone.
+OF_LIBRARY = r"bindings/c/out|\bpkg-config\b"
 
 # The longest that a block may take, in seconds; what it left running is ended then.
 LIMIT = 120
@@ -41,6 +43,8 @@ def words():
     parser = argparse.ArgumentParser(description=__doc__, formatter_class=argparse.RawDescriptionHelpFormatter)
     parser.add_argument("--program", default=PROGRAM, help="the built program (crates/domserve/out/domserve)")
     parser.add_argument("--only", metavar="FILE", help="only this page, by its path from the top")
+    parser.add_argument("--library", metavar="FILE", help="an archive libdom_c.a: what needs the library for C runs too, in the scratch clone")
+    parser.add_argument("--c-part", metavar="FILE", help="the kit's part in C, for bindings/c/make.py")
     parser.add_argument("--folder", help="run there, and not in a scratch clone")
     return parser.parse_args()
 
@@ -91,9 +95,17 @@ def blocks(page):
         at += 1
 
 
-def reason(script):
+def reason(script, has_library):
     """Why a block is left out, if it is."""
-    return next((why for pattern, why in LEFT_OUT if re.search(pattern, script)), None)
+    of_library = [] if has_library else [(OF_LIBRARY, "needs the built library for C (--library)")]
+    return next((why for pattern, why in [*LEFT_OUT, *of_library] if re.search(pattern, script)), None)
+
+
+def make_library(given, clone):
+    """Makes the library for C in the clone, of an archive that is there."""
+    part = ["--c-part", given.c_part] if given.c_part else []
+    command = [sys.executable, "bindings/c/make.py", "--library", os.path.abspath(given.library), *part]
+    subprocess.run(command, cwd=clone, stdout=subprocess.DEVNULL, check=True)
 
 
 def scratch(program, folder):
@@ -138,11 +150,11 @@ def tell(block, said):
     print(f"{block.page}:{block.line}: {first}{' ...' if rest else ''}: {said}", flush=True)
 
 
-def run_all(found, folder):
+def run_all(found, folder, has_library):
     """Runs what is not left out; returns how many ran, and how many went wrong."""
     ran = wrong = 0
     for block in found:
-        why = reason(block.script)
+        why = reason(block.script, has_library)
         if why:
             tell(block, f"left out: {why}")
             continue
@@ -157,8 +169,11 @@ def main():
     found = [it for page in pages(given.only) for it in blocks(page)]
     if not given.folder and not os.access(given.program, os.X_OK):
         sys.exit(f"{given.program} is not built: run ./domserve once")
-    with tempfile.TemporaryDirectory() as folder:
-        ran, wrong = run_all(found, given.folder or scratch(given.program, folder))
+    with tempfile.TemporaryDirectory() as top:
+        folder = given.folder or scratch(given.program, top)
+        if given.library and not given.folder:
+            make_library(given, folder)
+        ran, wrong = run_all(found, folder, given.library)
     print(f"{len(found)} blocks: {ran} ran, {wrong} wrong, {len(found) - ran} left out")
     return 1 if wrong else 0
 
