@@ -113,7 +113,9 @@ def call_beside(export):
     has_names = ("slice", "uint8_t") in forms and export.name != "hp_line"
     has_lengths = ("slice", "uint32_t") in forms
     found = ["HP_NOT_UTF8"] * has_names + ["HP_BAD_LENGTHS"] * has_lengths
-    found += ["HP_BAD_CHOICE"] * (has_lengths or ("scalar", "uint8_t") in forms)
+    # (a part that is none of them is not there)
+    has_choice = any(it.kind == "scalar" and it.type == "uint8_t" and it.name != "part" for it in export.parameters)
+    found += ["HP_BAD_CHOICE"] * (has_lengths or has_choice)
     return f" Also {', '.join(found)}." if found else ""
 
 
