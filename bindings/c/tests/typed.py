@@ -27,7 +27,12 @@ OF_LINES = {"line-too-long", "bad-json", "bad-command", "bad-arguments"}
 MOVES = ("parentNode", "firstChild", "lastChild", "previousSibling", "nextSibling", "previousNode", "nextNode")
 VERDICTS = {"accept": 1, "reject": 2, "skip": 3}
 OPTIONS = ("childList", "attributes", "characterData", "subtree", "attributeOldValue", "characterDataOldValue")
-RECORDS = ("childList", "attributes", "characterData")
+RECORDS = {"HP_CHILD_LIST": "childList", "HP_ATTRIBUTES": "attributes", "HP_CHARACTER_DATA": "characterData"}
+NO_STATUSES = {"HP_NONE", *RECORDS}
+# What a node has by its type: the names of those with none of their own, and which have data.
+NAMES = {3: "#text", 8: "#comment", 9: "#document", 11: "#document-fragment"}
+ELEMENT, DOCTYPE = 1, 10
+WITH_DATA = (3, 7, 8)
 
 # Replies that hand back what the line has: the place of that among the arguments.
 HANDED_BACK = {"insertBefore": 1, "appendChild": 1, "adoptNode": 1, "replaceChild": 2, "removeChild": 1}
@@ -44,6 +49,10 @@ class NoCall(Exception):
 
 def snake(name):
     return re.sub(r"(?<=[a-z0-9])(?=[A-Z])", "_", name).lower()
+
+
+def maybe(number):
+    return None if number == MOST else number
 
 
 def of_units(units):
@@ -74,7 +83,7 @@ class Session:
         self.header = header(header_path)
         self.library, self.structs = library(path, self.header)
         self.calls = {it.name: it for it in self.header.calls}
-        self.words = {value: status_word(name) for name, value in self.header.constants.items() if name != "HP_NONE"}
+        self.words = {value: status_word(name) for name, value in self.header.constants.items() if name not in NO_STATUSES}
         self.session = self.structs["hp_session"]()
         self.seen = set()
         self.program = Program(self.header)
@@ -126,10 +135,17 @@ class Session:
         self.must(call, *words, ctypes.byref(found))
         return found.value
 
-    def number_at(self, at):
+    def part_at(self, call, *words):
+        """A number that a call writes; None where it is not there."""
         found = ctypes.c_uint32(7)
-        self.must("hp_number_at", at, ctypes.byref(found))
-        return found.value
+        status = self.call(call, *words, ctypes.byref(found))
+        assert self.words[status] in ("ok", "not-there"), call
+        return found.value if status == 0 else None
+
+    def number_at(self, at):
+        found = self.part_at("hp_number_at", at)
+        assert found is not None
+        return found
 
     # arguments
 
@@ -191,11 +207,74 @@ class Session:
         return self.structs[outs[0].type]() if outs[0].type in self.structs else SCALARS[outs[0].type](7)
 
     def place(self, it):
-        maybe = lambda number: None if number == MOST else number
-        found = {"document": it.document, "next": maybe(it.next), "parent": maybe(it.parent)}
-        found.update({"previous": maybe(it.previous), "type": it.kind})
-        # the names are read off the printed answer
-        return {**json.loads(self.printed())["ok"], **found}
+        name = self.node_name(it.kind, "hp_node_name")
+        found = {"document": it.document, "name": name, "next": maybe(it.next), "parent": maybe(it.parent)}
+        found.update({"previous": maybe(it.previous)})
+        if it.kind == DOCTYPE:
+            found.update({"public": self.name("hp_node_name", 1), "system": self.name("hp_node_name", 2)})
+        assert self.name("hp_node_name", 3) is None
+        return {**found, "type": it.kind}
+
+    def node_name(self, kind, call, *words):
+        """The name as replies have it; a node of a kind that has none of its own has no such part."""
+        name, others = self.name(call, *words, 0), [self.name(call, *words, part) for part in (1, 2)]
+        assert (name is None) == (kind in NAMES) and all((it is None) == (kind != DOCTYPE) for it in others)
+        return NAMES.get(kind, name)
+
+    def read(self, form, name, *words):
+        """A struct that a call writes; None where it is not there."""
+        out = self.structs[form]()
+        status = self.call(name, *words, ctypes.byref(out))
+        assert self.words[status] in ("ok", "not-there"), name
+        return out if status == 0 else None
+
+    def row(self, at):
+        it = self.read("hp_row", "hp_row_at", at)
+        found = [it.depth, it.node, it.type, self.node_name(it.type, "hp_row_name", at)]
+        attributes = [[self.name("hp_row_attribute_name", at, place), self.text("hp_row_attribute_value", at, place)] for place in range(it.attributes)]
+        ends = (self.name("hp_row_attribute_name", at, it.attributes), self.text("hp_row_attribute_value", at, it.attributes))
+        data = self.text("hp_row_text", at)
+        assert ends == (None, None) and (data is None) == (it.type not in WITH_DATA) and (it.type == ELEMENT or not attributes)
+        if it.type in WITH_DATA:
+            found.append(data)
+        if it.type == ELEMENT:
+            found.append(attributes)
+        if it.type == DOCTYPE:
+            found += [self.name("hp_row_name", at, part) for part in (1, 2)]
+        return found
+
+    def record_nodes(self, call, count, *words):
+        found = [self.part_at(call, *words, at) for at in range(count + 1)]
+        assert found.pop() is None
+        return found
+
+    def record(self, notice, at):
+        it = self.read("hp_record", "hp_record_at", notice, at)
+        added = self.record_nodes("hp_record_added_at", it.added, notice, at)
+        removed = self.record_nodes("hp_record_removed_at", it.removed, notice, at)
+        what = next(what for name, what in RECORDS.items() if self.header.constants[name] == it.type)
+        name, value = self.name("hp_record_name", notice, at), self.text("hp_record_old_value", notice, at)
+        return [what, it.target, added, removed, maybe(it.previous), maybe(it.next), name, value]
+
+    def records(self, notice, count):
+        assert self.read("hp_record", "hp_record_at", notice, count) is None
+        return [self.record(notice, at) for at in range(count)]
+
+    def notice(self, at):
+        it = self.read("hp_notice", "hp_notice_at", at)
+        return [it.observer, self.records(at, it.records)]
+
+    def many(self, name):
+        """The rows of a tree, the records that were taken, or what each observer was told."""
+        count = self.count()
+        calls = {"tree": ("hp_row", "hp_row_at"), "notify": ("hp_notice", "hp_notice_at")}
+        for form, call in calls.values():
+            assert self.read(form, call, count) is None
+        if name == "takeRecords":
+            assert self.read("hp_record", "hp_record_at", 1, 0) is None
+            return self.records(0, count)
+        assert self.read("hp_record", "hp_record_at", count, 0) is None
+        return [(self.row if name == "tree" else self.notice)(at) for at in range(count)]
 
     def told(self, name, out):
         """The answer that an out pointer has."""
@@ -218,9 +297,7 @@ class Session:
         if name == "attributeNames":
             return [self.name("hp_name_at", at) for at in range(self.count())]
         if name in ROWS:
-            rows = json.loads(self.printed())["ok"]
-            assert len(rows) == self.count()
-            return rows
+            return self.many(name)
         return None
 
     def printed(self):

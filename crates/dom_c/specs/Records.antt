@@ -4,7 +4,7 @@ use Rattle.dom_model.specs.declared.RecordType.{RecordType}
 use Rattle.dom_model.specs.declared.RecordType.TheVariants.{ChildList, Attributes, CharacterData}
 use Rattle.dom_model.specs.Commands.Reply as model
 use Rattle.dom_c.specs.Told.{number_or_null}
-use Rattle.dom_c.specs.declared.records.Notice.{Notice}
+use Rattle.dom_c.specs.declared.notices.Notice.{Notice}
 use Rattle.dom_c.specs.declared.records.Record.{Record}
 
 abbrev pub notice_in : ℕ → model.Answer → Option model.Told

@@ -16,6 +16,7 @@ pub mod lending;
 pub mod lines;
 pub mod lodged;
 pub mod making;
+pub mod notices;
 pub mod observing;
 pub mod opening;
 pub mod options;

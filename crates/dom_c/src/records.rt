@@ -5,7 +5,7 @@ ghost use Rattle.dom_model.specs.Commands.Reply.{Record as PlainRecord};
 ghost use Rattle.dom_wire.specs.Sessions.{answer_view};
 ghost use Rattle.dom_c.specs.Told.{last_of};
 ghost use Rattle.dom_c.specs.Reading.{look_up_status, looked_up, or_before};
-ghost use Rattle.dom_c.specs.Records.{notice_at, records_in, record_in, type_number, record_told, record_at, added_at, removed_at, record_name_at, old_value_at};
+ghost use Rattle.dom_c.specs.Records.{records_in, record_in, type_number, record_told, record_at, added_at, removed_at, record_name_at, old_value_at};
 
 use crate::handle::Handle;
 use crate::kept::Kept;
@@ -21,14 +21,6 @@ pub const HP_ATTRIBUTES: u8 = 0;
 pub const HP_CHARACTER_DATA: u8 = 1;
 /// The record tells of children.
 pub const HP_CHILD_LIST: u8 = 2;
-
-/// What an observer is told: its number, and how many records.
-#[repr(C)]
-#[derive(Clone, Copy, Debug)]
-pub struct Notice {
-    pub observer: u32,
-    pub records: usize,
-}
 
 /// A record: its type (`HP_ATTRIBUTES`, `HP_CHARACTER_DATA` or `HP_CHILD_LIST`), its target, how many nodes were added and removed, and the
 /// siblings beside them, or `HP_NONE`.
@@ -51,21 +43,6 @@ fn type_number(what: RecordType) -> u8
         RecordType::Attributes => HP_ATTRIBUTES,
         RecordType::CharacterData => HP_CHARACTER_DATA,
         RecordType::ChildList => HP_CHILD_LIST,
-    }
-}
-
-fn notice_of(answer: &Answer, notice: usize) -> Option<Notice>
-    ensures { result ≡ notice_at notice (answer_view answer.now) }
-{
-    match answer {
-        Answer::Notified(told) => match told.as_slice().get(notice) {
-            Some(found) => Some(Notice {
-                observer: found.observer.number(),
-                records: found.records.len(),
-            }),
-            None => None,
-        },
-        _ => None,
     }
 }
 
@@ -134,15 +111,6 @@ fn old_value_of(found: &MutationRecord) -> Option<&[u16]>
 }
 
 impl Kept {
-    fn notice_at(&self, index: usize) -> Option<Notice>
-        ensures { result ≡ option_and_then (notice_at index) (last_of self.now) }
-    {
-        match &self.reply {
-            Some(Reply::Done(answer)) => notice_of(answer, index),
-            _ => None,
-        }
-    }
-
     fn record(&self, notice: usize, index: usize) -> Option<&MutationRecord>
         ensures { option_map (λ found. found.now) result
             ≡ option_and_then (record_in notice index) (last_of self.now) }
@@ -198,29 +166,6 @@ impl Kept {
             Some(found) => old_value_of(found),
             None => None,
         }
-    }
-}
-
-/// The observer that `hp_notify` told at an index, and how many records.
-#[unsafe(no_mangle)]
-pub extern "C" fn hp_notice_at(handle: &mut Handle, index: usize, notice: &mut Notice) -> u8
-    ensures kept { handle.new.slot.kept ≡ handle.old.slot.kept }
-    ensures status { result ≡ look_up_status handle.old (notice_at index) }
-    ensures notice { notice.new ≡ or_before (looked_up handle.old (notice_at index)) notice.old }
-{
-    if !handle.is_open {
-        return HP_CLOSED;
-    }
-    let kept = &handle.slot.lend().kept;
-    if kept.ended {
-        return HP_OUT_OF_MEMORY;
-    }
-    match kept.notice_at(index) {
-        Some(found) => {
-            *notice = found;
-            HP_OK
-        }
-        None => HP_NOT_THERE,
     }
 }
 
