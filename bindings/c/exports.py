@@ -12,8 +12,8 @@ SOURCES = os.path.join(ROOT, "crates/dom_c/src")
 
 # The modules in the order in which a header is read. Others come behind them.
 ORDER = (
-    "status opening lines lending parts telling places making editing copying asking texts attributes ranges points statics contents "
-    "traversing observing"
+    "status opening lines lending parts labels rows notices records telling places making editing copying asking texts attributes ranges "
+    "points statics contents traversing observing"
 ).split()
 
 SCALARS = {
@@ -56,7 +56,9 @@ def snake(name):
 
 
 def named(name):
-    """A parameter's or field's name, where C and C++ may have it."""
+    """A parameter's or field's name, where C and C++ may have it. A name that Rust alone keeps for itself has an underscore there."""
+    if name.endswith("_") and name[:-1] not in KEYWORDS:
+        return name[:-1]
     return name + "_" if name in KEYWORDS else name
 
 

@@ -113,7 +113,9 @@ def call_beside(export):
     has_names = ("slice", "uint8_t") in forms and export.name != "hp_line"
     has_lengths = ("slice", "uint32_t") in forms
     found = ["HP_NOT_UTF8"] * has_names + ["HP_BAD_LENGTHS"] * has_lengths
-    found += ["HP_BAD_CHOICE"] * (has_lengths or ("scalar", "uint8_t") in forms)
+    # (a part that is none of them is not there)
+    has_choice = any(it.kind == "scalar" and it.type == "uint8_t" and it.name != "part" for it in export.parameters)
+    found += ["HP_BAD_CHOICE"] * (has_lengths or has_choice)
     return f" Also {', '.join(found)}." if found else ""
 
 
@@ -155,11 +157,11 @@ def mended(export, lent):
     return text + f"#define {export.name}(...) {export.name}_mended(__VA_ARGS__)\n"
 
 
-def words(constants):
+def words(statuses):
     """The inline call that tells how a status is printed."""
     text = comment("How a status is printed, as in the reply to a line.")
     text += "static inline const char *hp_status_word(uint8_t status)\n{\n    switch (status) {\n"
-    for it in constants:
+    for it in statuses:
         if it.type == "uint8_t":
             text += f"    case {it.name}: return \"{status_word(it.name)}\";\n"
     return text + '    default: return "";\n    }\n}\n'
@@ -203,7 +205,7 @@ def header(found):
             text += "\n" + comment(it.doc + section(it.name) + call_beside(it)) + prototype(it.name, it.parameters) + ";\n"
     text += "\n/* ---- What stands in for null and for what is not set yet: the calls below are reached by the names of those above. */\n\n"
     text += "static const uint64_t hp_nothing[1] = { 0 };\n\n"
-    text += "\n".join(filter(None, (mended(it, lent) for it in exports))) + "\n" + words(constants)
+    text += "\n".join(filter(None, (mended(it, lent) for it in exports))) + "\n" + words(it for module in found if module.name == "status" for it in module.constants)
     return text + TAIL
 
 

@@ -62,6 +62,7 @@ static void open_editor(editor *it)
     must(hp_create_range(&it->session, 0, &it->bookmark));
     must(hp_create_observer(&it->session, &it->observer));
     options.child_list = options.character_data = options.attributes = options.subtree = 1;
+    options.character_data_old_value = options.attribute_old_value = 1;
     must(hp_observe(&it->session, it->observer, it->paragraph, &options, NULL, 0, NULL, 0));
 }
 
@@ -83,14 +84,58 @@ static void tell_bookmark(editor *it)
     printf("\"\n");
 }
 
+/* Prints a name that is lent, which is UTF-8 already. */
+static void put_name(hp_bytes name)
+{
+    printf("%.*s", (int)name.length, (const char *)name.bytes);
+}
+
+/* Tells the nodes that a change added or removed. */
+static void tell_nodes(editor *it, size_t change, const hp_record *record)
+{
+    uint32_t node;
+    for (size_t at = 0; at < record->added; at++) {
+        must(hp_record_added_at(&it->session, 0, change, at, &node));
+        printf(", added %u", node);
+    }
+    for (size_t at = 0; at < record->removed; at++) {
+        must(hp_record_removed_at(&it->session, 0, change, at, &node));
+        printf(", removed %u", node);
+    }
+}
+
+/* Tells one change: what it is, where, the nodes that came and went, and the value that was there before. */
+static void tell_change(editor *it, size_t change)
+{
+    hp_record record;
+    hp_bytes name;
+    hp_text_view old_value;
+    must(hp_record_at(&it->session, 0, change, &record));
+    printf("  %s of %u", record.type == HP_CHILD_LIST ? "children" : record.type == HP_ATTRIBUTES ? "attribute" : "data", record.target);
+    if (hp_record_name(&it->session, 0, change, &name) == HP_OK) {
+        printf(" ");
+        put_name(name);
+    }
+    tell_nodes(it, change, &record);
+    if (hp_record_old_value(&it->session, 0, change, &old_value) == HP_OK) {
+        printf(", it was \"");
+        put_units(old_value.units, old_value.length);
+        printf("\"");
+    }
+    printf("\n");
+}
+
 /* Tells what changed since it was asked last, and what the paragraph has now. */
 static void tell_changes(editor *it)
 {
     size_t changes;
     must(hp_take_records(&it->session, it->observer));
     must(hp_count(&it->session, &changes));
-    printf("%zu changes: \"", changes);
+    printf("%zu changes:\n", changes);
+    for (size_t change = 0; change < changes; change++)
+        tell_change(it, change);
     must(hp_text_content(&it->session, it->paragraph));
+    printf("now: \"");
     put_answer(it);
     printf("\"\n");
 }

@@ -97,6 +97,86 @@ static void parts(hp_session *session)
         faults++;
 }
 
+/* Rows: what is past the end or of another kind is not there, and leaves what the out pointers point at. */
+static void rows(hp_session *session)
+{
+    hp_row row = { 7, 7, 7, 7 };
+    hp_text_view text;
+    hp_bytes bytes;
+    WANT(HP_NOT_THERE, hp_row_at(session, 0, &row));
+    WANT(HP_OK, hp_tree(session, 1));
+    WANT(HP_NOT_THERE, hp_row_at(session, 1, &row));
+    WANT(HP_NOT_THERE, hp_row_at(session, (size_t)-1, &row));
+    if (row.depth != 7 || row.node != 7 || row.type != 7 || row.attributes != 7)
+        faults++;
+    WANT(HP_OK, hp_row_at(session, 0, &row));
+    if (row.depth != 0 || row.node != 1 || row.type != 1 || row.attributes != 1)
+        faults++;
+    WANT(HP_OK, hp_row_name(session, 0, 0, &bytes));
+    if (bytes.length != 1 || bytes.bytes[0] != 'a')
+        faults++;
+    WANT(HP_NOT_THERE, hp_row_name(session, 1, 0, &bytes));
+    WANT(HP_NOT_THERE, hp_row_name(session, 0, 1, &bytes));
+    WANT(HP_NOT_THERE, hp_row_name(session, 0, 2, &bytes));
+    WANT(HP_NOT_THERE, hp_row_name(session, 0, 255, &bytes));
+    WANT(HP_NOT_THERE, hp_row_text(session, 0, &text));
+    WANT(HP_OK, hp_row_attribute_name(session, 0, 0, &bytes));
+    WANT(HP_NOT_THERE, hp_row_attribute_name(session, 0, 1, &bytes));
+    WANT(HP_NOT_THERE, hp_row_attribute_name(session, 1, 0, &bytes));
+    WANT(HP_OK, hp_row_attribute_value(session, 0, 0, &text));
+    WANT(HP_NOT_THERE, hp_row_attribute_value(session, 0, 1, &text));
+    WANT(HP_NOT_THERE, hp_row_attribute_value(session, (size_t)-1, 0, &text));
+    WANT(HP_NOT_THERE, hp_node_name(session, 0, &bytes));
+    WANT(HP_OK, hp_node(session, 1, &(hp_place){ 0, 0, 0, 0, 0 }));
+    WANT(HP_OK, hp_node_name(session, 0, &bytes));
+    WANT(HP_NOT_THERE, hp_node_name(session, 3, &bytes));
+    WANT(HP_NOT_THERE, hp_row_at(session, 0, &row));
+}
+
+/* Records, by the same rule; those that were taken are those of notice 0 alone. Observer 0 watches the children of node 0. */
+static void records(hp_session *session)
+{
+    hp_notice notice = { 7, 7 };
+    hp_record record = { 7, 7, 7, 7, 7, 7 };
+    hp_text_view text;
+    hp_bytes bytes;
+    uint32_t node = 77;
+    WANT(HP_NOT_THERE, hp_notice_at(session, 0, &notice));
+    WANT(HP_OK, hp_append_child(session, 0, 1));
+    WANT(HP_OK, hp_take_records(session, 0));
+    WANT(HP_NOT_THERE, hp_notice_at(session, 0, &notice));
+    WANT(HP_NOT_THERE, hp_record_at(session, 0, 1, &record));
+    WANT(HP_NOT_THERE, hp_record_at(session, 1, 0, &record));
+    WANT(HP_NOT_THERE, hp_record_at(session, (size_t)-1, (size_t)-1, &record));
+    if (notice.observer != 7 || notice.records != 7 || record.type != 7 || record.target != 7 || record.added != 7 || record.next != 7)
+        faults++;
+    WANT(HP_OK, hp_record_at(session, 0, 0, &record));
+    if (record.type != HP_CHILD_LIST || record.target != 0 || record.added != 1 || record.removed != 0)
+        faults++;
+    if (record.previous != HP_NONE || record.next != HP_NONE)
+        faults++;
+    WANT(HP_NOT_THERE, hp_record_added_at(session, 0, 0, 1, &node));
+    WANT(HP_NOT_THERE, hp_record_added_at(session, 1, 0, 0, &node));
+    WANT(HP_NOT_THERE, hp_record_removed_at(session, 0, 0, 0, &node));
+    if (node != 77)
+        faults++;
+    WANT(HP_OK, hp_record_added_at(session, 0, 0, 0, &node));
+    if (node != 1)
+        faults++;
+    WANT(HP_NOT_THERE, hp_record_name(session, 0, 0, &bytes));
+    WANT(HP_NOT_THERE, hp_record_old_value(session, 0, 0, &text));
+    WANT(HP_OK, hp_remove_child(session, 0, 1));
+    WANT(HP_OK, hp_notify(session));
+    WANT(HP_OK, hp_notice_at(session, 0, &notice));
+    if (notice.observer != 0 || notice.records != 1)
+        faults++;
+    WANT(HP_NOT_THERE, hp_notice_at(session, 1, &notice));
+    WANT(HP_OK, hp_record_removed_at(session, 0, 0, 0, &node));
+    WANT(HP_NOT_THERE, hp_record_added_at(session, 0, 0, 0, &node));
+    WANT(HP_NOT_THERE, hp_record_at(session, 0, 1, &record));
+    WANT(HP_NOT_THERE, hp_record_at(session, 1, 0, &record));
+}
+
 int main(void)
 {
     hp_session session = HP_SESSION_INIT;
@@ -109,6 +189,8 @@ int main(void)
     names(&session);
     lists(&session);
     parts(&session);
+    rows(&session);
+    records(&session);
     WANT(HP_BAD_JSON, hp_line(&session, NULL, 0));
     WANT(HP_OK, hp_close(&session));
     WANT(HP_CLOSED, hp_close(&session));

@@ -16,6 +16,7 @@ HERE = os.path.dirname(os.path.abspath(__file__))
 sys.path.insert(0, os.path.dirname(HERE))
 from declared import SCALARS, header, library
 from exports import ROOT, status_word
+from reader import DOCTYPE, MOST, NO_STATUSES, Reader, maybe
 from said import Program
 
 sys.path.insert(0, os.path.join(ROOT, "tools"))
@@ -27,7 +28,6 @@ OF_LINES = {"line-too-long", "bad-json", "bad-command", "bad-arguments"}
 MOVES = ("parentNode", "firstChild", "lastChild", "previousSibling", "nextSibling", "previousNode", "nextNode")
 VERDICTS = {"accept": 1, "reject": 2, "skip": 3}
 OPTIONS = ("childList", "attributes", "characterData", "subtree", "attributeOldValue", "characterDataOldValue")
-RECORDS = ("childList", "attributes", "characterData")
 
 # Replies that hand back what the line has: the place of that among the arguments.
 HANDED_BACK = {"insertBefore": 1, "appendChild": 1, "adoptNode": 1, "replaceChild": 2, "removeChild": 1}
@@ -35,7 +35,6 @@ TEXTS = ("data", "substringData", "rangeText", "textContent", "getAttribute")
 ROWS = ("tree", "takeRecords", "notify")
 NUMBERS = ("children", "pending")
 MAYBE = ("nextNode", "previousNode", "walk")
-MOST = 4294967295
 
 
 class NoCall(Exception):
@@ -44,14 +43,6 @@ class NoCall(Exception):
 
 def snake(name):
     return re.sub(r"(?<=[a-z0-9])(?=[A-Z])", "_", name).lower()
-
-
-def of_units(units):
-    """A text as replies have it: a string where it is well-formed, or else the list of its units."""
-    try:
-        return b"".join(it.to_bytes(2, "little") for it in units).decode("utf-16-le")
-    except UnicodeDecodeError:
-        return list(units)
 
 
 def units_of(text):
@@ -69,12 +60,12 @@ class Array:
         self.words = [(form * max(len(values), 1))(*values), len(values)]
 
 
-class Session:
+class Session(Reader):
     def __init__(self, path, header_path):
         self.header = header(header_path)
         self.library, self.structs = library(path, self.header)
         self.calls = {it.name: it for it in self.header.calls}
-        self.words = {value: status_word(name) for name, value in self.header.constants.items() if name != "HP_NONE"}
+        self.words = {value: status_word(name) for name, value in self.header.constants.items() if name not in NO_STATUSES}
         self.session = self.structs["hp_session"]()
         self.seen = set()
         self.program = Program(self.header)
@@ -91,45 +82,6 @@ class Session:
     def must(self, name, *words):
         status = self.call(name, *words)
         assert status == 0, f"{name}: {self.words[status]}"
-
-    # what a session lends
-
-    def nothing(self, form):
-        """A struct whose pointers are real ones."""
-        found = form()
-        for name, its in form._fields_:
-            if isinstance(its, type) and issubclass(its, ctypes.Structure):
-                setattr(found, name, self.nothing(its))
-            elif hasattr(its, "contents"):
-                setattr(found, name, ctypes.cast((ctypes.c_uint64 * 1)(), its))
-        return found
-
-    def lent(self, form, name, *words):
-        """What a call lends, as a list of units or bytes; None where it is not there."""
-        out = self.nothing(self.structs[form])
-        status = self.call(name, *words, ctypes.byref(out))
-        if self.words[status] == "not-there":
-            return None
-        assert status == 0, f"{name}: {self.words[status]}"
-        return getattr(out, out._fields_[0][0])[: out.length]
-
-    def name(self, call, *words):
-        found = self.lent("hp_bytes", call, *words)
-        return None if found is None else bytes(found).decode()
-
-    def text(self, call, *words):
-        found = self.lent("hp_text_view", call, *words)
-        return None if found is None else of_units(found)
-
-    def count(self, call="hp_count", *words):
-        found = ctypes.c_size_t(7)
-        self.must(call, *words, ctypes.byref(found))
-        return found.value
-
-    def number_at(self, at):
-        found = ctypes.c_uint32(7)
-        self.must("hp_number_at", at, ctypes.byref(found))
-        return found.value
 
     # arguments
 
@@ -191,11 +143,13 @@ class Session:
         return self.structs[outs[0].type]() if outs[0].type in self.structs else SCALARS[outs[0].type](7)
 
     def place(self, it):
-        maybe = lambda number: None if number == MOST else number
-        found = {"document": it.document, "next": maybe(it.next), "parent": maybe(it.parent)}
-        found.update({"previous": maybe(it.previous), "type": it.kind})
-        # the names are read off the printed answer
-        return {**json.loads(self.printed())["ok"], **found}
+        name = self.node_name(it.kind, "hp_node_name")
+        found = {"document": it.document, "name": name, "next": maybe(it.next), "parent": maybe(it.parent)}
+        found.update({"previous": maybe(it.previous)})
+        if it.kind == DOCTYPE:
+            found.update({"public": self.name("hp_node_name", 1), "system": self.name("hp_node_name", 2)})
+        assert self.name("hp_node_name", 3) is None
+        return {**found, "type": it.kind}
 
     def told(self, name, out):
         """The answer that an out pointer has."""
@@ -218,9 +172,7 @@ class Session:
         if name == "attributeNames":
             return [self.name("hp_name_at", at) for at in range(self.count())]
         if name in ROWS:
-            rows = json.loads(self.printed())["ok"]
-            assert len(rows) == self.count()
-            return rows
+            return self.many(name)
         return None
 
     def printed(self):

@@ -10,3 +10,5 @@ pub mod Lines
 pub mod Lists
 pub mod Codes
 pub mod Reading
+pub mod Rows
+pub mod Records

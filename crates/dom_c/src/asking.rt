@@ -13,7 +13,7 @@ use crate::reading::node_or_none;
 use dom_session::NodeId;
 use dom_wire::Command;
 
-/// Tells where a node stands, and of which kind it is; `hp_print` prints its names too.
+/// Tells where a node stands, and of which kind it is; `hp_node_name` lends its names.
 #[unsafe(no_mangle)]
 pub extern "C" fn hp_node(handle: &mut Handle, node: u32, place: &mut Place) -> u8
     ensures answers { Answers handle.old handle.new (Ok (DescribeNode node)) result }
@@ -106,7 +106,7 @@ pub extern "C" fn hp_text_content(handle: &mut Handle, node: u32) -> u8
     handle.take(Ok(Command::TextContent(NodeId::new(node))))
 }
 
-/// A node and all below it, in tree order: `hp_count` counts the rows, `hp_print` prints them.
+/// A node and all below it, in tree order: `hp_count` counts the rows, `hp_row_at` and the calls of its kind read them.
 #[unsafe(no_mangle)]
 pub extern "C" fn hp_tree(handle: &mut Handle, node: u32) -> u8
     ensures { Answers handle.old handle.new (Ok (Tree node)) result }

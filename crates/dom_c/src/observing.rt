@@ -65,7 +65,7 @@ pub extern "C" fn hp_disconnect(handle: &mut Handle, observer: u32) -> u8
     handle.take(Ok(Command::Disconnect(ObserverId::new(observer))))
 }
 
-/// Takes the records of an observer: `hp_count` counts them, `hp_print` prints them.
+/// Takes the records of an observer: `hp_count` counts them, `hp_record_at` and the calls of its kind read them, as those of notice 0.
 #[unsafe(no_mangle)]
 pub extern "C" fn hp_take_records(handle: &mut Handle, observer: u32) -> u8
     ensures { Answers handle.old handle.new (Ok (TakeRecords observer)) result }
@@ -73,7 +73,7 @@ pub extern "C" fn hp_take_records(handle: &mut Handle, observer: u32) -> u8
     handle.take(Ok(Command::TakeRecords(ObserverId::new(observer))))
 }
 
-/// Hands its records to each observer that waits: `hp_count` counts the observers, `hp_print` prints what each is told.
+/// Hands its records to each observer that waits: `hp_count` counts the observers, `hp_notice_at` and `hp_record_at` read what each is told.
 #[unsafe(no_mangle)]
 pub extern "C" fn hp_notify(handle: &mut Handle) -> u8
     ensures { Answers handle.old handle.new (Ok Notify) result }

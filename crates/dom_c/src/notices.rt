@@ -1,0 +1,70 @@
+//! Who was told of records of mutations, the answer of `hp_notify`.
+
+ghost use Rattle.std.specs.Prelude.{◌≡◌, ℕ, Option, option_and_then};
+ghost use Rattle.dom_wire.specs.Sessions.{answer_view};
+ghost use Rattle.dom_c.specs.Told.{last_of};
+ghost use Rattle.dom_c.specs.Reading.{look_up_status, looked_up, or_before};
+ghost use Rattle.dom_c.specs.Records.{notice_at};
+
+use crate::handle::Handle;
+use crate::kept::Kept;
+use crate::status::{HP_CLOSED, HP_NOT_THERE, HP_OK, HP_OUT_OF_MEMORY};
+use dom_session::Answer;
+use dom_wire::Reply;
+
+/// What an observer is told: its number, and how many records.
+#[repr(C)]
+#[derive(Clone, Copy, Debug)]
+pub struct Notice {
+    pub observer: u32,
+    pub records: usize,
+}
+
+fn notice_of(answer: &Answer, notice: usize) -> Option<Notice>
+    ensures { result ≡ notice_at notice (answer_view answer.now) }
+{
+    match answer {
+        Answer::Notified(told) => match told.as_slice().get(notice) {
+            Some(found) => Some(Notice {
+                observer: found.observer.number(),
+                records: found.records.len(),
+            }),
+            None => None,
+        },
+        _ => None,
+    }
+}
+
+impl Kept {
+    fn notice_at(&self, index: usize) -> Option<Notice>
+        ensures { result ≡ option_and_then (notice_at index) (last_of self.now) }
+    {
+        match &self.reply {
+            Some(Reply::Done(answer)) => notice_of(answer, index),
+            _ => None,
+        }
+    }
+}
+
+/// The observer that `hp_notify` told at an index, and how many records.
+#[unsafe(no_mangle)]
+pub extern "C" fn hp_notice_at(handle: &mut Handle, index: usize, notice: &mut Notice) -> u8
+    ensures kept { handle.new.slot.kept ≡ handle.old.slot.kept }
+    ensures status { result ≡ look_up_status handle.old (notice_at index) }
+    ensures notice { notice.new ≡ or_before (looked_up handle.old (notice_at index)) notice.old }
+{
+    if !handle.is_open {
+        return HP_CLOSED;
+    }
+    let kept = &handle.slot.lend().kept;
+    if kept.ended {
+        return HP_OUT_OF_MEMORY;
+    }
+    match kept.notice_at(index) {
+        Some(found) => {
+            *notice = found;
+            HP_OK
+        }
+        None => HP_NOT_THERE,
+    }
+}

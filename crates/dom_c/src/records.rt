@@ -1,0 +1,310 @@
+//! What is read of records of mutations, the answers of `hp_notify` and `hp_take_records`.
+
+ghost use Rattle.std.specs.Prelude.{◌≡◌, List, ℕ, Option, slice_get, option_map, option_and_then};
+ghost use Rattle.dom_model.specs.Commands.Reply.{Record as PlainRecord};
+ghost use Rattle.dom_wire.specs.Sessions.{answer_view};
+ghost use Rattle.dom_c.specs.Told.{last_of};
+ghost use Rattle.dom_c.specs.Reading.{look_up_status, looked_up, or_before};
+ghost use Rattle.dom_c.specs.Records.{records_in, record_in, type_number, record_told, record_at, added_at, removed_at, record_name_at, old_value_at};
+
+use crate::handle::Handle;
+use crate::kept::Kept;
+use crate::lending::{Bytes, Text};
+use crate::placing::node_number;
+use crate::status::{HP_CLOSED, HP_NOT_THERE, HP_OK, HP_OUT_OF_MEMORY};
+use dom_session::{Answer, NodeId, Record as MutationRecord, RecordType};
+use dom_wire::Reply;
+
+/// The record tells of an attribute.
+pub const HP_ATTRIBUTES: u8 = 0;
+/// The record tells of data.
+pub const HP_CHARACTER_DATA: u8 = 1;
+/// The record tells of children.
+pub const HP_CHILD_LIST: u8 = 2;
+
+/// A record: its type (`HP_ATTRIBUTES`, `HP_CHARACTER_DATA` or `HP_CHILD_LIST`), its target, how many nodes were added and removed, and the
+/// siblings beside them, or `HP_NONE`.
+#[repr(C)]
+#[derive(Clone, Copy, Debug)]
+pub struct Record {
+    pub type_: u8,
+    pub target: u32,
+    pub added: usize,
+    pub removed: usize,
+    pub previous: u32,
+    pub next: u32,
+}
+
+// The number of a type.
+fn type_number(what: RecordType) -> u8
+    ensures { result ≡ type_number what }
+{
+    match what {
+        RecordType::Attributes => HP_ATTRIBUTES,
+        RecordType::CharacterData => HP_CHARACTER_DATA,
+        RecordType::ChildList => HP_CHILD_LIST,
+    }
+}
+
+// The records of a notice; those that were taken stand as the first.
+fn records_in(answer: &Answer, notice: usize) -> Option<&[MutationRecord]>
+    ensures { option_map (λ records. records.now) result ≡ records_in notice (answer_view answer.now) }
+{
+    match answer {
+        Answer::Records(records) if notice == 0 => Some(records.as_slice()),
+        Answer::Notified(told) => match told.as_slice().get(notice) {
+            Some(found) => Some(found.records.as_slice()),
+            None => None,
+        },
+        _ => None,
+    }
+}
+
+fn record_in(answer: &Answer, notice: usize, index: usize) -> Option<&MutationRecord>
+    ensures { option_map (λ found. found.now) result ≡ record_in notice index (answer_view answer.now) }
+{
+    match records_in(answer, notice) {
+        Some(records) => records.get(index),
+        None => None,
+    }
+}
+
+// A record as C reads it.
+fn record_told(found: &MutationRecord) -> Record
+    ensures { result ≡ record_told found.now }
+{
+    Record {
+        type_: type_number(found.what),
+        target: found.target.number(),
+        added: found.added.len(),
+        removed: found.removed.len(),
+        previous: node_number(found.previous),
+        next: node_number(found.next),
+    }
+}
+
+fn number_in(nodes: &[NodeId], at: usize) -> Option<u32>
+    ensures { result ≡ slice_get nodes.now at }
+{
+    match nodes.get(at) {
+        Some(node) => Some(node.number()),
+        None => None,
+    }
+}
+
+fn name_of(found: &MutationRecord) -> Option<&[u8]>
+    ensures { option_map (λ name. name.now) result ≡ found.now.name }
+{
+    match &found.name {
+        Some(name) => Some(name.as_bytes()),
+        None => None,
+    }
+}
+
+fn old_value_of(found: &MutationRecord) -> Option<&[u16]>
+    ensures { option_map (λ text. text.now) result ≡ found.now.old_value }
+{
+    match &found.old_value {
+        Some(text) => Some(text.units()),
+        None => None,
+    }
+}
+
+impl Kept {
+    fn record(&self, notice: usize, index: usize) -> Option<&MutationRecord>
+        ensures { option_map (λ found. found.now) result
+            ≡ option_and_then (record_in notice index) (last_of self.now) }
+    {
+        match &self.reply {
+            Some(Reply::Done(answer)) => record_in(answer, notice, index),
+            _ => None,
+        }
+    }
+
+    fn record_at(&self, notice: usize, index: usize) -> Option<Record>
+        ensures { result ≡ option_and_then (record_at notice index) (last_of self.now) }
+    {
+        match self.record(notice, index) {
+            Some(found) => Some(record_told(found)),
+            None => None,
+        }
+    }
+
+    fn added_at(&self, notice: usize, index: usize, at: usize) -> Option<u32>
+        ensures { result ≡ option_and_then (added_at notice index at) (last_of self.now) }
+    {
+        match self.record(notice, index) {
+            Some(found) => number_in(found.added.as_slice(), at),
+            None => None,
+        }
+    }
+
+    fn removed_at(&self, notice: usize, index: usize, at: usize) -> Option<u32>
+        ensures { result ≡ option_and_then (removed_at notice index at) (last_of self.now) }
+    {
+        match self.record(notice, index) {
+            Some(found) => number_in(found.removed.as_slice(), at),
+            None => None,
+        }
+    }
+
+    fn record_name_at(&self, notice: usize, index: usize) -> Option<&[u8]>
+        ensures { option_map (λ name. name.now) result
+            ≡ option_and_then (record_name_at notice index) (last_of self.now) }
+    {
+        match self.record(notice, index) {
+            Some(found) => name_of(found),
+            None => None,
+        }
+    }
+
+    fn old_value_at(&self, notice: usize, index: usize) -> Option<&[u16]>
+        ensures { option_map (λ text. text.now) result
+            ≡ option_and_then (old_value_at notice index) (last_of self.now) }
+    {
+        match self.record(notice, index) {
+            Some(found) => old_value_of(found),
+            None => None,
+        }
+    }
+}
+
+/// The record at an index among those of a notice. The records that `hp_take_records` took stand as the notice 0.
+#[unsafe(no_mangle)]
+pub extern "C" fn hp_record_at(
+    handle: &mut Handle,
+    notice: usize,
+    index: usize,
+    record: &mut Record,
+) -> u8
+    ensures kept { handle.new.slot.kept ≡ handle.old.slot.kept }
+    ensures status { result ≡ look_up_status handle.old (record_at notice index) }
+    ensures found { record.new ≡ or_before (looked_up handle.old (record_at notice index)) record.old }
+{
+    if !handle.is_open {
+        return HP_CLOSED;
+    }
+    let kept = &handle.slot.lend().kept;
+    if kept.ended {
+        return HP_OUT_OF_MEMORY;
+    }
+    match kept.record_at(notice, index) {
+        Some(found) => {
+            *record = found;
+            HP_OK
+        }
+        None => HP_NOT_THERE,
+    }
+}
+
+/// The node at a place among those that a record says were added.
+#[unsafe(no_mangle)]
+pub extern "C" fn hp_record_added_at(
+    handle: &mut Handle,
+    notice: usize,
+    index: usize,
+    at: usize,
+    node: &mut u32,
+) -> u8
+    ensures kept { handle.new.slot.kept ≡ handle.old.slot.kept }
+    ensures status { result ≡ look_up_status handle.old (added_at notice index at) }
+    ensures node { node.new ≡ or_before (looked_up handle.old (added_at notice index at)) node.old }
+{
+    if !handle.is_open {
+        return HP_CLOSED;
+    }
+    let kept = &handle.slot.lend().kept;
+    if kept.ended {
+        return HP_OUT_OF_MEMORY;
+    }
+    match kept.added_at(notice, index, at) {
+        Some(found) => {
+            *node = found;
+            HP_OK
+        }
+        None => HP_NOT_THERE,
+    }
+}
+
+/// The node at a place among those that a record says were removed.
+#[unsafe(no_mangle)]
+pub extern "C" fn hp_record_removed_at(
+    handle: &mut Handle,
+    notice: usize,
+    index: usize,
+    at: usize,
+    node: &mut u32,
+) -> u8
+    ensures kept { handle.new.slot.kept ≡ handle.old.slot.kept }
+    ensures status { result ≡ look_up_status handle.old (removed_at notice index at) }
+    ensures node { node.new ≡ or_before (looked_up handle.old (removed_at notice index at)) node.old }
+{
+    if !handle.is_open {
+        return HP_CLOSED;
+    }
+    let kept = &handle.slot.lend().kept;
+    if kept.ended {
+        return HP_OUT_OF_MEMORY;
+    }
+    match kept.removed_at(notice, index, at) {
+        Some(found) => {
+            *node = found;
+            HP_OK
+        }
+        None => HP_NOT_THERE,
+    }
+}
+
+/// The name of the attribute that a record tells of, which is not there where it is null.
+#[unsafe(no_mangle)]
+pub extern "C" fn hp_record_name<'a>(
+    handle: &'a mut Handle,
+    notice: usize,
+    index: usize,
+    out: &mut Bytes<'a>,
+) -> u8
+    ensures status { result ≡ look_up_status handle.old (record_name_at notice index) }
+    ensures name { out.new.bytes.now ≡ or_before (looked_up handle.old (record_name_at notice index)) out.old.bytes.now }
+{
+    if !handle.is_open {
+        return HP_CLOSED;
+    }
+    let kept = &handle.slot.lend().kept;
+    if kept.ended {
+        return HP_OUT_OF_MEMORY;
+    }
+    match kept.record_name_at(notice, index) {
+        Some(name) => {
+            out.bytes = name;
+            HP_OK
+        }
+        None => HP_NOT_THERE,
+    }
+}
+
+/// The old value that a record tells, which is not there where it is null.
+#[unsafe(no_mangle)]
+pub extern "C" fn hp_record_old_value<'a>(
+    handle: &'a mut Handle,
+    notice: usize,
+    index: usize,
+    out: &mut Text<'a>,
+) -> u8
+    ensures status { result ≡ look_up_status handle.old (old_value_at notice index) }
+    ensures value { out.new.units.now ≡ or_before (looked_up handle.old (old_value_at notice index)) out.old.units.now }
+{
+    if !handle.is_open {
+        return HP_CLOSED;
+    }
+    let kept = &handle.slot.lend().kept;
+    if kept.ended {
+        return HP_OUT_OF_MEMORY;
+    }
+    match kept.old_value_at(notice, index) {
+        Some(value) => {
+            out.units = value;
+            HP_OK
+        }
+        None => HP_NOT_THERE,
+    }
+}

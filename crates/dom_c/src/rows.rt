@@ -1,0 +1,264 @@
+//! What is read of the rows of a tree, the answer of `hp_tree`.
+
+ghost use Rattle.std.specs.Prelude.{◌≡◌, List, ℕ, Option, option_map, option_and_then};
+ghost use Rattle.dom_model.specs.Commands.Reply.{TreeRow as PlainRow};
+ghost use Rattle.dom_wire.specs.Sessions.{answer_view};
+ghost use Rattle.dom_c.specs.Told.{last_of};
+ghost use Rattle.dom_c.specs.Reading.{look_up_status, looked_up, or_before};
+ghost use Rattle.dom_c.specs.Rows.{row_in, row_told, row_at, row_name_at, row_text_of, row_text_at, attribute_name_in, attribute_value_in, row_attribute_name_at, row_attribute_value_at};
+
+use crate::handle::Handle;
+use crate::kept::Kept;
+use crate::labels::name_part;
+use crate::lending::{Bytes, Text};
+use crate::placing::kind_number;
+use crate::status::{HP_CLOSED, HP_NOT_THERE, HP_OK, HP_OUT_OF_MEMORY};
+use dom_session::{Answer, Kind, TreeRow};
+use dom_wire::Reply;
+
+/// A row of a tree: how deep the node stands below the one that was asked for, its number, the standard's number of its kind (`nodeType`),
+/// and how many attributes it has.
+#[repr(C)]
+#[derive(Clone, Copy, Debug)]
+pub struct Row {
+    pub depth: usize,
+    pub node: u32,
+    pub type_: u16,
+    pub attributes: usize,
+}
+
+fn row_in(answer: &Answer, index: usize) -> Option<&TreeRow>
+    ensures { option_map (λ row. row.now) result ≡ row_in index (answer_view answer.now) }
+{
+    match answer {
+        Answer::Rows(rows) => rows.as_slice().get(index),
+        _ => None,
+    }
+}
+
+// A row as C reads it.
+fn row_told(row: &TreeRow) -> Row
+    ensures { result ≡ row_told row.now }
+{
+    Row {
+        depth: row.depth,
+        node: row.number.number(),
+        type_: u16::from(kind_number(row.label.kind)),
+        attributes: row.body.attrs.len(),
+    }
+}
+
+// The data, where the kind has data.
+fn row_text_of(row: &TreeRow) -> Option<&[u16]>
+    ensures { option_map (λ text. text.now) result ≡ row_text_of row.now }
+{
+    match row.label.kind {
+        Kind::Text | Kind::ProcessingInstruction | Kind::Comment => Some(row.body.text.units()),
+        Kind::Element | Kind::Document | Kind::DocumentType | Kind::DocumentFragment => None,
+    }
+}
+
+fn attribute_name_in(row: &TreeRow, at: usize) -> Option<&[u8]>
+    ensures { option_map (λ name. name.now) result ≡ attribute_name_in at row.now }
+{
+    match row.body.attrs.at(at) {
+        Some((name, _)) => Some(name.as_bytes()),
+        None => None,
+    }
+}
+
+fn attribute_value_in(row: &TreeRow, at: usize) -> Option<&[u16]>
+    ensures { option_map (λ value. value.now) result ≡ attribute_value_in at row.now }
+{
+    match row.body.attrs.at(at) {
+        Some((_, value)) => Some(value.units()),
+        None => None,
+    }
+}
+
+impl Kept {
+    fn row(&self, index: usize) -> Option<&TreeRow>
+        ensures { option_map (λ row. row.now) result ≡ option_and_then (row_in index) (last_of self.now) }
+    {
+        match &self.reply {
+            Some(Reply::Done(answer)) => row_in(answer, index),
+            _ => None,
+        }
+    }
+
+    fn row_at(&self, index: usize) -> Option<Row>
+        ensures { result ≡ option_and_then (row_at index) (last_of self.now) }
+    {
+        match self.row(index) {
+            Some(row) => Some(row_told(row)),
+            None => None,
+        }
+    }
+
+    fn row_name_at(&self, index: usize, part: u8) -> Option<&[u8]>
+        ensures { option_map (λ name. name.now) result
+            ≡ option_and_then (row_name_at index part) (last_of self.now) }
+    {
+        match self.row(index) {
+            Some(row) => name_part(&row.label, part),
+            None => None,
+        }
+    }
+
+    fn row_text_at(&self, index: usize) -> Option<&[u16]>
+        ensures { option_map (λ text. text.now) result
+            ≡ option_and_then (row_text_at index) (last_of self.now) }
+    {
+        match self.row(index) {
+            Some(row) => row_text_of(row),
+            None => None,
+        }
+    }
+
+    fn row_attribute_name_at(&self, index: usize, at: usize) -> Option<&[u8]>
+        ensures { option_map (λ name. name.now) result
+            ≡ option_and_then (row_attribute_name_at index at) (last_of self.now) }
+    {
+        match self.row(index) {
+            Some(row) => attribute_name_in(row, at),
+            None => None,
+        }
+    }
+
+    fn row_attribute_value_at(&self, index: usize, at: usize) -> Option<&[u16]>
+        ensures { option_map (λ value. value.now) result
+            ≡ option_and_then (row_attribute_value_at index at) (last_of self.now) }
+    {
+        match self.row(index) {
+            Some(row) => attribute_value_in(row, at),
+            None => None,
+        }
+    }
+}
+
+/// The row at an index of the last answer.
+#[unsafe(no_mangle)]
+pub extern "C" fn hp_row_at(handle: &mut Handle, index: usize, row: &mut Row) -> u8
+    ensures kept { handle.new.slot.kept ≡ handle.old.slot.kept }
+    ensures status { result ≡ look_up_status handle.old (row_at index) }
+    ensures row { row.new ≡ or_before (looked_up handle.old (row_at index)) row.old }
+{
+    if !handle.is_open {
+        return HP_CLOSED;
+    }
+    let kept = &handle.slot.lend().kept;
+    if kept.ended {
+        return HP_OUT_OF_MEMORY;
+    }
+    match kept.row_at(index) {
+        Some(found) => {
+            *row = found;
+            HP_OK
+        }
+        None => HP_NOT_THERE,
+    }
+}
+
+/// A part of the name of the node of a row: 0 the name of an element or doctype, or the target of a processing instruction;
+/// 1 the public id and 2 the system id of a doctype.
+#[unsafe(no_mangle)]
+pub extern "C" fn hp_row_name<'a>(
+    handle: &'a mut Handle,
+    index: usize,
+    part: u8,
+    out: &mut Bytes<'a>,
+) -> u8
+    ensures status { result ≡ look_up_status handle.old (row_name_at index part) }
+    ensures name { out.new.bytes.now ≡ or_before (looked_up handle.old (row_name_at index part)) out.old.bytes.now }
+{
+    if !handle.is_open {
+        return HP_CLOSED;
+    }
+    let kept = &handle.slot.lend().kept;
+    if kept.ended {
+        return HP_OUT_OF_MEMORY;
+    }
+    match kept.row_name_at(index, part) {
+        Some(name) => {
+            out.bytes = name;
+            HP_OK
+        }
+        None => HP_NOT_THERE,
+    }
+}
+
+/// The data of the node of a row, which a Text, a Comment and a ProcessingInstruction has.
+#[unsafe(no_mangle)]
+pub extern "C" fn hp_row_text<'a>(handle: &'a mut Handle, index: usize, out: &mut Text<'a>) -> u8
+    ensures status { result ≡ look_up_status handle.old (row_text_at index) }
+    ensures text { out.new.units.now ≡ or_before (looked_up handle.old (row_text_at index)) out.old.units.now }
+{
+    if !handle.is_open {
+        return HP_CLOSED;
+    }
+    let kept = &handle.slot.lend().kept;
+    if kept.ended {
+        return HP_OUT_OF_MEMORY;
+    }
+    match kept.row_text_at(index) {
+        Some(text) => {
+            out.units = text;
+            HP_OK
+        }
+        None => HP_NOT_THERE,
+    }
+}
+
+/// The name of the attribute at a place among those of a row.
+#[unsafe(no_mangle)]
+pub extern "C" fn hp_row_attribute_name<'a>(
+    handle: &'a mut Handle,
+    index: usize,
+    at: usize,
+    out: &mut Bytes<'a>,
+) -> u8
+    ensures status { result ≡ look_up_status handle.old (row_attribute_name_at index at) }
+    ensures name { out.new.bytes.now ≡ or_before (looked_up handle.old (row_attribute_name_at index at)) out.old.bytes.now }
+{
+    if !handle.is_open {
+        return HP_CLOSED;
+    }
+    let kept = &handle.slot.lend().kept;
+    if kept.ended {
+        return HP_OUT_OF_MEMORY;
+    }
+    match kept.row_attribute_name_at(index, at) {
+        Some(name) => {
+            out.bytes = name;
+            HP_OK
+        }
+        None => HP_NOT_THERE,
+    }
+}
+
+/// The value of the attribute at a place among those of a row.
+#[unsafe(no_mangle)]
+pub extern "C" fn hp_row_attribute_value<'a>(
+    handle: &'a mut Handle,
+    index: usize,
+    at: usize,
+    out: &mut Text<'a>,
+) -> u8
+    ensures status { result ≡ look_up_status handle.old (row_attribute_value_at index at) }
+    ensures value { out.new.units.now ≡ or_before (looked_up handle.old (row_attribute_value_at index at)) out.old.units.now }
+{
+    if !handle.is_open {
+        return HP_CLOSED;
+    }
+    let kept = &handle.slot.lend().kept;
+    if kept.ended {
+        return HP_OUT_OF_MEMORY;
+    }
+    match kept.row_attribute_value_at(index, at) {
+        Some(value) => {
+            out.units = value;
+            HP_OK
+        }
+        None => HP_NOT_THERE,
+    }
+}
