@@ -76,7 +76,9 @@ class Session:
 
     def _keep(self, kind: Type[K], number: int) -> K:
         """The object of a kind with that number, the same each time."""
-        base = Node if issubclass(kind, Node) else kind
+        base: Type[SessionObject] = kind
+        if issubclass(kind, Node):
+            base = Node
         with self._calls.lock:
             table = self._kept.setdefault(base, weakref.WeakValueDictionary())
             found = table.get(number)
