@@ -29,6 +29,12 @@ class MutationRecord(NamedTuple):
     attribute_name: Optional[str]
     old_value: Optional[str]
 
+    def __repr__(self) -> str:
+        """One line, with nodes by their numbers."""
+        nodes = f"added {[it.number for it in self.added_nodes]}, removed {[it.number for it in self.removed_nodes]}"
+        name = f" {self.attribute_name!r}" if self.attribute_name is not None else ""
+        return f"<MutationRecord {self.type}{name} of {self.target.number}: {nodes}, old value {self.old_value!r}>"
+
 
 Callback = Callable[[List[MutationRecord], "MutationObserver"], object]
 
