@@ -24,7 +24,7 @@ def main():
     try:
         library()
     except LibraryMissing as fault:
-        print(f"left out: what needs the library: {str(fault).splitlines()[0]}")
+        print(f"left out: what needs the library: {str(fault).splitlines()[0].rstrip(':')}")
         return 1 if faults else 0
     found = unittest.defaultTestLoader.discover(os.path.join(HERE, "tests"), top_level_dir=HERE)
     ran = unittest.TextTestRunner().run(found)
