@@ -1,0 +1,82 @@
+"""How a refusal by the library is raised."""
+
+from __future__ import annotations
+
+from typing import Dict, Type
+
+from . import _signatures as made
+
+
+class Error(Exception):
+    """A refusal: nothing has changed. ``name`` is how replies print it, ``call`` what was refused."""
+
+    def __init__(self, status: int, call: str) -> None:
+        self.status = status
+        self.name = made.WORDS.get(status, str(status))
+        self.call = call
+        meaning = made.MEANINGS.get(status)
+        super().__init__(f"{call}: {self.name}" + (f" ({meaning})" if meaning else ""))
+
+
+class DOMException(Error):
+    """An exception of the standard, with the standard's ``name`` and ``code``."""
+
+    @property
+    def code(self) -> int:
+        return self.status
+
+
+class DOMTypeError(DOMException, TypeError):
+    """The standard's TypeError: a node of the wrong kind, or options that do not go together. Its code is 0."""
+
+    @property
+    def code(self) -> int:
+        return 0
+
+
+class NoSuchObject(Error, LookupError):
+    """No object has that number: it was discarded or released, or never made."""
+
+
+class LimitReached(Error):
+    """There are not enough numbers left for what would be made."""
+
+
+class InUse(Error):
+    """What was to be discarded is still referred to."""
+
+
+class OutOfMemory(Error, MemoryError):
+    """Memory was wanting, now or before: the session answers nothing else."""
+
+
+class SessionClosed(Error, ValueError):
+    """The session is closed."""
+
+
+class BadValue(Error, ValueError):
+    """A name that is no text in UTF-8, a number that stands for no choice, or limits out of their range."""
+
+
+class NotThere(Error, LookupError):
+    """The last answer has no such part."""
+
+
+KINDS: Dict[int, Type[Error]] = {
+    made.HP_TYPE_ERROR: DOMTypeError,
+    made.HP_NO_SUCH_OBJECT: NoSuchObject,
+    made.HP_LIMIT: LimitReached,
+    made.HP_IN_USE: InUse,
+    made.HP_OUT_OF_MEMORY: OutOfMemory,
+    made.HP_CLOSED: SessionClosed,
+    made.HP_NOT_THERE: NotThere,
+    made.HP_BAD_LIMITS: BadValue,
+    made.HP_NOT_UTF8: BadValue,
+    made.HP_BAD_LENGTHS: BadValue,
+    made.HP_BAD_CHOICE: BadValue,
+}
+
+
+def refusal(status: int, call: str) -> Error:
+    """The exception for a status. Below 32 are the standard's codes."""
+    return KINDS.get(status, DOMException if status < made.HP_TYPE_ERROR else Error)(status, call)

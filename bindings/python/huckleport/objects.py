@@ -1,0 +1,66 @@
+"""What a session tells by a number, as objects."""
+
+from __future__ import annotations
+
+from typing import TYPE_CHECKING, Optional, Type, TypeVar
+
+from ._signatures import HP_NONE
+
+if TYPE_CHECKING:
+    from ._calls import Calls
+    from .session import Session
+
+K = TypeVar("K", bound="SessionObject")
+
+
+class SessionObject:
+    """What has a number in a session. Sessions and documents make these; the same number is the same object."""
+
+    __slots__ = ("session", "number", "__weakref__")
+    session: Session
+    number: int
+
+    def __init__(self, session: Session, number: int) -> None:
+        self.session = session
+        self.number = number
+
+    @property
+    def _calls(self) -> Calls:
+        return self.session._calls
+
+    def _of(self, other: object, kind: Type[SessionObject]) -> int:
+        """The number of an object that is handed in, which has to be of this session."""
+        if not isinstance(other, kind):
+            raise TypeError(f"a {kind.__name__} is due, and not {type(other).__name__}")
+        if other.session is not self.session:
+            raise ValueError(f"the {kind.__name__} is of another session")
+        return other.number
+
+    def _of_maybe(self, other: object, kind: Type[SessionObject]) -> int:
+        return HP_NONE if other is None else self._of(other, kind)
+
+    def _said(self) -> str:
+        """What repr tells beside class and number."""
+        return ""
+
+    def __repr__(self) -> str:
+        said = _or_fault(self)
+        return f"<{type(self).__name__} {self.number}{' ' + said if said else ''}>"
+
+    def __reduce__(self) -> str:
+        raise TypeError(f"a {type(self).__name__} of a session can't be copied or pickled")
+
+
+def _or_fault(it: SessionObject) -> str:
+    """What is said of an object; a repr never raises."""
+    from .errors import Error
+
+    try:
+        return it._said()
+    except Error as fault:
+        return fault.name
+
+
+def maybe(number: int) -> Optional[int]:
+    """A number, or None for what stands for null."""
+    return None if number == HP_NONE else number

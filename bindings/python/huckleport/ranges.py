@@ -1,0 +1,140 @@
+"""Live ranges and static ranges."""
+
+from __future__ import annotations
+
+from typing import Union
+
+from . import _signatures as made
+from .nodes import DocumentFragment, Node
+from .objects import SessionObject
+
+
+class AbstractRange(SessionObject):
+    """Two boundary points: each a node and an offset."""
+
+    __slots__ = ()
+
+    def _ends(self) -> Union[made.hp_ends, made.hp_static_ends]:
+        raise NotImplementedError
+
+    @property
+    def start_container(self) -> Node:
+        return self.session._node(self._ends().start)
+
+    @property
+    def start_offset(self) -> int:
+        return self._ends().start_offset
+
+    @property
+    def end_container(self) -> Node:
+        return self.session._node(self._ends().end)
+
+    @property
+    def end_offset(self) -> int:
+        return self._ends().end_offset
+
+    @property
+    def collapsed(self) -> bool:
+        """Whether both ends are one point."""
+        ends = self._ends()
+        return (ends.start, ends.start_offset) == (ends.end, ends.end_offset)
+
+    def _said(self) -> str:
+        ends = self._ends()
+        return f"({ends.start}, {ends.start_offset})-({ends.end}, {ends.end_offset})"
+
+
+class Range(AbstractRange):
+    """A live range: its ends move with the edits of the tree. ``str`` gives its text."""
+
+    __slots__ = ()
+
+    START_TO_START = 0
+    START_TO_END = 1
+    END_TO_END = 2
+    END_TO_START = 3
+
+    def _ends(self) -> made.hp_ends:
+        return self._calls.range(self.number)
+
+    @property
+    def common_ancestor_container(self) -> Node:
+        return self.session._node(self._calls.common_ancestor(self.number))
+
+    def set_start(self, node: Node, offset: int) -> None:
+        self._calls.set_start(self.number, self._of(node, Node), offset)
+
+    def set_end(self, node: Node, offset: int) -> None:
+        self._calls.set_end(self.number, self._of(node, Node), offset)
+
+    def set_start_before(self, node: Node) -> None:
+        self._calls.set_start_before(self.number, self._of(node, Node))
+
+    def set_start_after(self, node: Node) -> None:
+        self._calls.set_start_after(self.number, self._of(node, Node))
+
+    def set_end_before(self, node: Node) -> None:
+        self._calls.set_end_before(self.number, self._of(node, Node))
+
+    def set_end_after(self, node: Node) -> None:
+        self._calls.set_end_after(self.number, self._of(node, Node))
+
+    def collapse(self, to_start: bool = False) -> None:
+        self._calls.collapse(self.number, to_start)
+
+    def select_node(self, node: Node) -> None:
+        self._calls.select_node(self.number, self._of(node, Node))
+
+    def select_node_contents(self, node: Node) -> None:
+        self._calls.select_node_contents(self.number, self._of(node, Node))
+
+    def compare_boundary_points(self, how: int, source_range: Range) -> int:
+        return self._calls.compare_boundary_points(self.number, how, self._of(source_range, Range))
+
+    def compare_point(self, node: Node, offset: int) -> int:
+        return self._calls.compare_point(self.number, self._of(node, Node), offset)
+
+    def is_point_in_range(self, node: Node, offset: int) -> bool:
+        return self._calls.is_point_in_range(self.number, self._of(node, Node), offset)
+
+    def intersects_node(self, node: Node) -> bool:
+        return self._calls.intersects_node(self.number, self._of(node, Node))
+
+    def clone_range(self) -> Range:
+        return self.session._keep(Range, self._calls.clone_range(self.number))
+
+    def delete_contents(self) -> None:
+        self._calls.delete_contents(self.number)
+
+    def extract_contents(self) -> DocumentFragment:
+        return self.session._keep(DocumentFragment, self._calls.extract_contents(self.number))
+
+    def clone_contents(self) -> DocumentFragment:
+        return self.session._keep(DocumentFragment, self._calls.clone_contents(self.number))
+
+    def insert_node(self, node: Node) -> None:
+        self._calls.insert_node(self.number, self._of(node, Node))
+
+    def surround_contents(self, new_parent: Node) -> None:
+        self._calls.surround_contents(self.number, self._of(new_parent, Node))
+
+    def release(self) -> None:
+        """Lets the range go, so that edits have it no more to move."""
+        self._calls.release_range(self.number)
+
+    def __str__(self) -> str:
+        return self.session._text(lambda: self._calls.range_text(self.number))
+
+
+class StaticRange(AbstractRange):
+    """A range that stays as it was made."""
+
+    __slots__ = ()
+
+    def _ends(self) -> made.hp_static_ends:
+        return self._calls.static_range(self.number)
+
+    @property
+    def is_valid(self) -> bool:
+        """Whether it is valid in the standard's sense now."""
+        return self._ends().is_valid != 0

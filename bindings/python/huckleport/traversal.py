@@ -1,0 +1,133 @@
+"""Node iterators and tree walkers. A filter is a list of rules, a name and a verdict each; the first that fits decides."""
+
+from __future__ import annotations
+
+from typing import Iterator, List, Optional, Sequence, Tuple
+
+from . import _signatures as made
+from .nodes import Node
+from .objects import SessionObject, maybe
+
+Filter = Sequence[Tuple[str, int]]
+
+
+class NodeFilter:
+    """The standard's numbers of verdicts, and its bits of what is shown."""
+
+    FILTER_ACCEPT = 1
+    FILTER_REJECT = 2
+    FILTER_SKIP = 3
+
+    SHOW_ALL = 0xFFFFFFFF
+    SHOW_ELEMENT = 0x1
+    SHOW_TEXT = 0x4
+    SHOW_PROCESSING_INSTRUCTION = 0x40
+    SHOW_COMMENT = 0x80
+    SHOW_DOCUMENT = 0x100
+    SHOW_DOCUMENT_TYPE = 0x200
+    SHOW_DOCUMENT_FRAGMENT = 0x400
+
+
+def names(given: Sequence[str]) -> Tuple[bytes, List[int]]:
+    """Names one after the other, and the length of each."""
+    found = [str.encode(it, "utf-8", "surrogatepass") for it in given]
+    return b"".join(found), [len(it) for it in found]
+
+
+def rules(given: Filter) -> Tuple[bytes, List[int], bytes]:
+    """A filter as the library takes it."""
+    return (*names([name for name, _ in given]), bytes(verdict for _, verdict in given))
+
+
+class NodeIterator(SessionObject):
+    """Goes through a tree in tree order, and gives way to removals. It can stand in a ``for``."""
+
+    __slots__ = ()
+
+    def _place(self) -> made.hp_iterator_at:
+        return self._calls.iterator(self.number)
+
+    @property
+    def root(self) -> Node:
+        return self.session._node(self._place().root)
+
+    @property
+    def reference_node(self) -> Node:
+        return self.session._node(self._place().reference)
+
+    @property
+    def pointer_before_reference_node(self) -> bool:
+        return self._place().is_before != 0
+
+    def next_node(self) -> Optional[Node]:
+        found = maybe(self._calls.next_node(self.number))
+        return None if found is None else self.session._node(found)
+
+    def previous_node(self) -> Optional[Node]:
+        found = maybe(self._calls.previous_node(self.number))
+        return None if found is None else self.session._node(found)
+
+    def __iter__(self) -> Iterator[Node]:
+        return self
+
+    def __next__(self) -> Node:
+        found = self.next_node()
+        if found is None:
+            raise StopIteration
+        return found
+
+    def _said(self) -> str:
+        place = self._place()
+        return f"of {place.root}, {'before' if place.is_before else 'after'} {place.reference}"
+
+
+class TreeWalker(SessionObject):
+    """Walks about in a tree by moves."""
+
+    __slots__ = ()
+
+    def _place(self) -> made.hp_walker_at:
+        return self._calls.walker(self.number)
+
+    def _walk(self, course: int) -> Optional[Node]:
+        found = maybe(self._calls.walk(self.number, course))
+        return None if found is None else self.session._node(found)
+
+    @property
+    def root(self) -> Node:
+        return self.session._node(self._place().root)
+
+    @property
+    def current_node(self) -> Node:
+        return self.session._node(self._place().current)
+
+    @current_node.setter
+    def current_node(self, node: Node) -> None:
+        self._calls.set_current(self.number, self._of(node, Node))
+
+    # The courses by the numbers of hp_walk.
+
+    def parent_node(self) -> Optional[Node]:
+        return self._walk(0)
+
+    def first_child(self) -> Optional[Node]:
+        return self._walk(1)
+
+    def last_child(self) -> Optional[Node]:
+        return self._walk(2)
+
+    def previous_sibling(self) -> Optional[Node]:
+        return self._walk(3)
+
+    def next_sibling(self) -> Optional[Node]:
+        return self._walk(4)
+
+    def previous_node(self) -> Optional[Node]:
+        return self._walk(5)
+
+    def next_node(self) -> Optional[Node]:
+        return self._walk(6)
+
+    def _said(self) -> str:
+        place = self._place()
+        return f"of {place.root}, at {place.current}"

@@ -1,0 +1,207 @@
+"""What the objects of the package keep beside the replies: identity, texts, refusals, closed sessions, repr."""
+import copy
+import gc
+import pickle
+import threading
+import unittest
+
+import huckleport as h
+from huckleport._calls import Calls
+from huckleport import _signatures
+
+
+class Objects(unittest.TestCase):
+    def setUp(self):
+        self.session = h.Session()
+        self.addCleanup(self.session.close)
+        self.document = self.session.document
+        self.element = self.document.append_child(self.document.create_element("p"))
+        self.text = self.element.append_child(self.document.create_text_node("some text"))
+
+    def test_identity(self):
+        self.assertIs(self.text.parent_node, self.element)
+        self.assertIs(self.element.child_nodes[0], self.text)
+        self.assertIs(self.session.node(2), self.text)
+        self.assertIs(self.text.get_root_node(), self.document)
+        self.assertIs(self.text.owner_document, self.document)
+        self.assertIsNone(self.document.owner_document)
+        number = self.document.create_range().number
+        gc.collect()
+        self.assertIs(self.session.range(number), self.session.range(number))
+
+    def test_kinds(self):
+        self.session.line(b'["createPI",0,"t","d"]')
+        self.session.line(b'["createDoctype",0,"html","p","s"]')
+        self.session.line(b'["createFragment",0]')
+        kinds = [type(self.session.node(it)) for it in range(6)]
+        self.assertEqual(kinds, [h.Document, h.Element, h.Text, h.ProcessingInstruction, h.DocumentType, h.DocumentFragment])
+        doctype = self.session.node(4)
+        self.assertEqual((doctype.name, doctype.public_id, doctype.system_id), ("html", "p", "s"))
+        self.assertEqual((self.session.node(3).target, self.session.node(3).data), ("t", "d"))
+        self.assertIs(self.document.document_element, self.element)
+        self.assertIsNone(self.document.doctype)
+
+    def test_lone_surrogates(self):
+        self.text.data = "a\ud800\udfffb\udc00"
+        self.assertEqual(self.text.data, "a\U000103ffb\udc00")
+        self.assertEqual(self.text.length, 5)
+        self.assertEqual(self.text.substring_data(1, 1), "\ud800")
+        self.element.set_attribute("a", "\udfff\0")
+        self.assertEqual(self.element.get_attribute("a"), "\udfff\0")
+        self.assertIn("\\udfff", repr(self.element))
+        with self.assertRaises(h.BadValue):
+            self.element.set_attribute("\ud800", "")
+
+    def test_refusals(self):
+        with self.assertRaises(h.DOMException) as caught:
+            self.document.append_child(self.text)
+        self.assertEqual((caught.exception.name, caught.exception.code), ("HierarchyRequestError", 3))
+        with self.assertRaises(TypeError) as caught:
+            self.session.create_mutation_observer().observe(self.element)
+        self.assertEqual((caught.exception.name, caught.exception.code), ("TypeError", 0))
+        with self.assertRaises(h.InUse):
+            self.text.discard()
+        with self.assertRaises(OverflowError):
+            self.text.insert_data(-1, "")
+        with self.assertRaises(OverflowError):
+            self.text.insert_data(1 << 32, "")
+        with self.assertRaises(TypeError):
+            self.text.insert_data(1.5, "")
+        with self.assertRaises(TypeError):
+            self.text.append_data(None)
+        with self.assertRaises(TypeError):
+            self.element.append_child(self.document.create_range())
+        self.assertEqual(self.text.data, "some text")
+
+    def test_other_session(self):
+        with h.Session() as other, self.assertRaises(ValueError):
+            self.element.append_child(other.document.create_element("p"))
+
+    def test_limits(self):
+        with h.Session(numbers=1) as session, self.assertRaises(h.LimitReached):
+            session.document.create_element("p")
+        with self.assertRaises(h.BadValue):
+            h.Session(numbers=0)
+
+    def test_discarded(self):
+        self.text.remove()
+        self.text.discard()
+        with self.assertRaises(h.NoSuchObject):
+            self.text.data
+        self.assertEqual(repr(self.text), "<Text 2 no-such-object>")
+
+    def test_ranges(self):
+        with_ends = self.document.create_range()
+        with_ends.set_start(self.text, 5)
+        with_ends.set_end(self.text, 9)
+        self.text.insert_data(0, "this is ")
+        self.assertEqual((str(with_ends), with_ends.start_offset, with_ends.collapsed), ("text", 13, False))
+        self.assertEqual(repr(with_ends), "<Range 0 (2, 13)-(2, 17)>")
+        with_ends.release()
+        with self.assertRaises(h.NoSuchObject):
+            with_ends.start_offset
+
+    def test_iterating(self):
+        found = self.document.create_node_iterator(self.document, h.NodeFilter.SHOW_TEXT)
+        self.assertEqual(list(found), [self.text])
+        rejecting = self.document.create_tree_walker(self.document, filter=[("p", h.NodeFilter.FILTER_REJECT)])
+        self.assertIsNone(rejecting.first_child())
+
+    def test_observers(self):
+        told = []
+        observer = self.session.create_mutation_observer(lambda records, it: told.append((records, it)))
+        observer.observe(self.element, subtree=True, character_data_old_value=True)
+        self.text.data = "other"
+        self.assertEqual(self.session.pending(), [observer])
+        self.session.notify()
+        (records, it), = told
+        self.assertIs(it, observer)
+        self.assertEqual([(it.type, it.target, it.old_value) for it in records], [("characterData", self.text, "some text")])
+        self.assertEqual(self.session.notify(), [])
+
+    def test_callbacks_that_raise(self):
+        told = []
+
+        def raises(records, it):
+            raise KeyError("first")
+
+        for callback in (raises, lambda records, it: told.append(it)):
+            self.session.create_mutation_observer(callback).observe(self.element, attributes=True)
+        self.element.set_attribute("a", "b")
+        with self.assertRaises(KeyError):
+            self.session.notify()
+        self.assertEqual(len(told), 1)
+
+    def test_repr(self):
+        self.element.set_attribute("class", "intro")
+        self.assertEqual(repr(self.document), "0 <Document>\n1   <p class='intro'>\n2     'some text'")
+        self.assertEqual(repr(self.text), "2 'some text'")
+        for _ in range(100):
+            self.element.append_child(self.document.create_comment("c"))
+        self.assertEqual(len(repr(self.document).split("\n")), 41)
+
+    def test_no_copies(self):
+        for it in (self.session, self.element, self.session._calls):
+            with self.assertRaises(TypeError):
+                copy.copy(it)
+            with self.assertRaises(TypeError):
+                pickle.dumps(it)
+
+    def test_closed(self):
+        found = self.document.create_range()
+        self.session.close()
+        self.session.close()
+        self.assertTrue(self.session.closed)
+        for use in (lambda: self.text.data, lambda: self.element.child_nodes, lambda: str(found), self.session.notify):
+            with self.assertRaises(h.SessionClosed):
+                use()
+        with self.assertRaises(h.SessionClosed):
+            self.session.line(b'["tree",0]')
+        self.assertEqual(repr(self.element), "<Element 1 closed>")
+        self.assertEqual(repr(found), "<Range 0 closed>")
+
+    def test_every_call_of_a_closed_session(self):
+        """Each call of the library is made with a closed session, before it was open and after."""
+        count = 0
+        for calls in (Calls(), self.session._calls):
+            self.session.close()
+            for name in _signatures.ARGUMENTS:
+                if name in ("hp_open", "hp_close"):
+                    continue
+                with self.assertRaises(h.SessionClosed, msg=name):
+                    self.use(getattr(calls, name[3:]))
+                count += 1
+        self.assertEqual(count, 2 * (len(_signatures.ARGUMENTS) - 2))
+
+    def use(self, call):
+        """Makes a call with values of its annotations."""
+        values = {"int": 0, "str": "a", "bytes": b"", "bool": False, "Sequence[int]": [], "_signatures.hp_options": _signatures.hp_options()}
+        call(*(values[form] for name, form in call.__annotations__.items() if name != "return"))
+
+    def test_left_session_is_freed(self):
+        session = h.Session()
+        calls = session._calls
+        element = session.document.create_element("p")
+        del session
+        gc.collect()
+        self.assertEqual(element.tag_name, "p")
+        del element
+        gc.collect()
+        self.assertFalse(calls._session.is_open)
+
+    def test_threads(self):
+        def work():
+            for _ in range(200):
+                self.text.append_data("x")
+                self.assertEqual(set(self.text.data[9:]), {"x"})
+
+        threads = [threading.Thread(target=work) for _ in range(4)]
+        for it in threads:
+            it.start()
+        for it in threads:
+            it.join()
+        self.assertEqual(self.text.length, 809)
+
+
+if __name__ == "__main__":
+    unittest.main()

@@ -1,0 +1,43 @@
+"""docs/python.md: its ten lines print what stands below them, and each name that it lists is there."""
+import contextlib
+import io
+import os
+import re
+import unittest
+
+import huckleport
+
+PAGE = os.path.join(os.path.dirname(os.path.abspath(__file__)), "..", "..", "..", "docs", "python.md")
+
+
+class Page(unittest.TestCase):
+    def setUp(self):
+        with open(PAGE, encoding="utf-8") as file:
+            self.text = file.read()
+
+    def test_example(self):
+        program, due = re.search(r"```python\n(.*?)```\n\n```text\n(.*?)```", self.text, re.S).groups()
+        said = io.StringIO()
+        with contextlib.redirect_stdout(said):
+            exec(program, {})
+        self.assertEqual(said.getvalue(), due)
+
+    def test_names(self):
+        kinds = [it for it in vars(huckleport).values() if isinstance(it, type)]
+        known = {name for it in kinds for name in dir(it)} | {"session", "number"}
+        rows = re.search(r"^## All of it\n(.*?)^## ", self.text, re.S | re.M)[1]
+        listed = set(re.findall(r"`(?:\w+\.)?([a-z_]+)(?:\([^`]*\))?`", rows))
+        self.assertGreater(len(listed), 100)
+        self.assertEqual(listed - known - {"str", "for"}, set())
+
+    def test_all_public_names_are_listed(self):
+        rows = re.search(r"^## All of it\n(.*?)^## ", self.text, re.S | re.M)[1]
+        words = set(re.findall(r"\w+", rows))
+        for kind in (huckleport.Session, *huckleport.objects.SessionObject.__subclasses__()):
+            for it in (kind, *kind.__subclasses__()):
+                found = {name for name in vars(it) if name.islower() and not name.startswith("_")}
+                self.assertEqual(found - words, set(), it)
+
+
+if __name__ == "__main__":
+    unittest.main()
