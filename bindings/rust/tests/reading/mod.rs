@@ -1,6 +1,8 @@
 //! The dialogues of the repository, and a small reader of JSON.
 #![allow(dead_code)]
 pub mod json;
+pub mod said;
+pub mod told;
 
 use huckleport::Session;
 use std::fs;
