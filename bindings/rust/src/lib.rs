@@ -69,3 +69,8 @@ pub use records::{Notice, Notices, Record, RecordNodes, RecordType, Records};
 pub use rows::{Attributes, Row, Rows};
 pub use session::{utf16, Session};
 pub use traversal::{IteratorPlace, Move, WalkerPlace};
+
+// The lines that the crate's page shows are tried as well.
+#[cfg(doctest)]
+#[doc = include_str!("../../../docs/rust.md")]
+struct Page;
