@@ -35,6 +35,15 @@
 //! drop(session);
 //! assert_eq!(children.count(), 0);
 //! ```
+//!
+//! ```compile_fail,E0499
+//! use huckleport::{Node, Session};
+//!
+//! let mut session = Session::new().unwrap();
+//! for child in session.children(Node::DOCUMENT).unwrap() {
+//!     session.remove(child).unwrap();
+//! }
+//! ```
 #![deny(missing_docs, unsafe_code)]
 
 mod answers;
