@@ -1,0 +1,199 @@
+#!/usr/bin/env python3
+"""Writes src/ffi.rs: the calls of the library as Rust declares them, and over each a safe method of a handle.
+
+It is made from the exports of crates/dom_c, as the header for C is. With --check it writes nothing, and fails where the file says something else.
+"""
+import argparse
+import os
+import sys
+
+HERE = os.path.dirname(os.path.abspath(__file__))
+sys.dont_write_bytecode = True
+sys.path.insert(0, os.path.join(os.path.dirname(HERE), "c"))
+from exports import SOURCES, modules
+
+TO = os.path.join(HERE, "src/ffi.rs")
+
+TYPES = {
+    "uint8_t": "u8",
+    "uint16_t": "u16",
+    "uint32_t": "u32",
+    "uint64_t": "u64",
+    "int8_t": "i8",
+    "int16_t": "i16",
+    "int32_t": "i32",
+    "int64_t": "i64",
+    "size_t": "usize",
+    "bool": "bool",
+}
+KEYWORDS = {"type": "type_", "move": "move_", "ref": "ref_"}
+
+# Modules whose calls read the last answer and leave it there: several of what they lend may be held at once.
+READING = {"lending", "parts", "labels", "rows", "notices", "records"}
+# These two are the handle's own opening and closing.
+OWN = {"hp_open", "hp_close"}
+
+HEAD = """\
+//! The calls of the library, and over each a safe method. Made by `declare.py` from the exports of the library; not to be edited.
+//!
+//! This is the one file with unsafe code. What makes its calls sound is the same for all:
+//! - a handle is all zero bytes before it is opened, stands in a place of its own, and only calls change it;
+//! - a slice's pointer is not null, also where the slice is empty, and neither is what a lent struct holds before a call;
+//! - a handle is used by one thread at a time, since it is not `Sync`;
+//! - a call that changes the session takes `&mut self`, so that nothing is lent when it is made;
+//! - a call that reads the last answer leaves it there, so that what other reading calls lent stays.
+// (some statuses and constants are not met here)
+#![allow(unsafe_code, dead_code)]
+
+use std::cell::UnsafeCell;
+use std::ptr::{null_mut, NonNull};
+
+"""
+
+HANDLE = """\
+/// An open session of the library, which is closed when it is dropped.
+pub(crate) struct Handle {
+    session: Box<UnsafeCell<hp_session>>,
+}
+
+// SAFETY: the library keeps nothing by threads, and a session may go to another thread between two calls.
+unsafe impl Send for Handle {}
+
+impl Drop for Handle {
+    fn drop(&mut self) {
+        // SAFETY: as at the head of the file. Closing frees all that the session keeps.
+        unsafe { hp_close(self.session.get()) };
+    }
+}
+
+impl Handle {
+    pub(crate) fn open(numbers: u64, line: usize) -> Result<Handle, u8> {
+        let closed = hp_session { slot: hp_slot { at: null_mut() }, is_open: false };
+        let handle = Handle { session: Box::new(UnsafeCell::new(closed)) };
+        // SAFETY: as at the head of the file. Dropping a handle that stayed closed does nothing.
+        let status = unsafe { hp_open(handle.session.get(), numbers, line) };
+        if status == HP_OK {
+            Ok(handle)
+        } else {
+            Err(status)
+        }
+    }
+"""
+
+
+def named(name):
+    return KEYWORDS.get(name.rstrip("_"), name)
+
+
+def rust(name):
+    return TYPES.get(name, name)
+
+
+def line_doc(text, indent=""):
+    return f"{indent}/// {text.replace('`HP_NONE`', 'HP_NONE')}\n" if text else ""
+
+
+def constant(it):
+    return f"pub(crate) const {it.name}: {rust(it.type)} = {it.value};\n"
+
+
+def field(it, is_alone):
+    if it.kind == "slice":
+        length = "length" if is_alone else it.name + "_length"
+        return f"    {named(it.name)}: *const {rust(it.type)},\n    {length}: usize,\n"
+    if it.kind == "pointer":
+        return f"    {named(it.name)}: *mut {rust(it.type)},\n"
+    return f"    pub(crate) {named(it.name)}: {rust(it.type)},\n"
+
+
+def struct(it):
+    is_plain = all(part.kind == "scalar" for part in it.fields)
+    derive = "#[derive(Clone, Copy, Default)]\n" if is_plain else ""
+    fields = "".join(field(its, len(it.fields) == 1) for its in it.fields)
+    return f"{line_doc(it.doc)}#[repr(C)]\n{derive}#[allow(non_camel_case_types)]\npub(crate) struct {it.name} {{\n{fields}}}\n\n"
+
+
+def declared(it):
+    if it.kind == "session":
+        return "session: *mut hp_session"
+    if it.kind == "scalar":
+        return f"{named(it.name)}: {rust(it.type)}"
+    if it.kind == "slice":
+        return f"{named(it.name)}: *const {rust(it.type)}, {it.name}_length: usize"
+    return f"{named(it.name)}: *{'const' if it.kind == 'in' else 'mut'} {rust(it.type)}"
+
+
+def external(it):
+    return f"    fn {it.name}({', '.join(map(declared, it.parameters))}) -> u8;\n"
+
+
+def given(it):
+    """A parameter of the safe method."""
+    form = rust(it.type)
+    return f"{named(it.name)}: " + {"scalar": form, "slice": f"&[{form}]", "in": f"&{form}"}[it.kind]
+
+
+def handed(it):
+    """A parameter as the safe method hands it on."""
+    name = named(it.name)
+    forms = {"session": "self.session.get()", "scalar": name, "slice": f"{name}.as_ptr(), {name}.len()", "in": name, "out": "&mut out"}
+    return forms[it.kind]
+
+
+def nothing(it, lent):
+    """What an out pointer points at before the call."""
+    if it.type in lent:
+        pointer = lent[it.type].fields[0]
+        return f"{it.type} {{ {pointer.name}: NonNull::dangling().as_ptr(), length: 0 }}"
+    return f"{it.type}::default()" if it.type not in TYPES else "0"
+
+
+def method(it, is_reading, lent):
+    """The safe method over a call."""
+    outs = [its for its in it.parameters if its.kind == "out"]
+    assert len(outs) < 2, it.name
+    reach = "&self" if is_reading else "&mut self"
+    ins = [given(its) for its in it.parameters if its.kind not in ("session", "out")]
+    out = outs[0] if outs else None
+    is_lent = bool(out) and out.type in lent
+    answer = "()" if not out else f"&[{rust(lent[out.type].fields[0].type)}]" if is_lent else rust(out.type)
+    text = f"\n    pub(crate) fn {it.name[3:]}({', '.join([reach, *ins])}) -> Result<{answer}, u8> {{\n"
+    if out:
+        text += f"        let mut out = {nothing(out, lent)};\n"
+    words = ", ".join(handed(its) for its in it.parameters)
+    text += f"        // SAFETY: as at the head of the file.\n        let status = unsafe {{ {it.name}({words}) }};\n"
+    if not is_lent:
+        return text + f"        if status == HP_OK {{ Ok({'out' if out else '()'}) }} else {{ Err(status) }}\n    }}\n"
+    pointer = lent[out.type].fields[0].name
+    text += "        if status != HP_OK {\n            return Err(status);\n        }\n"
+    return text + f"        // SAFETY: what is lent lies there as long as the handle is borrowed.\n        Ok(unsafe {{ std::slice::from_raw_parts(out.{pointer}, out.length) }})\n    }}\n"
+
+
+def text_of(found):
+    constants = [it for module in found for it in module.constants]
+    structs = [it for module in found for it in module.structs]
+    lent = {it.name: it for it in structs if [part.kind for part in it.fields] == ["slice"]}
+    text = HEAD + "".join(map(constant, constants)) + "\n" + "".join(map(struct, structs))
+    text += 'extern "C" {\n' + "".join(external(it) for module in found for it in module.exports) + "}\n\n" + HANDLE
+    for module in found:
+        text += "".join(method(it, module.name in READING, lent) for it in module.exports if it.name not in OWN)
+    return text + "}\n"
+
+
+def main():
+    parser = argparse.ArgumentParser(description=__doc__, formatter_class=argparse.RawDescriptionHelpFormatter)
+    parser.add_argument("--sources", default=SOURCES, help="the folder of the exports (crates/dom_c/src)")
+    parser.add_argument("--check", action="store_true", help="only tell whether the file says what the exports say")
+    given_words = parser.parse_args()
+    text = text_of(modules(given_words.sources))
+    if not given_words.check:
+        with open(TO, "w", encoding="utf-8") as file:
+            file.write(text)
+        return
+    with open(TO, encoding="utf-8") as file:
+        if file.read() != text:
+            sys.exit("src/ffi.rs says something else than the exports: run bindings/rust/declare.py")
+
+
+if __name__ == "__main__":
+    main()

@@ -1,0 +1,83 @@
+//! Sessions, lines and texts.
+use crate::exception::{Exception, Result};
+use crate::ffi::Handle;
+use std::fmt;
+
+/// A session, which has all objects. It frees them when it is dropped.
+///
+/// A session may go to another thread, and is used by one at a time.
+///
+/// ```compile_fail,E0277
+/// fn shared<T: Sync>() {}
+/// shared::<huckleport::Session>();
+/// ```
+pub struct Session {
+    pub(crate) handle: Handle,
+}
+
+/// The longest line of a session that says no other limit, in bytes.
+const LINE: usize = 1 << 20;
+
+impl Session {
+    /// A session that has one Document, [`Node::DOCUMENT`](crate::Node::DOCUMENT), and as many numbers as there can be.
+    pub fn new() -> Result<Session> {
+        Session::with_limits(u32::MAX, LINE)
+    }
+
+    /// A session in which each kind of object has so many numbers, and a line so many bytes; both are at least 1.
+    pub fn with_limits(numbers: u32, line: usize) -> Result<Session> {
+        match Handle::open(numbers.into(), line) {
+            Ok(handle) => Ok(Session { handle }),
+            Err(status) => Err(Exception::of(status)),
+        }
+    }
+
+    /// Answers a line of JSON, which has no newline, by the line of its reply, with its newline.
+    ///
+    /// What the reply tells, also that a command was refused, stands in that line.
+    ///
+    /// ```
+    /// # fn main() -> Result<(), huckleport::Exception> {
+    /// let mut session = huckleport::Session::new()?;
+    /// assert_eq!(session.line(br#"["createElement",0,"p"]"#)?, b"{\"ok\":1}\n");
+    /// assert_eq!(session.line(b"?")?, b"{\"error\":\"bad-json\"}\n");
+    /// # Ok(())
+    /// # }
+    /// ```
+    pub fn line(&mut self, line: &[u8]) -> Result<&[u8]> {
+        match self.handle.line(line).map_err(Exception::of) {
+            Err(Exception::OutOfMemory) => Err(Exception::OutOfMemory),
+            _ => self.handle.reply_line().map_err(Exception::of),
+        }
+    }
+
+    /// The last answer as a line of JSON, as the reply to a line has it, with its newline.
+    ///
+    /// A session that has not answered yet says nothing.
+    pub fn printed(&mut self) -> Result<&[u8]> {
+        match self.handle.print() {
+            Err(status) if status != crate::ffi::HP_NOT_THERE => Err(Exception::of(status)),
+            _ => self.handle.reply_line().map_err(Exception::of),
+        }
+    }
+
+    /// The text of the last answer; none where it is null.
+    pub(crate) fn text(&self) -> Result<Option<&[u16]>> {
+        match self.handle.text() {
+            Ok(text) => Ok(Some(text)),
+            Err(crate::ffi::HP_NOT_THERE) => Ok(None),
+            Err(status) => Err(Exception::of(status)),
+        }
+    }
+}
+
+impl fmt::Debug for Session {
+    fn fmt(&self, to: &mut fmt::Formatter<'_>) -> fmt::Result {
+        to.debug_struct("Session").finish_non_exhaustive()
+    }
+}
+
+/// The UTF-16 units of a string, as texts are handed to a session.
+pub fn utf16(text: &str) -> Vec<u16> {
+    text.encode_utf16().collect()
+}

@@ -1,0 +1,93 @@
+//! What dialogues do not show: commands that they only refuse, texts that are not well-formed, limits, threads, iterators from both ends.
+use huckleport::{utf16, BoundaryPoint, Ends, Exception, Node, Result, Session};
+use std::thread;
+
+/// A session with an element of three Texts, `a`, `b` and `c`.
+fn session() -> Result<(Session, Node, [Node; 3])> {
+    let mut session = Session::new()?;
+    let parent = session.create_element(Node::DOCUMENT, "p")?;
+    let mut texts = [parent; 3];
+    for (at, data) in ["a", "b", "c"].into_iter().enumerate() {
+        texts[at] = session.create_text(Node::DOCUMENT, &utf16(data))?;
+        session.append_child(parent, texts[at])?;
+    }
+    Ok((session, parent, texts))
+}
+
+fn ends(node: Node, start: usize, end: usize) -> Ends {
+    Ends { start: BoundaryPoint { node, offset: start }, end: BoundaryPoint { node, offset: end } }
+}
+
+#[test]
+fn ends_beside_a_node() -> Result<()> {
+    let (mut session, parent, [a, b, c]) = session()?;
+    let range = session.create_range(Node::DOCUMENT)?;
+    session.set_start_before(range, a)?;
+    session.set_end_after(range, c)?;
+    assert_eq!(session.range(range)?, ends(parent, 0, 3));
+    session.set_start_after(range, a)?;
+    session.set_end_before(range, c)?;
+    assert_eq!(session.range(range)?, ends(parent, 1, 2));
+    assert!(session.intersects_node(range, b)?);
+    Ok(())
+}
+
+#[test]
+fn a_child_replaced_and_data_inserted() -> Result<()> {
+    let (mut session, parent, [a, b, c]) = session()?;
+    assert_eq!(session.replace_child(parent, c, a)?, a);
+    assert_eq!(session.children(parent)?.collect::<Vec<_>>(), [c, b]);
+    session.insert_data(c, 1, &utf16("d"))?;
+    assert_eq!(session.data(c)?, utf16("cd"));
+    assert_eq!(session.insert_data(c, 3, &[]), Err(Exception::IndexSizeError));
+    Ok(())
+}
+
+#[test]
+fn lone_surrogates() -> Result<()> {
+    let mut session = Session::new()?;
+    let text = session.create_text(Node::DOCUMENT, &[0xd800, 0x61])?;
+    assert_eq!(session.data(text)?, [0xd800, 0x61]);
+    assert_eq!(session.printed()?, b"{\"ok\":[55296,97]}\n");
+    let pair = session.create_text(Node::DOCUMENT, &utf16("\u{1f600}"))?;
+    assert_eq!(session.substring_data(pair, 1, 1)?, [0xde00]);
+    Ok(())
+}
+
+#[test]
+fn iterators_from_both_ends() -> Result<()> {
+    let (mut session, parent, [a, b, c]) = session()?;
+    let mut children = session.children(parent)?;
+    assert_eq!((children.len(), children.next_back(), children.nth(1), children.next()), (3, Some(c), Some(b), None));
+    assert_eq!(session.children(parent)?.rev().collect::<Vec<_>>(), [c, b, a]);
+    assert_eq!(format!("{:?}", session.children(parent)?), "[Node(2), Node(3), Node(4)]");
+    Ok(())
+}
+
+#[test]
+fn limits() {
+    assert_eq!(Session::with_limits(0, 1).unwrap_err(), Exception::BadLimits);
+    assert_eq!(Session::with_limits(1, 0).unwrap_err(), Exception::BadLimits);
+    let mut session = Session::with_limits(1, 1).unwrap();
+    assert_eq!(session.create_fragment(Node::DOCUMENT), Err(Exception::Limit));
+    assert_eq!(session.line(b"[]").unwrap(), b"{\"error\":\"line-too-long\"}\n");
+}
+
+#[test]
+fn before_the_first_answer() {
+    let mut session = Session::new().unwrap();
+    assert_eq!(session.printed().unwrap(), b"");
+}
+
+#[test]
+fn a_session_goes_to_another_thread() {
+    let (mut session, parent, texts) = session().unwrap();
+    let count = thread::spawn(move || session.children(parent).unwrap().count());
+    assert_eq!(count.join().unwrap(), texts.len());
+}
+
+#[test]
+fn exceptions_are_errors() {
+    let refused: Box<dyn std::error::Error> = Box::new(Exception::HierarchyRequestError);
+    assert_eq!(refused.to_string(), "HierarchyRequestError");
+}
