@@ -58,6 +58,39 @@ pub(crate) struct hp_text_view {
     length: usize,
 }
 
+/// A row of a tree: how deep the node stands below the one that was asked for, its number, the standard's number of its kind (`nodeType`), and how many attributes it has.
+#[repr(C)]
+#[derive(Clone, Copy, Default)]
+#[allow(non_camel_case_types)]
+pub(crate) struct hp_row {
+    pub(crate) depth: usize,
+    pub(crate) node: u32,
+    pub(crate) type_: u16,
+    pub(crate) attributes: usize,
+}
+
+/// What an observer is told: its number, and how many records.
+#[repr(C)]
+#[derive(Clone, Copy, Default)]
+#[allow(non_camel_case_types)]
+pub(crate) struct hp_notice {
+    pub(crate) observer: u32,
+    pub(crate) records: usize,
+}
+
+/// A record: its type (`HP_ATTRIBUTES`, `HP_CHARACTER_DATA` or `HP_CHILD_LIST`), its target, how many nodes were added and removed, and the siblings beside them, or HP_NONE.
+#[repr(C)]
+#[derive(Clone, Copy, Default)]
+#[allow(non_camel_case_types)]
+pub(crate) struct hp_record {
+    pub(crate) type_: u8,
+    pub(crate) target: u32,
+    pub(crate) added: usize,
+    pub(crate) removed: usize,
+    pub(crate) previous: u32,
+    pub(crate) next: u32,
+}
+
 /// The start and the end of a live range.
 #[repr(C)]
 #[derive(Clone, Copy, Default)]
@@ -120,15 +153,6 @@ pub(crate) struct hp_session {
     pub(crate) is_open: bool,
 }
 
-/// What an observer is told: its number, and how many records.
-#[repr(C)]
-#[derive(Clone, Copy, Default)]
-#[allow(non_camel_case_types)]
-pub(crate) struct hp_notice {
-    pub(crate) observer: u32,
-    pub(crate) records: usize,
-}
-
 /// The members of `MutationObserverInit`: 0 for false, 1 for true, 2 for absent. Of the attribute filter 0 for absent, and 1 for the names that are handed beside.
 #[repr(C)]
 #[derive(Clone, Copy, Default)]
@@ -141,30 +165,6 @@ pub(crate) struct hp_options {
     pub(crate) attribute_old_value: u8,
     pub(crate) character_data_old_value: u8,
     pub(crate) attribute_filter: u8,
-}
-
-/// A record: its type (`HP_ATTRIBUTES`, `HP_CHARACTER_DATA` or `HP_CHILD_LIST`), its target, how many nodes were added and removed, and the siblings beside them, or HP_NONE.
-#[repr(C)]
-#[derive(Clone, Copy, Default)]
-#[allow(non_camel_case_types)]
-pub(crate) struct hp_record {
-    pub(crate) type_: u8,
-    pub(crate) target: u32,
-    pub(crate) added: usize,
-    pub(crate) removed: usize,
-    pub(crate) previous: u32,
-    pub(crate) next: u32,
-}
-
-/// A row of a tree: how deep the node stands below the one that was asked for, its number, the standard's number of its kind (`nodeType`), and how many attributes it has.
-#[repr(C)]
-#[derive(Clone, Copy, Default)]
-#[allow(non_camel_case_types)]
-pub(crate) struct hp_row {
-    pub(crate) depth: usize,
-    pub(crate) node: u32,
-    pub(crate) type_: u16,
-    pub(crate) attributes: usize,
 }
 
 /// The owner of what is kept on the heap, or of nothing. All zero bytes are an empty slot.
@@ -184,6 +184,18 @@ extern "C" {
     fn hp_reply_line(session: *mut hp_session, out: *mut hp_bytes) -> u8;
     fn hp_count(session: *mut hp_session, count: *mut usize) -> u8;
     fn hp_number_at(session: *mut hp_session, index: usize, number: *mut u32) -> u8;
+    fn hp_node_name(session: *mut hp_session, part: u8, out: *mut hp_bytes) -> u8;
+    fn hp_row_at(session: *mut hp_session, index: usize, row: *mut hp_row) -> u8;
+    fn hp_row_name(session: *mut hp_session, index: usize, part: u8, out: *mut hp_bytes) -> u8;
+    fn hp_row_text(session: *mut hp_session, index: usize, out: *mut hp_text_view) -> u8;
+    fn hp_row_attribute_name(session: *mut hp_session, index: usize, at: usize, out: *mut hp_bytes) -> u8;
+    fn hp_row_attribute_value(session: *mut hp_session, index: usize, at: usize, out: *mut hp_text_view) -> u8;
+    fn hp_notice_at(session: *mut hp_session, index: usize, notice: *mut hp_notice) -> u8;
+    fn hp_record_at(session: *mut hp_session, notice: usize, index: usize, record: *mut hp_record) -> u8;
+    fn hp_record_added_at(session: *mut hp_session, notice: usize, index: usize, at: usize, node: *mut u32) -> u8;
+    fn hp_record_removed_at(session: *mut hp_session, notice: usize, index: usize, at: usize, node: *mut u32) -> u8;
+    fn hp_record_name(session: *mut hp_session, notice: usize, index: usize, out: *mut hp_bytes) -> u8;
+    fn hp_record_old_value(session: *mut hp_session, notice: usize, index: usize, out: *mut hp_text_view) -> u8;
     fn hp_new_document(session: *mut hp_session, document: *mut u32) -> u8;
     fn hp_create_element(session: *mut hp_session, document: u32, name: *const u8, name_length: usize, element: *mut u32) -> u8;
     fn hp_create_text(session: *mut hp_session, document: u32, data: *const u16, data_length: usize, text: *mut u32) -> u8;
@@ -267,18 +279,6 @@ extern "C" {
     fn hp_take_records(session: *mut hp_session, observer: u32) -> u8;
     fn hp_notify(session: *mut hp_session) -> u8;
     fn hp_pending(session: *mut hp_session) -> u8;
-    fn hp_node_name(session: *mut hp_session, part: u8, out: *mut hp_bytes) -> u8;
-    fn hp_notice_at(session: *mut hp_session, index: usize, notice: *mut hp_notice) -> u8;
-    fn hp_record_at(session: *mut hp_session, notice: usize, index: usize, record: *mut hp_record) -> u8;
-    fn hp_record_added_at(session: *mut hp_session, notice: usize, index: usize, at: usize, node: *mut u32) -> u8;
-    fn hp_record_removed_at(session: *mut hp_session, notice: usize, index: usize, at: usize, node: *mut u32) -> u8;
-    fn hp_record_name(session: *mut hp_session, notice: usize, index: usize, out: *mut hp_bytes) -> u8;
-    fn hp_record_old_value(session: *mut hp_session, notice: usize, index: usize, out: *mut hp_text_view) -> u8;
-    fn hp_row_at(session: *mut hp_session, index: usize, row: *mut hp_row) -> u8;
-    fn hp_row_name(session: *mut hp_session, index: usize, part: u8, out: *mut hp_bytes) -> u8;
-    fn hp_row_text(session: *mut hp_session, index: usize, out: *mut hp_text_view) -> u8;
-    fn hp_row_attribute_name(session: *mut hp_session, index: usize, at: usize, out: *mut hp_bytes) -> u8;
-    fn hp_row_attribute_value(session: *mut hp_session, index: usize, at: usize, out: *mut hp_text_view) -> u8;
 }
 
 /// An open session of the library, which is closed when it is dropped.
@@ -366,6 +366,118 @@ impl Handle {
         // SAFETY: as at the head of the file.
         let status = unsafe { hp_number_at(self.session.get(), index, &mut out) };
         if status == HP_OK { Ok(out) } else { Err(status) }
+    }
+
+    pub(crate) fn node_name(&self, part: u8) -> Result<&[u8], u8> {
+        let mut out = hp_bytes { bytes: NonNull::dangling().as_ptr(), length: 0 };
+        // SAFETY: as at the head of the file.
+        let status = unsafe { hp_node_name(self.session.get(), part, &mut out) };
+        if status != HP_OK {
+            return Err(status);
+        }
+        // SAFETY: what is lent lies there as long as the handle is borrowed.
+        Ok(unsafe { std::slice::from_raw_parts(out.bytes, out.length) })
+    }
+
+    pub(crate) fn row_at(&self, index: usize) -> Result<hp_row, u8> {
+        let mut out = hp_row::default();
+        // SAFETY: as at the head of the file.
+        let status = unsafe { hp_row_at(self.session.get(), index, &mut out) };
+        if status == HP_OK { Ok(out) } else { Err(status) }
+    }
+
+    pub(crate) fn row_name(&self, index: usize, part: u8) -> Result<&[u8], u8> {
+        let mut out = hp_bytes { bytes: NonNull::dangling().as_ptr(), length: 0 };
+        // SAFETY: as at the head of the file.
+        let status = unsafe { hp_row_name(self.session.get(), index, part, &mut out) };
+        if status != HP_OK {
+            return Err(status);
+        }
+        // SAFETY: what is lent lies there as long as the handle is borrowed.
+        Ok(unsafe { std::slice::from_raw_parts(out.bytes, out.length) })
+    }
+
+    pub(crate) fn row_text(&self, index: usize) -> Result<&[u16], u8> {
+        let mut out = hp_text_view { units: NonNull::dangling().as_ptr(), length: 0 };
+        // SAFETY: as at the head of the file.
+        let status = unsafe { hp_row_text(self.session.get(), index, &mut out) };
+        if status != HP_OK {
+            return Err(status);
+        }
+        // SAFETY: what is lent lies there as long as the handle is borrowed.
+        Ok(unsafe { std::slice::from_raw_parts(out.units, out.length) })
+    }
+
+    pub(crate) fn row_attribute_name(&self, index: usize, at: usize) -> Result<&[u8], u8> {
+        let mut out = hp_bytes { bytes: NonNull::dangling().as_ptr(), length: 0 };
+        // SAFETY: as at the head of the file.
+        let status = unsafe { hp_row_attribute_name(self.session.get(), index, at, &mut out) };
+        if status != HP_OK {
+            return Err(status);
+        }
+        // SAFETY: what is lent lies there as long as the handle is borrowed.
+        Ok(unsafe { std::slice::from_raw_parts(out.bytes, out.length) })
+    }
+
+    pub(crate) fn row_attribute_value(&self, index: usize, at: usize) -> Result<&[u16], u8> {
+        let mut out = hp_text_view { units: NonNull::dangling().as_ptr(), length: 0 };
+        // SAFETY: as at the head of the file.
+        let status = unsafe { hp_row_attribute_value(self.session.get(), index, at, &mut out) };
+        if status != HP_OK {
+            return Err(status);
+        }
+        // SAFETY: what is lent lies there as long as the handle is borrowed.
+        Ok(unsafe { std::slice::from_raw_parts(out.units, out.length) })
+    }
+
+    pub(crate) fn notice_at(&self, index: usize) -> Result<hp_notice, u8> {
+        let mut out = hp_notice::default();
+        // SAFETY: as at the head of the file.
+        let status = unsafe { hp_notice_at(self.session.get(), index, &mut out) };
+        if status == HP_OK { Ok(out) } else { Err(status) }
+    }
+
+    pub(crate) fn record_at(&self, notice: usize, index: usize) -> Result<hp_record, u8> {
+        let mut out = hp_record::default();
+        // SAFETY: as at the head of the file.
+        let status = unsafe { hp_record_at(self.session.get(), notice, index, &mut out) };
+        if status == HP_OK { Ok(out) } else { Err(status) }
+    }
+
+    pub(crate) fn record_added_at(&self, notice: usize, index: usize, at: usize) -> Result<u32, u8> {
+        let mut out = 0;
+        // SAFETY: as at the head of the file.
+        let status = unsafe { hp_record_added_at(self.session.get(), notice, index, at, &mut out) };
+        if status == HP_OK { Ok(out) } else { Err(status) }
+    }
+
+    pub(crate) fn record_removed_at(&self, notice: usize, index: usize, at: usize) -> Result<u32, u8> {
+        let mut out = 0;
+        // SAFETY: as at the head of the file.
+        let status = unsafe { hp_record_removed_at(self.session.get(), notice, index, at, &mut out) };
+        if status == HP_OK { Ok(out) } else { Err(status) }
+    }
+
+    pub(crate) fn record_name(&self, notice: usize, index: usize) -> Result<&[u8], u8> {
+        let mut out = hp_bytes { bytes: NonNull::dangling().as_ptr(), length: 0 };
+        // SAFETY: as at the head of the file.
+        let status = unsafe { hp_record_name(self.session.get(), notice, index, &mut out) };
+        if status != HP_OK {
+            return Err(status);
+        }
+        // SAFETY: what is lent lies there as long as the handle is borrowed.
+        Ok(unsafe { std::slice::from_raw_parts(out.bytes, out.length) })
+    }
+
+    pub(crate) fn record_old_value(&self, notice: usize, index: usize) -> Result<&[u16], u8> {
+        let mut out = hp_text_view { units: NonNull::dangling().as_ptr(), length: 0 };
+        // SAFETY: as at the head of the file.
+        let status = unsafe { hp_record_old_value(self.session.get(), notice, index, &mut out) };
+        if status != HP_OK {
+            return Err(status);
+        }
+        // SAFETY: what is lent lies there as long as the handle is borrowed.
+        Ok(unsafe { std::slice::from_raw_parts(out.units, out.length) })
     }
 
     pub(crate) fn new_document(&mut self) -> Result<u32, u8> {
@@ -903,117 +1015,5 @@ impl Handle {
         // SAFETY: as at the head of the file.
         let status = unsafe { hp_pending(self.session.get()) };
         if status == HP_OK { Ok(()) } else { Err(status) }
-    }
-
-    pub(crate) fn node_name(&self, part: u8) -> Result<&[u8], u8> {
-        let mut out = hp_bytes { bytes: NonNull::dangling().as_ptr(), length: 0 };
-        // SAFETY: as at the head of the file.
-        let status = unsafe { hp_node_name(self.session.get(), part, &mut out) };
-        if status != HP_OK {
-            return Err(status);
-        }
-        // SAFETY: what is lent lies there as long as the handle is borrowed.
-        Ok(unsafe { std::slice::from_raw_parts(out.bytes, out.length) })
-    }
-
-    pub(crate) fn notice_at(&self, index: usize) -> Result<hp_notice, u8> {
-        let mut out = hp_notice::default();
-        // SAFETY: as at the head of the file.
-        let status = unsafe { hp_notice_at(self.session.get(), index, &mut out) };
-        if status == HP_OK { Ok(out) } else { Err(status) }
-    }
-
-    pub(crate) fn record_at(&self, notice: usize, index: usize) -> Result<hp_record, u8> {
-        let mut out = hp_record::default();
-        // SAFETY: as at the head of the file.
-        let status = unsafe { hp_record_at(self.session.get(), notice, index, &mut out) };
-        if status == HP_OK { Ok(out) } else { Err(status) }
-    }
-
-    pub(crate) fn record_added_at(&self, notice: usize, index: usize, at: usize) -> Result<u32, u8> {
-        let mut out = 0;
-        // SAFETY: as at the head of the file.
-        let status = unsafe { hp_record_added_at(self.session.get(), notice, index, at, &mut out) };
-        if status == HP_OK { Ok(out) } else { Err(status) }
-    }
-
-    pub(crate) fn record_removed_at(&self, notice: usize, index: usize, at: usize) -> Result<u32, u8> {
-        let mut out = 0;
-        // SAFETY: as at the head of the file.
-        let status = unsafe { hp_record_removed_at(self.session.get(), notice, index, at, &mut out) };
-        if status == HP_OK { Ok(out) } else { Err(status) }
-    }
-
-    pub(crate) fn record_name(&self, notice: usize, index: usize) -> Result<&[u8], u8> {
-        let mut out = hp_bytes { bytes: NonNull::dangling().as_ptr(), length: 0 };
-        // SAFETY: as at the head of the file.
-        let status = unsafe { hp_record_name(self.session.get(), notice, index, &mut out) };
-        if status != HP_OK {
-            return Err(status);
-        }
-        // SAFETY: what is lent lies there as long as the handle is borrowed.
-        Ok(unsafe { std::slice::from_raw_parts(out.bytes, out.length) })
-    }
-
-    pub(crate) fn record_old_value(&self, notice: usize, index: usize) -> Result<&[u16], u8> {
-        let mut out = hp_text_view { units: NonNull::dangling().as_ptr(), length: 0 };
-        // SAFETY: as at the head of the file.
-        let status = unsafe { hp_record_old_value(self.session.get(), notice, index, &mut out) };
-        if status != HP_OK {
-            return Err(status);
-        }
-        // SAFETY: what is lent lies there as long as the handle is borrowed.
-        Ok(unsafe { std::slice::from_raw_parts(out.units, out.length) })
-    }
-
-    pub(crate) fn row_at(&self, index: usize) -> Result<hp_row, u8> {
-        let mut out = hp_row::default();
-        // SAFETY: as at the head of the file.
-        let status = unsafe { hp_row_at(self.session.get(), index, &mut out) };
-        if status == HP_OK { Ok(out) } else { Err(status) }
-    }
-
-    pub(crate) fn row_name(&self, index: usize, part: u8) -> Result<&[u8], u8> {
-        let mut out = hp_bytes { bytes: NonNull::dangling().as_ptr(), length: 0 };
-        // SAFETY: as at the head of the file.
-        let status = unsafe { hp_row_name(self.session.get(), index, part, &mut out) };
-        if status != HP_OK {
-            return Err(status);
-        }
-        // SAFETY: what is lent lies there as long as the handle is borrowed.
-        Ok(unsafe { std::slice::from_raw_parts(out.bytes, out.length) })
-    }
-
-    pub(crate) fn row_text(&self, index: usize) -> Result<&[u16], u8> {
-        let mut out = hp_text_view { units: NonNull::dangling().as_ptr(), length: 0 };
-        // SAFETY: as at the head of the file.
-        let status = unsafe { hp_row_text(self.session.get(), index, &mut out) };
-        if status != HP_OK {
-            return Err(status);
-        }
-        // SAFETY: what is lent lies there as long as the handle is borrowed.
-        Ok(unsafe { std::slice::from_raw_parts(out.units, out.length) })
-    }
-
-    pub(crate) fn row_attribute_name(&self, index: usize, at: usize) -> Result<&[u8], u8> {
-        let mut out = hp_bytes { bytes: NonNull::dangling().as_ptr(), length: 0 };
-        // SAFETY: as at the head of the file.
-        let status = unsafe { hp_row_attribute_name(self.session.get(), index, at, &mut out) };
-        if status != HP_OK {
-            return Err(status);
-        }
-        // SAFETY: what is lent lies there as long as the handle is borrowed.
-        Ok(unsafe { std::slice::from_raw_parts(out.bytes, out.length) })
-    }
-
-    pub(crate) fn row_attribute_value(&self, index: usize, at: usize) -> Result<&[u16], u8> {
-        let mut out = hp_text_view { units: NonNull::dangling().as_ptr(), length: 0 };
-        // SAFETY: as at the head of the file.
-        let status = unsafe { hp_row_attribute_value(self.session.get(), index, at, &mut out) };
-        if status != HP_OK {
-            return Err(status);
-        }
-        // SAFETY: what is lent lies there as long as the handle is borrowed.
-        Ok(unsafe { std::slice::from_raw_parts(out.units, out.length) })
     }
 }
