@@ -40,7 +40,7 @@ WIDTH = 160
 
 def words():
     parser = argparse.ArgumentParser(description=__doc__, formatter_class=argparse.RawDescriptionHelpFormatter)
-    parser.add_argument("dialogue", nargs="?", help="a name below tools/dialogues, or a file of commands")
+    parser.add_argument("dialogue", nargs="?", help="a name below dialogues, or a file of commands")
     parser.add_argument("--program", default=PROGRAM, help="the program that is run (crates/domserve/out/domserve)")
     parser.add_argument("--svg", metavar="FILE", help="draw a picture")
     parser.add_argument("--tree", type=int, metavar="NODE", help="only the tree of this root")

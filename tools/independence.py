@@ -1,7 +1,7 @@
 #!/usr/bin/env python3
 """Runs the built program over each dialogue that has observers, with fifty more observers made in front of its own.
 
-Each dialogue below the folders (tools/dialogues where none is given) that makes an observer is run twice: with the more observers made and
+Each dialogue below the folders (dialogues where none is given) that makes an observer is run twice: with the more observers made and
 not registered, and with each of them registered on every node, as soon as that is made, with every option. They are taken off while a tree
 is discarded, since a node that is observed is in use. The numbers of the dialogue's own observers are fifty higher then. All its replies
 must be those that are due but for that, and `notify` and `pending` must have the same parts for its own observers; where these are told,

@@ -58,6 +58,6 @@ dialogue() {
 }
 export -f watched fail whole refused dialogue
 
-find "${2:-tools/dialogues}" -name '*.in' -print0 | sort -z | xargs -0 -P 2 -I {} bash -euo pipefail -c 'dialogue "$1"' _ {} >"$work/seen"
+find "${2:-dialogues}" -name '*.in' -print0 | sort -z | xargs -0 -P 2 -I {} bash -euo pipefail -c 'dialogue "$1"' _ {} >"$work/seen"
 echo "under valgrind: $(grep -c whole "$work/seen") dialogues whole, $(grep -c refused "$work/seen") runs with a growth refused:" \
     "no bad access, nothing in use at the end"

@@ -1,7 +1,7 @@
 #!/usr/bin/env python3
 """Runs the built program over dialogues under a malloc that refuses growths, from each growth on in turn.
 
-For each dialogue below the folders (tools/dialogues where none is given) growth 1, 2, .. is refused, up to the first that is not asked for;
+For each dialogue below the folders (dialogues where none is given) growth 1, 2, .. is refused, up to the first that is not asked for;
 each alone, and each with all later ones. Due is, where the want is met before the program serves, nothing, and status 1; else the first
 reply lines, never fewer than with an earlier growth refused, then the out-of-memory line, and status 1. Where one growth alone is refused
 a smaller one may do, and the whole output is right too, with status 0. Each run is made again with writers that fail: a closed one, one

@@ -1,7 +1,7 @@
 #!/usr/bin/env python3
-"""Writes the dialogues of tools/dialogues as theorems and as tests.
+"""Writes the dialogues of dialogues as theorems and as tests.
 
-tools/dialogues has a folder for each subject, with NAME.in, NAME.out and, where the session has options, NAME.opts (one line, as
+dialogues has a folder for each subject, with NAME.in, NAME.out and, where the session has options, NAME.opts (one line, as
 `--numbers 4`).
 
 Theorems: for each NAME a file Subject/Name.antt in crates/dom_model/proofs/Dialogues, and its line in Subject.antt, which must stand
@@ -16,7 +16,7 @@ import os
 import subprocess
 
 ROOT = os.path.dirname(os.path.dirname(os.path.abspath(__file__)))
-DIALOGUES = os.path.join(ROOT, "tools/dialogues")
+DIALOGUES = os.path.join(ROOT, "dialogues")
 THEOREMS = os.path.join(ROOT, "crates/dom_model/proofs/Dialogues")
 TESTS = os.path.join(ROOT, "crates/dom_cases/src/dialogues")
 
@@ -184,7 +184,7 @@ def cut_test(name):
 def write_tests(subject, dialogues):
     """The tests of one subject's dialogues."""
     with open(os.path.join(TESTS, subject + ".rt"), "w") as out:
-        out.write(f"//! Written by tools/rows.py from tools/dialogues/{subject}.\n")
+        out.write(f"//! Written by tools/rows.py from dialogues/{subject}.\n")
         out.write("\nuse crate::cuts::is_answered_in_two;\nuse crate::dialogues::{Bytes, Dialogue};\n")
         for name, parts in dialogues.items():
             out.write(test(name, *parts))

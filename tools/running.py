@@ -12,7 +12,7 @@ from collections import namedtuple
 
 ROOT = os.path.dirname(os.path.dirname(os.path.abspath(__file__)))
 PROGRAM = os.path.join(ROOT, "crates/domserve/out/domserve")
-DIALOGUES = os.path.join(ROOT, "tools/dialogues")
+DIALOGUES = os.path.join(ROOT, "dialogues")
 
 # The longest that one run may take, in seconds.
 LIMIT = 600
@@ -38,7 +38,7 @@ def words_of(description, add=lambda parser: None):
 
 
 def takes_folders(parser):
-    parser.add_argument("folders", nargs="*", metavar="FOLDER", help="the dialogues below these folders (tools/dialogues)")
+    parser.add_argument("folders", nargs="*", metavar="FOLDER", help="the dialogues below these folders (dialogues)")
 
 
 def content(path):

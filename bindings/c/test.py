@@ -2,7 +2,7 @@
 """Makes the library for C, and tries all that it offers; says what it leaves out where gcc, g++ or valgrind is missing.
 
 - the header compiles as C99 and as C++, and the shared object shows its calls alone;
-- each dialogue of tools/dialogues through hp_line, byte for byte, and again through the calls of the header, from Python and from C;
+- each dialogue of dialogues through hp_line, byte for byte, and again through the calls of the header, from Python and from C;
 - each call with a closed session, and what is handed in wrongly;
 - each allocation refused in turn over all dialogues, and over one of the calls that copy names and texts;
 - two sessions on two threads;

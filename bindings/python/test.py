@@ -1,5 +1,6 @@
 #!/usr/bin/env python3
 """Tests the Python package: that its signatures are those of the library, its types by mypy where that is there, and all under tests."""
+import argparse
 import importlib.util
 import os
 import shutil
@@ -13,6 +14,7 @@ sys.path.insert(0, HERE)
 
 
 def main():
+    argparse.ArgumentParser(description=__doc__).parse_args()
     faults = subprocess.run([sys.executable, os.path.join(HERE, "signatures.py"), "--check"]).returncode != 0
     mypy = [sys.executable, "-m", "mypy"] if importlib.util.find_spec("mypy") else [shutil.which("mypy") or ""]
     if mypy[-1]:

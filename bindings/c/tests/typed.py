@@ -227,7 +227,7 @@ def main():
     parser.add_argument("--library", required=True, help="the libhuckleport.so")
     parser.add_argument("--header", required=True, help="the huckleport.h")
     parser.add_argument("--only", default="", metavar="PATTERN", help="only dialogues whose name has it")
-    parser.add_argument("folders", nargs="*", metavar="FOLDER", help="the dialogues below these folders (tools/dialogues)")
+    parser.add_argument("folders", nargs="*", metavar="FOLDER", help="the dialogues below these folders (dialogues)")
     parser.add_argument("--write", metavar="FILE", help="the calls that were made as a program in C, which wants the same statuses")
     given = parser.parse_args()
     session, left_out = Session(given.library, given.header), {}

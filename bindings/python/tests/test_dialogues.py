@@ -8,7 +8,7 @@ from huckleport._commands import COMMANDS
 from tests.by_objects import Speaker
 
 HERE = os.path.dirname(os.path.abspath(__file__))
-DIALOGUES = os.path.join(os.path.dirname(os.path.dirname(os.path.dirname(HERE))), "tools", "dialogues")
+DIALOGUES = os.path.join(os.path.dirname(os.path.dirname(os.path.dirname(HERE))), "dialogues")
 # Refusals of a line's form, which no call can say.
 OF_LINES = {"line-too-long", "bad-json", "bad-command", "bad-arguments"}
 

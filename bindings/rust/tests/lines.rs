@@ -1,4 +1,4 @@
-//! Each dialogue of `tools/dialogues` by lines, byte for byte.
+//! Each dialogue of `dialogues` by lines, byte for byte.
 mod reading;
 
 use reading::{dialogues, Dialogue};

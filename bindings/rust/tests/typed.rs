@@ -1,4 +1,4 @@
-//! Each dialogue of `tools/dialogues` by the typed methods: every command of docs/commands.md is said.
+//! Each dialogue of `dialogues` by the typed methods: every command of docs/commands.md is said.
 mod reading;
 
 use reading::json::{read, Json};

@@ -1,4 +1,4 @@
-//! Inputs, and the outputs that are due for them: the plain files of tools/dialogues, as tools/rows.py writes them.
+//! Inputs, and the outputs that are due for them: the plain files of dialogues, as tools/rows.py writes them.
 
 ghost use Rattle.std.specs.Prelude.{◌≡◌};
 

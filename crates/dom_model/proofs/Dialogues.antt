@@ -1,5 +1,5 @@
 -- Dialogues as theorems, from bytes to bytes, by computing: each is written by `tools/rows.py` from the folder of its subject under
--- `tools/dialogues`.
+-- `dialogues`.
 pub mod TreesAndData
 pub mod Ranges
 pub mod Traversal

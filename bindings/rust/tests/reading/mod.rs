@@ -68,7 +68,7 @@ fn find(folder: &Path, found: &mut Vec<PathBuf>) {
 /// All dialogues of the repository.
 pub fn dialogues() -> Vec<Dialogue> {
     let mut found = Vec::new();
-    find(&Path::new(env!("CARGO_MANIFEST_DIR")).join("../../tools/dialogues"), &mut found);
+    find(&Path::new(env!("CARGO_MANIFEST_DIR")).join("../../dialogues"), &mut found);
     found.sort();
     assert!(!found.is_empty());
     found.iter().map(|it| Dialogue::read(it)).collect()

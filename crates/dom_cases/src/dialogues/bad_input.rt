@@ -1,4 +1,4 @@
-//! Written by tools/rows.py from tools/dialogues/bad_input.
+//! Written by tools/rows.py from dialogues/bad_input.
 
 use crate::cuts::is_answered_in_two;
 use crate::dialogues::{Bytes, Dialogue};

@@ -1,4 +1,4 @@
-//! Written by tools/rows.py from tools/dialogues/lines_and_limits.
+//! Written by tools/rows.py from dialogues/lines_and_limits.
 
 use crate::cuts::is_answered_in_two;
 use crate::dialogues::{Bytes, Dialogue};

@@ -1,4 +1,4 @@
-//! Written by tools/rows.py from tools/dialogues/ranges.
+//! Written by tools/rows.py from dialogues/ranges.
 
 use crate::cuts::is_answered_in_two;
 use crate::dialogues::{Bytes, Dialogue};

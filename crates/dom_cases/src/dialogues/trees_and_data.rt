@@ -1,4 +1,4 @@
-//! Written by tools/rows.py from tools/dialogues/trees_and_data.
+//! Written by tools/rows.py from dialogues/trees_and_data.
 
 use crate::cuts::is_answered_in_two;
 use crate::dialogues::{Bytes, Dialogue};
