@@ -26,7 +26,7 @@ Block = namedtuple("Block", "page line script shown")
 LEFT_OUT = (
     (r"\.ci/run|\brt ci\b", "the gate itself, which proves all from nothing"),
     (r"\brt \w+", "needs the kit, and compiles or proves"),
-    (r"--install|\binstall -m|\bapt(-get)? |\bsystemctl\b|\bdocker\b|\bpodman\b", "installs, or needs what is not here"),
+    (r"--install|\bpip install|\binstall -m|\bapt(-get)? |\bsystemctl\b|\bdocker\b|\bpodman\b", "installs, or needs what is not here"),
     (r"bindings/c/(make|test|bench)\.py", "proves and builds the library for C"),
     (r"\btools/(refused_|leaks|independence|size)|\bbench/", "a long run by hand"),
     (r"\bNAME\b|\bFILE\b|\bPREFIX\b", "a form, with words to put in"),
