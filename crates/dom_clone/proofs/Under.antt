@@ -15,6 +15,8 @@ use Rattle.dom_model.specs.Worlds.Sound.{IsSound}
 use Rattle.dom_model.specs.Commands.Making.{made_node}
 use Rattle.dom_model.specs.MutationAlgorithms.Checks.{is_of_kind}
 use Rattle.dom_model.specs.MutationAlgorithms.Editing.{document_in}
+use Rattle.dom_model.specs.Worlds.Owners.{IsOwned}
+use Rattle.dom_model.specs.MutationAlgorithms.Insertable.{may_stand_at, IsPlaceable}
 use Rattle.dom_model.proofs.PlainLists.Numbers.{same_or, same, apart}
 use Rattle.dom_model.proofs.Forests.Changes.{seen, nothing, just}
 use Rattle.dom_model.proofs.Forests.Totals.{IsOnce, total-tree_at, total-put, tree_at-absent}
@@ -23,9 +25,8 @@ use Rattle.dom_model.proofs.Forests.Climbing.{hits-ancestors, hits-not_among, no
 use Rattle.dom_model.proofs.Forests.Documents.{HasDocument-entry, HasOneDocument-put, adopted-put_same}
 use Rattle.dom_model.proofs.Forests.OneMoreRoot.{entry-more, entry-new, parent-new}
 use Rattle.dom_model.proofs.Forests.ForestsBeside.{ancestors-older}
-use Rattle.dom_model.proofs.Worlds.Owners.{IsOwned, HasOwners-put}
-use Rattle.dom_model.proofs.Soundness.SoundForests.{may_stand_at}
-use Rattle.dom_model.proofs.Soundness.SoundPlacing.{IsPlaceable, sound-put_one}
+use Rattle.dom_model.proofs.Worlds.Owners.{HasOwners-put}
+use Rattle.dom_model.proofs.Soundness.SoundPlacing.{sound-put_one}
 use Rattle.dom_data.specs.dom_tree.Standing.{MayStand}
 use Rattle.dom_data.specs.dom_observe.Watchers.{Watches}
 use Rattle.dom_data.specs.dom_edit.declared.world.World.{World}

@@ -2,13 +2,13 @@
 use Rattle.std.proofs.Common.{◌≡◌, ℕ, ◌<◌, ◌≤◌, Bool, true, false, not, ◌&&◌, List, [], ◌∷◌, ◌++◌, map, drop, length, Option, Some, None, is_some, refl, ap, sym, ◌∙◌, arith, append_assoc}
 use Rattle.std.proofs.lemmas.Bool.{true≢false, false≢true}
 use Rattle.std.proofs.lemmas.List.{append-nil, map-append}
-use Rattle.dom_model.specs.PlainLists.Lists.{among, hits, head_of, after}
+use Rattle.dom_model.specs.PlainLists.Lists.{among, hits, head_of, after, from_first}
 use Rattle.dom_model.specs.Forests.Kinds.{is_kind}
 use Rattle.dom_model.specs.Forests.Forest.{Forest, empty, node, Grove, IsForest, ancestors, one_at, occurs, tops, numbers, tree_at, entry_in, HasNode, inclusive_descendants}
 use Rattle.dom_model.specs.Worlds.World.{Content}
 use Rattle.dom_model.specs.DataAndCopies.Clones.{agree, are_equal, is_equal}
 use Rattle.dom_model.proofs.PlainLists.Numbers.{same_or, same, apart}
-use Rattle.dom_model.proofs.PlainLists.FromFirst.{from_first, from-after, from-last}
+use Rattle.dom_model.proofs.PlainLists.FromFirst.{from-after, from-last}
 use Rattle.dom_model.proofs.Forests.Totals.{IsOnce, total-tree_at}
 use Rattle.dom_model.proofs.Forests.Entries.{occurs-HasNode, HasNode-occurs}
 use Rattle.dom_model.proofs.Forests.Climbing.{hits-ancestors, hits-among}

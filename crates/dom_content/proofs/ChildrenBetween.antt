@@ -12,9 +12,9 @@ use Rattle.dom_model.specs.Worlds.Sound.{IsRange}
 use Rattle.dom_model.specs.MutationAlgorithms.PreRemoval.{past}
 use Rattle.dom_model.specs.RangesAndContents.Ranges.{is_contained, common_ancestor}
 use Rattle.dom_model.specs.RangesAndContents.Contents.{path_below}
+use Rattle.dom_model.specs.Forests.Ways.{IsWay}
 use Rattle.dom_model.proofs.PlainLists.Numbers.{same_or, same, apart}
 use Rattle.dom_model.proofs.Forests.Changes.{seen, nothing, just}
-use Rattle.dom_model.proofs.Forests.Chains.{IsWay}
 use Rattle.dom_model.proofs.Forests.Climbing.{hits-first}
 use Rattle.dom_model.proofs.Forests.Entries.{occurs-HasNode, HasNode-occurs}
 use Rattle.dom_model.proofs.Forests.Indices.{child-listed, child-once, child-parent, index-child}

@@ -2,18 +2,18 @@
 use Rattle.std.proofs.Common.{◌≡◌, ℕ, ◌+◌, ◌<◌, ◌≤◌, nat_lt, Bool, true, false, if◌then◌else◌, List, [], ◌∷◌, zero, suc, length, slice_get, Some, None, refl, ap, sym, ◌∙◌, arith, ⊎_elim}
 use Rattle.std.specs.declared.cmp.Ordering.TheVariants.{Less, Greater}
 use Rattle.std.proofs.lemmas.Bool.{cases_Bool, cases_lt, false≢true, lt-ltb, le-ltb}
-use Rattle.dom_model.specs.PlainLists.Lists.{hits, among, after, last_of}
+use Rattle.dom_model.specs.PlainLists.Lists.{hits, among, after, last_of, from_first}
 use Rattle.dom_model.specs.Forests.Forest.{Grove, IsForest, HasNode, occurs, one_at, parent_of, children_of, index_of, ancestors, root_of, tree_at, inclusive_descendants}
 use Rattle.dom_model.specs.Forests.Lengths.{node_length, unit_count}
 use Rattle.dom_model.specs.Worlds.World.{Content, Point}
 use Rattle.dom_model.specs.BoundaryPoints.Points.{order_of}
 use Rattle.dom_model.specs.RangesAndContents.Ranges.{is_less, is_before}
 use Rattle.dom_model.specs.RangesAndContents.Contents.{path_below}
-use Rattle.dom_model.proofs.PlainLists.FromFirst.{from_first}
+use Rattle.dom_model.specs.Forests.Ways.{IsWay}
 use Rattle.dom_model.proofs.PlainLists.Members.{hits-last_of}
 use Rattle.dom_model.proofs.PlainLists.Places.{place-there}
 use Rattle.dom_model.proofs.Forests.Above.{above}
-use Rattle.dom_model.proofs.Forests.Chains.{IsWay, index-apart}
+use Rattle.dom_model.proofs.Forests.Chains.{index-apart}
 use Rattle.dom_model.proofs.Forests.Climbing.{hits-append, hits-first, hits-among, among-hits}
 use Rattle.dom_model.proofs.Forests.Entries.{occurs-HasNode, HasNode-occurs}
 use Rattle.dom_model.proofs.Forests.Indices.{child-listed, child-once, child-parent, index-child, path-child, parent-there}

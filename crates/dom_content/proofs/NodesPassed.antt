@@ -1,9 +1,8 @@
 -- What comes in tree order from a node on: the node, what is inside it, and what is behind it. DOM Standard, "Trees".
 use Rattle.std.proofs.Common.{◌≡◌, ℕ, ◌+◌, ◌<◌, ◌≤◌, ◌==◌, true, List, [], ◌∷◌, ◌++◌, Some, refl, ap, sym, ◌∙◌, arith, append_assoc}
-use Rattle.dom_model.specs.PlainLists.Lists.{hits, last_of}
+use Rattle.dom_model.specs.PlainLists.Lists.{hits, last_of, from_first}
 use Rattle.dom_model.specs.Forests.Forest.{Forest, Grove, IsForest, HasNode, occurs, one_at, numbers, root_of, tree_at, inclusive_descendants}
 use Rattle.dom_model.specs.Worlds.World.{Content}
-use Rattle.dom_model.proofs.PlainLists.FromFirst.{from_first}
 use Rattle.dom_model.proofs.PlainLists.Members.{hits-last_of}
 use Rattle.dom_model.proofs.PlainLists.Numbers.{same_or, same, apart}
 use Rattle.dom_model.proofs.Forests.Climbing.{hits-append, hits-first}

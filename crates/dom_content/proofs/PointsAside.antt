@@ -8,7 +8,8 @@ use Rattle.dom_model.specs.Worlds.World.{Content}
 use Rattle.dom_model.specs.BoundaryPoints.Points.{path_places, order_of}
 use Rattle.dom_model.specs.RangesAndContents.Ranges.{common_ancestor}
 use Rattle.dom_model.specs.RangesAndContents.Contents.{path_below}
-use Rattle.dom_model.proofs.Forests.Chains.{IsWay, index-apart}
+use Rattle.dom_model.specs.Forests.Ways.{IsWay}
+use Rattle.dom_model.proofs.Forests.Chains.{index-apart}
 use Rattle.dom_model.proofs.Forests.Climbing.{hits-among, hits-first}
 use Rattle.dom_model.proofs.BoundaryPoints.OrderByWays.{path-through, order-below, order-beside}
 use Rattle.dom_model.proofs.RangesAndContents.WaysBelow.{fork, way-above}

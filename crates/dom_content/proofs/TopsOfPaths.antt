@@ -11,9 +11,9 @@ use Rattle.dom_model.specs.MutationAlgorithms.PreRemoval.{past}
 use Rattle.dom_model.specs.MutationAlgorithms.Checks.{up_to}
 use Rattle.dom_model.specs.RangesAndContents.Ranges.{is_contained, common_ancestor}
 use Rattle.dom_model.specs.RangesAndContents.Contents.{path_below, contained_tops}
+use Rattle.dom_model.specs.RangesAndContents.BesidePaths.{tail_nodes, head_nodes}
 use Rattle.dom_model.proofs.Forests.Climbing.{hits-append, hits-first}
 use Rattle.dom_model.proofs.Forests.Entries.{HasNode-occurs}
-use Rattle.dom_model.proofs.TokenText.Contents.PathTokens.{tail_nodes, head_nodes}
 use Rattle.dom_model.proofs.TokenText.Contents.TopsByParts.{tops-by_parts}
 use Rattle.dom_clone.specs.dom_edit.declared.world.World.{World}
 use Rattle.dom_clone.specs.dom_edit.Inserting.{AreThere}

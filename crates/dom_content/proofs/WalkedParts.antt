@@ -2,14 +2,13 @@
 use Rattle.std.proofs.Common.{◌≡◌, ℕ, ◌<◌, ◌≤◌, ◌==◌, true, false, List, [], ◌∷◌, ◌++◌, length, flat_map, Some, None, ap, sym, ◌∙◌, subst, arith, ◌⊎◌, inl, inr, ⊎_elim}
 use Rattle.std.specs.Ordering.{nat_cmp}
 use Rattle.std.proofs.lemmas.Bool.{cases_lt, false≢true}
-use Rattle.dom_model.specs.PlainLists.Lists.{hits, after}
+use Rattle.dom_model.specs.PlainLists.Lists.{hits, after, from_first}
 use Rattle.dom_model.specs.Forests.Forest.{Grove, IsForest, HasNode, numbers, tree_at, root_of, inclusive_descendants}
 use Rattle.dom_model.specs.Forests.Lengths.{node_length, unit_count}
 use Rattle.dom_model.specs.Worlds.World.{Content, Point, Range}
 use Rattle.dom_model.specs.Worlds.Sound.{IsRange}
 use Rattle.dom_model.specs.BoundaryPoints.Points.{order_of}
 use Rattle.dom_model.specs.RangesAndContents.Ranges.{is_less, is_before}
-use Rattle.dom_model.proofs.PlainLists.FromFirst.{from_first}
 use Rattle.dom_model.proofs.PlainLists.Numbers.{same_or, same, apart}
 use Rattle.dom_model.proofs.Forests.Changes.{seen, nothing, just}
 use Rattle.dom_model.proofs.Forests.Entries.{occurs-HasNode}

@@ -12,7 +12,7 @@ use Rattle.dom_model.specs.MutationAlgorithms.Checks.{entry_has, is_of_kind}
 use Rattle.dom_model.specs.RangesAndContents.Ranges.{is_before}
 use Rattle.dom_model.specs.RangesAndContents.Contents.{path_below}
 use Rattle.dom_model.specs.DataAndCopies.Data.{content_in}
-use Rattle.dom_model.proofs.Forests.Chains.{IsWay}
+use Rattle.dom_model.specs.Forests.Ways.{IsWay}
 use Rattle.dom_model.proofs.Forests.Climbing.{hits-among, hits-self, among-hits}
 use Rattle.dom_model.proofs.Forests.Entries.{occurs-HasNode}
 use Rattle.dom_model.proofs.Forests.Indices.{child-listed}

@@ -7,7 +7,7 @@ ghost use Rattle.dom_model.specs.Worlds.World.{Range};
 ghost use Rattle.dom_model.specs.Worlds.Sound.{IsRange};
 ghost use Rattle.dom_model.specs.RangesAndContents.Ranges.{is_contained, common_ancestor};
 ghost use Rattle.dom_model.specs.RangesAndContents.Contents.{path_below};
-ghost use Rattle.dom_model.proofs.Forests.Chains.{IsWay};
+ghost use Rattle.dom_model.specs.Forests.Ways.{IsWay};
 ghost use Rattle.dom_clone.specs.dom_edit.Places.{IsAmong, from_optional, ahead_of};
 ghost use Rattle.dom_content.specs.Drawing.{index_behind, index_at};
 

@@ -7,7 +7,7 @@ ghost use Rattle.dom_model.specs.Forests.Lengths.{unit_count, node_length};
 ghost use Rattle.dom_model.specs.Worlds.Sound.{IsRange};
 ghost use Rattle.dom_model.specs.RangesAndContents.Ranges.{is_before};
 ghost use Rattle.dom_model.specs.RangesAndContents.Contents.{contained_tops};
-ghost use Rattle.dom_model.proofs.TokenText.Contents.PathTokens.{tail_nodes, head_nodes};
+ghost use Rattle.dom_model.specs.RangesAndContents.BesidePaths.{tail_nodes, head_nodes};
 ghost use Rattle.dom_clone.specs.dom_edit.Inserting.{AreThere};
 ghost use Rattle.dom_clone.specs.dom_edit.Whole.{IsWhole, unwatched};
 

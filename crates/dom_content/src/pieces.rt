@@ -4,7 +4,6 @@ ghost use Rattle.std.specs.Prelude.{◌≡◌, ◌<◌, [], true, IfSome, IfOk, 
 ghost use Rattle.dom_model.specs.declared.Kind.TheVariants.{Document, DocumentFragment};
 ghost use Rattle.dom_model.specs.Worlds.World.{no_content};
 ghost use Rattle.dom_model.specs.Commands.Making.{made_node, named};
-ghost use Rattle.dom_model.proofs.Worlds.Owners.{HasOwners};
 ghost use Rattle.dom_model.specs.Forests.Forest.{HasNode, entry_in};
 ghost use Rattle.dom_model.specs.Forests.Kinds.{is_character_data};
 ghost use Rattle.dom_model.specs.Forests.Texts.{substring};
@@ -13,6 +12,7 @@ ghost use Rattle.dom_model.specs.MutationAlgorithms.Editing.{append};
 ghost use Rattle.dom_model.specs.DataAndCopies.Data.{content_in};
 ghost use Rattle.dom_model.specs.DataAndCopies.Clones.{clone_node};
 ghost use Rattle.dom_model.specs.RangesAndContents.Contents.{new_fragment, clone_with, cut_if, units_into, child_into, children_into};
+ghost use Rattle.dom_model.specs.Worlds.Owners.{HasOwners};
 ghost use Rattle.dom_clone.specs.dom_edit.Inserting.{AreThere};
 ghost use Rattle.dom_clone.specs.dom_edit.Whole.{IsWhole, Follows};
 ghost use Rattle.dom_content.specs.Paths.{HasRoom, StillHeld, KindsStay};

@@ -5,12 +5,11 @@ use Rattle.std.proofs.lemmas.Bool.{false≢true}
 use Rattle.dom_model.specs.declared.Kind.{Kind}
 use Rattle.dom_model.specs.Forests.Arena.{Entry}
 use Rattle.dom_model.specs.declared.Kind.TheVariants.{Element, Text, ProcessingInstruction, Comment, Document, DocumentType, DocumentFragment}
-use Rattle.dom_model.specs.PlainLists.Lists.{hits, after}
+use Rattle.dom_model.specs.PlainLists.Lists.{hits, after, from_first}
 use Rattle.dom_model.specs.Forests.Forest.{Node, Forest, Grove, IsForest, HasNode, entry_in, inclusive_descendants}
 use Rattle.dom_model.specs.Worlds.World.{Content}
 use Rattle.dom_model.specs.MutationAlgorithms.Checks.{is_of_kind}
 use Rattle.dom_model.specs.DataAndCopies.Data.{content_in, joined_data, descendant_text, text_content, text_content_by, by_kind}
-use Rattle.dom_model.proofs.PlainLists.FromFirst.{from_first}
 use Rattle.dom_edit.specs.dom_ranges.Inside.{IsAt, from-top, at-top, at-next, here-inside, rest-next, rest-end}
 use Rattle.dom_model.proofs.PlainLists.Numbers.{same_or, same, apart}
 use Rattle.dom_edit.specs.declared.world.World.{World}

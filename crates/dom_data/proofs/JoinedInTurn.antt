@@ -4,7 +4,8 @@ use Rattle.dom_model.specs.Forests.Forest.{parent_of}
 use Rattle.dom_model.specs.Worlds.World.{Observing, World}
 use Rattle.dom_model.specs.MutationAlgorithms.Editing.{removed_from, remove}
 use Rattle.dom_model.specs.DataAndCopies.Data.{data_of, merged_ends, merge_ends, remove_each}
-use Rattle.dom_model.proofs.Soundness.SoundJoining.{AreJoinable, merged_is, in_either_order, joinable_left, left}
+use Rattle.dom_model.specs.DataAndCopies.Joinable.{AreJoinable}
+use Rattle.dom_model.proofs.Soundness.SoundJoining.{merged_is, in_either_order, joinable_left, left}
 use Rattle.dom_data.specs.Joining.{taken_in, each_taken_in}
 
 -- all ends moved first, or one Text after another

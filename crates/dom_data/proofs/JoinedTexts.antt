@@ -7,8 +7,8 @@ use Rattle.dom_model.specs.Worlds.World as model
 use Rattle.dom_model.specs.Worlds.World.{Content}
 use Rattle.dom_model.specs.MutationAlgorithms.Checks.{is_of_kind}
 use Rattle.dom_model.specs.DataAndCopies.Data.{content_in, data_of, cut_count, data_record, replace_units, replace_data, following_texts, joined_data, join_following}
+use Rattle.dom_model.specs.DataAndCopies.Joinable.{AreJoinable}
 use Rattle.dom_model.proofs.Forests.Entries.{occurs-HasNode}
-use Rattle.dom_model.proofs.Soundness.SoundJoining.{AreJoinable}
 use Rattle.dom_model.proofs.Soundness.SoundNormalizing.{joinable}
 use Rattle.dom_edit.specs.declared.world.World.{World}
 use Rattle.dom_edit.specs.Whole.{IsWhole, Keeps, Follows, unwatched}

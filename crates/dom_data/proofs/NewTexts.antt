@@ -14,9 +14,9 @@ use Rattle.dom_model.specs.MutationAlgorithms.Checks.{kind_passes, is_of_kind}
 use Rattle.dom_model.specs.MutationAlgorithms.Editing.{document_in, node_document, replace_all}
 use Rattle.dom_model.specs.Commands.Making.{made_node, named, with_text}
 use Rattle.dom_model.specs.DataAndCopies.Data.{string_replace_all}
+use Rattle.dom_model.specs.Worlds.Owners.{HasOwners, IsOwned}
 use Rattle.dom_model.proofs.PlainLists.Numbers.{same_or, same, apart}
 use Rattle.dom_model.proofs.Forests.Entries.{occurs-HasNode, HasNode-occurs}
-use Rattle.dom_model.proofs.Worlds.Owners.{HasOwners, IsOwned}
 use Rattle.dom_model.proofs.Worlds.Measured.{kind-beside}
 use Rattle.dom_model.proofs.Soundness.SoundTextContent.{made-there, made-old}
 use Rattle.dom_edit.specs.declared.world.World.{World}

@@ -15,6 +15,8 @@ use Rattle.dom_model.specs.Commands.Making.{made_node, named, with_text}
 use Rattle.dom_model.specs.MutationAlgorithms.Editing.{tree_record, node_document, pre_insert, put_in, gap_before, previous_to, insert}
 use Rattle.dom_model.specs.DataAndCopies.Data.{data_of, tail_of, split_off}
 use Rattle.dom_model.specs.Worlds.Sound.{IsBoundary, IsRange, IsSound}
+use Rattle.dom_model.specs.DataAndCopies.Joinable.{Lives}
+use Rattle.dom_model.specs.MutationAlgorithms.Insertable.{IsPlaceable, IsChildOf}
 use Rattle.dom_model.proofs.PlainLists.Numbers.{same_or, same, apart}
 use Rattle.dom_model.proofs.Forests.Totals.{total-beside}
 use Rattle.dom_model.proofs.Forests.Climbing.{hits-ancestors}
@@ -29,8 +31,8 @@ use Rattle.dom_model.proofs.Soundness.SoundForests.{IsWood, entry_there, data-ch
 use Rattle.dom_model.proofs.Worlds.Measured.{entry-joined, entry-beside, kind-beside, length-beside, parent-beside, length-put, length-adopted}
 use Rattle.dom_model.proofs.RangesAndContents.RangesSplit.{IsWithin, boundary-split}
 use Rattle.dom_model.proofs.Worlds.Parts.{range-from_part}
-use Rattle.dom_model.proofs.Soundness.SoundWorlds.{Lives, each-moved}
-use Rattle.dom_model.proofs.Soundness.SoundPlacing.{IsPlaceable, IsChildOf, gap_each, sound-put_one, after_put, after_adoption, renamed, range_placed, occurs_placed, parent_placed, kind_placed, placed-forest}
+use Rattle.dom_model.proofs.Soundness.SoundWorlds.{each-moved}
+use Rattle.dom_model.proofs.Soundness.SoundPlacing.{gap_each, sound-put_one, after_put, after_adoption, renamed, range_placed, occurs_placed, parent_placed, kind_placed, placed-forest}
 use Rattle.dom_model.proofs.Soundness.SoundMaking.{sound-made_node}
 use Rattle.dom_model.proofs.Soundness.SoundData.{length-data}
 use Rattle.dom_model.proofs.Soundness.SoundEditing.{next_child}

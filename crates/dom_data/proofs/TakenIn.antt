@@ -14,12 +14,12 @@ use Rattle.dom_model.specs.BoundaryPoints.Points.{after_merge, map_ranges}
 use Rattle.dom_model.specs.MutationAlgorithms.Checks.{kind_passes, is_of_kind}
 use Rattle.dom_model.specs.MutationAlgorithms.Editing.{remove}
 use Rattle.dom_model.specs.DataAndCopies.Data.{content_in, data_of, joined_data, merged_ends}
+use Rattle.dom_model.specs.DataAndCopies.Joinable.{Lives, AreUpTo, AreJoinable}
 use Rattle.dom_model.proofs.PlainLists.Numbers.{same_or, same, apart}
 use Rattle.dom_model.proofs.Forests.Entries.{HasNode-occurs}
-use Rattle.dom_model.proofs.Soundness.SoundWorlds.{Lives}
 use Rattle.dom_model.proofs.Soundness.SoundData.{length-data}
 use Rattle.dom_model.proofs.Soundness.SoundSplitting.{text_has_data}
-use Rattle.dom_model.proofs.Soundness.SoundJoining.{AreUpTo, AreJoinable, is_child, is_there, first_in, text_first, merged_is, moved, sound-merged_ranges, left, joinable_left}
+use Rattle.dom_model.proofs.Soundness.SoundJoining.{is_child, is_there, first_in, text_first, merged_is, moved, sound-merged_ranges, left, joinable_left}
 use Rattle.dom_edit.specs.dom_ranges.Tables.{RangeTable, OffsetsFit, live_nodes}
 use Rattle.dom_edit.specs.declared.world.World.{World}
 use Rattle.dom_edit.specs.Whole.{AreCovered, IsWhole, Keeps, Follows, unwatched}

@@ -1,11 +1,10 @@
 -- The Texts below a node, in tree order.
 use Rattle.std.proofs.Common.{◌≡◌, ℕ, ◌<◌, Bool, true, false, if◌then◌else◌, List, [], ◌∷◌, ◌++◌, drop, length, filter, Some, None, refl, ap, sym, ◌∙◌, append_assoc, append-nil, cond, arith}
 use Rattle.dom_model.specs.declared.Kind.TheVariants.{Text}
-use Rattle.dom_model.specs.PlainLists.Lists.{hits, after}
+use Rattle.dom_model.specs.PlainLists.Lists.{hits, after, from_first}
 use Rattle.dom_model.specs.Forests.Forest.{Forest, Grove, IsForest, HasNode, inclusive_descendants}
 use Rattle.dom_model.specs.Worlds.World.{Content}
 use Rattle.dom_model.specs.MutationAlgorithms.Checks.{is_of_kind}
-use Rattle.dom_model.proofs.PlainLists.FromFirst.{from_first}
 use Rattle.dom_edit.specs.dom_ranges.Inside.{IsAt, from-top, at-top, at-next, here-inside, rest-next, rest-end}
 use Rattle.dom_model.proofs.PlainLists.Numbers.{same_or, same, apart}
 use Rattle.dom_data.specs.TextsAlone.{alone, texts_among}

@@ -9,9 +9,10 @@ use Rattle.dom_model.specs.MutationAlgorithms.Editing.{queued}
 use Rattle.dom_model.specs.MutationObservers.Observing.{noted, standing_on}
 use Rattle.dom_model.specs.MutationObservers.Records.{interested, asks_old_value, record_by, record_for, observers_of, queue_of, pending_of}
 use Rattle.dom_model.specs.Commands.Reply.{Record}
+use Rattle.dom_model.specs.PlainLists.LastOnce.{with_all_last}
 use Rattle.dom_model.proofs.PlainLists.Numbers.{same_or, same, apart}
 use Rattle.std.proofs.lemmas.Bool.{false≢true}
-use Rattle.dom_model.proofs.MutationObservers.Queues.{with_all_last, IsTimely, queue-noted, pending-noted, timely-noted}
+use Rattle.dom_model.proofs.MutationObservers.Queues.{IsTimely, queue-noted, pending-noted, timely-noted}
 use Rattle.dom_edit.specs.dom_observe.Watchers.{Watchers, Watches}
 use Rattle.dom_edit.specs.dom_observe.Asking.{IsAbout}
 use Rattle.dom_edit.specs.dom_observe.Watching.{watches-unheard}

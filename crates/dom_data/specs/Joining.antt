@@ -8,7 +8,7 @@ use Rattle.dom_model.specs.MutationAlgorithms.PreRemoval.{past}
 use Rattle.dom_model.specs.MutationAlgorithms.Checks.{is_of_kind}
 use Rattle.dom_model.specs.MutationAlgorithms.Editing.{remove}
 use Rattle.dom_model.specs.DataAndCopies.Data.{content_in, data_of, merged_ends}
-use Rattle.dom_model.proofs.Soundness.SoundJoining.{AreJoinable}
+use Rattle.dom_model.specs.DataAndCopies.Joinable.{AreJoinable}
 use Rattle.dom_edit.specs.declared.world.World as code
 use Rattle.dom_edit.specs.Whole.{unwatched}
 

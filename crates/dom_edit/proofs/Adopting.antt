@@ -6,12 +6,13 @@ use Rattle.dom_model.specs.Forests.Forest.{HasNode, occurs, entry_in, parent_of,
 use Rattle.dom_model.specs.Forests.Documents.{HasOneDocument, HasDocument}
 use Rattle.dom_model.specs.MutationAlgorithms.Checks.{is_of_kind}
 use Rattle.dom_model.specs.MutationAlgorithms.Editing.{remove, adopt}
+use Rattle.dom_model.specs.Worlds.Owners.{HasOwners}
 use Rattle.dom_model.proofs.PlainLists.Numbers.{same_or, same, apart}
 use Rattle.dom_model.proofs.Forests.Entries.{occurs-HasNode, parent-cut}
 use Rattle.dom_model.proofs.Forests.Documents.{HasDocument-entry, HasOneDocument-adopted, adopted-same}
 use Rattle.dom_model.proofs.Worlds.SameShape.{with_tree-alike, occurs-alike}
 use Rattle.dom_model.proofs.Worlds.Measured.{kind-cut}
-use Rattle.dom_model.proofs.Worlds.Owners.{HasOwners, HasOwners-adopted}
+use Rattle.dom_model.proofs.Worlds.Owners.{HasOwners-adopted}
 use Rattle.dom_model.proofs.RangesAndContents.RangesSpliced.{there-alike}
 use Rattle.dom_model.proofs.Soundness.SoundWorlds.{there_after_cut}
 use Rattle.dom_model.proofs.Soundness.SoundEditing.{sound-adopted}

@@ -3,7 +3,7 @@ use Rattle.std.specs.Prelude.{◌==◌, if◌then◌else◌, not, ◌||◌, nat_
 use Rattle.std.proofs.Common.{◌≡◌, ℕ, ◌+◌, ◌≤◌, Bool, true, false, List, [], ◌∷◌, length, refl, ap, arith}
 use Rattle.std.proofs.lemmas.Bool.Decides.{nat_tests}
 use Rattle.dom_model.specs.declared.Kind.{Kind}
-use Rattle.dom_model.specs.PlainLists.Lists.{hits, head_of, after}
+use Rattle.dom_model.specs.PlainLists.Lists.{hits, head_of, after, from_first}
 use Rattle.dom_model.specs.Forests.Arena.{list_under}
 use Rattle.dom_model.specs.Forests.Forest.{Forest, Grove, IsForest, entry_in, HasNode, children_of, next_of}
 use Rattle.dom_model.specs.MutationAlgorithms.Checks.{is_of_kind, count_kind, has_kind}
@@ -12,7 +12,7 @@ use Rattle.dom_model.proofs.Forests.Climbing.{hits-first}
 use Rattle.dom_model.proofs.Forests.PutBack.{hits-after}
 use Rattle.dom_model.proofs.Forests.Entries.{HasNode-occurs}
 use Rattle.dom_model.proofs.Forests.Indices.{child-parent, child-there}
-use Rattle.dom_model.proofs.PlainLists.FromFirst.{from-last, from-after, from_first}
+use Rattle.dom_model.proofs.PlainLists.FromFirst.{from-last, from-after}
 use Rattle.dom_edit.specs.Places.{from_optional, IsAmong}
 
 -- from the head on there is the whole list

@@ -5,7 +5,7 @@ use Rattle.dom_model.specs.Forests.Forest.{IsForest}
 use Rattle.dom_model.specs.Forests.Documents.{HasOneDocument}
 use Rattle.dom_model.specs.Worlds.World as model
 use Rattle.dom_model.specs.Worlds.Sound.{IsRegistration, IsSound}
-use Rattle.dom_model.proofs.Worlds.Owners.{HasOwners}
+use Rattle.dom_model.specs.Worlds.Owners.{HasOwners}
 use Rattle.dom_edit.specs.declared.world.World.{World}
 use Rattle.dom_edit.specs.Whole.{AreHeld, AreCovered, IsWhole, Keeps, Shows, Follows, unwatched}
 

@@ -10,13 +10,13 @@ use Rattle.dom_model.specs.BoundaryPoints.Points.{map_ranges, after_removal}
 use Rattle.dom_model.specs.MutationAlgorithms.PreRemoval.{pre_removed_all}
 use Rattle.dom_model.specs.MutationAlgorithms.Editing.{taken_out, transients_made, tree_record_unless, removed_from, remove}
 use Rattle.dom_model.specs.MutationObservers.Observing.{standing_on}
+use Rattle.dom_model.specs.Worlds.Owners.{HasOwners, IsOwnedWell}
 use Rattle.dom_model.proofs.Forests.Entries.{HasNode-occurs, occurs-HasNode}
 use Rattle.dom_model.proofs.Forests.Indices.{parent-there}
 use Rattle.dom_model.proofs.Forests.Paths.{parent-path}
 use Rattle.dom_model.proofs.Forests.Totals.{total-cut}
-use Rattle.dom_model.proofs.Worlds.Owners.{HasOwners}
 use Rattle.dom_model.proofs.Soundness.SoundWorlds.{there_after_cut, sound-remove}
-use Rattle.dom_model.proofs.MutationAlgorithms.OwnersKept.{IsOwnedWell, owned-cut}
+use Rattle.dom_model.proofs.MutationAlgorithms.OwnersKept.{owned-cut}
 use Rattle.dom_ranges.specs.Tables.{IsCovered}
 use Rattle.dom_observe.specs.Watchers.{Watches}
 use Rattle.dom_observe.proofs.Watching.{watches-unstood}

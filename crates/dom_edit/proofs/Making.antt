@@ -11,12 +11,13 @@ use Rattle.dom_model.specs.Forests.Documents.{HasOneDocument}
 use Rattle.dom_model.specs.Worlds.World.{Content}
 use Rattle.dom_model.specs.Commands.Making.{made_node}
 use Rattle.dom_model.specs.MutationAlgorithms.Checks.{entry_has, is_of_kind}
+use Rattle.dom_model.specs.Worlds.Owners.{IsOwned, HasOwners}
 use Rattle.dom_model.proofs.PlainLists.Numbers.{same_or, same, apart}
 use Rattle.dom_model.proofs.Forests.Entries.{entry_under-absent, occurs-HasNode}
 use Rattle.dom_model.proofs.Forests.Totals.{total-beside}
 use Rattle.dom_model.proofs.Forests.Documents.{HasOneDocument-new_root}
 use Rattle.dom_model.proofs.Worlds.Measured.{entry-joined, entry-beside, kind-beside}
-use Rattle.dom_model.proofs.Worlds.Owners.{IsOwned, HasOwners, HasOwners-new_root, kind-there}
+use Rattle.dom_model.proofs.Worlds.Owners.{HasOwners-new_root, kind-there}
 use Rattle.dom_model.proofs.Soundness.SoundMaking.{sound-made_node}
 use Rattle.dom_ranges.specs.Chained.{covered_to}
 use Rattle.dom_observe.specs.Watchers.{Watches}

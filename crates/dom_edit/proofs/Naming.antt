@@ -16,6 +16,7 @@ use Rattle.dom_model.specs.Worlds.World as model
 use Rattle.dom_model.specs.Worlds.World.{Content, Range}
 use Rattle.dom_model.specs.MutationAlgorithms.Checks.{is_of_kind}
 use Rattle.dom_model.specs.MutationAlgorithms.Discarding.{nodes_of_range, nodes_of_live, nodes_of_iterator, nodes_of_walker, observed_nodes, named_nodes, is_held_outside, is_in_use, discarded}
+use Rattle.dom_model.specs.Worlds.Owners.{IsOwned, HasOwners}
 use Rattle.dom_model.proofs.PlainLists.Numbers.{same_or, same, apart}
 use Rattle.dom_model.proofs.Forests.Changes.{seen, nothing, just}
 use Rattle.dom_model.proofs.Forests.Totals.{total-tree_at}
@@ -26,7 +27,7 @@ use Rattle.dom_model.proofs.Forests.Documents.{HasOneDocument-without}
 use Rattle.dom_model.proofs.Forests.Paths.{parent-path}
 use Rattle.dom_model.proofs.Forests.ToTheRoot.{among-top}
 use Rattle.dom_model.proofs.Forests.TreeOrder.Flattened.{hits-numbers}
-use Rattle.dom_model.proofs.Worlds.Owners.{IsOwned, HasOwners, EachNode-each, HasOwners-discarded, kind-there}
+use Rattle.dom_model.proofs.Worlds.Owners.{EachNode-each, HasOwners-discarded, kind-there}
 use Rattle.dom_model.proofs.Soundness.SoundForests.{entry_there, child-fits}
 use Rattle.dom_model.proofs.Soundness.SoundDiscarding.{sound-without}
 use Rattle.dom_ranges.specs.Chained.{uncovered}

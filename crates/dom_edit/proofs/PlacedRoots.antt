@@ -20,11 +20,13 @@ use Rattle.dom_model.proofs.RangesAndContents.PlacesLeft.{length_within}
 use Rattle.dom_model.specs.Forests.Kinds.{may_be_parent}
 use Rattle.dom_model.specs.Forests.Lengths.{unit_count, node_length}
 use Rattle.dom_model.specs.MutationAlgorithms.Checks.{kind_passes}
+use Rattle.dom_model.specs.MutationAlgorithms.Insertable.{IsPlaceable, ArePlaceable}
+use Rattle.dom_model.specs.Worlds.Owners.{IsOwnedWell}
 use Rattle.dom_model.proofs.Worlds.Measured.{length-parent}
 use Rattle.dom_model.proofs.Soundness.SoundForests.{parent-passes}
 use Rattle.dom_model.proofs.Soundness.SoundWorlds.{child_there}
-use Rattle.dom_model.proofs.Soundness.SoundPlacing.{IsPlaceable, ArePlaceable, total_put, occurs_placed, all_placeable, child_placed, sound-put_one}
-use Rattle.dom_model.proofs.MutationAlgorithms.OwnersKept.{IsOwnedWell, owned-put_in}
+use Rattle.dom_model.proofs.Soundness.SoundPlacing.{total_put, occurs_placed, all_placeable, child_placed, sound-put_one}
+use Rattle.dom_model.proofs.MutationAlgorithms.OwnersKept.{owned-put_in}
 use Rattle.dom_model.proofs.MutationAlgorithms.PutsAllowed.{MayBePut, may_be_put}
 use Rattle.dom_model.proofs.RangesAndContents.RangesElsewhere.{ends_of, gap-elsewhere}
 use Rattle.dom_ranges.specs.Tables.{FitsMoved, OffsetsFit}

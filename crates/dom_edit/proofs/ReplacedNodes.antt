@@ -10,6 +10,7 @@ use Rattle.dom_model.specs.Worlds.World.{Content}
 use Rattle.dom_model.specs.Worlds.World as model
 use Rattle.dom_model.specs.MutationAlgorithms.Checks.{is_of_kind, kind_refuses, document_refuses_instead, check_insert, check_replace}
 use Rattle.dom_model.specs.MutationAlgorithms.Editing.{remove, remove_all, tree_record, insert, pre_insert, replace, added_by, insert_if_any, replaced_record, replace_all}
+use Rattle.dom_model.specs.MutationAlgorithms.Insertable.{IsInsertable}
 use Rattle.dom_model.proofs.Forests.Climbing.{ancestors-there, hits-first}
 use Rattle.dom_model.proofs.Forests.Entries.{HasNode-occurs, occurs-HasNode}
 use Rattle.dom_model.proofs.Forests.Indices.{child-parent, child-there}
@@ -17,7 +18,6 @@ use Rattle.dom_model.proofs.Forests.Lying.{left_out-absent}
 use Rattle.dom_model.proofs.MutationAlgorithms.Emptied.{all_left_out, children-remove, children-remove_all}
 use Rattle.dom_model.proofs.MutationAlgorithms.Loosened.{IsLoosened, loosened-remove, loosened-remove_all}
 use Rattle.dom_model.proofs.Soundness.SoundWorlds.{child_there}
-use Rattle.dom_model.proofs.Soundness.SoundInserting.{IsInsertable}
 use Rattle.dom_model.proofs.Soundness.SoundEditing.{IsChecked, checks, checks_insert, may_come_before, may_come_instead, insertable-loosened}
 use Rattle.dom_edit.specs.declared.world.World.{World}
 use Rattle.dom_edit.specs.Whole.{IsWhole, Keeps, Follows, unwatched}

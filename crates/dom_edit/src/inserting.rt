@@ -3,7 +3,7 @@
 ghost use Rattle.std.specs.Prelude.{◌≡◌, [], IfOk, OnOk, true};
 ghost use Rattle.dom_model.specs.Forests.Forest.{HasNode, children_of};
 ghost use Rattle.dom_model.specs.MutationAlgorithms.Editing.{remove_all, freed, previous_to, insert_all, insert};
-ghost use Rattle.dom_model.proofs.Soundness.SoundInserting.{IsInsertable};
+ghost use Rattle.dom_model.specs.MutationAlgorithms.Insertable.{IsInsertable};
 ghost use Rattle.dom_edit.specs.Inserting.{AreThere, listed, entering, IsOpen};
 ghost use Rattle.dom_edit.specs.Whole.{IsWhole, Follows};
 

@@ -5,7 +5,7 @@ ghost use Rattle.std.specs.Option.{ForSome};
 ghost use Rattle.dom_model.specs.PlainLists.Lists.{is_number};
 ghost use Rattle.dom_model.specs.Forests.Forest.{HasNode, next_of};
 ghost use Rattle.dom_model.specs.MutationAlgorithms.Editing.{insert_if_any, replaced_record};
-ghost use Rattle.dom_model.proofs.Soundness.SoundInserting.{IsInsertable};
+ghost use Rattle.dom_model.specs.MutationAlgorithms.Insertable.{IsInsertable};
 ghost use Rattle.dom_edit.specs.Inserting.{listed, entering_if_any};
 ghost use Rattle.dom_edit.specs.Refusals.{check_only_child};
 ghost use Rattle.dom_edit.specs.Whole.{IsWhole, Follows};

@@ -2,3 +2,4 @@
 -- "Interface Node".
 pub mod Data
 pub mod Clones
+pub mod Joinable

@@ -11,3 +11,4 @@ pub mod Lengths
 pub mod Arena
 pub mod Lies
 pub mod ForestCode
+pub mod Ways

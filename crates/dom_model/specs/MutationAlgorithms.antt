@@ -4,3 +4,4 @@ pub mod Checks
 pub mod PreRemoval
 pub mod Editing
 pub mod Discarding
+pub mod Insertable

@@ -1,2 +1,3 @@
 -- Plain words on lists of numbers.
 pub mod Lists
+pub mod LastOnce

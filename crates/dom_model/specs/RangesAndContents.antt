@@ -3,3 +3,4 @@ pub mod Ranges
 pub mod Contents
 pub mod Wrapping
 pub mod StaticRanges
+pub mod BesidePaths

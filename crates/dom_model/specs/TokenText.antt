@@ -5,3 +5,4 @@ pub mod CommandEdits
 pub mod Gaps
 pub mod Between
 pub mod Originals
+pub mod Fitting

@@ -3,3 +3,4 @@ pub mod Filters
 pub mod Iterators
 pub mod Walks
 pub mod WalkSteps
+pub mod Ending

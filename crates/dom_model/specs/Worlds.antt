@@ -2,3 +2,4 @@
 pub mod World
 pub mod Sound
 pub mod Counts
+pub mod Owners

@@ -13,8 +13,8 @@ use Rattle.dom_model.specs.declared.RecordType.{RecordType}
 use Rattle.dom_model.specs.PlainLists.Lists.{among}
 use Rattle.dom_model.specs.Worlds.World.{Registration, Mutation}
 use Rattle.dom_model.specs.MutationObservers.Records.{interests, interested, asks_old_value, record_with, record_by, record_for}
+use Rattle.dom_model.specs.PlainLists.LastOnce.{with_last, with_all_last}
 use Rattle.dom_model.proofs.PlainLists.Numbers.{Same, same_or, same, apart}
-use Rattle.dom_model.proofs.MutationObservers.Queues.{with_last, with_all_last}
 use Rattle.dom_observe.specs.Registrations.{concerns, Stands}
 use Rattle.dom_observe.specs.Telling.{listener_of, listener_under, listeners, asked_by, flag_of, delivered}
 use Rattle.dom_observe.proofs.Tables.{all_append}

@@ -10,7 +10,7 @@ use Rattle.dom_model.specs.Worlds.World.{Registration, Mutation}
 use Rattle.dom_model.specs.MutationObservers.Observing.{registered_on, standing_on}
 use Rattle.dom_model.specs.Commands.Reply.{Record}
 use Rattle.dom_model.specs.MutationObservers.Records.{interests, interested, observers_of, asks_old_value, record_for}
-use Rattle.dom_model.proofs.MutationObservers.Queues.{with_all_last}
+use Rattle.dom_model.specs.PlainLists.LastOnce.{with_all_last}
 use Rattle.dom_observe.specs.declared.registration.Registration as held
 use Rattle.dom_observe.specs.Watchers.{on}
 use Rattle.dom_observe.specs.Registrations.{at, listed, Stands, AllStand}

@@ -9,8 +9,9 @@ use Rattle.dom_model.specs.Worlds.World.{Options, Registration, Mutation, Observ
 use Rattle.dom_model.specs.Commands.Reply.{Record}
 use Rattle.dom_model.specs.MutationObservers.Observing.{registered_on, standing_on, transient_of, with_transients, noted}
 use Rattle.dom_model.specs.MutationObservers.Records.{is_registered, is_transient_from, new_registration, with_options, registered, observed, queue_of, with_observer, records_taken, record_by, record_for, interested, observers_of, after_notify}
+use Rattle.dom_model.specs.PlainLists.LastOnce.{with_all_last}
 use Rattle.dom_model.proofs.PlainLists.Numbers.{Same, same_or, same, apart}
-use Rattle.dom_model.proofs.MutationObservers.Queues.{IsTimely, queue-with_observer, queue-made, queue-taken, queue-kept, timely-taken, timely-noted, queue-noted, pending-noted, queue-notified, pending-notified, with_all_last}
+use Rattle.dom_model.proofs.MutationObservers.Queues.{IsTimely, queue-with_observer, queue-made, queue-taken, queue-kept, timely-taken, timely-noted, queue-noted, pending-noted, queue-notified, pending-notified}
 use Rattle.dom_model.proofs.MutationObservers.NodeRegistrations.{registered_on-filter, registered-there, registrations-observed, registrations-observed_again, registrations-transients}
 use Rattle.dom_observe.specs.Watchers.{Watchers, Watches, on}
 use Rattle.dom_observe.specs.Registrations.{with_added_transients}

@@ -5,7 +5,7 @@ ghost use Rattle.std.specs.List.{AllByRecursion};
 ghost use Rattle.std.specs.Map.{lookup, keys_of};
 ghost use Rattle.indexmap.specs.IndexMap.{get, IsUnique};
 ghost use Rattle.dom_model.specs.PlainLists.Lists.{among};
-ghost use Rattle.dom_model.proofs.MutationObservers.Queues.{with_all_last, with_last};
+ghost use Rattle.dom_model.specs.PlainLists.LastOnce.{with_all_last, with_last};
 ghost use Rattle.dom_observe.specs.Names.{text_of};
 ghost use Rattle.dom_observe.specs.Registrations.{at, Stands};
 ghost use Rattle.dom_observe.specs.Kept.{queues_of};

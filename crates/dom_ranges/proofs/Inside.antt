@@ -3,7 +3,7 @@ use Rattle.std.proofs.Common.{◌≡◌, ℕ, ◌+◌, ◌-◌, ◌^◌, ◌≤�
 use Rattle.std.specs.List.{list_any, flat_map}
 use Rattle.std.proofs.lemmas.Bool.{cases_Bool, cases_eq, false≢true, eq-eqb, ne_eqb}
 use Rattle.std.proofs.lemmas.Bool.Decides.{nat_tests}
-use Rattle.dom_model.specs.PlainLists.Lists.{hits, among, after}
+use Rattle.dom_model.specs.PlainLists.Lists.{hits, among, after, from_first}
 use Rattle.dom_model.specs.Forests.Forest.{Forest, Grove, one_at, entry_in, HasNode, occurs, tree_at, ancestors, inclusive_descendants, IsForest}
 use Rattle.dom_model.specs.Worlds.World.{Point, Range}
 use Rattle.dom_model.specs.BoundaryPoints.Points.{after_splice, after_removal, moved_range, map_ranges}
@@ -13,7 +13,7 @@ use Rattle.dom_model.proofs.PlainLists.Numbers.{same_or, same, apart}
 use Rattle.dom_model.proofs.Forests.Totals.{total-tree_at}
 use Rattle.dom_model.proofs.Forests.TreeOrder.Flattened.{hits-numbers}
 use Rattle.dom_model.proofs.Forests.Entries.{occurs-HasNode, HasNode-occurs}
-use Rattle.dom_model.proofs.PlainLists.FromFirst.{from-last, from-after, from_first}
+use Rattle.dom_model.proofs.PlainLists.FromFirst.{from-last, from-after}
 use Rattle.dom_model.proofs.Forests.TreeOrder.Ordering.{Single, single, tree_at-single}
 use Rattle.dom_model.proofs.Forests.ToTheRoot.{inside, inside-among}
 use Rattle.dom_model.proofs.Forests.TreeOrder.Stepping.{after-inside}

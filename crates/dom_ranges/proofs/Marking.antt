@@ -8,13 +8,14 @@ use Rattle.dom_model.specs.MutationAlgorithms.Editing.{remove, put_in, gap_befor
 use Rattle.dom_model.specs.DataAndCopies.Data.{replace_units, split}
 use Rattle.dom_model.specs.TokenText.Tokens.{Edit, Insertion, Removal, Splice, Parting, point, texts_of, on_texts, marked_ranges}
 use Rattle.dom_model.specs.TokenText.Edits.{on_world, removal_from, parting_from, index_before, split_edits_by}
+use Rattle.dom_model.specs.MutationAlgorithms.Insertable.{IsPlaceable}
+use Rattle.dom_model.specs.TokenText.Fitting.{IsReady, fits_splice}
 use Rattle.dom_model.proofs.Soundness.SoundWorlds.{child_there, sound-remove}
-use Rattle.dom_model.proofs.Soundness.SoundPlacing.{IsPlaceable, sound-put_one}
+use Rattle.dom_model.proofs.Soundness.SoundPlacing.{sound-put_one}
 use Rattle.dom_model.proofs.Soundness.SoundData.{sound-replace_units}
 use Rattle.dom_model.proofs.Soundness.SoundSplitting.{sound-split}
 use Rattle.dom_model.proofs.TokenText.Marked.MarkedFirst.{marked-first, kinds-childless}
-use Rattle.dom_model.proofs.TokenText.Marked.MarkedEnds.{IsReady}
-use Rattle.dom_model.proofs.TokenText.Marked.MarkedEdits.{fits_splice, ranges-found, markers-follow}
+use Rattle.dom_model.proofs.TokenText.Marked.MarkedEdits.{ranges-found, markers-follow}
 use Rattle.dom_model.proofs.TokenText.EditsMade.FittingEdits.{ready-laid, ready-sound, passes_there}
 use Rattle.dom_model.proofs.TokenText.EditsMade.EditsLeave.{laid, Leave, leave-edit, leave-ranges}
 use Rattle.dom_model.proofs.TokenText.EditsMade.EditsOfSteps.{leave-removal}

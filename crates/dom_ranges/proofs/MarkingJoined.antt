@@ -13,18 +13,19 @@ use Rattle.dom_model.specs.MutationAlgorithms.Editing.{remove}
 use Rattle.dom_model.specs.DataAndCopies.Data.{content_in, data_of, with_data, replace_units}
 use Rattle.dom_model.specs.TokenText.Tokens.{Removal, Merge}
 use Rattle.dom_model.specs.TokenText.Edits.{removal_from, merge_from}
+use Rattle.dom_model.specs.DataAndCopies.Joinable.{IsUpTo, AreUpTo}
+use Rattle.dom_model.specs.TokenText.Fitting.{fits_merge}
 use Rattle.dom_model.proofs.PlainLists.Numbers.{same_or, same, apart}
 use Rattle.dom_model.proofs.Forests.Changes.{change_at}
 use Rattle.dom_model.proofs.Worlds.SameShape.{IsAlike, with_node-alike, occurs-alike, parent-alike, kind-alike, index-alike, inside-alike}
 use Rattle.dom_model.proofs.Worlds.Measured.{entry-with_node}
 use Rattle.dom_model.proofs.BoundaryPoints.MergeOrder.{joined-settled}
-use Rattle.dom_model.proofs.RangesAndContents.RangesMerged.{IsUpTo, range-merged}
+use Rattle.dom_model.proofs.RangesAndContents.RangesMerged.{range-merged}
 use Rattle.dom_model.proofs.Soundness.SoundForests.{entry_there, data-childless}
 use Rattle.dom_model.proofs.Soundness.SoundWorlds.{each-moved, child_there, sound-remove}
 use Rattle.dom_model.proofs.Soundness.SoundData.{length-data, length-other, length-spliced, sound-replace_units}
 use Rattle.dom_model.proofs.Soundness.SoundSplitting.{text_has_data}
-use Rattle.dom_model.proofs.Soundness.SoundJoining.{text_is_no_doctype, AreUpTo, lives-both}
-use Rattle.dom_model.proofs.TokenText.Marked.MarkedEdits.{fits_merge}
+use Rattle.dom_model.proofs.Soundness.SoundJoining.{text_is_no_doctype, lives-both}
 use Rattle.dom_model.proofs.TokenText.EditsMade.FittingEdits.{ready-sound}
 use Rattle.dom_model.proofs.TokenText.EditsMade.EditsLeave.{laid, Leave, leave-edit, leave-laid}
 use Rattle.dom_model.proofs.TokenText.EditsMade.EditsOfSteps.{leave-removal}

@@ -9,13 +9,13 @@ use Rattle.dom_model.specs.MutationAlgorithms.Checks.{is_of_kind}
 use Rattle.dom_model.specs.RangesAndContents.Ranges.{start_set, end_set, around, contents_of, collapsed, range_at, with_range}
 use Rattle.dom_model.specs.TokenText.Tokens.{texts_of, all_on_texts, marked_ranges}
 use Rattle.dom_model.specs.TokenText.Edits.{ends_edits}
+use Rattle.dom_model.specs.TokenText.Fitting.{IsReady}
 use Rattle.dom_model.proofs.Forests.Entries.{occurs-HasNode}
 use Rattle.dom_model.proofs.Soundness.SoundEditing.{clear}
 use Rattle.dom_model.proofs.Soundness.SoundRangeSteps.{live_range, sound-with_range}
 use Rattle.dom_model.proofs.Soundness.SoundWorlds.{IsLive}
 use Rattle.dom_model.proofs.RangesAndContents.RangesSet.{range_collapsed, range-start_set, range-end_set, boundary_checked, range_selected, range_of_contents}
 use Rattle.dom_model.proofs.TokenText.Marked.MarkedFirst.{marked-first, kinds-childless}
-use Rattle.dom_model.proofs.TokenText.Marked.MarkedEnds.{IsReady}
 use Rattle.dom_model.proofs.TokenText.Marked.MarkedEdits.{ranges-found, markers-follow}
 use Rattle.dom_model.proofs.TokenText.EditsMade.FittingEdits.{ready-laid, ready-sound}
 use Rattle.dom_model.proofs.TokenText.EditsMade.EditsLeave.{laid}

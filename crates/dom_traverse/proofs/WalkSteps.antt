@@ -9,10 +9,11 @@ use Rattle.dom_model.specs.Worlds.World.{Filter}
 use Rattle.dom_model.specs.Traversal.Filters.{is_accept, is_reject, verdict_on, accepts}
 use Rattle.dom_model.specs.Traversal.WalkSteps.{Stand, at, leaving, ended, at_or, come_back_to, up_to_parent, parent_arrived, parent_step, previous_arrived, up_unless_root, back_past_node, previous_step, next_by_steps, first_child_step, next_sibling_step, next_step}
 use Rattle.dom_model.specs.Traversal.Walks.{found_by_steps}
+use Rattle.dom_model.specs.Traversal.Ending.{Leads, LeadsOn}
 use Rattle.dom_model.proofs.Forests.Totals.{IsOnce}
 use Rattle.dom_model.proofs.Traversal.EndingWalks.{HasEnded-agree}
 use Rattle.dom_model.proofs.Traversal.WalksMirrored.{walked-agree, last_child_step, previous_sibling_step, child_steps-mirrored, sibling_steps-mirrored}
-use Rattle.dom_model.proofs.Traversal.WalksEnd.{Walks, Walks-on, Leads, LeadsOn, Leads-here, Leads-then, LeadsOn-at, LeadsOn-leaving, first_child-walks, last_child-walks, next_sibling-walks, previous_sibling-walks, next-walks}
+use Rattle.dom_model.proofs.Traversal.WalksEnd.{Walks, Walks-on, Leads-here, Leads-then, LeadsOn-at, LeadsOn-leaving, first_child-walks, last_child-walks, next_sibling-walks, previous_sibling-walks, next-walks}
 use Rattle.dom_traverse.specs.declared.course.Side.{Side}
 use Rattle.dom_traverse.specs.declared.course.Side.TheVariants.{First, Last}
 use Rattle.dom_traverse.specs.declared.course.Limit.TheVariants.{Root, Current, Accepted}

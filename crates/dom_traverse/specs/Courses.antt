@@ -10,8 +10,7 @@ use Rattle.dom_model.specs.Forests.Forest.{Forest, size, parent_of, children_of,
 use Rattle.dom_model.specs.Worlds.World.{Filter}
 use Rattle.dom_model.specs.Traversal.Filters.{verdict_on, accepts}
 use Rattle.dom_model.specs.Traversal.WalkSteps.{Stand, at, leaving, ended, at_or, come_to, up_to_parent, walked}
-use Rattle.dom_model.proofs.Traversal.EndingWalks.{HasEnded}
-use Rattle.dom_model.proofs.Traversal.WalksEnd.{Leads, LeadsOn}
+use Rattle.dom_model.specs.Traversal.Ending.{HasEnded, Leads, LeadsOn}
 use Rattle.dom_traverse.specs.declared.course.Side.{Side}
 use Rattle.dom_traverse.specs.declared.course.Side.TheVariants.{First, Last}
 use Rattle.dom_traverse.specs.declared.course.Limit.{Limit}

@@ -2,10 +2,10 @@
 use Rattle.std.proofs.Common.{◌≡◌, ℕ, ◌<◌, ◌≤◌, ◌==◌, Bool, true, false, if◌then◌else◌, List, [], ◌∷◌, ◌++◌, length, Some, None, refl, ap, sym, ◌∙◌, arith}
 use Rattle.std.proofs.lemmas.Bool.{false_from_ne_true}
 use Rattle.std.proofs.lemmas.Bool.Decides.{nat_tests}
-use Rattle.dom_model.specs.PlainLists.Lists.{hits, among, after}
+use Rattle.dom_model.specs.PlainLists.Lists.{hits, among, after, from_first}
 use Rattle.dom_model.specs.Forests.Forest.{Node, Forest, empty, node, Grove, occurs, one_at, numbers, HasNode, ancestors, beside, tree_at, without, map_nodes, with_node, with_tree, in_document, adopted, inclusive_descendants, IsForest}
 use Rattle.dom_model.proofs.PlainLists.Numbers.{same_or, same, apart}
-use Rattle.dom_model.proofs.PlainLists.FromFirst.{from_first, from-after, from-last}
+use Rattle.dom_model.proofs.PlainLists.FromFirst.{from-after, from-last}
 use Rattle.dom_model.proofs.Forests.Totals.{total-beside, total-tree_at}
 use Rattle.dom_model.proofs.Forests.Climbing.{hits-among, among-hits}
 use Rattle.dom_model.proofs.Forests.TreeOrder.Flattened.{hits-numbers}

@@ -5,7 +5,7 @@ use Rattle.std.specs.List.{list_any}
 use Rattle.dom_model.specs.declared.Kind.TheVariants.{Element, Text, Document, DocumentType, DocumentFragment}
 use Rattle.dom_model.specs.declared.DomError.{DomError}
 use Rattle.dom_model.specs.declared.DomError.TheVariants.{HierarchyRequestError, InvalidStateError, InvalidNodeTypeError}
-use Rattle.dom_model.specs.PlainLists.Lists.{hits, among, last_of, place_in, after, is_number}
+use Rattle.dom_model.specs.PlainLists.Lists.{hits, among, last_of, place_in, after, is_number, from_first}
 use Rattle.dom_model.specs.Forests.Forest.{Forest, HasNode, occurs, numbers, parent_of, children_of, next_of, index_of, ancestors, root_of}
 use Rattle.dom_model.specs.Worlds.World.{Content, Point, Range}
 use Rattle.dom_model.specs.Worlds.World as model
@@ -15,7 +15,6 @@ use Rattle.dom_model.specs.RangesAndContents.Ranges.{point_after, is_partially_c
 use Rattle.dom_model.specs.RangesAndContents.Contents.{for_range, new_place, common_of}
 use Rattle.dom_model.specs.RangesAndContents.Wrapping.{is_text, reference_at, parent_at, check_whole_surround}
 use Rattle.dom_model.proofs.PlainLists.Numbers.{same_or, same, apart}
-use Rattle.dom_model.proofs.PlainLists.FromFirst.{from_first}
 use Rattle.dom_model.proofs.Forests.Entries.{HasNode-occurs, occurs-HasNode}
 use Rattle.dom_model.proofs.Forests.Climbing.{hits-append, hits-among, ancestors-there}
 use Rattle.dom_model.proofs.Forests.Indices.{child-listed, child-once, index-child}

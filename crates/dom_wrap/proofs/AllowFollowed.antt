@@ -17,6 +17,7 @@ use Rattle.dom_model.specs.RangesAndContents.Ranges.{is_collapsed, range_at, wit
 use Rattle.dom_model.specs.DataAndCopies.Data.{data_of, tail_of, with_data, cut_count, split_off, split}
 use Rattle.dom_model.specs.RangesAndContents.Contents.{for_range}
 use Rattle.dom_model.specs.RangesAndContents.Wrapping.{Outcome, and_then, unless, try_pre_insert, is_text, reference_at, parent_at, check_start, split_at, reference_after, offset_past, end_if_collapsed, inserted_at, insert_node, selected, try_select, refusal_in}
+use Rattle.dom_model.specs.MutationAlgorithms.Insertable.{IsInsertable}
 use Rattle.dom_model.proofs.PlainLists.Numbers.{same_or, same, apart}
 use Rattle.dom_model.proofs.Forests.Changes.{seen, nothing, just}
 use Rattle.dom_model.proofs.Forests.Entries.{HasNode-occurs, occurs-HasNode}
@@ -33,7 +34,6 @@ use Rattle.dom_model.proofs.MutationAlgorithms.ChecksKept.{allowed, refusal-head
 use Rattle.dom_model.proofs.Soundness.SoundData.{length-data}
 use Rattle.dom_model.proofs.Soundness.SoundWorlds.{sound-remove}
 use Rattle.dom_model.proofs.Soundness.SoundPlacing.{parent_placed}
-use Rattle.dom_model.proofs.Soundness.SoundInserting.{IsInsertable}
 use Rattle.dom_model.proofs.Soundness.SoundEditing.{checks_insert, insertable, sound-pre_insert}
 use Rattle.dom_model.proofs.Soundness.SoundSplitting.{text_has_data, made, sm, parted, there-old, hp, placeable, split_off_is, forest_is, kind-parted, sound-split}
 use Rattle.dom_model.proofs.Soundness.SoundPlacedNode.{Gives}

@@ -12,6 +12,7 @@ use Rattle.dom_model.specs.Worlds.Sound.{IsRange}
 use Rattle.dom_model.specs.MutationAlgorithms.Checks.{up_to, is_of_kind}
 use Rattle.dom_model.specs.RangesAndContents.Ranges.{is_partially_contained, common_ancestor}
 use Rattle.dom_model.specs.RangesAndContents.Contents.{path_below}
+use Rattle.dom_model.specs.Forests.Ways.{IsWay}
 use Rattle.dom_model.proofs.PlainLists.Numbers.{same_or, same, apart}
 use Rattle.dom_model.proofs.Forests.Entries.{occurs-HasNode}
 use Rattle.dom_model.proofs.Forests.Totals.{IsOnce}
@@ -19,7 +20,6 @@ use Rattle.dom_model.proofs.Forests.Climbing.{hits-append, hits-reverse, hits-am
 use Rattle.dom_model.proofs.Forests.Paths.{parent-path}
 use Rattle.dom_model.proofs.Forests.Indices.{parent-there}
 use Rattle.dom_model.proofs.Forests.TreeOrder.Flattened.{hits-numbers}
-use Rattle.dom_model.proofs.Forests.Chains.{IsWay}
 use Rattle.dom_model.proofs.BoundaryPoints.RemovalOrder.{ancestors-split}
 use Rattle.dom_model.proofs.Soundness.SoundForests.{IsWood}
 use Rattle.dom_model.proofs.Soundness.SoundExtracting.{none_listed}

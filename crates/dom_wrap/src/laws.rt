@@ -10,9 +10,7 @@ ghost use Rattle.dom_model.specs.RangesAndContents.Ranges.{end_of, range_at};
 ghost use Rattle.dom_model.specs.RangesAndContents.Wrapping.{reference_at, parent_at, check_start, split_at, reference_after, inserted_at, refusal_in};
 ghost use Rattle.dom_model.specs.TokenText.Tokens.{Edit, texts_of, gap_among, marked_ranges, all_on_texts};
 ghost use Rattle.dom_model.specs.TokenText.Edits.{all_on_world};
-ghost use Rattle.dom_model.proofs.TokenText.Pieces.TextParts.{Childless};
-ghost use Rattle.dom_model.proofs.TokenText.Marked.MarkedEnds.{IsReady};
-ghost use Rattle.dom_model.proofs.TokenText.Marked.MarkedEdits.{AllFit};
+ghost use Rattle.dom_model.specs.TokenText.Fitting.{Childless, IsReady, AllFit};
 
 /// A law: over any list of primitive edits each end of each live range stands where its marker stands. No node with data has children in
 /// the first world, and each edit fits the world that those before it left: that world is ready, as the last one is, and what the edit names

@@ -6,13 +6,14 @@ use Rattle.std.specs.Cmp.Lexicographic.{slice_cmp}
 use Rattle.dom_model.specs.PlainLists.Lists.{hits, among}
 use Rattle.dom_model.specs.Forests.Forest.{Forest, occurs, one_at, tree_at, put, parent_of, index_of, ancestors}
 use Rattle.dom_model.specs.BoundaryPoints.Points.{place_of, order_of}
+use Rattle.dom_model.specs.Forests.Ways.{IsWay}
 use Rattle.dom_model.proofs.PlainLists.Numbers.{same_or, same, apart}
 use Rattle.dom_model.proofs.Forests.Totals.{total-tree_at, occurs-without}
 use Rattle.dom_model.proofs.Forests.Climbing.{hits-among, hits-ancestors, ancestors-there}
 use Rattle.dom_model.proofs.Forests.Paths.{parent-path, root-path, ancestors-put}
 use Rattle.dom_model.proofs.Forests.Indices.{index-put}
 use Rattle.dom_model.proofs.BoundaryPoints.PointOrder.{slice_cmp-ahead}
-use Rattle.dom_model.proofs.Forests.Chains.{way_to, IsWay, way}
+use Rattle.dom_model.proofs.Forests.Chains.{way_to, way}
 use Rattle.dom_model.proofs.BoundaryPoints.WaysKept.{place_by}
 use Rattle.dom_model.proofs.BoundaryPoints.RemovalOrder.{ancestors-split}
 use Rattle.dom_model.proofs.BoundaryPoints.RootsKept.{root-among}

@@ -7,11 +7,12 @@ use Rattle.dom_model.specs.PlainLists.Lists.{among}
 use Rattle.dom_model.specs.Forests.Forest.{Forest, occurs, tree_at, put, parent_of, children_of, index_of, ancestors, root_of}
 use Rattle.dom_model.specs.Worlds.World.{Point}
 use Rattle.dom_model.specs.BoundaryPoints.Points.{place_of, order_of, after_gap}
+use Rattle.dom_model.specs.Forests.Ways.{IsWay}
 use Rattle.dom_model.proofs.Forests.Climbing.{among-hits, hits-ancestors}
 use Rattle.dom_model.proofs.Forests.Paths.{parent-path, ancestors-put, then_above}
 use Rattle.dom_model.proofs.PlainLists.Places.{place_before}
 use Rattle.dom_model.proofs.Forests.Indices.{index-put}
-use Rattle.dom_model.proofs.Forests.Chains.{way_to, IsWay, way}
+use Rattle.dom_model.proofs.Forests.Chains.{way_to, way}
 use Rattle.dom_model.proofs.BoundaryPoints.WaysKept.{place_by, ways-kept}
 
 -- two gaps at one place are one

@@ -9,6 +9,7 @@ use Rattle.dom_model.specs.Forests.Forest.{Forest, occurs, parent_of, children_o
 use Rattle.dom_model.specs.Worlds.World.{Content, Point, World}
 use Rattle.dom_model.specs.MutationAlgorithms.Editing.{tree_record, tree_record_unless, remove, remove_all, is_fragment, nodes_of, emptied_fragment, insert_all, insert_nodes, insert}
 use Rattle.dom_model.specs.Worlds.Sound.{IsSound}
+use Rattle.dom_model.specs.MutationAlgorithms.Insertable.{IsChildOf, IsInsertable}
 use Rattle.dom_model.proofs.Forests.Climbing.{hits-append, hits-first, ancestors-there}
 use Rattle.dom_model.proofs.Forests.Lying.{left_out-absent}
 use Rattle.dom_model.proofs.Forests.Entries.{children-cut}
@@ -17,8 +18,7 @@ use Rattle.dom_model.proofs.Forests.Indices.{child-listed, child-parent, child-t
 use Rattle.dom_model.proofs.BoundaryPoints.PointOrder.{nat_cmp-same, nat_cmp-less, nat_cmp-greater}
 use Rattle.dom_model.proofs.Soundness.SoundWorlds.{child_there, sound-remove, sound-remove_all}
 use Rattle.dom_model.proofs.MutationAlgorithms.Loosened.{loosened-remove, forest-remove}
-use Rattle.dom_model.proofs.Soundness.SoundPlacing.{IsChildOf}
-use Rattle.dom_model.proofs.Soundness.SoundInserting.{IsInsertable, child_outside}
+use Rattle.dom_model.proofs.Soundness.SoundInserting.{child_outside}
 use Rattle.dom_model.proofs.BoundaryPoints.MovedPoints.{map_ranges-none, KeepsPoint, keeps-then, keeps-same, keeps_remove_all, IsAheadOf, keeps_record, keeps_insert_all}
 use Rattle.dom_model.proofs.BoundaryPoints.SplitEnds.{keeps_insert_root}
 

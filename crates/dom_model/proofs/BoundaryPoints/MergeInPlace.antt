@@ -5,10 +5,11 @@ use Rattle.std.specs.declared.cmp.Ordering.TheVariants.{Greater}
 use Rattle.std.specs.Cmp.Lexicographic.{slice_cmp}
 use Rattle.std.proofs.lemmas.Bool.{cases_lt}
 use Rattle.dom_model.specs.Forests.Forest.{Forest, occurs, parent_of, children_of, index_of}
+use Rattle.dom_model.specs.Forests.Ways.{IsWay}
 use Rattle.dom_model.proofs.PlainLists.Numbers.{same_or, same, apart}
 use Rattle.dom_model.proofs.Forests.Indices.{child-listed}
 use Rattle.dom_model.proofs.BoundaryPoints.PointOrder.{nat_cmp-same}
-use Rattle.dom_model.proofs.Forests.Chains.{IsWay, childless-last, index-apart}
+use Rattle.dom_model.proofs.Forests.Chains.{childless-last, index-apart}
 use Rattle.dom_model.proofs.BoundaryPoints.WaysKept.{place_by}
 use Rattle.dom_model.proofs.BoundaryPoints.RemovalOrder.{not_greater, greater, not_more}
 

@@ -7,10 +7,11 @@ use Rattle.std.proofs.lemmas.Bool.{false≢true, le-ltb}
 use Rattle.dom_model.specs.Forests.Forest.{Forest, occurs, cut, inclusive_descendants, parent_of, children_of, index_of, root_of}
 use Rattle.dom_model.specs.Worlds.World.{Point}
 use Rattle.dom_model.specs.BoundaryPoints.Points.{place_of, order_of, after_merge, after_removal, after_splice}
+use Rattle.dom_model.specs.Forests.Ways.{IsWay}
 use Rattle.dom_model.proofs.PlainLists.Numbers.{same_or, same, apart}
 use Rattle.dom_model.proofs.Forests.Indices.{child-listed}
 use Rattle.dom_model.proofs.Forests.Paths.{parent-path}
-use Rattle.dom_model.proofs.Forests.Chains.{way_to, IsWay, way, way-child, root-child, childless-last}
+use Rattle.dom_model.proofs.Forests.Chains.{way_to, way, way-child, root-child, childless-last}
 use Rattle.dom_model.proofs.BoundaryPoints.WaysKept.{place_by, place-last}
 use Rattle.dom_model.proofs.BoundaryPoints.RemovalOrder.{removal-order_kept}
 use Rattle.dom_model.proofs.BoundaryPoints.MergeInPlace.{place_merged, ways-merged}

@@ -9,6 +9,7 @@ use Rattle.std.proofs.lemmas.List.{reverse-append, drop-append-le, length-revers
 use Rattle.dom_model.specs.PlainLists.Lists.{hits, among, place_in}
 use Rattle.dom_model.specs.Forests.Forest.{Forest, occurs, one_at, tree_at, inclusive_descendants, cut, parent_of, children_of, index_of, ancestors, root_of}
 use Rattle.dom_model.specs.BoundaryPoints.Points.{place_of, order_of, after_removal}
+use Rattle.dom_model.specs.Forests.Ways.{IsWay}
 use Rattle.dom_model.proofs.PlainLists.Numbers.{same_or, same, apart}
 use Rattle.dom_model.proofs.Forests.Changes.{seen, nothing, just}
 use Rattle.dom_model.proofs.Forests.Totals.{total-tree_at}
@@ -18,7 +19,7 @@ use Rattle.dom_model.proofs.PlainLists.Places.{place-absent, place-there}
 use Rattle.dom_model.proofs.Forests.TreeOrder.Flattened.{hits-numbers}
 use Rattle.dom_model.proofs.Forests.Indices.{child-listed, index-child, index-cut, child-parent}
 use Rattle.dom_model.proofs.BoundaryPoints.PointOrder.{nat_cmp-same, nat_cmp-less, nat_cmp-greater}
-use Rattle.dom_model.proofs.Forests.Chains.{way_to, IsWay, way, index-apart}
+use Rattle.dom_model.proofs.Forests.Chains.{way_to, way, index-apart}
 use Rattle.dom_model.proofs.BoundaryPoints.WaysKept.{place_by}
 
 pub not_greater : (x y : ℕ) (xs ys : List ℕ) → x < y → slice_cmp nat_cmp (x ∷ xs) (y ∷ ys) ≡ Greater → ⊥

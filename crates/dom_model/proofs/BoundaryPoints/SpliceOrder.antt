@@ -7,10 +7,11 @@ use Rattle.std.proofs.lemmas.Bool.{cases_lt}
 use Rattle.dom_model.specs.Forests.Forest.{Forest, occurs, parent_of, children_of, index_of, root_of}
 use Rattle.dom_model.specs.Worlds.World.{Point}
 use Rattle.dom_model.specs.BoundaryPoints.Points.{order_of, after_splice}
+use Rattle.dom_model.specs.Forests.Ways.{IsWay}
 use Rattle.dom_model.proofs.PlainLists.Numbers.{same_or, same, apart}
 use Rattle.dom_model.proofs.Forests.Indices.{child-listed}
 use Rattle.dom_model.proofs.BoundaryPoints.PointOrder.{nat_cmp-same, spliced_offset, splice-order}
-use Rattle.dom_model.proofs.Forests.Chains.{way_to, IsWay, way, index-apart}
+use Rattle.dom_model.proofs.Forests.Chains.{way_to, way, index-apart}
 use Rattle.dom_model.proofs.BoundaryPoints.WaysKept.{place_by}
 use Rattle.dom_model.proofs.BoundaryPoints.RemovalOrder.{not_greater, greater, not_more}
 

@@ -7,11 +7,12 @@ use Rattle.std.proofs.lemmas.Bool.Decides.{nat_tests}
 use Rattle.dom_model.specs.Forests.Forest.{Forest, occurs, parent_of, children_of, index_of, root_of}
 use Rattle.dom_model.specs.Worlds.World.{Point}
 use Rattle.dom_model.specs.BoundaryPoints.Points.{place_of, order_of, after_split}
+use Rattle.dom_model.specs.Forests.Ways.{IsWay}
 use Rattle.dom_model.proofs.PlainLists.Numbers.{same_or, same, apart}
 use Rattle.dom_model.proofs.Forests.Indices.{child-listed}
 use Rattle.dom_model.proofs.BoundaryPoints.PointOrder.{nat_cmp-same, nat_cmp-less, nat_cmp-greater, nat_cmp-kept, slice_cmp-one, heads-kept}
 use Rattle.dom_model.proofs.Forests.Paths.{parent-path}
-use Rattle.dom_model.proofs.Forests.Chains.{way_to, IsWay, way, way-child, childless-last, index-apart}
+use Rattle.dom_model.proofs.Forests.Chains.{way_to, way, way-child, childless-last, index-apart}
 use Rattle.dom_model.proofs.BoundaryPoints.WaysKept.{place_by, place-last}
 
 -- where an offset goes; it is the parent's where the first part is true

@@ -5,8 +5,9 @@ use Rattle.std.specs.Cmp.Lexicographic.{slice_cmp}
 use Rattle.std.proofs.lemmas.Bool.{cases_lt}
 use Rattle.std.proofs.lemmas.List.{map-append}
 use Rattle.dom_model.specs.Forests.Forest.{Forest, occurs, parent_of, index_of}
+use Rattle.dom_model.specs.Forests.Ways.{IsWay}
 use Rattle.dom_model.proofs.BoundaryPoints.PointOrder.{nat_cmp-same, nat_cmp-kept, slice_cmp-one, heads-kept}
-use Rattle.dom_model.proofs.Forests.Chains.{IsWay, index-apart}
+use Rattle.dom_model.proofs.Forests.Chains.{index-apart}
 
 -- a list of nodes on a way, and an offset at its end, as a place
 abbrev pub place_by : (ℕ → ℕ) → List ℕ → ℕ → List ℕ

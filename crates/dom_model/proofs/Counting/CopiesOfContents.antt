@@ -12,12 +12,12 @@ use Rattle.dom_model.specs.MutationAlgorithms.Editing.{node_document}
 use Rattle.dom_model.specs.Forests.Lengths.{unit_count, node_length, length_in}
 use Rattle.dom_model.specs.RangesAndContents.Ranges.{is_collapsed, common_ancestor, range_at}
 use Rattle.dom_model.specs.RangesAndContents.Contents.{for_range, is_in_one_data, contained_in, new_fragment, children_into, tail_into, path_below, common_of, contained_children, parts_into, contents_drawn, clone_contents}
+use Rattle.dom_model.specs.Forests.Ways.{IsWay}
 use Rattle.dom_model.proofs.PlainLists.Numbers.{same_or, same, apart}
 use Rattle.dom_model.proofs.Forests.Totals.{IsOnce, beside-empty, total-beside}
 use Rattle.dom_model.proofs.Forests.Climbing.{hits-first, hits-among}
 use Rattle.dom_model.proofs.Forests.Entries.{occurs-HasNode}
 use Rattle.dom_model.proofs.Forests.Indices.{child-listed}
-use Rattle.dom_model.proofs.Forests.Chains.{IsWay}
 use Rattle.dom_model.proofs.RangesAndContents.PathsApart.{along}
 use Rattle.dom_model.proofs.Forests.OneMoreRoot.{more-once, root-kinds}
 use Rattle.dom_model.proofs.Forests.ForestsBeside.{AreUnder, IsBelow, absent-from, ancestors-older, entry-older}

@@ -7,12 +7,12 @@ use Rattle.dom_model.specs.Forests.Forest.{Node, Forest, empty, node, occurs, si
 use Rattle.dom_model.specs.Worlds.World.{Content}
 use Rattle.dom_model.specs.MutationAlgorithms.PreRemoval.{past}
 use Rattle.dom_model.specs.MutationAlgorithms.Checks.{up_to}
+use Rattle.dom_model.specs.Forests.Ways.{IsWay}
 use Rattle.dom_model.proofs.PlainLists.Numbers.{same_or, same, apart}
 use Rattle.dom_model.proofs.Forests.Totals.{IsOnce, tree_at-absent, total-beside}
 use Rattle.dom_model.proofs.Forests.Tops.{hits-tops}
 use Rattle.dom_model.proofs.Forests.Entries.{entry_under-absent, entry_under-there}
 use Rattle.dom_model.proofs.Forests.Indices.{child-listed}
-use Rattle.dom_model.proofs.Forests.Chains.{IsWay}
 use Rattle.dom_model.proofs.RangesAndContents.PathsApart.{along}
 use Rattle.dom_model.proofs.Counting.CopiesCounted.{tree_sizes, tail_cost, head_cost}
 

@@ -9,11 +9,12 @@ use Rattle.dom_model.specs.Worlds.World.{Point, Range, World}
 use Rattle.dom_model.specs.BoundaryPoints.Points.{after_merge, after_removal, moved_range, map_ranges}
 use Rattle.dom_model.specs.MutationAlgorithms.Editing.{removed_from, remove}
 use Rattle.dom_model.specs.DataAndCopies.Data.{data_of, merged_ends, merge_ends}
+use Rattle.dom_model.specs.DataAndCopies.Joinable.{Lives}
 use Rattle.dom_model.proofs.PlainLists.Numbers.{same_or, same, apart}
 use Rattle.dom_model.proofs.Forests.Climbing.{hits-first}
 use Rattle.dom_model.proofs.BoundaryPoints.PointOrder.{map_ranges-twice}
 use Rattle.dom_model.proofs.RangesAndContents.RangesMerged.{IsPast}
-use Rattle.dom_model.proofs.Soundness.SoundWorlds.{Lives, each-moved}
+use Rattle.dom_model.proofs.Soundness.SoundWorlds.{each-moved}
 
 -- The ends alone.
 

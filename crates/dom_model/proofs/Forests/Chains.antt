@@ -3,6 +3,7 @@ use Rattle.std.proofs.Common.{◌≡◌, ℕ, zero, suc, ◌<◌, ◌≤◌, Lis
 use Rattle.std.proofs.lemmas.List.{reverse-append, drop-append-le, length-reverse}
 use Rattle.dom_model.specs.PlainLists.Lists.{hits, place_in, last_of}
 use Rattle.dom_model.specs.Forests.Forest.{Forest, occurs, parent_of, index_of, children_of, ancestors, root_of}
+use Rattle.dom_model.specs.Forests.Ways.{IsWay}
 use Rattle.dom_model.proofs.PlainLists.Numbers.{same_or, same, apart}
 use Rattle.dom_model.proofs.Forests.Changes.{seen, nothing, just}
 use Rattle.dom_model.proofs.Forests.Climbing.{ancestors-there}
@@ -33,11 +34,6 @@ module _ {X : Type 0} where
   -- the nodes on the way down to a node, without the root
   abbrev pub way_to : Forest X → ℕ → List ℕ
   way_to f n = drop 1 (reverse (ancestors n f))
-
-  -- from a node down to another
-  abbrev pub IsWay : Forest X → ℕ → List ℕ → ℕ → Type 0
-  IsWay f u [] n = u ≡ n
-  IsWay f u (m ∷ ms) n = (0 < occurs m f) × (parent_of f m ≡ Some u) × IsWay f m ms n
 
   pub way-last : (f : Forest X) (u : ℕ) (ms : List ℕ) (q n : ℕ) → IsWay f u ms q → 0 < occurs n f → parent_of f n ≡ Some q → IsWay f u (ms ++ n ∷ []) n
   way-last f u [] q n w h e = (h, e ∙ ap (λ k. Some k) (sym w), refl)

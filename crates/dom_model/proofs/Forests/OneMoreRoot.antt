@@ -10,13 +10,14 @@ use Rattle.dom_model.specs.Forests.Forest.{Node, Forest, empty, node, occurs, on
 use Rattle.dom_model.specs.Forests.Arena.{Entry, parent_in, children_in, list_under}
 use Rattle.dom_model.specs.BoundaryPoints.Points.{place_of, order_of}
 use Rattle.dom_model.specs.MutationAlgorithms.Checks.{entry_has, kind_passes}
+use Rattle.dom_model.specs.Forests.Ways.{IsWay}
 use Rattle.dom_model.proofs.PlainLists.Numbers.{same_or, same, apart}
 use Rattle.dom_model.proofs.Forests.Totals.{IsOnce, total-beside, total-tree_at, total-put}
 use Rattle.dom_model.proofs.Forests.Changes.{link_at}
 use Rattle.dom_model.proofs.Forests.Entries.{entry-put, parent-put, children-put}
 use Rattle.dom_model.proofs.Forests.Climbing.{hits-ancestors, hits-not_among}
 use Rattle.dom_model.proofs.Forests.Paths.{parent-path, ancestors-put}
-use Rattle.dom_model.proofs.Forests.Chains.{way_to, IsWay, way}
+use Rattle.dom_model.proofs.Forests.Chains.{way_to, way}
 use Rattle.dom_model.proofs.BoundaryPoints.WaysKept.{place_by}
 use Rattle.dom_model.proofs.Forests.ForestsBeside.{entry-older, entry-younger, ancestors-older, tree_at-younger}
 

@@ -9,12 +9,13 @@ use Rattle.dom_model.specs.Worlds.World.{Content, World}
 use Rattle.dom_model.specs.MutationAlgorithms.Checks.{kind_passes}
 use Rattle.dom_model.specs.MutationAlgorithms.Editing.{remove, remove_all, is_fragment, nodes_of, emptied_fragment, freed, put_in, put_all, insert_nodes, append}
 use Rattle.dom_model.specs.Worlds.Sound.{IsSound}
+use Rattle.dom_model.specs.MutationAlgorithms.Insertable.{ArePlaceable, IsInsertable}
 use Rattle.dom_model.proofs.PlainLists.Numbers.{same_or, same, apart}
 use Rattle.dom_model.proofs.Forests.Indices.{child-there}
 use Rattle.dom_model.proofs.MutationAlgorithms.Loosened.{IsLoosened, loosened-remove, parent-remove, loosened-remove_all, parent-remove_all, root-remove_all, made-remove}
 use Rattle.dom_model.proofs.Soundness.SoundWorlds.{child_there}
-use Rattle.dom_model.proofs.Soundness.SoundPlacing.{ArePlaceable, occurs_placed, parent_placed, kind_placed, all_placeable, sound-put_one}
-use Rattle.dom_model.proofs.Soundness.SoundInserting.{IsInsertable, IsReady, freed_ready}
+use Rattle.dom_model.proofs.Soundness.SoundPlacing.{occurs_placed, parent_placed, kind_placed, all_placeable, sound-put_one}
+use Rattle.dom_model.proofs.Soundness.SoundInserting.{IsReady, freed_ready}
 
 -- the nodes have left where they stood, and no parent is new
 record IsFreed (f g : Forest Content) : Type 0 where

@@ -12,6 +12,7 @@ use Rattle.dom_model.specs.MutationAlgorithms.Editing.{node_document, remove, re
 use Rattle.dom_model.specs.DataAndCopies.Data.{content_in}
 use Rattle.dom_model.specs.Worlds.Sound.{IsSound}
 use Rattle.dom_model.specs.TokenText.Originals.{label_in}
+use Rattle.dom_model.specs.MutationAlgorithms.Insertable.{IsPlaceable, ArePlaceable, IsChildOf, IsInsertable}
 use Rattle.dom_model.proofs.PlainLists.Numbers.{same_or, same, apart}
 use Rattle.dom_model.proofs.Forests.Changes.{cut_at, link_at}
 use Rattle.dom_model.proofs.Forests.Climbing.{hits-append, hits-first}
@@ -22,8 +23,8 @@ use Rattle.dom_model.proofs.Forests.Listed.{hits-other}
 use Rattle.dom_model.proofs.Worlds.Measured.{kind-cut, entry-beside, adopted-unplaced, unplaced, entry-unplaced, unplaced_entry}
 use Rattle.dom_model.proofs.MutationAlgorithms.Loosened.{forest-remove, made-remove, unless-forest, unless-made}
 use Rattle.dom_model.proofs.Soundness.SoundWorlds.{sound-remove}
-use Rattle.dom_model.proofs.Soundness.SoundPlacing.{IsPlaceable, ArePlaceable, IsChildOf, after_put, after_adoption, apart_from, occurs_placed, parent_placed, kind_placed, all_placeable, child_placed, placed-forest, gap-apart, sound-put_one}
-use Rattle.dom_model.proofs.Soundness.SoundInserting.{IsInsertable, IsReady, freed_ready}
+use Rattle.dom_model.proofs.Soundness.SoundPlacing.{after_put, after_adoption, apart_from, occurs_placed, parent_placed, kind_placed, all_placeable, child_placed, placed-forest, gap-apart, sound-put_one}
+use Rattle.dom_model.proofs.Soundness.SoundInserting.{IsReady, freed_ready}
 
 -- the data of a node
 abbrev pub text_at : Forest Content → ℕ → List ℕ

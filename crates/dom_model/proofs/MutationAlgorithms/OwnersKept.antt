@@ -12,21 +12,19 @@ use Rattle.dom_model.specs.Worlds.World.{Content, World}
 use Rattle.dom_model.specs.Worlds.Sound.{IsSound}
 use Rattle.dom_model.specs.MutationAlgorithms.Checks.{is_of_kind}
 use Rattle.dom_model.specs.MutationAlgorithms.Editing.{remove, remove_all, is_fragment, emptied_fragment, freed, document_in, node_document, put_in}
+use Rattle.dom_model.specs.Worlds.Owners.{IsOwned, HasOwners, IsOwnedWell}
+use Rattle.dom_model.specs.MutationAlgorithms.Insertable.{IsPlaceable}
 use Rattle.dom_model.proofs.PlainLists.Numbers.{same_or, same, apart}
 use Rattle.dom_model.proofs.Forests.Changes.{seen, nothing, just}
 use Rattle.dom_model.proofs.Forests.Totals.{IsOnce}
 use Rattle.dom_model.proofs.Forests.Climbing.{hits-first}
 use Rattle.dom_model.proofs.Forests.Documents.{HasDocument-entry, HasOneDocument-cut, HasOneDocument-adopted_put}
 use Rattle.dom_model.proofs.Worlds.Measured.{kind-put}
-use Rattle.dom_model.proofs.Worlds.Owners.{IsOwned, HasOwners, HasOwners-cut, HasOwners-put, HasOwners-adopted}
+use Rattle.dom_model.proofs.Worlds.Owners.{HasOwners-cut, HasOwners-put, HasOwners-adopted}
 use Rattle.dom_model.proofs.Soundness.SoundForests.{entry_there}
 use Rattle.dom_model.proofs.Soundness.SoundWorlds.{sound-remove}
-use Rattle.dom_model.proofs.Soundness.SoundPlacing.{IsPlaceable, apart_from}
+use Rattle.dom_model.proofs.Soundness.SoundPlacing.{apart_from}
 use Rattle.dom_model.proofs.MutationAlgorithms.Loosened.{forest-remove, loosened-remove}
-
-pub record IsOwnedWell (f : Forest Content) : Type 0 where
-  pub documents : HasOneDocument f
-  pub owners : HasOwners f
 
 -- what holds of each node holds of the node of an entry
 pub EachNode-entry : {X : Type 0} (P : Node X → Type 0) (q : Option ℕ) (n : ℕ) (f : Forest X) (e : Entry (Node X)) → EachNode P f → entry_under q n f ≡ Some e → P e.value

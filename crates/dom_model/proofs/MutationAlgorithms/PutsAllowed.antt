@@ -10,9 +10,9 @@ use Rattle.dom_model.specs.Worlds.World.{Content, World}
 use Rattle.dom_model.specs.Worlds.Sound.{IsSound}
 use Rattle.dom_model.specs.MutationAlgorithms.Checks.{entry_has, check_insert}
 use Rattle.dom_model.specs.MutationAlgorithms.Editing.{nodes_of, freed, reference_child}
+use Rattle.dom_model.specs.MutationAlgorithms.Insertable.{IsPlaceable}
 use Rattle.dom_model.proofs.Forests.Climbing.{hits-not_among}
 use Rattle.dom_model.proofs.Forests.Entries.{HasNode-occurs}
-use Rattle.dom_model.proofs.Soundness.SoundPlacing.{IsPlaceable}
 use Rattle.dom_model.proofs.Soundness.SoundInserting.{IsReady, freed_ready}
 use Rattle.dom_model.proofs.Soundness.SoundEditing.{may_come_before}
 

@@ -12,6 +12,7 @@ use Rattle.dom_model.specs.Worlds.World.{Options, Mutation, Observing}
 use Rattle.dom_model.specs.MutationObservers.Observing.{noted}
 use Rattle.dom_model.specs.Commands.Reply.{Record}
 use Rattle.dom_model.specs.MutationObservers.Records.{observed, record_for, taken_up_to, queue_of, observers_of, each_once, pending_of, with_observer, records_taken, disconnected, after_notify}
+use Rattle.dom_model.specs.PlainLists.LastOnce.{with_last, with_all_last}
 use Rattle.dom_model.proofs.PlainLists.Numbers.{Same, same_or, same, apart}
 
 -- no place is past the end of the list of mutations
@@ -20,15 +21,6 @@ pub record IsTimely (x : Observing) : Type 0 where
   pub last : x.notified ≤ length x.mutations
 
 -- Each number once.
-
--- a number comes last in a list where it is not there yet
-abbrev pub with_last : List ℕ → ℕ → List ℕ
-with_last ns n = if among n ns then ns else ns ++ n ∷ []
-
--- the numbers of a list come last, one after another
-abbrev pub with_all_last : List ℕ → List ℕ → List ℕ
-with_all_last ns [] = ns
-with_all_last ns (m ∷ ms) = with_all_last (with_last ns m) ms
 
 left_out-append : (n : ℕ) (xs ys : List ℕ) → left_out n (xs ++ ys) ≡ left_out n xs ++ left_out n ys
 left_out-append n [] ys = refl

@@ -1,13 +1,8 @@
 -- A list from a number on: it begins with the number, and goes on from the one after it.
 use Rattle.std.proofs.Common.{◌≡◌, ℕ, ◌<◌, ◌≤◌, ◌==◌, if◌then◌else◌, List, [], ◌∷◌, Some, None, refl, arith}
-use Rattle.dom_model.specs.PlainLists.Lists.{hits, head_of, after}
+use Rattle.dom_model.specs.PlainLists.Lists.{hits, head_of, after, from_first}
 use Rattle.dom_model.proofs.PlainLists.Numbers.{same_or, same, apart}
 use Rattle.dom_model.proofs.Forests.PutBack.{hits-after, hits-head_of}
-
--- a list from the first n on
-abbrev pub from_first : ℕ → List ℕ → List ℕ
-from_first n [] = []
-from_first n (x ∷ xs) = if x == n then x ∷ xs else from_first n xs
 
 pub from-after : (n m : ℕ) (l : List ℕ) → hits m l ≤ 1 → after n l ≡ Some m → from_first n l ≡ n ∷ from_first m l
 from-after n m [] o e = absurd (cc e)

@@ -13,8 +13,9 @@ use Rattle.dom_model.specs.MutationAlgorithms.PreRemoval.{past}
 use Rattle.dom_model.specs.MutationAlgorithms.Checks.{is_same, up_to}
 use Rattle.dom_model.specs.RangesAndContents.Ranges.{is_less, is_before, same_root, is_contained, common_ancestor}
 use Rattle.dom_model.specs.RangesAndContents.Contents.{path_below}
+use Rattle.dom_model.specs.Forests.Ways.{IsWay}
 use Rattle.dom_model.proofs.PlainLists.Numbers.{same_or, same, apart}
-use Rattle.dom_model.proofs.Forests.Chains.{IsWay, place-apart, root-child}
+use Rattle.dom_model.proofs.Forests.Chains.{place-apart, root-child}
 use Rattle.dom_model.proofs.Forests.Climbing.{hits-first, hits-among}
 use Rattle.dom_model.proofs.Forests.Entries.{occurs-HasNode}
 use Rattle.dom_model.proofs.Forests.Indices.{child-listed, child-once, child-parent, child-there, index-child, path-child}

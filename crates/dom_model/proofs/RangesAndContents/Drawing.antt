@@ -16,6 +16,7 @@ use Rattle.dom_model.specs.DataAndCopies.Clones.{renumbered, with_copies}
 use Rattle.dom_model.specs.Worlds.Sound.{IsSound}
 use Rattle.dom_model.specs.TokenText.Tokens.{Edit}
 use Rattle.dom_model.specs.TokenText.Edits.{Trace, doing_append, append_edits}
+use Rattle.dom_model.specs.MutationAlgorithms.Insertable.{IsInsertable}
 use Rattle.dom_model.proofs.PlainLists.Numbers.{same_or, same, apart}
 use Rattle.dom_model.proofs.Forests.Changes.{seen, nothing, just}
 use Rattle.dom_model.proofs.Forests.Totals.{total-beside}
@@ -23,7 +24,7 @@ use Rattle.dom_model.proofs.Forests.Paths.{parent-path, root-path}
 use Rattle.dom_model.proofs.Forests.Indices.{child-parent}
 use Rattle.dom_model.proofs.Worlds.Measured.{kind-beside, entry-beside}
 use Rattle.dom_model.proofs.MutationAlgorithms.Extending.{tag_in, tag_at, put_by_insert}
-use Rattle.dom_model.proofs.Soundness.SoundInserting.{IsInsertable, sound-insert}
+use Rattle.dom_model.proofs.Soundness.SoundInserting.{sound-insert}
 use Rattle.dom_model.proofs.DataAndCopies.CopiesPlaced.{parent-copies}
 use Rattle.dom_model.proofs.MutationAlgorithms.Appended.{IsAppended, appended, made-appended}
 use Rattle.dom_model.proofs.RangesAndContents.LiveRangesKept.{is_live, append-live}

@@ -12,6 +12,7 @@ use Rattle.dom_model.specs.MutationAlgorithms.Checks.{kind_passes}
 use Rattle.dom_model.specs.MutationAlgorithms.Editing.{is_fragment, nodes_of, insert}
 use Rattle.dom_model.specs.RangesAndContents.Wrapping.{offset_past}
 use Rattle.dom_model.specs.Worlds.Sound.{IsBoundary, IsRange, IsSound}
+use Rattle.dom_model.specs.MutationAlgorithms.Insertable.{IsChildOf, IsInsertable}
 use Rattle.dom_model.proofs.PlainLists.Numbers.{same_or, same, apart}
 use Rattle.dom_model.proofs.Forests.Climbing.{hits-append}
 use Rattle.dom_model.proofs.Forests.Entries.{HasNode-occurs}
@@ -22,8 +23,7 @@ use Rattle.dom_model.proofs.Forests.Listed.{hits-other}
 use Rattle.dom_model.proofs.RangesAndContents.RangesCut.{no_doctype}
 use Rattle.dom_model.proofs.Worlds.Measured.{length-parent}
 use Rattle.dom_model.proofs.Soundness.SoundWorlds.{child_there}
-use Rattle.dom_model.proofs.Soundness.SoundPlacing.{IsChildOf}
-use Rattle.dom_model.proofs.Soundness.SoundInserting.{IsInsertable, sound-insert}
+use Rattle.dom_model.proofs.Soundness.SoundInserting.{sound-insert}
 use Rattle.dom_model.proofs.MutationAlgorithms.Extending.{IsPut, put_by_insert}
 use Rattle.dom_model.proofs.RangesAndContents.PlacesLeft.{length_within}
 use Rattle.dom_model.proofs.BoundaryPoints.MovedPoints.{moved-range, KeepsPoint}

@@ -8,6 +8,7 @@ use Rattle.dom_model.specs.BoundaryPoints.Points.{after_merge, moved_range}
 use Rattle.dom_model.specs.MutationAlgorithms.Checks.{is_of_kind}
 use Rattle.dom_model.specs.Forests.Lengths.{unit_count, node_length}
 use Rattle.dom_model.specs.Worlds.Sound.{IsBoundary, IsRange}
+use Rattle.dom_model.specs.DataAndCopies.Joinable.{IsUpTo}
 use Rattle.dom_model.proofs.PlainLists.Numbers.{same_or, same, apart}
 use Rattle.dom_model.proofs.Forests.Entries.{HasNode-occurs, occurs-HasNode}
 use Rattle.dom_model.proofs.Forests.Chains.{root-child}
@@ -15,10 +16,6 @@ use Rattle.dom_model.proofs.Forests.Indices.{child-listed}
 use Rattle.dom_model.proofs.BoundaryPoints.MergeOrder.{merge-in_place}
 use Rattle.dom_model.proofs.Soundness.SoundForests.{IsWood}
 use Rattle.dom_model.proofs.RangesAndContents.RangesSplit.{IsWithin}
-
--- a point of the node is at an offset up to `base`
-abbrev pub IsUpTo : ℕ → ℕ → Point → Type 0
-IsUpTo n base q = q.node ≡ n → q.offset ≤ base
 
 -- a point that is neither in a node nor ahead of it
 pub record IsPast (from parent index : ℕ) (q : Point) : Type 0 where

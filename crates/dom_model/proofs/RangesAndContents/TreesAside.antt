@@ -9,8 +9,9 @@ use Rattle.dom_model.specs.BoundaryPoints.Points.{path_places, order_of}
 use Rattle.dom_model.specs.RangesAndContents.Ranges.{common_ancestor}
 use Rattle.dom_model.specs.RangesAndContents.Contents.{path_below}
 use Rattle.dom_model.specs.TokenText.Tokens.{point}
+use Rattle.dom_model.specs.Forests.Ways.{IsWay}
 use Rattle.dom_model.proofs.Forests.Totals.{IsOnce}
-use Rattle.dom_model.proofs.Forests.Chains.{IsWay, index-apart}
+use Rattle.dom_model.proofs.Forests.Chains.{index-apart}
 use Rattle.dom_model.proofs.Forests.Climbing.{hits-first, hits-among}
 use Rattle.dom_model.proofs.Forests.WaysMeeting.{above-twice}
 use Rattle.dom_model.proofs.BoundaryPoints.PointOrder.{order-above}

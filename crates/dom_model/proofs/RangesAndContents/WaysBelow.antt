@@ -9,12 +9,13 @@ use Rattle.dom_model.specs.Worlds.World.{Content}
 use Rattle.dom_model.specs.MutationAlgorithms.Checks.{up_to}
 use Rattle.dom_model.specs.RangesAndContents.Ranges.{common_ancestor}
 use Rattle.dom_model.specs.RangesAndContents.Contents.{path_below}
+use Rattle.dom_model.specs.Forests.Ways.{IsWay}
 use Rattle.dom_model.proofs.PlainLists.Numbers.{same_or, same, apart}
 use Rattle.dom_model.proofs.Forests.Changes.{seen, nothing, just}
 use Rattle.dom_model.proofs.Forests.Totals.{IsOnce, tree_at-absent}
 use Rattle.dom_model.proofs.Forests.Climbing.{hits-append, hits-reverse, hits-first, hits-among, among-hits, hits-ancestors, hits-self, ancestors-there}
 use Rattle.dom_model.proofs.Forests.Paths.{parent-path, root-path}
-use Rattle.dom_model.proofs.Forests.Chains.{IsWay, way-last, way}
+use Rattle.dom_model.proofs.Forests.Chains.{way-last, way}
 use Rattle.dom_model.proofs.BoundaryPoints.RemovalOrder.{ancestors-split}
 use Rattle.dom_model.proofs.Traversal.IteratorsStay.{filter-passes}
 

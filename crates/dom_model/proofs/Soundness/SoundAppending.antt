@@ -15,6 +15,7 @@ use Rattle.dom_model.specs.DataAndCopies.Clones.{renumbered, alone_of, with_copi
 use Rattle.dom_model.specs.DataAndCopies.Data.{with_data}
 use Rattle.dom_model.specs.RangesAndContents.Contents.{new_fragment, clone_with}
 use Rattle.dom_model.specs.Worlds.Sound.{IsSound}
+use Rattle.dom_model.specs.MutationAlgorithms.Insertable.{IsInsertable}
 use Rattle.dom_model.proofs.PlainLists.Numbers.{same_or, same, apart}
 use Rattle.dom_model.proofs.Forests.Totals.{tree_at-absent}
 use Rattle.dom_model.proofs.Forests.Climbing.{hits-first}
@@ -24,7 +25,7 @@ use Rattle.dom_model.proofs.Forests.Listed.{hits-other}
 use Rattle.dom_model.proofs.Worlds.Measured.{entry-joined}
 use Rattle.dom_model.proofs.Soundness.SoundMaking.{fits-original, sound-copies, sound-made_node}
 use Rattle.dom_model.proofs.Soundness.SoundTextContent.{entry-made, made-there}
-use Rattle.dom_model.proofs.Soundness.SoundInserting.{IsInsertable, sound-insert}
+use Rattle.dom_model.proofs.Soundness.SoundInserting.{sound-insert}
 use Rattle.dom_model.proofs.MutationAlgorithms.Extending.{Extends, extends-beside, IsPut, put_by_insert, insert-made}
 
 -- a root that may have children

@@ -16,13 +16,14 @@ use Rattle.dom_model.specs.DataAndCopies.Clones.{clone_node}
 use Rattle.dom_model.specs.DataAndCopies.Data.{data_of, with_data, cut_count, replace_data}
 use Rattle.dom_model.specs.RangesAndContents.Contents.{new_fragment, clone_with, cut_if, units_into}
 use Rattle.dom_model.specs.Worlds.Sound.{IsSound}
+use Rattle.dom_model.specs.MutationAlgorithms.Insertable.{IsInsertable}
 use Rattle.dom_model.proofs.Forests.Paths.{parent-path, root-path}
 use Rattle.dom_model.proofs.Forests.Indices.{child-parent}
 use Rattle.dom_model.proofs.Forests.Listed.{hits-other}
 use Rattle.dom_model.proofs.Worlds.SameShape.{IsAlike, with_node-alike, occurs-alike, parent-alike, kind-alike}
 use Rattle.dom_model.proofs.Soundness.SoundData.{sound-replace_data}
 use Rattle.dom_model.proofs.Soundness.SoundTextContent.{entry-made}
-use Rattle.dom_model.proofs.Soundness.SoundInserting.{IsInsertable, sound-insert}
+use Rattle.dom_model.proofs.Soundness.SoundInserting.{sound-insert}
 use Rattle.dom_model.proofs.MutationAlgorithms.Extending.{IsPut, put_by_insert, insert-made}
 use Rattle.dom_model.proofs.Soundness.SoundAppending.{IsHolder, IsPlain, IsDrawn, holder_stays, IsAppended, append-plain, IsCopy, clone_copy, clone_with_copy, IsFragment, fragment_made}
 use Rattle.dom_model.proofs.Soundness.SoundDrawing.{drawn-then, drawn-of, new_apart, new_not_hit, IsFilled, filled-then, filled_by_moves}

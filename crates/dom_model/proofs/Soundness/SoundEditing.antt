@@ -13,6 +13,7 @@ use Rattle.dom_model.specs.Worlds.World.{Content, World}
 use Rattle.dom_model.specs.MutationAlgorithms.Checks.{first_refusal, if_given, kind_passes, is_of_kind, common_conditions, check_insert, check_replace, kind_refuses, document_refuses, document_refuses_instead}
 use Rattle.dom_model.specs.MutationAlgorithms.Editing.{remove, remove_all, insert, reference_child, pre_insert, replace, insert_if_any, added_by, replaced_record, replace_all, adopt}
 use Rattle.dom_model.specs.Worlds.Sound.{IsIterator, IsSound}
+use Rattle.dom_model.specs.MutationAlgorithms.Insertable.{IsChildOf, IsInsertable}
 use Rattle.dom_model.proofs.PlainLists.Numbers.{same_or, same, apart}
 use Rattle.dom_model.proofs.Forests.Changes.{seen, nothing, just}
 use Rattle.dom_model.proofs.Forests.Climbing.{not_among-hits}
@@ -25,8 +26,7 @@ use Rattle.dom_model.proofs.Worlds.Measured.{length-adopted}
 use Rattle.dom_model.proofs.RangesAndContents.RangesSpliced.{range-alike, iterator-alike, there-alike}
 use Rattle.dom_model.proofs.Soundness.SoundWorlds.{ranges-kept, walkers-kept, registrations-kept, child_there, sound-tree_record, sound-remove, sound-remove_all}
 use Rattle.dom_model.proofs.MutationAlgorithms.Loosened.{IsLoosened, loosened-remove, parent-remove, loosened-remove_all}
-use Rattle.dom_model.proofs.Soundness.SoundPlacing.{IsChildOf}
-use Rattle.dom_model.proofs.Soundness.SoundInserting.{IsInsertable, sound-insert}
+use Rattle.dom_model.proofs.Soundness.SoundInserting.{sound-insert}
 
 -- What a check that refuses nothing tells.
 

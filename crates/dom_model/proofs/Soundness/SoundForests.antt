@@ -10,6 +10,7 @@ use Rattle.dom_model.specs.Forests.Forest.{Node, Forest, empty, node, occurs, on
 use Rattle.dom_model.specs.Worlds.World.{Content}
 use Rattle.dom_model.specs.MutationAlgorithms.Checks.{entry_has, kind_passes}
 use Rattle.dom_model.specs.Forests.Lies.{Lies}
+use Rattle.dom_model.specs.MutationAlgorithms.Insertable.{may_stand_at}
 use Rattle.dom_model.proofs.PlainLists.Numbers.{same_or, same, apart}
 use Rattle.dom_model.proofs.Forests.Changes.{seen, nothing, just}
 use Rattle.dom_model.proofs.Forests.Totals.{total-beside, total-tree_at, total-cut, total-put, occurs-without}
@@ -64,10 +65,6 @@ parent_no_doctype Comment h = refl
 parent_no_doctype Document h = refl
 parent_no_doctype DocumentType h = absurd (false≢true h)
 parent_no_doctype DocumentFragment h = refl
-
--- the kinds of two nodes let the second stand under the first
-abbrev pub may_stand_at : Forest Content → ℕ → ℕ → Bool
-may_stand_at f p c = kind_passes (λ k. kind_passes (may_stand_in k) f c) f p
 
 pub entry_there : (f : Forest Content) (n : ℕ) → 0 < occurs n f → (e : Entry (Node Content)) × (entry_in f n ≡ Some e)
 entry_there f n h =

@@ -10,26 +10,16 @@ use Rattle.dom_model.specs.Worlds.World.{Content, World}
 use Rattle.dom_model.specs.MutationAlgorithms.Checks.{kind_passes, is_of_kind}
 use Rattle.dom_model.specs.MutationAlgorithms.Editing.{remove, remove_all, is_fragment, nodes_of, emptied_fragment, freed, put_all, gap_before, previous_to, insert_all, insert_nodes, insert}
 use Rattle.dom_model.specs.Worlds.Sound.{IsSound}
+use Rattle.dom_model.specs.MutationAlgorithms.Insertable.{may_stand_at, IsPlaceable, ArePlaceable, IsChildOf, IsInsertable}
 use Rattle.dom_model.proofs.PlainLists.Numbers.{same_or, same, apart}
 use Rattle.dom_model.proofs.Forests.Climbing.{hits-append, ancestors-there}
 use Rattle.dom_model.proofs.Forests.Paths.{parent-path}
 use Rattle.dom_model.proofs.Forests.Indices.{child-parent, child-once, child-there}
 use Rattle.dom_model.proofs.BoundaryPoints.RemovalOrder.{ancestors-split}
-use Rattle.dom_model.proofs.Soundness.SoundForests.{IsWood, may_stand_at, entry_there, child-fits}
+use Rattle.dom_model.proofs.Soundness.SoundForests.{IsWood, entry_there, child-fits}
 use Rattle.dom_model.proofs.Soundness.SoundWorlds.{child_there, sound-record_unless, sound-tree_record, sound-remove, sound-remove_all}
 use Rattle.dom_model.proofs.MutationAlgorithms.Loosened.{loosened-remove, parent-remove, loosened-remove_all, parent-remove_all, root-remove_all}
-use Rattle.dom_model.proofs.Soundness.SoundPlacing.{IsPlaceable, ArePlaceable, IsChildOf, fits-kept, sound-put_all}
-
--- A node that may be inserted: the parent is not inside it, their kinds fit, and what it comes in before is another child of the parent.
-pub record IsInsertable (f : Forest Content) (n parent : ℕ) (child : Option ℕ) : Type 0 where
-  pub there : 0 < occurs n f
-  pub parent_there : 0 < occurs parent f
-  pub outside : hits n (ancestors parent f) ≡ 0
-  pub may_hold : kind_passes may_be_parent f parent ≡ true
-  pub no_document : is_of_kind Document f n ≡ false
-  pub doctype_fits : (is_of_kind DocumentType f n && not (is_of_kind Document f parent)) ≡ false
-  pub before_child : IsChildOf f parent child
-  pub before_other : IfSome child (λ c. c ≡ n → ⊥)
+use Rattle.dom_model.proofs.Soundness.SoundPlacing.{fits-kept, sound-put_all}
 
 -- Kinds.
 

@@ -15,6 +15,7 @@ use Rattle.dom_model.specs.Forests.Lengths.{unit_count, node_length}
 use Rattle.dom_model.specs.MutationAlgorithms.Editing.{remove}
 use Rattle.dom_model.specs.DataAndCopies.Data.{content_in, data_of, joined_data, merged_ends, merge_ends, remove_each}
 use Rattle.dom_model.specs.Worlds.Sound.{IsRange, IsSound}
+use Rattle.dom_model.specs.DataAndCopies.Joinable.{Lives, IsUpTo, AreUpTo, AreJoinable}
 use Rattle.dom_model.proofs.PlainLists.Numbers.{same_or, same, apart}
 use Rattle.dom_model.proofs.Forests.Changes.{cut_at}
 use Rattle.dom_model.proofs.Forests.Totals.{total-tree_at}
@@ -25,11 +26,11 @@ use Rattle.dom_model.proofs.Forests.Indices.{child-once, child-parent, child-the
 use Rattle.dom_model.proofs.BoundaryPoints.SplitOrder.{inside-childless}
 use Rattle.dom_model.proofs.Forests.Listed.{hits-itself, place-behind, place-first, place-second, left_out-here}
 use Rattle.dom_model.proofs.Soundness.SoundForests.{data-childless}
-use Rattle.dom_model.proofs.Soundness.SoundWorlds.{Lives, each-moved, sound-remove}
+use Rattle.dom_model.proofs.Soundness.SoundWorlds.{each-moved, sound-remove}
 use Rattle.dom_model.proofs.MutationAlgorithms.Loosened.{loosened-remove, forest-remove}
 use Rattle.dom_model.proofs.Soundness.SoundData.{length-data}
 use Rattle.dom_model.proofs.Soundness.SoundSplitting.{text_has_data}
-use Rattle.dom_model.proofs.RangesAndContents.RangesMerged.{IsUpTo, IsPast, range-merged, point-past, up_to-merged}
+use Rattle.dom_model.proofs.RangesAndContents.RangesMerged.{IsPast, range-merged, point-past, up_to-merged}
 use Rattle.dom_model.proofs.DataAndCopies.MergesInTurn.{ArePast, IsLater, leaving, removed-ranges, worlds_in_turn}
 
 text_no_doctype : (k : Kind) → is_kind Text k ≡ true → is_kind DocumentType k ≡ false
@@ -48,10 +49,6 @@ text_is_no_doctype f n h = go (entry_in f n) h
     go None k = refl
     go (Some e) k = text_no_doctype e.value.label.kind k
 
--- both ends of a range are within the data so far
-abbrev pub AreUpTo : ℕ → ℕ → Range → Type 0
-AreUpTo n base r = IsUpTo n base r.start × IsUpTo n base r.end
-
 -- both facts hold of each live range
 pub lives-both : (P Q R : Range → Type 0) → ((r : Range) → P r → Q r → R r) → (rs : List (Option Range)) → Lives P rs → Lives Q rs → Lives R rs
 lives-both P Q R join rs h g k d l = each (slice_index_or rs k d) (h k d l) (g k d l)
@@ -59,17 +56,6 @@ lives-both P Q R join rs h g k d l = each (slice_index_or rs k d) (h k d l) (g k
     each : (o : Option Range) → IfSome o P → IfSome o Q → IfSome o R
     each None a b = tt
     each (Some r) a b = join r a b
-
--- A Text, and the Texts that follow it: its data has room for theirs from `base` on, and no live range stands in it past `base`.
-pub record AreJoinable (v : World) (t p base : ℕ) (ts : List ℕ) : Type 0 where
-  pub sound : IsSound v
-  pub text : is_of_kind Text v.forest t ≡ true
-  pub ahead : List ℕ
-  pub behind : List ℕ
-  pub listed : children_of v.forest p ≡ ahead ++ t ∷ (ts ++ behind)
-  pub texts : (m : ℕ) → 0 < hits m ts → is_of_kind Text v.forest m ≡ true
-  pub room : base + length (joined_data v ts) ≤ length (data_of v t)
-  pub up_to : Lives (AreUpTo t base) v.ranges
 
 module _ (v : World) (t p base first : ℕ) (ts : List ℕ) (j : AreJoinable v t p base (first ∷ ts)) where
   once : (m : ℕ) → hits m j.ahead + (hits m (t ∷ first ∷ (ts ++ j.behind))) ≤ 1

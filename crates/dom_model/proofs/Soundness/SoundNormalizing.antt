@@ -16,6 +16,7 @@ use Rattle.dom_model.specs.Forests.Lengths.{unit_count, node_length}
 use Rattle.dom_model.specs.MutationAlgorithms.Editing.{removed_from, remove}
 use Rattle.dom_model.specs.DataAndCopies.Data.{content_in, data_of, with_data, cut_count, replace_data, following_texts, joined_data, merged_ends, merge_ends, remove_each, join_following, normalize_text, is_descendant, text_descendants, normalize_each, normalize}
 use Rattle.dom_model.specs.Worlds.Sound.{IsRange, IsSound}
+use Rattle.dom_model.specs.DataAndCopies.Joinable.{Lives, IsUpTo, AreUpTo, AreJoinable}
 use Rattle.dom_model.proofs.PlainLists.Numbers.{same_or, same, apart}
 use Rattle.dom_model.proofs.Forests.Changes.{seen, nothing, just, change_at}
 use Rattle.dom_model.proofs.Forests.Totals.{IsOnce-cut, total-tree_at, tree_at-absent}
@@ -27,11 +28,10 @@ use Rattle.dom_model.proofs.Forests.Paths.{root-path}
 use Rattle.dom_model.proofs.Worlds.SameShape.{IsAlike, children-alike, kind-alike, with_node-alike}
 use Rattle.dom_model.proofs.Forests.Listed.{hits-itself, parted_at, IsFront, front}
 use Rattle.dom_model.proofs.Worlds.Measured.{kind-cut, entry-with_node}
-use Rattle.dom_model.proofs.Soundness.SoundWorlds.{Lives, each-moved, sound-remove}
+use Rattle.dom_model.proofs.Soundness.SoundWorlds.{each-moved, sound-remove}
 use Rattle.dom_model.proofs.Soundness.SoundData.{length-data, length-spliced, cut_fits, sound-replace_data}
 use Rattle.dom_model.proofs.Soundness.SoundSplitting.{text_has_data}
-use Rattle.dom_model.proofs.RangesAndContents.RangesMerged.{IsUpTo}
-use Rattle.dom_model.proofs.Soundness.SoundJoining.{AreUpTo, AreJoinable, sound-joined}
+use Rattle.dom_model.proofs.Soundness.SoundJoining.{sound-joined}
 
 -- Kinds stay.
 

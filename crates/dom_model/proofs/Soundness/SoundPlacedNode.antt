@@ -11,11 +11,10 @@ use Rattle.dom_model.specs.RangesAndContents.Ranges.{is_collapsed, range_at, wit
 use Rattle.dom_model.specs.RangesAndContents.Contents.{for_range}
 use Rattle.dom_model.specs.RangesAndContents.Wrapping.{Outcome, and_then, unless, try_pre_insert, offset_past, end_if_collapsed, placed_at}
 use Rattle.dom_model.specs.Worlds.Sound.{IsRange, IsSound}
+use Rattle.dom_model.specs.MutationAlgorithms.Insertable.{IsChildOf, IsInsertable}
 use Rattle.dom_model.proofs.PlainLists.Numbers.{same_or, same, apart}
 use Rattle.dom_model.proofs.Soundness.SoundWorlds.{IsLive, sound-remove}
 use Rattle.dom_model.proofs.MutationAlgorithms.Loosened.{loosened-remove, parent-remove}
-use Rattle.dom_model.proofs.Soundness.SoundPlacing.{IsChildOf}
-use Rattle.dom_model.proofs.Soundness.SoundInserting.{IsInsertable}
 use Rattle.dom_model.proofs.Soundness.SoundEditing.{checks_insert, insertable}
 use Rattle.dom_model.proofs.MutationAlgorithms.Extending.{put_by_insert}
 use Rattle.dom_model.proofs.Soundness.SoundRangeSteps.{live_range, sound-with_range}

@@ -14,6 +14,8 @@ use Rattle.dom_model.specs.MutationAlgorithms.Checks.{kind_passes}
 use Rattle.dom_model.specs.Forests.Lengths.{unit_count, node_length}
 use Rattle.dom_model.specs.MutationAlgorithms.Editing.{node_document, put_in, put_all, gap_before}
 use Rattle.dom_model.specs.Worlds.Sound.{IsBoundary, IsRange, IsIterator, IsSound}
+use Rattle.dom_model.specs.MutationAlgorithms.Insertable.{may_stand_at, IsPlaceable, ArePlaceable, IsChildOf}
+use Rattle.dom_model.specs.DataAndCopies.Joinable.{Lives}
 use Rattle.dom_model.proofs.PlainLists.Numbers.{same_or, same, apart}
 use Rattle.dom_model.proofs.Forests.Totals.{total-tree_at, total-put}
 use Rattle.dom_model.proofs.Forests.Climbing.{hits-ancestors, hits-not_among}
@@ -22,28 +24,12 @@ use Rattle.dom_model.proofs.Forests.Paths.{ancestors-put}
 use Rattle.dom_model.proofs.PlainLists.Places.{place_before}
 use Rattle.dom_model.proofs.Forests.Indices.{index-child, index-put}
 use Rattle.dom_model.proofs.BoundaryPoints.GapOrder.{gap-more}
-use Rattle.dom_model.proofs.Soundness.SoundForests.{parent_kind, may_stand_at, entry_there, IsWood-alike, IsWood-put}
+use Rattle.dom_model.proofs.Soundness.SoundForests.{parent_kind, entry_there, IsWood-alike, IsWood-put}
 use Rattle.dom_model.proofs.Worlds.SameShape.{IsAlike, with_tree-alike, occurs-alike, parent-alike, ancestors-alike, kind-alike, index-alike}
 use Rattle.dom_model.proofs.Worlds.Measured.{kind-put, length-parent, length-adopted}
 use Rattle.dom_model.proofs.RangesAndContents.RangesPut.{range-put, iterator-put}
 use Rattle.dom_model.proofs.RangesAndContents.RangesSpliced.{range-alike, iterator-alike, there-alike}
-use Rattle.dom_model.proofs.Soundness.SoundWorlds.{IsLive, Lives, each-moved, each-kept, walkers-kept, registrations-kept, child_there}
-
--- a root that may be put under a parent that is not inside it
-pub record IsPlaceable (f : Forest Content) (parent n : ℕ) : Type 0 where
-  pub there : 0 < occurs n f
-  pub root : parent_of f n ≡ None
-  pub outside : hits n (ancestors parent f) ≡ 0
-  pub fits : may_stand_at f parent n ≡ true
-
--- several of them, no one twice
-abbrev pub ArePlaceable : Forest Content → ℕ → List ℕ → Type 0
-ArePlaceable f parent [] = Unit {0}
-ArePlaceable f parent (n ∷ ns) = IsPlaceable f parent n × (hits n ns ≡ 0) × ArePlaceable f parent ns
-
--- what they come in before: a child of the parent, or nothing
-abbrev pub IsChildOf : Forest Content → ℕ → Option ℕ → Type 0
-IsChildOf f parent child = IfSome child (λ c. parent_of f c ≡ Some parent)
+use Rattle.dom_model.proofs.Soundness.SoundWorlds.{IsLive, each-moved, each-kept, walkers-kept, registrations-kept, child_there}
 
 pub parent_by_fit : (f : Forest Content) (p c : ℕ) → 0 < occurs p f → 0 < occurs c f → may_stand_at f p c ≡ true → kind_passes may_be_parent f p ≡ true
 parent_by_fit f p c hp hc k =

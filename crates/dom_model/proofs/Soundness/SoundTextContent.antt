@@ -13,6 +13,7 @@ use Rattle.dom_model.specs.Commands.Making.{made_node, named, with_text}
 use Rattle.dom_model.specs.MutationAlgorithms.Editing.{node_document}
 use Rattle.dom_model.specs.DataAndCopies.Data.{by_kind, string_replace_all, set_text_content_by, set_text_content}
 use Rattle.dom_model.specs.Worlds.Sound.{IsSound}
+use Rattle.dom_model.specs.MutationAlgorithms.Insertable.{IsInsertable}
 use Rattle.dom_model.proofs.PlainLists.Numbers.{same_or, same, apart}
 use Rattle.dom_model.proofs.Forests.Changes.{seen, nothing, just}
 use Rattle.dom_model.proofs.Forests.Totals.{total-beside}
@@ -20,7 +21,6 @@ use Rattle.dom_model.proofs.Forests.Entries.{entry_under-absent, occurs-HasNode}
 use Rattle.dom_model.proofs.Worlds.Measured.{entry-joined, entry-beside, kind-beside}
 use Rattle.dom_model.proofs.Worlds.Parts.{path-there, ancestors-part}
 use Rattle.dom_model.proofs.Soundness.SoundMaking.{sound-made_node}
-use Rattle.dom_model.proofs.Soundness.SoundInserting.{IsInsertable}
 use Rattle.dom_model.proofs.Soundness.SoundEditing.{sound-replace_all, holder_there}
 use Rattle.dom_model.proofs.Soundness.SoundData.{sound-set_data}
 

@@ -8,6 +8,7 @@ use Rattle.dom_model.specs.MutationAlgorithms.PreRemoval.{pre_removed}
 use Rattle.dom_model.specs.MutationObservers.Observing.{registered_on, standing_on, transient_of}
 use Rattle.dom_model.specs.MutationAlgorithms.Editing.{queued, tree_record, tree_record_unless, taken_out, transients_made, removed_from, remove, remove_all}
 use Rattle.dom_model.specs.Worlds.Sound.{IsRange, IsIterator, IsWalker, IsRegistration, IsSound}
+use Rattle.dom_model.specs.DataAndCopies.Joinable.{Lives}
 use Rattle.dom_model.proofs.Forests.Changes.{seen, nothing, just}
 use Rattle.dom_model.proofs.Forests.Totals.{total-cut}
 use Rattle.dom_model.proofs.Forests.Entries.{HasNode-occurs, occurs-HasNode}
@@ -17,10 +18,6 @@ use Rattle.dom_model.proofs.RangesAndContents.RangesCut.{range-cut, iterator-cut
 -- a live range, or none
 abbrev pub IsLive : Forest Content → Option Range → Type 0
 IsLive f r = IfSome r (IsRange f)
-
--- what holds of each live range
-abbrev pub Lives : (Range → Type 0) → List (Option Range) → Type 0
-Lives P rs = All (λ (r : Option Range). IfSome r P) rs
 
 pub each-moved : (P Q : Range → Type 0) (move : Point → Point) → ((r : Range) → P r → Q (moved_range move r)) → (rs : List (Option Range)) → Lives P rs → Lives Q (map_ranges move rs)
 each-moved P Q move keeps rs h = All-map (λ r. IfSome r Q) (λ r. option_map (moved_range move) r) rs (All-weaker (λ r. IfSome r P) (λ r. IfSome (option_map (moved_range move) r) Q) each rs h)

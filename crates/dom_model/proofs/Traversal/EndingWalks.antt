@@ -4,17 +4,10 @@ use Rattle.dom_model.specs.PlainLists.Lists.{head_of, last_of}
 use Rattle.dom_model.specs.Forests.Arena.{Entry, parent_in, children_in, next_in, previous_in}
 use Rattle.dom_model.specs.Forests.Forest.{Node, Forest, empty, node, occurs, size, tops}
 use Rattle.dom_model.specs.Traversal.WalkSteps.{Stand, at, leaving, ended, at_or, up_to_parent}
+use Rattle.dom_model.specs.Traversal.Ending.{HasEnded}
 use Rattle.dom_model.proofs.Forests.Standing.{top, inside, beyond, whereabouts, Stands}
 use Rattle.dom_model.proofs.Traversal.WalksForward.{Finds, Finds-ended, Finds-more, Finds-at, Finds-leaving, Finds-same}
 use Rattle.dom_model.proofs.Traversal.WalksBackward.{last_again}
-
--- a walk has come to its end after so many moves
-abbrev pub HasEnded : (Stand → Stand) → ℕ → Stand → Type 0
-HasEnded step moves (ended found) = Unit {0}
-HasEnded step zero (at n) = ⊥
-HasEnded step zero (leaving n) = ⊥
-HasEnded step (suc moves) (at n) = HasEnded step moves (step (at n))
-HasEnded step (suc moves) (leaving n) = HasEnded step moves (step (leaving n))
 
 pub HasEnded-more : (step : Stand → Stand) (moves more : ℕ) (stand : Stand) → HasEnded step moves stand → moves ≤ more → HasEnded step more stand
 HasEnded-more step moves more (ended found) h le = tt

@@ -10,6 +10,7 @@ use Rattle.dom_model.specs.Traversal.Filters.{verdict_on, accepts}
 use Rattle.dom_model.specs.Traversal.WalkSteps.{Stand, leaving, ended, at_or, come_to, come_back_to, up_to_parent, walked, moves_allowed, parent_arrived, parent_step, first_child_arrived, past_child, first_child_step, next_sibling_arrived, past_sibling, next_sibling_step, past_node, next_step, previous_arrived, back_past_node, previous_step, parent_by_steps, first_child_by_steps, next_sibling_by_steps, next_by_steps, previous_by_steps, size_under}
 use Rattle.dom_model.specs.Traversal.Walks.{mirrored}
 use Rattle.dom_model.specs.Forests.Lies.{Lies}
+use Rattle.dom_model.specs.Traversal.Ending.{HasEnded}
 use Rattle.dom_model.proofs.PlainLists.Numbers.{same_or, same, apart}
 use Rattle.dom_model.proofs.Forests.Totals.{IsOnce}
 use Rattle.dom_model.proofs.Forests.Entries.{Lies-entry_in}
@@ -21,7 +22,7 @@ use Rattle.dom_model.proofs.Forests.Below.{Below, below, size-tree, tree-there, 
 use Rattle.dom_model.proofs.Traversal.WalksForward.{Finds, Finds-found}
 use Rattle.dom_model.proofs.Forests.Mirrored.{IsOnce-mirrored, total-mirrored}
 use Rattle.dom_model.proofs.Traversal.WalksMirrored.{walked-agree, first-mirrored, moves-mirrored, child_step-mirrored, sibling_step-mirrored, child_steps-mirrored, sibling_steps-mirrored, last_child_step, last_child_by_steps, previous_sibling_step, previous_sibling_by_steps}
-use Rattle.dom_model.proofs.Traversal.EndingWalks.{HasEnded, HasEnded-more, HasEnded-agree, Ends, Ends-ended, Ends-more, Ends-leaving, Ends-same, EndsOr, at_end, goes_on, Ends-or, IsOnward, through-ends, on_from-ends, Entered, passed_over, gone_into, IsReturning, back_from-ends, IsClimbing, climb-ends}
+use Rattle.dom_model.proofs.Traversal.EndingWalks.{HasEnded-more, HasEnded-agree, Ends, Ends-ended, Ends-more, Ends-leaving, Ends-same, EndsOr, at_end, goes_on, Ends-or, IsOnward, through-ends, on_from-ends, Entered, passed_over, gone_into, IsReturning, back_from-ends, IsClimbing, climb-ends}
 
 -- a stand that a test may end
 tested : (v : Bool) (found : Option ℕ) (stand : Stand) → EndsOr (if v then ended found else stand) stand

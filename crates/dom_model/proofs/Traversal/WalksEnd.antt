@@ -5,19 +5,12 @@ use Rattle.dom_model.specs.PlainLists.Lists.{head_of, last_of}
 use Rattle.dom_model.specs.Forests.Forest.{Forest, occurs, size, children_of}
 use Rattle.dom_model.specs.Worlds.World.{Filter}
 use Rattle.dom_model.specs.Traversal.WalkSteps.{Stand, at, leaving, ended, at_or, walked, moves_allowed, parent_step, first_child_step, next_sibling_step, next_step, previous_step, parent_by_steps, first_child_by_steps, next_sibling_by_steps, next_by_steps, previous_by_steps}
+use Rattle.dom_model.specs.Traversal.Ending.{HasEnded, moves_left, Leads, LeadsOn}
 use Rattle.dom_model.proofs.Forests.Totals.{IsOnce}
 use Rattle.dom_model.proofs.Traversal.WalksForward.{Finds}
-use Rattle.dom_model.proofs.Traversal.EndingWalks.{HasEnded, HasEnded-more}
+use Rattle.dom_model.proofs.Traversal.EndingWalks.{HasEnded-more}
 use Rattle.dom_model.proofs.Traversal.WalksMirrored.{last_child_step, last_child_by_steps, previous_sibling_step, previous_sibling_by_steps}
 use Rattle.dom_model.proofs.Traversal.MovesEnough.{moves-bounded, parent-ends, parent-enough, first_child-ends, first_child-enough, last_child-ends, last_child-enough, next_sibling-ends, next_sibling-enough, previous_sibling-ends, previous_sibling-enough, next-ends, next-enough, previous-ends, previous-enough}
-
--- how many moves of those that are allowed a walk makes to its end
-abbrev pub moves_left : (Stand → Stand) → ℕ → Stand → ℕ
-moves_left step moves (ended found) = 0
-moves_left step zero (at n) = 0
-moves_left step zero (leaving n) = 0
-moves_left step (suc moves) (at n) = suc (moves_left step moves (step (at n)))
-moves_left step (suc moves) (leaving n) = suc (moves_left step moves (step (leaving n)))
 
 -- a walk ends with so many moves, and finds
 pub record Walks (step : Stand → Stand) (moves : ℕ) (stand : Stand) (found : Option ℕ) : Type 0 where
@@ -35,17 +28,6 @@ one_more step zero (at n) h = absurd h
 one_more step zero (leaving n) h = absurd h
 one_more step (suc moves) (at n) h = let i = one_more step moves (step (at n)) h in record { left = ap suc i.left; finds = i.finds }
 one_more step (suc moves) (leaving n) h = let i = one_more step moves (step (leaving n)) h in record { left = ap suc i.left; finds = i.finds }
-
--- a walk that has come from one stand to another, in some moves
-pub record Leads (step : Stand → Stand) (moves : ℕ) (stand other : Stand) : Type 0 where
-  pub ends : HasEnded step moves stand → HasEnded step moves other
-  pub finds : HasEnded step moves stand → walked step moves stand ≡ walked step moves other
-  pub left : HasEnded step moves stand → moves_left step moves other ≤ moves_left step moves stand
-
--- in one move or more
-pub record LeadsOn (step : Stand → Stand) (moves : ℕ) (stand other : Stand) : Type 0 where
-  pub leads : Leads step moves stand other
-  pub fewer : HasEnded step moves stand → moves_left step moves other < moves_left step moves stand
 
 pub Leads-here : (step : Stand → Stand) (moves : ℕ) (stand other : Stand) → stand ≡ other → Leads step moves stand other
 Leads-here step moves stand other e =

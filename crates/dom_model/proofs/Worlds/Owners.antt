@@ -10,6 +10,7 @@ use Rattle.dom_model.specs.Forests.EachNode.{EachNode}
 use Rattle.dom_model.specs.Worlds.World.{Content}
 use Rattle.dom_model.specs.MutationAlgorithms.Checks.{entry_has, kind_passes, is_of_kind}
 use Rattle.dom_model.specs.MutationAlgorithms.Discarding.{documents, is_held_outside}
+use Rattle.dom_model.specs.Worlds.Owners.{IsOwned, HasOwners}
 use Rattle.dom_model.proofs.Forests.Changes.{seen, nothing, just}
 use Rattle.dom_model.proofs.Forests.Totals.{IsOnce, total-tree_at}
 use Rattle.dom_model.proofs.Forests.Lying.{Lies-without_root}
@@ -19,14 +20,6 @@ use Rattle.dom_model.proofs.Forests.TreeOrder.Flattened.{hits-numbers}
 use Rattle.dom_model.proofs.Forests.EachNode.{EachNode-beside, EachNode-cut, EachNode-put, EachNode-without, EachNode-with_tree}
 use Rattle.dom_model.proofs.Worlds.SameShape.{with_tree-alike, kind-alike}
 use Rattle.dom_model.proofs.Worlds.Measured.{kind-cut, kind-put, kind-beside}
-
--- the node document is a Document of the forest
-abbrev pub IsOwned : Forest Content → Node Content → Type 0
-IsOwned f x = is_of_kind Document f x.document ≡ true
-
--- every node's is
-abbrev pub HasOwners : Forest Content → Type 0
-HasOwners f = EachNode (IsOwned f) f
 
 -- what holds of each node gives what follows from it
 pub EachNode-each : {X : Type 0} (P Q : Node X → Type 0) → ((x : Node X) → P x → Q x) → (f : Forest X) → EachNode P f → EachNode Q f

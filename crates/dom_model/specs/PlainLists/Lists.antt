@@ -62,3 +62,8 @@ or_list (x ∷ xs) ys = x ∷ xs
 abbrev pub or_else : {A : Type 0} → Option A → Option A → Option A
 or_else None other = other
 or_else (Some x) other = Some x
+
+-- a list from the first n on
+abbrev pub from_first : ℕ → List ℕ → List ℕ
+from_first n [] = []
+from_first n (x ∷ xs) = if x == n then x ∷ xs else from_first n xs

@@ -1,7 +1,7 @@
 -- What stands behind the first path, between the two, and ahead of the second.
 use Rattle.std.proofs.Common.{ℕ, List, ◌++◌, ap, sym, ◌∙◌, subst}
 use Rattle.dom_model.specs.Worlds.World.{Point, Range}
-use Rattle.dom_model.proofs.TokenText.Contents.PathTokens.{tail_nodes, head_nodes}
+use Rattle.dom_model.specs.RangesAndContents.BesidePaths.{tail_nodes, head_nodes}
 use Rattle.dom_clone.specs.dom_edit.Inserting.{AreThere}
 use Rattle.dom_clone.specs.dom_edit.Whole.{unwatched}
 use Rattle.dom_content.proofs.DrawnContents.{first-held, last-held}

@@ -1,6 +1,6 @@
 -- Each step takes the children ahead of one node of the path, down to the deepest.
+use Rattle.dom_model.specs.RangesAndContents.BesidePaths.{head_nodes}
 use Rattle.std.proofs.Common.{◌≡◌, ◌+◌, ◌-◌, ◌++◌, drop, length, refl, ap, sym, ◌∙◌, arith}
-use Rattle.dom_model.proofs.TokenText.Contents.PathTokens.{head_nodes}
 use Rattle.dom_clone.specs.dom_edit.Whole.{unwatched}
 use Rattle.dom_content.proofs.TopsOfPaths.{on-path, head-last, head-more}
 use Rattle.dom_content.proofs.contained.head_along.Goals as goal

@@ -1,6 +1,6 @@
 -- What stands ahead of the part of the path that was passed is in the list.
+use Rattle.dom_model.specs.RangesAndContents.BesidePaths.{head_nodes}
 use Rattle.std.proofs.Common.{◌≡◌, ◌-◌, ◌++◌, drop}
-use Rattle.dom_model.proofs.TokenText.Contents.PathTokens.{head_nodes}
 use Rattle.dom_clone.specs.dom_edit.Whole.{unwatched}
 use Rattle.dom_content.proofs.contained.head_along.Given as goal
 

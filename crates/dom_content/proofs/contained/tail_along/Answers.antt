@@ -1,6 +1,6 @@
 -- Each step takes the children behind one node of the path, from the deepest on.
+use Rattle.dom_model.specs.RangesAndContents.BesidePaths.{tail_nodes}
 use Rattle.std.proofs.Common.{◌≡◌, ◌-◌, ◌++◌, drop, length, ap, ◌∙◌, arith}
-use Rattle.dom_model.proofs.TokenText.Contents.PathTokens.{tail_nodes}
 use Rattle.dom_clone.specs.dom_edit.Whole.{unwatched}
 use Rattle.dom_content.proofs.TopsOfPaths.{on-path, tail-last, tail-more}
 use Rattle.dom_content.proofs.contained.tail_along.Goals as goal

@@ -1,7 +1,7 @@
 -- The Texts up to the node that the walk has come to.
 use Rattle.std.proofs.Common.{length}
 use Rattle.dom_model.specs.Forests.Forest.{inclusive_descendants}
-use Rattle.dom_model.proofs.PlainLists.FromFirst.{from_first}
+use Rattle.dom_model.specs.PlainLists.Lists.{from_first}
 use Rattle.dom_data.proofs.TextsBelow.{IsCollecting}
 use Rattle.dom_data.proofs.normalizing.texts_below.Given as goal
 

@@ -9,11 +9,11 @@ use Rattle.dom_model.specs.Worlds.World.{Content, Point}
 use Rattle.dom_model.specs.Commands.Making.{named, with_text}
 use Rattle.dom_model.specs.DataAndCopies.Data.{content_in}
 use Rattle.dom_model.specs.TokenText.Tokens.{Token, point}
+use Rattle.dom_model.specs.TokenText.Fitting.{Childless}
 use Rattle.dom_model.proofs.PlainLists.Numbers.{same_or, same, apart}
 use Rattle.dom_model.proofs.Forests.Totals.{total-beside, total-tree_at, total-put, tree_at-absent}
 use Rattle.dom_model.proofs.Forests.Undone.{tree_at-beside}
 use Rattle.dom_model.proofs.Forests.Entries.{entry_under-absent, entry-put}
-use Rattle.dom_model.proofs.TokenText.Pieces.TextParts.{Childless}
 use Rattle.dom_model.proofs.TokenText.AlikeTrees.TreesAlike.{Alike, bared-alike}
 use Rattle.dom_model.proofs.TokenText.AlikeTrees.TreesAlikeAfter.{alike-put, alike-adopted, alike-beside, entry_under-beside}
 use Rattle.dom_model.proofs.TokenText.AlikeTrees.PartedTrees.{entry-beside, alike-text, put-text}

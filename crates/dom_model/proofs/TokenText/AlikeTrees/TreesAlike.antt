@@ -5,10 +5,10 @@ use Rattle.dom_model.specs.PlainLists.Lists.{or_else}
 use Rattle.dom_model.specs.Forests.Arena.{Entry, parent_in, children_in}
 use Rattle.dom_model.specs.Forests.Forest.{Node, Forest, empty, node, total, occurs, tops, beside, tree_at, without, map_nodes, entry_under, entry_in, parent_of, children_of}
 use Rattle.dom_model.specs.Worlds.World.{Content}
+use Rattle.dom_model.specs.TokenText.Fitting.{Childless}
 use Rattle.dom_model.proofs.PlainLists.Numbers.{same_or, same, apart}
 use Rattle.dom_model.proofs.Forests.Totals.{tree_at-absent, beside-empty}
 use Rattle.dom_model.proofs.Forests.Entries.{entry_under-absent}
-use Rattle.dom_model.proofs.TokenText.Pieces.TextParts.{Childless}
 
 -- a node as the token texts know it
 abbrev pub bare : Node Content → Node Content

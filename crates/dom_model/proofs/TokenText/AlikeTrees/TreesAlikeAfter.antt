@@ -7,11 +7,11 @@ use Rattle.dom_model.specs.Forests.Forest.{Node, Forest, empty, node, occurs, on
 use Rattle.dom_model.specs.Worlds.World.{Content}
 use Rattle.dom_model.proofs.PlainLists.Numbers.{same_or, same, apart}
 use Rattle.dom_model.specs.Forests.Lies.{Lies}
+use Rattle.dom_model.specs.TokenText.Fitting.{Childless}
 use Rattle.dom_model.proofs.Forests.Totals.{total-beside, total-tree_at, total-cut, total-put, tree_at-absent, beside-empty}
 use Rattle.dom_model.proofs.Forests.Changes.{cut_at, link_at, change_at, held-cut_at, held-change_at}
 use Rattle.dom_model.proofs.Forests.Lying.{Lies-beside, Lies-cut_top, Lies-without, Lies-kept, Lies-with_node, total-with_node}
 use Rattle.dom_model.proofs.Forests.Entries.{Lies-entry_in, occurs-held, entry_in-Lies, entry-cut, entry-put}
-use Rattle.dom_model.proofs.TokenText.Pieces.TextParts.{Childless}
 use Rattle.dom_model.proofs.TokenText.AlikeTrees.TreesAlike.{Alike, Top, bare, bared, bare_entry, top_of, total-bared, entry_under-bared, or_else-map, Childless-beside, Childless-tree_at, Childless-without, alike-parent}
 
 module _ {X : Type 0} where

@@ -17,8 +17,9 @@ use Rattle.dom_model.specs.RangesAndContents.Contents.{is_in_one_data, common_of
 use Rattle.dom_model.specs.TokenText.Tokens.{Token, Open, Close, is_open, no_marks, unit_tokens, token_texts, tokens_among, texts_of}
 use Rattle.dom_model.specs.TokenText.Gaps.{text_among, root_text, tokens_ahead}
 use Rattle.dom_model.specs.TokenText.Between.{between}
+use Rattle.dom_model.specs.Forests.Ways.{IsWay}
+use Rattle.dom_model.specs.TokenText.Fitting.{Childless}
 use Rattle.dom_model.proofs.PlainLists.Numbers.{same_or, same, apart}
-use Rattle.dom_model.proofs.Forests.Chains.{IsWay}
 use Rattle.dom_model.proofs.Forests.Entries.{occurs-HasNode}
 use Rattle.dom_model.proofs.Forests.WaysMeeting.{above-root}
 use Rattle.dom_model.proofs.RangesAndContents.WaysBelow.{IsFork, way-above}
@@ -26,7 +27,7 @@ use Rattle.dom_model.proofs.RangesAndContents.ContainedChildren.{ahead_in, throu
 use Rattle.dom_model.proofs.TokenText.EditsMade.EditsOfDrawnContents.{sound-range}
 use Rattle.dom_model.proofs.TokenText.AlikeTrees.TreesAlike.{top_of}
 use Rattle.dom_model.proofs.TokenText.Pieces.TokenLists.{tally, tallies, opened, tally-append, tallies-append}
-use Rattle.dom_model.proofs.TokenText.Pieces.TextParts.{inside, Childless}
+use Rattle.dom_model.proofs.TokenText.Pieces.TextParts.{inside}
 use Rattle.dom_model.proofs.TokenText.Pieces.TextCounts.{opened-own, opened-texts}
 use Rattle.dom_model.proofs.TokenText.Pieces.TextContexts.{with_root-itself, around_texts}
 use Rattle.dom_model.proofs.TokenText.Contents.TextTold.{no_mark}

@@ -12,14 +12,15 @@ use Rattle.dom_model.specs.DataAndCopies.Data.{data_of, remove_each}
 use Rattle.dom_model.specs.RangesAndContents.Contents.{is_in_one_data, cut_from, cut_up_to, contained_tops, common_of}
 use Rattle.dom_model.specs.TokenText.Tokens.{Token, Open, Close, no_marks, unit_tokens}
 use Rattle.dom_model.specs.TokenText.Gaps.{root_text}
+use Rattle.dom_model.specs.Forests.Ways.{IsWay}
+use Rattle.dom_model.specs.RangesAndContents.BesidePaths.{tail_nodes}
 use Rattle.dom_model.proofs.PlainLists.Numbers.{same_or, same, apart}
-use Rattle.dom_model.proofs.Forests.Chains.{IsWay}
 use Rattle.dom_model.proofs.Soundness.SoundNormalizing.{each_kinds}
 use Rattle.dom_model.proofs.Soundness.SoundDeleting.{one, sound-second}
 use Rattle.dom_model.proofs.RangesAndContents.WaysBelow.{IsFork}
 use Rattle.dom_model.proofs.TokenText.Contents.DeletedUnits.{units-append}
 use Rattle.dom_model.proofs.TokenText.Contents.NodesOut.{AllGone}
-use Rattle.dom_model.proofs.TokenText.Contents.PathTokens.{tail_tokens, head_tokens, start_path, end_path, tail_nodes}
+use Rattle.dom_model.proofs.TokenText.Contents.PathTokens.{tail_tokens, head_tokens, start_path, end_path}
 use Rattle.dom_model.proofs.TokenText.Contents.PathShapes.{front_tokens, back_tokens, front_units, back_nodes, closes_of, opens_of, HeadIs, TailIs, head_is, tail_is}
 use Rattle.dom_model.proofs.TokenText.Contents.CutUnits.{text-cut_from, text-cut_up_to}
 use Rattle.dom_model.proofs.TokenText.Contents.BetweenParts.{fork_of, data-fits, top-no_data_start, top-no_data_end}

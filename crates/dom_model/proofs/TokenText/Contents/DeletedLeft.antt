@@ -11,6 +11,7 @@ use Rattle.dom_model.specs.RangesAndContents.Contents.{for_range, is_in_one_data
 use Rattle.dom_model.specs.TokenText.Tokens.{Token, point, is_open}
 use Rattle.dom_model.specs.TokenText.Gaps.{root_text, tokens_ahead}
 use Rattle.dom_model.specs.TokenText.Between.{closes_left, opens_left}
+use Rattle.dom_model.specs.RangesAndContents.BesidePaths.{tail_nodes, head_nodes}
 use Rattle.dom_model.proofs.PlainLists.Numbers.{same_or, same, apart}
 use Rattle.dom_model.proofs.Soundness.SoundDeleting.{one, sound-delete_contents}
 use Rattle.dom_model.proofs.RangesAndContents.DrawnPaths.{hits-filter}
@@ -25,7 +26,7 @@ use Rattle.dom_model.proofs.TokenText.Contents.DeletedInPlace.{IsLeft, collapsed
 use Rattle.dom_model.proofs.TokenText.Contents.WithinData.{deleted-within}
 use Rattle.dom_model.proofs.TokenText.Contents.LeftByText.{front_left, back_left, left-by_text}
 use Rattle.dom_model.proofs.TokenText.Contents.NodesOut.{AllGone, all_gone-within, all_gone-then, removed-texts}
-use Rattle.dom_model.proofs.TokenText.Contents.PathTokens.{nodes_tokens, tail_tokens, head_tokens, start_path, end_path, parts_tokens, tail_nodes, head_nodes}
+use Rattle.dom_model.proofs.TokenText.Contents.PathTokens.{nodes_tokens, tail_tokens, head_tokens, start_path, end_path, parts_tokens}
 use Rattle.dom_model.proofs.TokenText.Contents.PathShapes.{front_units, closes_of, opens_of, listed-there, whole-listed, closes-tail, opens-tail, closes-head, opens-head, head_is, nodes-gone}
 use Rattle.dom_model.proofs.TokenText.Contents.CutEnds.{end-way, end-bare, first-left, third-left}
 use Rattle.dom_model.proofs.TokenText.Contents.BetweenParts.{IsParted, text-by_parts, fork_of, tail-some}

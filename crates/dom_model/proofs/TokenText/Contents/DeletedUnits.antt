@@ -15,11 +15,12 @@ use Rattle.dom_model.specs.MutationAlgorithms.Checks.{kind_passes}
 use Rattle.dom_model.specs.DataAndCopies.Data.{content_in, data_of, with_data}
 use Rattle.dom_model.specs.TokenText.Tokens.{Token, is_open, Open, Close, OneUnit, no_marks, unit_tokens, token_texts, is_root_text}
 use Rattle.dom_model.specs.TokenText.Gaps.{text_among, root_text}
+use Rattle.dom_model.specs.TokenText.Fitting.{Childless}
 use Rattle.dom_model.proofs.PlainLists.Numbers.{same_or, same, apart}
 use Rattle.dom_model.proofs.TokenText.AlikeTrees.TreesAlike.{top_of}
 use Rattle.dom_model.proofs.TokenText.Marked.MarkedSplice.{with_root-node}
 use Rattle.dom_model.proofs.TokenText.Pieces.TokenLists.{tally, tallies, tally-append, tallies-append, opened}
-use Rattle.dom_model.proofs.TokenText.Pieces.TextParts.{inside, Childless}
+use Rattle.dom_model.proofs.TokenText.Pieces.TextParts.{inside}
 use Rattle.dom_model.proofs.TokenText.Pieces.TextContexts.{with_root-itself, around_texts}
 use Rattle.dom_model.proofs.TokenText.Pieces.TextCounts.{opened-texts}
 use Rattle.dom_model.proofs.TokenText.Contents.TextTold.{no_mark}

@@ -8,11 +8,12 @@ use Rattle.dom_model.specs.MutationAlgorithms.Editing.{remove, removed_from}
 use Rattle.dom_model.specs.DataAndCopies.Data.{remove_each}
 use Rattle.dom_model.specs.TokenText.Tokens.{Token, Open, Close, no_marks, is_open, has_open, before_open, from_open, past_close, child_tokens, token_texts}
 use Rattle.dom_model.specs.TokenText.Gaps.{text_among, root_text}
+use Rattle.dom_model.specs.TokenText.Fitting.{Childless}
 use Rattle.dom_model.proofs.PlainLists.Numbers.{same_or, same, apart}
 use Rattle.dom_model.proofs.Forests.Totals.{without-absent}
 use Rattle.dom_model.proofs.Soundness.SoundWorlds.{sound-remove}
 use Rattle.dom_model.proofs.TokenText.Pieces.TokenLists.{opened, tally-append, has_open-none, has_open-there, before_open-skips, from_open-skips}
-use Rattle.dom_model.proofs.TokenText.Pieces.TextParts.{inside, own, own-then, Childless}
+use Rattle.dom_model.proofs.TokenText.Pieces.TextParts.{inside, own, own-then}
 use Rattle.dom_model.proofs.TokenText.Pieces.TextPieces.{Closes, Closes-inside, past-node}
 use Rattle.dom_model.proofs.TokenText.Pieces.TextCounts.{opened-children, opened-own, opened-texts}
 use Rattle.dom_model.proofs.TokenText.Pieces.TextContexts.{no_data}

@@ -12,10 +12,11 @@ use Rattle.dom_model.specs.Worlds.Sound.{IsSound}
 use Rattle.dom_model.specs.MutationAlgorithms.PreRemoval.{past}
 use Rattle.dom_model.specs.MutationAlgorithms.Checks.{up_to, entry_has, kind_passes}
 use Rattle.dom_model.specs.DataAndCopies.Data.{with_data, cut_count}
+use Rattle.dom_model.specs.Forests.Ways.{IsWay}
+use Rattle.dom_model.specs.RangesAndContents.BesidePaths.{tail_nodes, head_nodes}
 use Rattle.dom_model.proofs.PlainLists.Numbers.{same_or, same, apart}
 use Rattle.dom_model.proofs.Forests.Changes.{change_at}
 use Rattle.dom_model.proofs.Forests.Totals.{IsOnce, total-tree_at}
-use Rattle.dom_model.proofs.Forests.Chains.{IsWay}
 use Rattle.dom_model.proofs.Forests.Climbing.{hits-append, hits-first}
 use Rattle.dom_model.proofs.Forests.Entries.{entry_under-absent}
 use Rattle.dom_model.proofs.Forests.Indices.{child-parent}
@@ -28,7 +29,6 @@ use Rattle.dom_model.proofs.RangesAndContents.DrawnPaths.{hits-drop, hits-past, 
 use Rattle.dom_model.proofs.RangesAndContents.TreesOfRoots.{taken, taken-append, once-left, entry-without, tree-less, tree-taken, occurs-taken, entry-taken}
 use Rattle.dom_model.proofs.RangesAndContents.OldTrees.{data_in, cut_data, HasTree}
 use Rattle.dom_model.proofs.RangesAndContents.TreesDrawn.{has_data, tail_taken, head_taken, AreIn, StayIn, same-kind, same-children}
-use Rattle.dom_model.proofs.TokenText.Contents.PathTokens.{tail_nodes, head_nodes}
 use Rattle.dom_model.proofs.TokenText.Contents.TopsByParts.{child-under}
 
 -- the tree without the units from an offset on, or up to it, where the node has data

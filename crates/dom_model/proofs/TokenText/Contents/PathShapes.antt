@@ -11,7 +11,9 @@ use Rattle.dom_model.specs.MutationAlgorithms.Checks.{up_to, kind_passes}
 use Rattle.dom_model.specs.DataAndCopies.Data.{data_of}
 use Rattle.dom_model.specs.TokenText.Tokens.{Token, Open, Close, no_marks, unit_tokens, token_texts, tokens_among}
 use Rattle.dom_model.specs.TokenText.Between.{closes_left, opens_left}
-use Rattle.dom_model.proofs.Forests.Chains.{IsWay}
+use Rattle.dom_model.specs.Forests.Ways.{IsWay}
+use Rattle.dom_model.specs.TokenText.Fitting.{Childless}
+use Rattle.dom_model.specs.RangesAndContents.BesidePaths.{tail_nodes, head_nodes}
 use Rattle.dom_model.proofs.Forests.Climbing.{hits-first}
 use Rattle.dom_model.proofs.Forests.Indices.{child-listed, child-there}
 use Rattle.dom_model.proofs.BoundaryPoints.RootsKept.{hits-up_to}
@@ -20,7 +22,7 @@ use Rattle.dom_model.proofs.RangesAndContents.DrawnPaths.{hits-drop, hits-take}
 use Rattle.dom_model.proofs.RangesAndContents.ContainedChildren.{around-one}
 use Rattle.dom_model.proofs.Soundness.SoundForests.{data-childless}
 use Rattle.dom_model.proofs.TokenText.AlikeTrees.TreesAlike.{top_of}
-use Rattle.dom_model.proofs.TokenText.Pieces.TextParts.{inside, Childless}
+use Rattle.dom_model.proofs.TokenText.Pieces.TextParts.{inside}
 use Rattle.dom_model.proofs.TokenText.Pieces.TextPieces.{Closes-inside}
 use Rattle.dom_model.proofs.TokenText.Marked.MarkedFirst.{kinds-childless}
 use Rattle.dom_model.proofs.TokenText.Contents.TextTold.{no_mark}
@@ -28,7 +30,7 @@ use Rattle.dom_model.proofs.TokenText.Contents.DeletedUnits.{units-append}
 use Rattle.dom_model.proofs.TokenText.Contents.MatchedPieces.{Matches, matches-units, closes-open, opens-open}
 use Rattle.dom_model.proofs.TokenText.Contents.WholePieces.{Whole, whole-append, whole-node, whole-units, whole-nodes, nodes-append, inner_of, tokens-own, tokens-shape}
 use Rattle.dom_model.proofs.TokenText.Contents.NodesOut.{AllGone, all_gone-within, all_gone-then}
-use Rattle.dom_model.proofs.TokenText.Contents.PathTokens.{nodes_tokens, tail_tokens, head_tokens, tail_nodes, head_nodes}
+use Rattle.dom_model.proofs.TokenText.Contents.PathTokens.{nodes_tokens, tail_tokens, head_tokens}
 
 -- what stands in a node ahead of an offset, and behind it
 abbrev pub front_tokens : World → ℕ → ℕ → List Token

@@ -40,13 +40,3 @@ parts_tokens w range =
     tail_tokens w range.start.offset (start_path w range)
     ++ (nodes_tokens w.forest (contained_children w range) ++ head_tokens w range.end.offset (end_path w range))
 
--- the nodes beside the paths, in tree order
-abbrev pub tail_nodes : World → ℕ → List ℕ → List ℕ
-tail_nodes w offset [] = []
-tail_nodes w offset (n ∷ []) = if kind_passes is_character_data w.forest n then [] else drop offset (children_of w.forest n)
-tail_nodes w offset (n ∷ m ∷ path) = tail_nodes w offset (m ∷ path) ++ past m (children_of w.forest n)
-
-abbrev pub head_nodes : World → ℕ → List ℕ → List ℕ
-head_nodes w offset [] = []
-head_nodes w offset (n ∷ []) = if kind_passes is_character_data w.forest n then [] else take offset (children_of w.forest n)
-head_nodes w offset (n ∷ m ∷ path) = up_to m (children_of w.forest n) ++ head_nodes w offset (m ∷ path)

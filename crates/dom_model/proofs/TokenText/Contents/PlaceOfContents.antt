@@ -11,9 +11,9 @@ use Rattle.dom_model.specs.RangesAndContents.Ranges.{point_after}
 use Rattle.dom_model.specs.RangesAndContents.Contents.{common_of, new_place}
 use Rattle.dom_model.specs.TokenText.Tokens.{Token, Open, Close, point, is_open, no_marks, token_texts}
 use Rattle.dom_model.specs.TokenText.Gaps.{text_among, root_text, tokens_ahead}
+use Rattle.dom_model.specs.Forests.Ways.{IsWay}
 use Rattle.dom_model.proofs.PlainLists.Numbers.{same_or, same, apart}
 use Rattle.dom_model.proofs.PlainLists.Places.{place-there}
-use Rattle.dom_model.proofs.Forests.Chains.{IsWay}
 use Rattle.dom_model.proofs.Forests.Climbing.{hits-among}
 use Rattle.dom_model.proofs.Forests.Entries.{occurs-HasNode, Lies-entry_in}
 use Rattle.dom_model.proofs.Forests.Indices.{child-listed, index-child}

@@ -18,10 +18,11 @@ use Rattle.dom_model.specs.DataAndCopies.Data.{content_in, data_of, joined_data}
 use Rattle.dom_model.specs.TokenText.Tokens.{Token, is_open, Open, Close, point, same_point, no_marks, unit_tokens, child_tokens, stands_at}
 use Rattle.dom_model.specs.TokenText.Gaps.{tokens_ahead}
 use Rattle.dom_model.specs.TokenText.Between.{numbers_of}
+use Rattle.dom_model.specs.TokenText.Fitting.{Childless}
 use Rattle.dom_model.proofs.PlainLists.Numbers.{same_or, same, apart}
 use Rattle.dom_model.proofs.TokenText.Pieces.TokenLists.{tally-append, opened, AreMarks}
 use Rattle.dom_model.proofs.TokenText.Pieces.TextWalks.{walk, walk-append}
-use Rattle.dom_model.proofs.TokenText.Pieces.TextParts.{own, own-then, breadth, Childless, walk-own, walk-all_children}
+use Rattle.dom_model.proofs.TokenText.Pieces.TextParts.{own, own-then, breadth, walk-own, walk-all_children}
 use Rattle.dom_model.proofs.TokenText.Contents.Sifted.{sifted}
 use Rattle.dom_model.proofs.TokenText.Contents.LeafPlaces.{units-long, leaf-aside, gap-here, ahead-within}
 use Rattle.dom_model.proofs.TokenText.Contents.LeafUnits.{other-sifted}

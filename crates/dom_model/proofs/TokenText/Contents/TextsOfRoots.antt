@@ -12,12 +12,13 @@ use Rattle.dom_model.specs.MutationAlgorithms.Checks.{is_of_kind}
 use Rattle.dom_model.specs.DataAndCopies.Data.{content_in, data_of}
 use Rattle.dom_model.specs.TokenText.Tokens.{Token, Open, Close, no_marks, unit_tokens, child_tokens, token_texts, is_root_text}
 use Rattle.dom_model.specs.TokenText.Gaps.{text_among}
+use Rattle.dom_model.specs.TokenText.Fitting.{Childless}
 use Rattle.dom_model.proofs.PlainLists.Numbers.{same_or, same, apart}
 use Rattle.dom_model.proofs.Forests.Tops.{hits-tops}
 use Rattle.dom_model.proofs.Forests.Climbing.{ancestors-absent}
 use Rattle.dom_model.proofs.Forests.Lots.{lot, on_top, beneath, elsewhere, at_top, under_top, root-top, root-elsewhere, root-listed}
 use Rattle.dom_model.proofs.Forests.TreeOrder.Flattened.{hits-numbers}
-use Rattle.dom_model.proofs.TokenText.Pieces.TextParts.{inside, own, own-then, Childless}
+use Rattle.dom_model.proofs.TokenText.Pieces.TextParts.{inside, own, own-then}
 use Rattle.dom_model.proofs.TokenText.Contents.Dressed.{dressed}
 use Rattle.dom_model.proofs.TokenText.Contents.BetweenGaps.{NoMarks, NoMarks-append}
 use Rattle.dom_model.proofs.TokenText.Contents.TextTold.{no_text-kind}

@@ -15,9 +15,11 @@ use Rattle.dom_model.specs.Forests.Lengths.{unit_count, node_length}
 use Rattle.dom_model.specs.RangesAndContents.Ranges.{is_less, is_before, same_root, common_ancestor}
 use Rattle.dom_model.specs.RangesAndContents.Contents.{path_below, common_of, contained_in, contained_tops, contained_children}
 use Rattle.dom_model.specs.TokenText.Tokens.{point}
+use Rattle.dom_model.specs.Forests.Ways.{IsWay}
+use Rattle.dom_model.specs.RangesAndContents.BesidePaths.{tail_nodes, head_nodes}
 use Rattle.dom_model.proofs.PlainLists.Numbers.{same_or, same, apart}
 use Rattle.dom_model.proofs.Forests.Totals.{total-tree_at}
-use Rattle.dom_model.proofs.Forests.Chains.{IsWay, index-apart, root-child}
+use Rattle.dom_model.proofs.Forests.Chains.{index-apart, root-child}
 use Rattle.dom_model.proofs.Forests.Climbing.{hits-append, hits-first, hits-among, not_among-hits, hits-ancestors}
 use Rattle.dom_model.proofs.Forests.Indices.{child-listed, child-once, child-parent, child-there, index-child, path-child}
 use Rattle.dom_model.proofs.Forests.Entries.{occurs-HasNode}
@@ -34,7 +36,7 @@ use Rattle.dom_model.proofs.RangesAndContents.WaysBelow.{IsFork, fork, way-above
 use Rattle.dom_model.proofs.RangesAndContents.TreesAside.{Aside, aside, swapped}
 use Rattle.dom_model.proofs.RangesAndContents.ListsByParts.{filter-nothing, flat-none, flat-same, flat-filter, flat-drop, flat-take, place-up_to, place-past, flat-first, flat-last, flat-past, flat-up_to}
 use Rattle.dom_model.proofs.RangesAndContents.TopsOfTrees.{sifted-children, is_top, tops_in, itself_if, is_less-either, IsOff, off, contained-off, before-by, after-by, tops-uniform}
-use Rattle.dom_model.proofs.TokenText.Contents.PathTokens.{start_path, end_path, tail_nodes, head_nodes}
+use Rattle.dom_model.proofs.TokenText.Contents.PathTokens.{start_path, end_path}
 
 module _ (w : World) (sound : IsSound w) where
   -- a child of a node that is not above another is not above that either

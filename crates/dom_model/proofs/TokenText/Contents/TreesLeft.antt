@@ -13,11 +13,12 @@ use Rattle.dom_model.specs.MutationAlgorithms.Editing.{node_document}
 use Rattle.dom_model.specs.Forests.Lengths.{unit_count}
 use Rattle.dom_model.specs.DataAndCopies.Data.{data_of, replace_data, remove_each}
 use Rattle.dom_model.specs.RangesAndContents.Contents.{is_in_one_data, cut_from, cut_up_to, common_of, path_below, contained_in, contained_tops, contained_children, new_fragment, children_into, tail_into, head_into, parts_into}
+use Rattle.dom_model.specs.Forests.Ways.{IsWay}
+use Rattle.dom_model.specs.RangesAndContents.BesidePaths.{tail_nodes, head_nodes}
 use Rattle.dom_model.proofs.PlainLists.Numbers.{same_or, same, apart}
 use Rattle.dom_model.proofs.PlainLists.Members.{hits-last_of}
 use Rattle.dom_model.proofs.Forests.Totals.{IsOnce, tree_at-absent}
 use Rattle.dom_model.proofs.Forests.Below.{occurs-tree}
-use Rattle.dom_model.proofs.Forests.Chains.{IsWay}
 use Rattle.dom_model.proofs.Forests.Climbing.{hits-append, hits-first, hits-among, hits-ancestors}
 use Rattle.dom_model.proofs.Forests.EachNode.{EachNode-beside}
 use Rattle.dom_model.proofs.Forests.Entries.{occurs-HasNode}
@@ -36,7 +37,7 @@ use Rattle.dom_model.proofs.RangesAndContents.TreesOfRoots.{taken, taken-append,
 use Rattle.dom_model.proofs.RangesAndContents.OldTrees.{data_in, cut_data, HasTree, child-not_root, remove_each-has, fragment-has, replace-has, IsInner, IsOld, old-taken}
 use Rattle.dom_model.proofs.RangesAndContents.TreesDrawn.{has_data, tail_taken, head_taken, AreIn, StayIn, same-kind, same-data, same-children, old-tail, children-has, tail-has, head-has}
 use Rattle.dom_model.proofs.TokenText.EditsMade.EditsOfDrawnContents.{same_ancestors, common-same, contained_children-same}
-use Rattle.dom_model.proofs.TokenText.Contents.PathTokens.{start_path, end_path, tail_nodes, head_nodes}
+use Rattle.dom_model.proofs.TokenText.Contents.PathTokens.{start_path, end_path}
 use Rattle.dom_model.proofs.TokenText.Contents.TopsByParts.{data-childless, tops-by_parts}
 use Rattle.dom_model.proofs.TokenText.Contents.NodesTaken.{cut_tail, cut_head, tail-cut, head-cut, there-taken, no_data-taken, tail-as, tail-held, way-through, Stays, head-as}
 

@@ -9,12 +9,13 @@ use Rattle.dom_model.specs.MutationAlgorithms.Checks.{kind_passes}
 use Rattle.dom_model.specs.DataAndCopies.Data.{content_in}
 use Rattle.dom_model.specs.TokenText.Tokens.{Token, Open, Close, OneUnit, point, same_point, is_open, no_marks, unit_tokens, child_tokens, token_texts, tokens_among}
 use Rattle.dom_model.specs.TokenText.Gaps.{tokens_ahead}
+use Rattle.dom_model.specs.TokenText.Fitting.{Childless}
 use Rattle.dom_model.proofs.PlainLists.Numbers.{same_or, same, apart}
 use Rattle.dom_model.proofs.Forests.Totals.{total-tree_at, tree_at-absent, beside-empty}
 use Rattle.dom_model.proofs.Forests.Tops.{hits-tops}
 use Rattle.dom_model.proofs.TokenText.Pieces.TokenLists.{opened, tally-append}
 use Rattle.dom_model.proofs.TokenText.Pieces.TextWalks.{walk, walk-append, Misses, Misses-append, Misses-away, Away-walk, stands-away}
-use Rattle.dom_model.proofs.TokenText.Pieces.TextParts.{inside, own, own-then, Childless}
+use Rattle.dom_model.proofs.TokenText.Pieces.TextParts.{inside, own, own-then}
 use Rattle.dom_model.proofs.TokenText.Pieces.NodeTokens.{node-tokens}
 use Rattle.dom_model.proofs.TokenText.AlikeTrees.TreesAlike.{Top, top_of}
 use Rattle.dom_model.proofs.TokenText.AlikeTrees.TreesWithin.{tree_within}

@@ -5,8 +5,7 @@ use Rattle.dom_model.specs.Forests.Forest.{parent_of}
 use Rattle.dom_model.specs.Worlds.World.{Point, World}
 use Rattle.dom_model.specs.TokenText.Tokens.{Edit, Removal, Insertion, Splice, Parting, Merge, EndSet, Making, RangeMaking, Release, Discard}
 use Rattle.dom_model.specs.TokenText.Edits.{removal_from, parting_from, merge_from, on_world, all_on_world, Trace, begun, doing}
-use Rattle.dom_model.proofs.TokenText.Marked.MarkedEnds.{IsReady}
-use Rattle.dom_model.proofs.TokenText.Marked.MarkedEdits.{Fits, AllFit}
+use Rattle.dom_model.specs.TokenText.Fitting.{IsReady, Fits, AllFit}
 pub use Rattle.dom_model.proofs.TokenText.EditsMade.FittingEdits.{laid}
 use Rattle.dom_model.proofs.TokenText.EditsMade.FittingEdits.{ready-laid, fits-laid, AllFit-append}
 

@@ -21,8 +21,8 @@ use Rattle.dom_model.specs.TokenText.Tokens.{Edit}
 use Rattle.dom_model.specs.TokenText.Edits.{all_on_world, remove_edits}
 use Rattle.dom_model.specs.TokenText.CommandEdits.{unless_refused, command_edits, edits_of}
 use Rattle.dom_model.specs.Worlds.Sound.{IsSound}
+use Rattle.dom_model.specs.TokenText.Fitting.{AllFit}
 use Rattle.dom_model.proofs.PlainLists.Numbers.{same_or, same, apart}
-use Rattle.dom_model.proofs.TokenText.Marked.MarkedEdits.{AllFit}
 use Rattle.dom_model.proofs.TokenText.EditsMade.EditsLeave.{laid, Leave, leave-laid}
 use Rattle.dom_model.proofs.TokenText.EditsMade.EditsOfSteps.{leave-remove}
 use Rattle.dom_model.proofs.TokenText.EditsMade.EditsOfSurrounding.{KeepSound}

@@ -10,11 +10,11 @@ use Rattle.dom_model.specs.TokenText.CommandEdits.{edits_of, world_past}
 use Rattle.dom_model.specs.Worlds.Sound.{IsSound}
 use Rattle.dom_model.specs.Forests.Forest.{occurs}
 use Rattle.dom_model.specs.RangesAndContents.Wrapping.{insert_node}
+use Rattle.dom_model.specs.TokenText.Fitting.{AllFit}
 use Rattle.dom_model.proofs.Soundness.SoundContents.{sound-extract}
 use Rattle.dom_model.proofs.Soundness.SoundPlacedNode.{Gives}
 use Rattle.dom_model.proofs.Soundness.SoundInsertedNode.{insert-next}
 use Rattle.dom_model.proofs.Soundness.SoundAnswers.{sound-reached}
-use Rattle.dom_model.proofs.TokenText.Marked.MarkedEdits.{AllFit}
 use Rattle.dom_model.proofs.TokenText.EditsMade.EditsLeave.{laid}
 use Rattle.dom_model.proofs.TokenText.EditsMade.EditsOfSurrounding.{KeepSound}
 use Rattle.dom_model.proofs.TokenText.EditsMade.EditsOfCommands.{IsLeftAs, edits-leave_every}

@@ -15,14 +15,15 @@ use Rattle.dom_model.specs.MutationAlgorithms.Editing.{put_in, put_all, gap_befo
 use Rattle.dom_model.specs.TokenText.Tokens.{point, Insertion}
 use Rattle.dom_model.specs.TokenText.Edits.{index_before, insertions, on_world}
 use Rattle.dom_model.specs.Worlds.Sound.{IsBoundary, IsRange, IsSound}
+use Rattle.dom_model.specs.MutationAlgorithms.Insertable.{IsPlaceable, ArePlaceable, IsChildOf}
+use Rattle.dom_model.specs.TokenText.Fitting.{Fits, fits_insertion}
 use Rattle.dom_model.proofs.PlainLists.Numbers.{same_or, same, apart}
 use Rattle.dom_model.proofs.Forests.Entries.{children-put}
 use Rattle.dom_model.proofs.Forests.Indices.{child-listed, index-child}
 use Rattle.dom_model.proofs.Worlds.Measured.{length-parent, length-entered}
 use Rattle.dom_model.proofs.Worlds.SameShape.{children-alike}
 use Rattle.dom_model.proofs.Soundness.SoundWorlds.{IsLive, child_there}
-use Rattle.dom_model.proofs.Soundness.SoundPlacing.{IsPlaceable, ArePlaceable, IsChildOf, gap_before-none, gap-apart, placed-forest, apart_from, passes, renamed, after_adoption, occurs_placed, index_placed, all_placeable, child_placed, sound-put_one}
-use Rattle.dom_model.proofs.TokenText.Marked.MarkedEdits.{Fits, fits_insertion}
+use Rattle.dom_model.proofs.Soundness.SoundPlacing.{gap_before-none, gap-apart, placed-forest, apart_from, passes, renamed, after_adoption, occurs_placed, index_placed, all_placeable, child_placed, sound-put_one}
 use Rattle.dom_model.proofs.TokenText.EditsMade.FittingEdits.{ready-sound, holder-no_data}
 use Rattle.dom_model.proofs.TokenText.EditsMade.EditsLeave.{laid, Leave, leave-none, leave-edit, leave-then}
 

@@ -20,6 +20,8 @@ use Rattle.dom_model.specs.DataAndCopies.Data.{content_in, data_of, with_data, f
 use Rattle.dom_model.specs.TokenText.Tokens.{Merge}
 use Rattle.dom_model.specs.TokenText.Edits.{merge_from, on_world, remove_edits, merges, normalize_text_edits, normalize_each_edits, normalize_edits}
 use Rattle.dom_model.specs.Worlds.Sound.{IsBoundary, IsRange, IsSound}
+use Rattle.dom_model.specs.DataAndCopies.Joinable.{Lives, AreUpTo, AreJoinable}
+use Rattle.dom_model.specs.TokenText.Fitting.{IsPoint, IsReady, Fits, fits_merge}
 use Rattle.dom_model.proofs.PlainLists.Numbers.{same_or, same, apart}
 use Rattle.dom_model.proofs.Forests.Climbing.{hits-append, hits-first}
 use Rattle.dom_model.proofs.Forests.Changes.{change_at}
@@ -27,14 +29,12 @@ use Rattle.dom_model.proofs.DataAndCopies.ChangedNodes.{cut-with_node, data-twic
 use Rattle.dom_model.proofs.Worlds.SameShape.{IsAlike, with_node-alike, occurs-alike, parent-alike, kind-alike, index-alike, inside-alike}
 use Rattle.dom_model.proofs.Worlds.Measured.{entry-with_node}
 use Rattle.dom_model.proofs.Soundness.SoundForests.{entry_there}
-use Rattle.dom_model.proofs.Soundness.SoundWorlds.{Lives, each-kept}
+use Rattle.dom_model.proofs.Soundness.SoundWorlds.{each-kept}
 use Rattle.dom_model.proofs.Soundness.SoundData.{length-data, length-other}
 use Rattle.dom_model.proofs.Soundness.SoundSplitting.{text_has_data}
-use Rattle.dom_model.proofs.Soundness.SoundJoining.{lives-both, AreUpTo, AreJoinable, first_in, t_apart, index_first, text_first, is_child, is_there, merged_is, content_left, joinable_left, in_either_order, further, moved, left}
+use Rattle.dom_model.proofs.Soundness.SoundJoining.{lives-both, first_in, t_apart, index_first, text_first, is_child, is_there, merged_is, content_left, joinable_left, in_either_order, further, moved, left}
 use Rattle.dom_model.proofs.Soundness.SoundNormalizing.{kept-one, below_parent, base, count, joint, joinable, no_count, others, joined-same, filter-passed}
 use Rattle.dom_model.proofs.Forests.Entries.{occurs-HasNode}
-use Rattle.dom_model.proofs.TokenText.Marked.MarkedEnds.{IsPoint, IsReady}
-use Rattle.dom_model.proofs.TokenText.Marked.MarkedEdits.{Fits, fits_merge}
 use Rattle.dom_model.proofs.TokenText.EditsMade.FittingEdits.{ready-lives}
 use Rattle.dom_model.proofs.TokenText.EditsMade.EditsLeave.{laid, Leave, leave-none, leave-edit, leave-then, leave-alike}
 use Rattle.dom_model.proofs.TokenText.EditsMade.EditsOfSteps.{leave-remove}

@@ -14,15 +14,15 @@ use Rattle.dom_model.specs.DataAndCopies.Data.{content_in, data_of, cut_count, r
 use Rattle.dom_model.specs.TokenText.Tokens.{point, Splice, Parting}
 use Rattle.dom_model.specs.TokenText.Edits.{index_before, insertion_at, parting_from, making, replace_data_edits, split_edits_by, split_edits}
 use Rattle.dom_model.specs.Worlds.Sound.{IsSound}
+use Rattle.dom_model.specs.MutationAlgorithms.Insertable.{IsChildOf}
+use Rattle.dom_model.specs.TokenText.Fitting.{fits_parting}
 use Rattle.dom_model.proofs.Forests.Siblings.{place-next}
 use Rattle.dom_model.proofs.PlainLists.Places.{place_before}
 use Rattle.dom_model.proofs.Forests.Indices.{index-child}
 use Rattle.dom_model.proofs.Forests.OneMoreRoot.{index-more}
 use Rattle.dom_model.proofs.Worlds.Measured.{entry-beside, kind-beside}
-use Rattle.dom_model.proofs.Soundness.SoundPlacing.{IsChildOf}
 use Rattle.dom_model.proofs.Soundness.SoundSplitting.{text_has_data, new_text, made, sm, there-old, hp, par-made, placeable, before_child, placed, after_parting, forest_is, index-kept, split_off_is, length_after}
 use Rattle.dom_model.proofs.Soundness.SoundMaking.{sound-made_node}
-use Rattle.dom_model.proofs.TokenText.Marked.MarkedEdits.{fits_parting}
 use Rattle.dom_model.proofs.TokenText.EditsMade.FittingEdits.{ready-sound}
 use Rattle.dom_model.proofs.TokenText.EditsMade.EditsLeave.{laid, Leave, leave-edit, leave-then}
 use Rattle.dom_model.proofs.TokenText.EditsMade.EditsOfSteps.{leave-making, leave-replace_data}

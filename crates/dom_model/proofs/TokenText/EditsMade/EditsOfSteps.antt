@@ -16,14 +16,13 @@ use Rattle.dom_model.specs.DataAndCopies.Clones.{renumbered, with_copies}
 use Rattle.dom_model.specs.MutationAlgorithms.Discarding.{discarded}
 use Rattle.dom_model.specs.TokenText.Tokens.{same_point, Removal, Splice, EndSet, Making, RangeMaking, Release, Discard}
 use Rattle.dom_model.specs.TokenText.Edits.{set_side, removal_from, removal_if, remove_edits, removals, making, copies_edits, replace_data_edits, end_edit, ends_edits}
+use Rattle.dom_model.specs.TokenText.Fitting.{IsPoint, IsReady, fits_removal, fits_end_set, fits_range_making, fits_release, fits_discard}
 use Rattle.dom_model.proofs.PlainLists.Numbers.{same_or, same, apart}
 use Rattle.dom_model.proofs.Forests.Climbing.{hits-append, hits-first}
 use Rattle.dom_model.proofs.MutationAlgorithms.Loosened.{parent-remove}
 use Rattle.dom_model.proofs.Soundness.SoundWorlds.{IsLive, child_there, sound-remove}
 use Rattle.dom_model.proofs.Soundness.SoundRangeSteps.{live_range}
 use Rattle.dom_model.proofs.Soundness.SoundMaking.{sound-made_node, sound-copies}
-use Rattle.dom_model.proofs.TokenText.Marked.MarkedEnds.{IsPoint, IsReady}
-use Rattle.dom_model.proofs.TokenText.Marked.MarkedEdits.{fits_removal, fits_end_set, fits_range_making, fits_release, fits_discard}
 use Rattle.dom_model.proofs.TokenText.EditsMade.FittingEdits.{end-point, ready-sound, ready-with_range, fits-making, fits-splice}
 use Rattle.dom_model.proofs.TokenText.EditsMade.EditsLeave.{laid, Leave, leave-none, leave-edit, leave-then, leave-alike}
 

@@ -12,12 +12,12 @@ use Rattle.dom_model.specs.Commands.Making.{made_node, named, with_text}
 use Rattle.dom_model.specs.DataAndCopies.Data.{data_of, by_kind, set_data, string_replace_all, set_text_content_by, set_text_content}
 use Rattle.dom_model.specs.TokenText.Edits.{making, set_data_edits, replace_all_edits, string_replace_all_edits, set_text_content_edits_by, set_text_content_edits}
 use Rattle.dom_model.specs.Worlds.Sound.{IsSound}
+use Rattle.dom_model.specs.MutationAlgorithms.Insertable.{IsInsertable}
 use Rattle.dom_model.proofs.Forests.Climbing.{hits-ancestors}
 use Rattle.dom_model.proofs.Forests.OneMoreRoot.{more-there, new-there, children-new, entry-new}
 use Rattle.dom_model.proofs.BoundaryPoints.SplitOrder.{inside-childless}
 use Rattle.dom_model.proofs.Worlds.Measured.{kind-beside}
 use Rattle.dom_model.proofs.Soundness.SoundMaking.{sound-made_node}
-use Rattle.dom_model.proofs.Soundness.SoundInserting.{IsInsertable}
 use Rattle.dom_model.proofs.TokenText.EditsMade.EditsLeave.{Leave, leave-none, leave-then}
 use Rattle.dom_model.proofs.TokenText.EditsMade.EditsOfSteps.{leave-making, leave-replace_data}
 use Rattle.dom_model.proofs.TokenText.EditsMade.EditsOfTrees.{leave-replace_all}

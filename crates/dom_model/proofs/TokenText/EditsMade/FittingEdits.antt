@@ -13,18 +13,16 @@ use Rattle.dom_model.specs.DataAndCopies.Data.{data_of, cut_count}
 use Rattle.dom_model.specs.TokenText.Tokens.{Edit, Splice, Making}
 use Rattle.dom_model.specs.TokenText.Edits.{all_on_world}
 use Rattle.dom_model.specs.Worlds.Sound.{IsBoundary, IsRange, IsSound}
+use Rattle.dom_model.specs.TokenText.Fitting.{Childless, end_at, IsPoint, IsReady, Fits, fits_removal, fits_insertion, fits_splice, fits_parting, fits_merge, fits_end_set, fits_making, fits_range_making, fits_release, fits_discard, AllFit}
+use Rattle.dom_model.specs.DataAndCopies.Joinable.{Lives}
 use Rattle.dom_model.proofs.PlainLists.Numbers.{same_or, same, apart}
 use Rattle.dom_model.proofs.Forests.Changes.{seen, nothing, just}
 use Rattle.dom_model.proofs.Forests.Totals.{total-beside}
 use Rattle.dom_model.proofs.Forests.Entries.{occurs-HasNode}
-use Rattle.dom_model.proofs.TokenText.Pieces.TextParts.{Childless}
 use Rattle.dom_model.proofs.Soundness.SoundForests.{IsWood, parent_no_data}
-use Rattle.dom_model.proofs.Soundness.SoundWorlds.{Lives}
 use Rattle.dom_model.proofs.Soundness.SoundData.{cut_fits}
-use Rattle.dom_model.proofs.TokenText.Marked.MarkedTexts.{end_at}
 use Rattle.dom_model.proofs.TokenText.Marked.MarkedFirst.{kinds-childless}
-use Rattle.dom_model.proofs.TokenText.Marked.MarkedEnds.{IsPoint, IsReady, end_at-other, end_at-set}
-use Rattle.dom_model.proofs.TokenText.Marked.MarkedEdits.{Fits, fits_removal, fits_insertion, fits_splice, fits_parting, fits_merge, fits_end_set, fits_making, fits_range_making, fits_release, fits_discard, AllFit}
+use Rattle.dom_model.proofs.TokenText.Marked.MarkedEnds.{end_at-other, end_at-set}
 
 -- the trees, the live ranges and the next number alone
 abbrev pub laid : World → World

@@ -6,6 +6,7 @@ use Rattle.dom_model.specs.Forests.Forest.{occurs, children_of}
 use Rattle.dom_model.specs.Worlds.World.{World}
 use Rattle.dom_model.specs.MutationAlgorithms.Editing.{remove, is_fragment, nodes_of, emptied_fragment, freed, put_in, put_all, insert_nodes, append}
 use Rattle.dom_model.specs.Worlds.Sound.{IsSound}
+use Rattle.dom_model.specs.MutationAlgorithms.Insertable.{IsPlaceable, ArePlaceable, IsInsertable}
 use Rattle.dom_model.proofs.Forests.Climbing.{hits-first}
 use Rattle.dom_model.proofs.Forests.Lying.{left_out-absent}
 use Rattle.dom_model.proofs.Forests.Entries.{children-put}
@@ -13,8 +14,8 @@ use Rattle.dom_model.proofs.Forests.Indices.{child-there}
 use Rattle.dom_model.proofs.Worlds.SameShape.{children-alike}
 use Rattle.dom_model.proofs.MutationAlgorithms.Loosened.{loosened-remove, loosened-remove_all}
 use Rattle.dom_model.proofs.MutationAlgorithms.Emptied.{all_left_out, children-remove, children-remove_all}
-use Rattle.dom_model.proofs.Soundness.SoundPlacing.{IsPlaceable, ArePlaceable, apart_from, renamed, occurs_placed, all_placeable, sound-put_one}
-use Rattle.dom_model.proofs.Soundness.SoundInserting.{IsInsertable, IsReady, freed_ready}
+use Rattle.dom_model.proofs.Soundness.SoundPlacing.{apart_from, renamed, occurs_placed, all_placeable, sound-put_one}
+use Rattle.dom_model.proofs.Soundness.SoundInserting.{IsReady, freed_ready}
 
 entered-last : (c : ℕ) (xs : List ℕ) → entered None c xs ≡ xs ++ (c ∷ [])
 entered-last c [] = refl

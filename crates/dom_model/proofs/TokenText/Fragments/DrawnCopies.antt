@@ -16,8 +16,8 @@ use Rattle.dom_model.specs.RangesAndContents.Contents.{new_fragment, clone_with,
 use Rattle.dom_model.specs.TokenText.Tokens.{Token, Open, Close, no_marks, unit_tokens}
 use Rattle.dom_model.specs.TokenText.Originals.{opened_in, InStep}
 use Rattle.dom_model.specs.TokenText.Edits.{doing_clone_with, doing_append, doing_clone, doing_fragment}
+use Rattle.dom_model.specs.MutationAlgorithms.Insertable.{IsInsertable}
 use Rattle.dom_model.proofs.DataAndCopies.CopiesPlaced.{kind-copy}
-use Rattle.dom_model.proofs.Soundness.SoundInserting.{IsInsertable}
 use Rattle.dom_model.proofs.TokenText.AlikeTrees.TreesAlike.{Top, top_of}
 use Rattle.dom_model.proofs.MutationAlgorithms.Extending.{tag_in, tag_at}
 use Rattle.dom_model.proofs.RangesAndContents.Drawing.{IsDrawing, Extends, extends-then, Draws, passes_there, passes_too, data-copies, IsHolder, holder-extends, IsComing, may_come, data-append, draws-append}

@@ -15,11 +15,11 @@ use Rattle.dom_model.specs.RangesAndContents.Contents.{child_into, children_into
 use Rattle.dom_model.specs.TokenText.Tokens.{no_marks, token_texts, tokens_among}
 use Rattle.dom_model.specs.TokenText.Originals.{opened_in, InStep}
 use Rattle.dom_model.specs.TokenText.Edits.{doing_clone}
+use Rattle.dom_model.specs.MutationAlgorithms.Insertable.{IsInsertable}
 use Rattle.dom_model.proofs.PlainLists.Numbers.{same_or, same, apart}
 use Rattle.dom_model.proofs.Forests.Climbing.{hits-first}
 use Rattle.dom_model.proofs.Forests.Indices.{child-parent}
 use Rattle.dom_model.proofs.DataAndCopies.CopiesPlaced.{kind-clone}
-use Rattle.dom_model.proofs.Soundness.SoundInserting.{IsInsertable}
 use Rattle.dom_model.proofs.TokenText.AlikeTrees.TreesAlike.{top_of}
 use Rattle.dom_model.proofs.RangesAndContents.Drawing.{IsDrawing, extends-then, Draws, passes_there, passes_too, IsHolder, holder-extends, IsComing, may_come, draws-append}
 use Rattle.dom_model.proofs.RangesAndContents.DrawnPieces.{draws-clone, new-greater, is_drawn, drawn-fragment, IsDrawable, drawable-extends, coming}

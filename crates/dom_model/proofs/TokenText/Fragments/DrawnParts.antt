@@ -13,6 +13,7 @@ use Rattle.dom_model.specs.Commands.Making.{named}
 use Rattle.dom_model.specs.RangesAndContents.Contents.{new_fragment, common_of, path_below, contained_in, contained_children, children_into, tail_into, head_into, parts_into, check_draw}
 use Rattle.dom_model.specs.TokenText.Tokens.{Token, Close}
 use Rattle.dom_model.specs.TokenText.Originals.{opened_in}
+use Rattle.dom_model.specs.RangesAndContents.BesidePaths.{tail_nodes, head_nodes}
 use Rattle.dom_model.proofs.PlainLists.Numbers.{same_or, same, apart}
 use Rattle.dom_model.proofs.Forests.Climbing.{hits-append, hits-first}
 use Rattle.dom_model.proofs.Forests.Indices.{child-there}
@@ -23,7 +24,7 @@ use Rattle.dom_model.proofs.RangesAndContents.DrawnPieces.{is_drawn, IsDrawable}
 use Rattle.dom_model.proofs.RangesAndContents.DrawnPaths.{ArePath, IsWithin, hits-filter}
 use Rattle.dom_model.proofs.RangesAndContents.PathsToEnds.{path-within, path-down}
 use Rattle.dom_model.proofs.TokenText.EditsMade.EditsOfDrawnContents.{at_start, first, holds, same_ancestors, common-same, contained_children-same, contained_drawable}
-use Rattle.dom_model.proofs.TokenText.Contents.PathTokens.{nodes_tokens, tail_tokens, head_tokens, start_path, end_path, parts_tokens, tail_nodes, head_nodes}
+use Rattle.dom_model.proofs.TokenText.Contents.PathTokens.{nodes_tokens, tail_tokens, head_tokens, start_path, end_path, parts_tokens}
 use Rattle.dom_model.proofs.TokenText.Contents.PathShapes.{opens_of}
 use Rattle.dom_model.proofs.TokenText.Fragments.Shapes.{shape}
 use Rattle.dom_model.proofs.TokenText.Fragments.StandingTrees.{Stands, Keeps}

@@ -14,13 +14,14 @@ use Rattle.dom_model.specs.DataAndCopies.Data.{data_of}
 use Rattle.dom_model.specs.RangesAndContents.Contents.{units_into, children_into, copy_into, tail_into, head_into}
 use Rattle.dom_model.specs.TokenText.Tokens.{Token, Open, Close, no_marks, unit_tokens}
 use Rattle.dom_model.specs.TokenText.Originals.{opened_in}
+use Rattle.dom_model.specs.RangesAndContents.BesidePaths.{tail_nodes, head_nodes}
 use Rattle.dom_model.proofs.PlainLists.Numbers.{same_or, same, apart}
 use Rattle.dom_model.proofs.Forests.Climbing.{hits-append, hits-first}
 use Rattle.dom_model.proofs.Forests.Indices.{child-parent, child-once}
 use Rattle.dom_model.proofs.RangesAndContents.Drawing.{IsDrawing, Extends, extends-same, extends-then, passes_there, IsHolder, holder-extends}
 use Rattle.dom_model.proofs.RangesAndContents.DrawnPieces.{new-greater, is_drawn, IsDrawable, drawable-extends}
 use Rattle.dom_model.proofs.RangesAndContents.DrawnPaths.{ArePath, IsWithin, child-drawable, hits-drop, hits-take, hits-past, hits-up_to}
-use Rattle.dom_model.proofs.TokenText.Contents.PathTokens.{nodes_tokens, tail_tokens, head_tokens, tail_nodes, head_nodes}
+use Rattle.dom_model.proofs.TokenText.Contents.PathTokens.{nodes_tokens, tail_tokens, head_tokens}
 use Rattle.dom_model.proofs.TokenText.Contents.PathShapes.{opens_of}
 use Rattle.dom_model.proofs.TokenText.Fragments.Shapes.{shape}
 use Rattle.dom_model.proofs.TokenText.Fragments.StandingTrees.{Stands, Keeps, keeps-then}

@@ -14,9 +14,10 @@ use Rattle.dom_model.specs.MutationAlgorithms.Checks.{up_to, kind_passes}
 use Rattle.dom_model.specs.RangesAndContents.Contents.{path_below, common_of, contained_in, contained_children}
 use Rattle.dom_model.specs.TokenText.Tokens.{no_marks, token_texts, tokens_among}
 use Rattle.dom_model.specs.TokenText.Originals.{opened_in}
+use Rattle.dom_model.specs.Forests.Ways.{IsWay}
+use Rattle.dom_model.specs.RangesAndContents.BesidePaths.{tail_nodes, head_nodes}
 use Rattle.dom_model.proofs.PlainLists.Numbers.{same_or, same, apart}
 use Rattle.dom_model.proofs.Forests.Totals.{total-tree_at}
-use Rattle.dom_model.proofs.Forests.Chains.{IsWay}
 use Rattle.dom_model.proofs.Forests.Climbing.{hits-append, hits-reverse, hits-first, hits-ancestors, not_among-hits}
 use Rattle.dom_model.proofs.Forests.Entries.{occurs-HasNode}
 use Rattle.dom_model.proofs.Forests.Indices.{child-parent, child-once, child-there}
@@ -30,7 +31,7 @@ use Rattle.dom_model.proofs.RangesAndContents.PathsToEnds.{not_up_to, path_witho
 use Rattle.dom_model.proofs.RangesAndContents.WaysBelow.{IsFork, fork, way-above}
 use Rattle.dom_model.proofs.TokenText.AlikeTrees.TreesAlike.{top_of}
 use Rattle.dom_model.proofs.TokenText.Marked.MarkedFirst.{kinds-childless}
-use Rattle.dom_model.proofs.TokenText.Contents.PathTokens.{start_path, end_path, tail_nodes, head_nodes}
+use Rattle.dom_model.proofs.TokenText.Contents.PathTokens.{start_path, end_path}
 use Rattle.dom_model.proofs.TokenText.Contents.WholePieces.{tokens-own}
 use Rattle.dom_model.proofs.TokenText.Fragments.Shapes.{shape, shape-children, tree_shape}
 use Rattle.dom_model.proofs.TokenText.Fragments.StandingTrees.{stands-tags}

@@ -12,7 +12,7 @@ use Rattle.dom_model.specs.TokenText.Tokens.{Token, Open, Close, OneUnit, Mark, 
 use Rattle.dom_model.specs.TokenText.Gaps.{text_among, root_text}
 use Rattle.dom_model.specs.TokenText.Between.{before_mark, opens_left}
 use Rattle.dom_model.specs.TokenText.Originals.{opened_in, innermost}
-use Rattle.dom_model.proofs.Forests.Chains.{IsWay}
+use Rattle.dom_model.specs.Forests.Ways.{IsWay}
 use Rattle.dom_model.proofs.TokenText.Pieces.TokenLists.{opened, tally-append}
 use Rattle.dom_model.proofs.TokenText.Contents.DeletedUnits.{take-front, drop-front}
 use Rattle.dom_model.proofs.TokenText.Contents.MatchedPieces.{matches-units, opens-open}

@@ -12,6 +12,7 @@ use Rattle.dom_model.specs.MutationAlgorithms.Editing.{is_fragment, nodes_of, ap
 use Rattle.dom_model.specs.DataAndCopies.Data.{content_in, data_of, with_data, cut_count, replace_data}
 use Rattle.dom_model.specs.DataAndCopies.Clones.{renumbered, with_copies}
 use Rattle.dom_model.specs.RangesAndContents.Contents.{cut_if}
+use Rattle.dom_model.specs.MutationAlgorithms.Insertable.{IsInsertable}
 use Rattle.dom_model.proofs.PlainLists.Numbers.{same_or, same, apart}
 use Rattle.dom_model.proofs.Forests.Changes.{change_at}
 use Rattle.dom_model.proofs.Forests.Entries.{Lies-entry_in}
@@ -19,7 +20,6 @@ use Rattle.dom_model.proofs.Forests.Indices.{child-parent}
 use Rattle.dom_model.proofs.Worlds.SameShape.{with_node-alike, children-alike}
 use Rattle.dom_model.proofs.Worlds.Measured.{entry-beside, parent-beside, entry-with_node}
 use Rattle.dom_model.proofs.Soundness.SoundWorlds.{child_there}
-use Rattle.dom_model.proofs.Soundness.SoundInserting.{IsInsertable}
 use Rattle.dom_model.proofs.DataAndCopies.CopiesPlaced.{parent-copies}
 use Rattle.dom_model.proofs.RangesAndContents.DrawnPaths.{if_so, if_not}
 use Rattle.dom_model.proofs.MutationAlgorithms.Extending.{put_by_insert}

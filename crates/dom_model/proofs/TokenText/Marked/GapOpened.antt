@@ -7,9 +7,10 @@ use Rattle.dom_model.specs.Worlds.World.{Point, Range}
 use Rattle.dom_model.specs.BoundaryPoints.Points.{after_gap, map_ranges, moved_range}
 use Rattle.dom_model.specs.RangesAndContents.Ranges.{end_of}
 use Rattle.dom_model.specs.TokenText.Tokens.{Token, point, same_point}
+use Rattle.dom_model.specs.TokenText.Fitting.{end_at}
 use Rattle.dom_model.proofs.PlainLists.Numbers.{same_or, same, apart}
 use Rattle.dom_model.proofs.TokenText.Pieces.TokenLists.{marked, AreMarks}
-use Rattle.dom_model.proofs.TokenText.Marked.MarkedTexts.{end_at, stands}
+use Rattle.dom_model.proofs.TokenText.Marked.MarkedTexts.{stands}
 use Rattle.dom_model.proofs.TokenText.Marked.MarkersMoved.{StandFor}
 
 -- the ends of live ranges that all move

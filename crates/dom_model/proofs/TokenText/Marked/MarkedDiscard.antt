@@ -6,6 +6,7 @@ use Rattle.dom_model.specs.Forests.Forest.{Node, Forest, occurs, one_at, tree_at
 use Rattle.dom_model.specs.Worlds.World.{Content, World}
 use Rattle.dom_model.specs.TokenText.Tokens.{Token, on_texts, Discard}
 use Rattle.dom_model.specs.TokenText.Edits.{on_world}
+use Rattle.dom_model.specs.TokenText.Fitting.{IsReady}
 use Rattle.dom_model.proofs.Forests.Totals.{total-tree_at}
 use Rattle.dom_model.proofs.Forests.Lying.{Lies-kept, Lies-without_root}
 use Rattle.dom_model.proofs.Forests.Entries.{Lies-entry_in, occurs-held, entry_in-Lies}
@@ -13,7 +14,6 @@ use Rattle.dom_model.proofs.TokenText.AlikeTrees.TreesAlike.{Alike, bare_entry, 
 use Rattle.dom_model.proofs.TokenText.AlikeTrees.TreesAlikeAfter.{alike-once, alike-inside}
 use Rattle.dom_model.proofs.TokenText.Pieces.RootTexts.{root-on_top, other-texts}
 use Rattle.dom_model.proofs.TokenText.Marked.MarkedTexts.{Marked}
-use Rattle.dom_model.proofs.TokenText.Marked.MarkedEnds.{IsReady}
 
 module _ {X : Type 0} (f : Forest X) (once : (m : ℕ) → occurs m f ≤ 1) (n : ℕ) (root : parent_of f n ≡ None) where
   abbrev gone : ℕ → Bool

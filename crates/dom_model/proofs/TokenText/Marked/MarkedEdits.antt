@@ -9,10 +9,10 @@ use Rattle.dom_model.specs.RangesAndContents.Ranges.{end_of, range_at}
 use Rattle.dom_model.specs.DataAndCopies.Data.{data_of}
 use Rattle.dom_model.specs.TokenText.Tokens.{Token, Edit, Removal, Insertion, Splice, Parting, Merge, EndSet, Making, RangeMaking, Release, Discard, texts_of, gap_among, range_between, marked_ranges, on_texts, all_on_texts}
 use Rattle.dom_model.specs.TokenText.Edits.{on_world, all_on_world}
-use Rattle.dom_model.proofs.TokenText.Pieces.TextParts.{Childless}
-use Rattle.dom_model.proofs.TokenText.Marked.MarkedTexts.{end_at, Marked, marker-stands, no_gap}
+use Rattle.dom_model.specs.TokenText.Fitting.{Childless, end_at, IsPoint, IsReady, Fits, AllFit, fits_removal, fits_insertion, fits_splice, fits_parting, fits_merge, fits_end_set, fits_making, fits_range_making, fits_release, fits_discard}
+use Rattle.dom_model.proofs.TokenText.Marked.MarkedTexts.{Marked, marker-stands, no_gap}
 use Rattle.dom_model.proofs.TokenText.Marked.MarkedFirst.{marked-first}
-use Rattle.dom_model.proofs.TokenText.Marked.MarkedEnds.{IsPoint, IsReady, point_of, marked-release, marked-end_set, marked-range_making}
+use Rattle.dom_model.proofs.TokenText.Marked.MarkedEnds.{point_of, marked-release, marked-end_set, marked-range_making}
 use Rattle.dom_model.proofs.TokenText.Pieces.RootTexts.{marked-making}
 use Rattle.dom_model.proofs.TokenText.Marked.MarkedInsertion.{marked-insertion}
 use Rattle.dom_model.proofs.TokenText.Marked.MarkedRemoval.{marked-removal}
@@ -20,24 +20,6 @@ use Rattle.dom_model.proofs.TokenText.Marked.MarkedSplice.{marked-splice}
 use Rattle.dom_model.proofs.TokenText.Marked.MarkedParting.{marked-parting}
 use Rattle.dom_model.proofs.TokenText.Marked.MarkedMerge.{marked-merge}
 use Rattle.dom_model.proofs.TokenText.Marked.MarkedDiscard.{marked-discard}
-
--- the edit fits the world, as where the operations make it
-pub data Fits (w : World) : Edit → Type 0 where
-  fits_removal : (n parent : ℕ) → parent_of w.forest n ≡ Some parent → Fits w (Removal n)
-  fits_insertion : (n : ℕ) (p : Point) → 0 < occurs n w.forest → parent_of w.forest n ≡ None → 0 < occurs p.node w.forest → occurs p.node (tree_at n w.forest) ≡ 0 → kind_passes is_character_data w.forest p.node ≡ false → p.offset ≤ length (children_of w.forest p.node) → Fits w (Insertion n p)
-  fits_splice : (n offset count : ℕ) (units : List ℕ) → 0 < occurs n w.forest → kind_passes is_character_data w.forest n ≡ true → offset + count ≤ length (data_of w n) → Fits w (Splice n offset count units)
-  fits_parting : (p : Point) (new parent : ℕ) → parent_of w.forest p.node ≡ Some parent → kind_passes is_character_data w.forest p.node ≡ true → p.offset ≤ length (data_of w p.node) → occurs new w.forest ≡ 0 → Fits w (Parting p new)
-  fits_merge : (n next parent : ℕ) → parent_of w.forest n ≡ Some parent → parent_of w.forest next ≡ Some parent → index_of w.forest next ≡ index_of w.forest n + 1 → kind_passes is_character_data w.forest n ≡ true → kind_passes is_character_data w.forest next ≡ true → Fits w (Merge n next)
-  fits_end_set : (r : ℕ) (side : Bool) (p : Point) (range : Range) → range_at w r ≡ Some range → IsPoint w p → Fits w (EndSet r side p)
-  fits_making : (f : Forest Content) → Childless f → ((n : ℕ) → occurs n w.forest + occurs n f ≤ 1) → Fits w (Making f)
-  fits_range_making : (r : ℕ) (range : Range) → r ≡ length w.ranges → IsPoint w range.start → IsPoint w range.end → Fits w (RangeMaking r range)
-  fits_release : (r : ℕ) → Fits w (Release r)
-  fits_discard : (n : ℕ) → parent_of w.forest n ≡ None → Fits w (Discard n)
-
--- each edit of a list fits the world that those before it left, and each such world is ready
-abbrev pub AllFit : World → List Edit → Type 0
-AllFit w [] = Unit {0}
-AllFit w (e ∷ es) = IsReady w × Fits w e × AllFit (on_world e w) es
 
 pub marked-edit : (texts : List (List Token)) (w : World) → Marked texts w → IsReady w → (e : Edit) → Fits w e → Marked (on_texts e texts) (on_world e w)
 marked-edit texts w m ready e (fits_removal n parent a) = marked-removal texts w m ready n parent a

@@ -9,21 +9,12 @@ use Rattle.dom_model.specs.Forests.Lengths.{node_length, unit_count}
 use Rattle.dom_model.specs.RangesAndContents.Ranges.{end_of, range_at}
 use Rattle.dom_model.specs.TokenText.Tokens.{Token, Mark, is_mark_of, same_side, mark_in, mark_out, EndSet, RangeMaking, Release, on_texts}
 use Rattle.dom_model.specs.TokenText.Edits.{set_side, on_world}
+use Rattle.dom_model.specs.TokenText.Fitting.{end_at, IsPoint, IsReady}
 use Rattle.dom_model.proofs.PlainLists.Numbers.{same_or, same, apart}
 use Rattle.dom_model.proofs.TokenText.Pieces.TokenLists.{AreMarks, AreMarks-filter}
-use Rattle.dom_model.proofs.TokenText.Marked.MarkedTexts.{end_at, Marked, HasPoint, trees_once}
+use Rattle.dom_model.proofs.TokenText.Marked.MarkedTexts.{Marked, HasPoint, trees_once}
 use Rattle.dom_model.proofs.TokenText.Marked.MarkedFirst.{has_point}
 use Rattle.dom_model.proofs.TokenText.Marked.MarkersMoved.{with_mark, without_mark, StandFor, mark_in-texts, mark_out-texts, AreMarks-with, standing-with, standing-without, end_itself}
-
--- a point of the world: its node stands in the forest, and its offset is within the node's length
-pub record IsPoint (w : World) (p : Point) : Type 0 where
-  pub there : 0 < occurs p.node w.forest
-  pub within : p.offset ≤ node_length unit_count w.forest p.node
-
--- a number stands once in the forest, and each end of a live range is a point there
-pub record IsReady (w : World) : Type 0 where
-  pub once : (n : ℕ) → occurs n w.forest ≤ 1
-  pub points : (r : ℕ) (side : Bool) (p : Point) → end_at w.ranges r side ≡ Some p → IsPoint w p
 
 pub point_of : (texts : List (List Token)) (w : World) (m : Marked texts w) → IsReady w → (p : Point) → IsPoint w p → HasPoint m.trees p
 point_of texts w m i p h = has_point m.trees w.forest m.alike i.once p h.there h.within

@@ -10,12 +10,13 @@ use Rattle.dom_model.specs.Worlds.World.{Content, Point, Range, World}
 use Rattle.dom_model.specs.RangesAndContents.Ranges.{end_of}
 use Rattle.dom_model.specs.Forests.Lengths.{length_of, length_in, node_length, unit_count}
 use Rattle.dom_model.specs.TokenText.Tokens.{Token, Open, Close, is_mark_of, same_side, point, same_point, mark_if, marks_from, unit_tokens, child_tokens, token_texts, texts_of}
+use Rattle.dom_model.specs.TokenText.Fitting.{Childless, end_at}
 use Rattle.dom_model.proofs.PlainLists.Numbers.{same_or, same, apart}
 use Rattle.dom_model.proofs.TokenText.Pieces.TokenLists.{marked, tally-append, AreMarks, AreMarks-append}
-use Rattle.dom_model.proofs.TokenText.Pieces.TextParts.{inside, Childless}
+use Rattle.dom_model.proofs.TokenText.Pieces.TextParts.{inside}
 use Rattle.dom_model.proofs.TokenText.Pieces.TextCounts.{measure_of}
 use Rattle.dom_model.proofs.TokenText.AlikeTrees.TreesAlike.{Alike, bare, bared, bare_entry, bared-alike, entry_under-bared, total-bared, top_of}
-use Rattle.dom_model.proofs.TokenText.Marked.MarkedTexts.{end_at, stands, Marked, HasPoint}
+use Rattle.dom_model.proofs.TokenText.Marked.MarkedTexts.{stands, Marked, HasPoint}
 
 no_child : (parent kind : Kind) → is_character_data parent ≡ true → may_stand_in parent kind ≡ true → ⊥
 no_child Element k c h = false≢true c

@@ -13,12 +13,13 @@ use Rattle.dom_model.specs.MutationAlgorithms.Editing.{node_document}
 use Rattle.dom_model.specs.DataAndCopies.Data.{content_in}
 use Rattle.dom_model.specs.TokenText.Tokens.{Token, Open, Close, point, child_tokens, token_texts, in_gap, after_marks, other_texts, on_texts, Insertion}
 use Rattle.dom_model.specs.TokenText.Edits.{on_world}
+use Rattle.dom_model.specs.TokenText.Fitting.{Childless, end_at, IsReady}
 use Rattle.dom_model.proofs.PlainLists.Numbers.{same_or, same, apart}
 use Rattle.dom_model.proofs.Forests.Totals.{total-beside, total-tree_at}
 use Rattle.dom_model.proofs.Forests.Lying.{Lies-without_root}
 use Rattle.dom_model.proofs.Forests.Entries.{Lies-entry_in, entry_under-Lies}
 use Rattle.dom_model.proofs.TokenText.Pieces.TokenLists.{AreMarks, after_marks-marks}
-use Rattle.dom_model.proofs.TokenText.Pieces.TextParts.{breadth, inside, own, own-then, child_front, child_tokens-beside, Childless}
+use Rattle.dom_model.proofs.TokenText.Pieces.TextParts.{breadth, inside, own, own-then, child_front, child_tokens-beside}
 use Rattle.dom_model.proofs.TokenText.Pieces.TextPieces.{child_front-same, inside-same}
 use Rattle.dom_model.proofs.TokenText.Pieces.TextContexts.{AgreeOff, Around, around_texts, with_root}
 use Rattle.dom_model.proofs.TokenText.Pieces.TextPoints.{child_back, child_tokens-back, child_back-same, TreesParted, trees_parted, Gap, gap_in_children}
@@ -26,9 +27,8 @@ use Rattle.dom_model.proofs.TokenText.AlikeTrees.TreesAlike.{Alike, Top, top_of,
 use Rattle.dom_model.proofs.TokenText.AlikeTrees.TreesAlikeAfter.{alike-once, alike-inside, alike-put, alike-adopted, entry_parts}
 use Rattle.dom_model.proofs.TokenText.AlikeTrees.TreesPlaced.{placed_between, with_root-placed}
 use Rattle.dom_model.proofs.TokenText.Pieces.RootTexts.{OnTop, root-on_top, other-texts, tokens_among-root}
-use Rattle.dom_model.proofs.TokenText.Marked.MarkedTexts.{end_at, stands, Marked, not_inside, not_twice}
+use Rattle.dom_model.proofs.TokenText.Marked.MarkedTexts.{stands, Marked, not_inside, not_twice}
 use Rattle.dom_model.proofs.TokenText.Marked.MarkersMoved.{in_gap-reaches}
-use Rattle.dom_model.proofs.TokenText.Marked.MarkedEnds.{IsReady}
 use Rattle.dom_model.proofs.TokenText.Marked.GapOpened.{end_at-moved, gap_opened, opened-earlier, opened-new, opened-later, standing-opened, AreMarks-opened, equal, different}
 
 -- the node stands in the trees with its kind and its children of the world's forest

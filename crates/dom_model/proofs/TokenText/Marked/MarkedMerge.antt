@@ -12,6 +12,7 @@ use Rattle.dom_model.specs.MutationAlgorithms.Checks.{kind_passes}
 use Rattle.dom_model.specs.DataAndCopies.Data.{data_of, with_data}
 use Rattle.dom_model.specs.TokenText.Tokens.{Token, point, token_texts, on_texts, Merge}
 use Rattle.dom_model.specs.TokenText.Edits.{on_world, merge_from}
+use Rattle.dom_model.specs.TokenText.Fitting.{Childless, end_at, IsReady}
 use Rattle.dom_model.proofs.Forests.Undone.{beside-assoc}
 use Rattle.dom_model.proofs.Forests.Tops.{tops-beside}
 use Rattle.dom_model.proofs.Forests.TreeOrder.Flattened.{hits-numbers}
@@ -19,7 +20,7 @@ use Rattle.dom_model.proofs.Forests.Lying.{total-with_node}
 use Rattle.dom_model.proofs.Forests.Entries.{entry_under-absent}
 use Rattle.dom_model.proofs.Forests.Indices.{child-listed, index-child}
 use Rattle.dom_model.proofs.Forests.Paths.{parent-path}
-use Rattle.dom_model.proofs.TokenText.Pieces.TextParts.{breadth, Childless}
+use Rattle.dom_model.proofs.TokenText.Pieces.TextParts.{breadth}
 use Rattle.dom_model.proofs.TokenText.Pieces.TextCounts.{measure_of}
 use Rattle.dom_model.proofs.TokenText.Pieces.TextContexts.{with_root}
 use Rattle.dom_model.proofs.TokenText.Pieces.TextSiblings.{Siblings, siblings, Childless-child}
@@ -29,8 +30,8 @@ use Rattle.dom_model.proofs.TokenText.AlikeTrees.TreesWithin.{Child, child_of}
 use Rattle.dom_model.proofs.TokenText.Pieces.RootTexts.{texts-beside}
 use Rattle.dom_model.proofs.TokenText.AlikeTrees.MergedTrees.{Behind, child_behind, changed-without, changed-next, index-with_node}
 use Rattle.dom_model.proofs.TokenText.Pieces.MergedTexts.{merged-texts}
-use Rattle.dom_model.proofs.TokenText.Marked.MarkedTexts.{end_at, stands, Marked, HasPoint}
-use Rattle.dom_model.proofs.TokenText.Marked.MarkedEnds.{IsReady, point_of}
+use Rattle.dom_model.proofs.TokenText.Marked.MarkedTexts.{stands, Marked, HasPoint}
+use Rattle.dom_model.proofs.TokenText.Marked.MarkedEnds.{point_of}
 use Rattle.dom_model.proofs.TokenText.Marked.MarkedInsertion.{Stands, stands_in, Childless-with_root}
 use Rattle.dom_model.proofs.TokenText.Marked.MarkedSplice.{spliced-parts, with_root-node}
 use Rattle.dom_model.proofs.TokenText.Marked.MarkedRemoval.{among-there}

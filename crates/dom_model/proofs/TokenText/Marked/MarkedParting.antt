@@ -15,11 +15,12 @@ use Rattle.dom_model.specs.MutationAlgorithms.Editing.{node_document}
 use Rattle.dom_model.specs.DataAndCopies.Data.{data_of, tail_of, with_data, content_in}
 use Rattle.dom_model.specs.TokenText.Tokens.{Token, point, token_texts, on_texts, Parting}
 use Rattle.dom_model.specs.TokenText.Edits.{on_world, parting_from, with_new_text}
+use Rattle.dom_model.specs.TokenText.Fitting.{Childless, end_at, IsReady}
 use Rattle.dom_model.proofs.Forests.Entries.{entry_under-absent}
 use Rattle.dom_model.proofs.Forests.Indices.{child-listed, index-child}
 use Rattle.dom_model.proofs.Forests.Paths.{parent-path}
 use Rattle.dom_model.proofs.TokenText.Pieces.TokenLists.{AreMarks}
-use Rattle.dom_model.proofs.TokenText.Pieces.TextParts.{breadth, Childless}
+use Rattle.dom_model.proofs.TokenText.Pieces.TextParts.{breadth}
 use Rattle.dom_model.proofs.TokenText.Pieces.TextPieces.{texts-same}
 use Rattle.dom_model.proofs.TokenText.Pieces.TextContexts.{with_root}
 use Rattle.dom_model.proofs.TokenText.Pieces.TextPoints.{Parted, parted}
@@ -28,8 +29,7 @@ use Rattle.dom_model.proofs.TokenText.AlikeTrees.TreesAlikeAfter.{alike-once, al
 use Rattle.dom_model.proofs.TokenText.AlikeTrees.TreesWithin.{Child, child_of}
 use Rattle.dom_model.proofs.TokenText.AlikeTrees.PartedTrees.{with_node-root, with_node-child, placed_behind, entry-beside}
 use Rattle.dom_model.proofs.TokenText.Pieces.PartedTexts.{parted-texts}
-use Rattle.dom_model.proofs.TokenText.Marked.MarkedTexts.{end_at, stands, Marked}
-use Rattle.dom_model.proofs.TokenText.Marked.MarkedEnds.{IsReady}
+use Rattle.dom_model.proofs.TokenText.Marked.MarkedTexts.{stands, Marked}
 use Rattle.dom_model.proofs.TokenText.Marked.MarkedInsertion.{Stands, stands_in, Childless-with_root}
 use Rattle.dom_model.proofs.TokenText.Marked.MarkedSplice.{spliced-parts}
 use Rattle.dom_model.proofs.TokenText.Marked.GapOpened.{end_at-moved, different, equal}

@@ -8,6 +8,7 @@ use Rattle.dom_model.specs.Worlds.World.{Content, Point, World}
 use Rattle.dom_model.specs.BoundaryPoints.Points.{after_removal}
 use Rattle.dom_model.specs.TokenText.Tokens.{Token, Open, Close, point, child_tokens, token_texts, no_marks, unmarked, marks_in, on_texts, Removal}
 use Rattle.dom_model.specs.TokenText.Edits.{on_world, removal_from}
+use Rattle.dom_model.specs.TokenText.Fitting.{Childless, end_at, IsReady}
 use Rattle.dom_model.proofs.Forests.Totals.{total-tree_at}
 use Rattle.dom_model.proofs.Forests.Climbing.{among-hits, not_among-hits}
 use Rattle.dom_model.proofs.Forests.TreeOrder.Flattened.{hits-numbers}
@@ -15,7 +16,7 @@ use Rattle.dom_model.proofs.Forests.Entries.{entry_under-absent}
 use Rattle.dom_model.proofs.Forests.Indices.{child-listed, index-child}
 use Rattle.dom_model.proofs.Forests.Paths.{parent-path}
 use Rattle.dom_model.proofs.TokenText.Pieces.TokenLists.{marked, AreMarks, AreMarks-marks_in, marked-marks_in}
-use Rattle.dom_model.proofs.TokenText.Pieces.TextParts.{breadth, inside, own, child_front, child_tokens-beside, Childless}
+use Rattle.dom_model.proofs.TokenText.Pieces.TextParts.{breadth, inside, own, child_front, child_tokens-beside}
 use Rattle.dom_model.proofs.TokenText.Pieces.TextPieces.{Closes-inside, unmarked-own, own-same, child_front-same}
 use Rattle.dom_model.proofs.TokenText.Pieces.TextCounts.{marked-own, gap_sum, gap_sum-none, gap_sum-same, marked_at}
 use Rattle.dom_model.proofs.TokenText.Pieces.TextContexts.{AgreeOff, with_root}
@@ -25,8 +26,8 @@ use Rattle.dom_model.proofs.TokenText.AlikeTrees.TreesAlikeAfter.{alike-once, al
 use Rattle.dom_model.proofs.TokenText.AlikeTrees.TreesPlaced.{left_between, with_root-left}
 use Rattle.dom_model.proofs.TokenText.AlikeTrees.TreesWithin.{Child, child_of, tree_within}
 use Rattle.dom_model.proofs.TokenText.Pieces.RootTexts.{texts-beside}
-use Rattle.dom_model.proofs.TokenText.Marked.MarkedTexts.{end_at, stands, Marked, HasPoint, at_point, one_gap}
-use Rattle.dom_model.proofs.TokenText.Marked.MarkedEnds.{IsReady, point_of}
+use Rattle.dom_model.proofs.TokenText.Marked.MarkedTexts.{stands, Marked, HasPoint, at_point, one_gap}
+use Rattle.dom_model.proofs.TokenText.Marked.MarkedEnds.{point_of}
 use Rattle.dom_model.proofs.TokenText.Marked.GapOpened.{end_at-moved, different, equal}
 use Rattle.dom_model.proofs.TokenText.Marked.GapClosed.{gap_closed, closed-earlier, closed-there, closed-later, Inner, standing-closed, AreMarks-closed}
 use Rattle.dom_model.proofs.TokenText.Marked.MarkedInsertion.{Stands, stands_in}

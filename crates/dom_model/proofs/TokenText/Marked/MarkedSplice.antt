@@ -11,18 +11,18 @@ use Rattle.dom_model.specs.MutationAlgorithms.Checks.{kind_passes}
 use Rattle.dom_model.specs.DataAndCopies.Data.{data_of, with_data}
 use Rattle.dom_model.specs.TokenText.Tokens.{Token, Open, Close, OneUnit, point, unit_tokens, token_texts, after_marks, units_out, unit_list, on_texts, Splice}
 use Rattle.dom_model.specs.TokenText.Edits.{on_world}
+use Rattle.dom_model.specs.TokenText.Fitting.{Childless, end_at, IsReady}
 use Rattle.dom_model.proofs.PlainLists.Numbers.{same_or, same, apart}
 use Rattle.dom_model.proofs.Forests.Totals.{tree_at-absent, beside-empty}
 use Rattle.dom_model.proofs.TokenText.Pieces.TokenLists.{AreMarks, AreMarks-append, after_marks-marks, units_out-marks, units_out-none}
-use Rattle.dom_model.proofs.TokenText.Pieces.TextParts.{inside, unit_front, unit_tokens-append, Childless}
+use Rattle.dom_model.proofs.TokenText.Pieces.TextParts.{inside, unit_front, unit_tokens-append}
 use Rattle.dom_model.proofs.TokenText.Pieces.TextPieces.{unit_front-same}
 use Rattle.dom_model.proofs.TokenText.Pieces.TextContexts.{AgreeOff, Around, around_texts, with_root, with_root-absent}
 use Rattle.dom_model.proofs.TokenText.Pieces.TextPoints.{unit_back, unit_tokens-back, unit_back-same, Parted, parted, gap_in_units}
 use Rattle.dom_model.proofs.TokenText.AlikeTrees.TreesAlike.{Childless-tree_at}
 use Rattle.dom_model.proofs.TokenText.AlikeTrees.TreesAlikeAfter.{alike-once, alike-node}
-use Rattle.dom_model.proofs.TokenText.Marked.MarkedTexts.{end_at, stands, Marked, not_twice}
+use Rattle.dom_model.proofs.TokenText.Marked.MarkedTexts.{stands, Marked, not_twice}
 use Rattle.dom_model.proofs.TokenText.Marked.MarkersMoved.{in_gap-reaches}
-use Rattle.dom_model.proofs.TokenText.Marked.MarkedEnds.{IsReady}
 use Rattle.dom_model.proofs.TokenText.Marked.GapOpened.{end_at-moved, different, equal}
 use Rattle.dom_model.proofs.TokenText.Marked.GapSpliced.{gathered, spliced_at, gap_spliced, spliced-earlier, spliced-there, spliced-new, spliced-later, standing-spliced, AreMarks-spliced}
 use Rattle.dom_model.proofs.TokenText.Marked.MarkedInsertion.{Stands, stands_in, Childless-with_root}

@@ -5,6 +5,7 @@ use Rattle.dom_model.specs.Forests.Forest.{Node, Forest, empty, node, occurs, on
 use Rattle.dom_model.specs.Worlds.World.{Content, Point, Range, World}
 use Rattle.dom_model.specs.RangesAndContents.Ranges.{end_of}
 use Rattle.dom_model.specs.TokenText.Tokens.{Token, Close, is_mark_of, point, same_point, no_marks, token_texts, unmarked, gap_of, gap_among}
+use Rattle.dom_model.specs.TokenText.Fitting.{end_at}
 use Rattle.dom_model.proofs.PlainLists.Numbers.{same_or, same, apart}
 use Rattle.dom_model.proofs.Forests.Totals.{total-tree_at}
 use Rattle.dom_model.proofs.TokenText.Pieces.TokenLists.{tallies, marked, tally-append, AreMarks}
@@ -16,10 +17,6 @@ use Rattle.dom_model.proofs.TokenText.Pieces.TextContexts.{around_texts}
 use Rattle.dom_model.proofs.TokenText.Pieces.TextPoints.{Gap, gap_inside}
 use Rattle.dom_model.proofs.TokenText.Pieces.TextGaps.{counted, gap_among-around, gap_among-none, around-spells}
 use Rattle.dom_model.proofs.TokenText.AlikeTrees.TreesAlike.{Alike}
-
--- an end of a live range; none where there is no such range
-abbrev pub end_at : List (Option Range) → ℕ → Bool → Option Point
-end_at ranges r side = option_map (end_of side) (slice_index_or ranges r None)
 
 -- how many markers an end has in a gap
 abbrev pub stands : Option Point → Point → ℕ

@@ -7,10 +7,11 @@ use Rattle.dom_model.specs.Forests.Kinds.{is_character_data}
 use Rattle.dom_model.specs.Forests.Forest.{Node, Forest, empty, node, occurs, tree_at}
 use Rattle.dom_model.specs.Worlds.World.{Content, Point}
 use Rattle.dom_model.specs.TokenText.Tokens.{Token, Open, Close, OneUnit, Mark, is_mark_of, same_side, point, same_point, stands_at, unit_tokens, child_tokens, token_texts, at_gap, in_gap, mark_in, mark_out}
+use Rattle.dom_model.specs.TokenText.Fitting.{Childless}
 use Rattle.dom_model.proofs.PlainLists.Numbers.{Same, same_or, same, apart}
 use Rattle.dom_model.proofs.TokenText.Pieces.TokenLists.{marked, AreMarks}
 use Rattle.dom_model.proofs.TokenText.Pieces.TextWalks.{walk, at_gap-skips, at_gap-there}
-use Rattle.dom_model.proofs.TokenText.Pieces.TextParts.{inside, Childless}
+use Rattle.dom_model.proofs.TokenText.Pieces.TextParts.{inside}
 use Rattle.dom_model.proofs.TokenText.Pieces.TextContexts.{AgreeOff, Around, around_texts, with_root-itself}
 use Rattle.dom_model.proofs.TokenText.Pieces.TextPoints.{Gap, gap_inside}
 use Rattle.dom_model.proofs.TokenText.Pieces.TextGaps.{in_gap-around, around-spells, around-free}

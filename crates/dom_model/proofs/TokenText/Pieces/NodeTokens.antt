@@ -4,10 +4,11 @@ use Rattle.std.proofs.lemmas.Bool.{cases_lt}
 use Rattle.dom_model.specs.Forests.Forest.{Node, Forest, empty, node, occurs, tree_at, entry_in}
 use Rattle.dom_model.specs.Worlds.World.{Content, Point, World}
 use Rattle.dom_model.specs.TokenText.Tokens.{Token, is_open, no_marks, token_texts, unmarked, tokens_among}
+use Rattle.dom_model.specs.TokenText.Fitting.{Childless}
 use Rattle.dom_model.proofs.PlainLists.Numbers.{same_or, same, apart}
 use Rattle.dom_model.proofs.Forests.Totals.{tree_at-absent}
 use Rattle.dom_model.proofs.TokenText.Pieces.TokenLists.{tallies, AreMarks}
-use Rattle.dom_model.proofs.TokenText.Pieces.TextParts.{own, inside, Childless}
+use Rattle.dom_model.proofs.TokenText.Pieces.TextParts.{own, inside}
 use Rattle.dom_model.proofs.TokenText.Pieces.TextPieces.{Closes-inside, unmarked-own}
 use Rattle.dom_model.proofs.TokenText.Pieces.TextCounts.{opened-texts}
 use Rattle.dom_model.proofs.TokenText.Pieces.TextContexts.{around_texts}

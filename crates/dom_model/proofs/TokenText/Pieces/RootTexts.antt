@@ -6,19 +6,19 @@ use Rattle.dom_model.specs.TokenText.Tokens.{Token, Open, Close, OneUnit, Mark, 
 use Rattle.dom_model.specs.TokenText.Edits.{on_world}
 use Rattle.dom_model.proofs.PlainLists.Numbers.{same_or, same, apart}
 use Rattle.dom_model.specs.Forests.Lies.{Lies}
+use Rattle.dom_model.specs.TokenText.Fitting.{Childless, end_at, IsReady}
 use Rattle.dom_model.proofs.Forests.Lying.{absent_under}
 use Rattle.dom_model.proofs.Forests.Totals.{without-absent, tree_at-absent}
 use Rattle.dom_model.proofs.Forests.Entries.{Lies-entry_in}
 use Rattle.dom_model.proofs.TokenText.Pieces.TokenLists.{opened, marked, AreMarks, from_open-none}
-use Rattle.dom_model.proofs.TokenText.Pieces.TextParts.{inside, own, Childless}
+use Rattle.dom_model.proofs.TokenText.Pieces.TextParts.{inside, own}
 use Rattle.dom_model.proofs.TokenText.Pieces.TextPieces.{Closes-inside, through-node, texts-same}
 use Rattle.dom_model.proofs.TokenText.Pieces.TextCounts.{opened-own}
 use Rattle.dom_model.proofs.TokenText.AlikeTrees.TreesAlike.{bared, bared-alike}
 use Rattle.dom_model.proofs.TokenText.AlikeTrees.TreesAlikeAfter.{alike-beside}
-use Rattle.dom_model.proofs.TokenText.Marked.MarkedTexts.{end_at, stands, Marked}
+use Rattle.dom_model.proofs.TokenText.Marked.MarkedTexts.{stands, Marked}
 use Rattle.dom_model.proofs.TokenText.Marked.MarkedFirst.{bared-texts}
 use Rattle.dom_model.proofs.TokenText.Marked.MarkersMoved.{end_itself}
-use Rattle.dom_model.proofs.TokenText.Marked.MarkedEnds.{IsReady}
 
 -- the number stands under no root
 abbrev pub OnTop : ℕ → Forest Content → Type 0

@@ -5,9 +5,10 @@ use Rattle.dom_model.specs.Forests.Kinds.{is_character_data}
 use Rattle.dom_model.specs.Forests.Forest.{Node, Forest, empty, node, occurs, one_at, beside, tree_at, with_tree}
 use Rattle.dom_model.specs.Worlds.World.{Content, Point}
 use Rattle.dom_model.specs.TokenText.Tokens.{Token, Open, Close, point, child_tokens, token_texts}
+use Rattle.dom_model.specs.TokenText.Fitting.{Childless}
 use Rattle.dom_model.proofs.PlainLists.Numbers.{same_or, same, apart}
 use Rattle.dom_model.proofs.Forests.Totals.{total-tree_at, tree_at-absent, beside-empty}
-use Rattle.dom_model.proofs.TokenText.Pieces.TextParts.{inside, own, own-then, Childless}
+use Rattle.dom_model.proofs.TokenText.Pieces.TextParts.{inside, own, own-then}
 use Rattle.dom_model.proofs.TokenText.Pieces.TextPieces.{children-same, inside-same, texts-same}
 
 module _ {X : Type 0} where

@@ -6,10 +6,11 @@ use Rattle.dom_model.specs.Forests.Kinds.{is_character_data}
 use Rattle.dom_model.specs.Forests.Forest.{Node, Forest, empty, node, occurs, one_at, tree_at}
 use Rattle.dom_model.specs.Worlds.World.{Content, Point}
 use Rattle.dom_model.specs.TokenText.Tokens.{Token, Open, Close, OneUnit, is_open, is_mark_of, point, unit_tokens, child_tokens, token_texts}
+use Rattle.dom_model.specs.TokenText.Fitting.{Childless}
 use Rattle.dom_model.proofs.PlainLists.Numbers.{same_or, same, apart}
 use Rattle.dom_model.proofs.Forests.Totals.{tree_at-absent, beside-empty}
 use Rattle.dom_model.proofs.TokenText.Pieces.TokenLists.{tallies, marked, opened, tally-append, AreMarks, opened-marks}
-use Rattle.dom_model.proofs.TokenText.Pieces.TextParts.{breadth, inside, own, Childless}
+use Rattle.dom_model.proofs.TokenText.Pieces.TextParts.{breadth, inside, own}
 
 -- how many units or children a node has
 abbrev pub measure_of : Node Content → Forest Content → ℕ

@@ -4,9 +4,10 @@ use Rattle.std.proofs.lemmas.List.{map-append}
 use Rattle.dom_model.specs.Forests.Forest.{Node, Forest, empty, node, occurs, one_at, tree_at}
 use Rattle.dom_model.specs.Worlds.World.{Content, Point}
 use Rattle.dom_model.specs.TokenText.Tokens.{Token, Open, Close, is_open, is_mark_of, point, stands_at, token_texts, at_gap, in_gap, gap_of, gap_among}
+use Rattle.dom_model.specs.TokenText.Fitting.{Childless}
 use Rattle.dom_model.proofs.TokenText.Pieces.TokenLists.{tally, tallies, marked, opened, tally-append, tallies-append, AreMarks}
 use Rattle.dom_model.proofs.TokenText.Pieces.TextWalks.{walk, Away-walk, stands-away, Misses-away, at_gap-skips, in_gap-away, gap_of-skips, gap_of-none}
-use Rattle.dom_model.proofs.TokenText.Pieces.TextParts.{inside, Childless}
+use Rattle.dom_model.proofs.TokenText.Pieces.TextParts.{inside}
 use Rattle.dom_model.proofs.TokenText.Pieces.TextCounts.{opened-inside, opened-texts}
 use Rattle.dom_model.proofs.TokenText.Pieces.TextContexts.{Around, with_root-itself}
 

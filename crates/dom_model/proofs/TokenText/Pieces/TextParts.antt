@@ -29,11 +29,6 @@ abbrev pub unit_front : (Point → List Token) → ℕ → ℕ → List ℕ → 
 unit_front marks n i [] = []
 unit_front marks n i (u ∷ units) = marks (point n i) ++ (OneUnit u ∷ unit_front marks n (suc i) units)
 
--- character data has no children
-abbrev pub Childless : Forest Content → Type 0
-Childless empty = Unit {0}
-Childless (node x kids rest) = (is_character_data x.label.kind ≡ true → kids ≡ empty) × Childless kids × Childless rest
-
 pub own-then : (marks : (Point → List Token)) (x : Node Content) (kids : Forest Content) (ts : List Token) → Open x.number ∷ (inside marks x kids ++ (Close ∷ ts)) ≡ own marks x kids ++ ts
 own-then marks x kids ts = ap (λ (us : List Token). Open x.number ∷ us) (sym (append_assoc (inside marks x kids) (Close ∷ []) ts))
 

@@ -4,9 +4,10 @@ use Rattle.dom_model.specs.Forests.Kinds.{is_character_data}
 use Rattle.dom_model.specs.Forests.Forest.{Node, Forest, empty, node, occurs, one_at, beside, tree_at}
 use Rattle.dom_model.specs.Worlds.World.{Content, Point}
 use Rattle.dom_model.specs.TokenText.Tokens.{Token, Open, Close, is_open, point, child_tokens, token_texts}
+use Rattle.dom_model.specs.TokenText.Fitting.{Childless}
 use Rattle.dom_model.proofs.Forests.Totals.{total-beside, total-tree_at, beside-empty}
 use Rattle.dom_model.proofs.TokenText.Pieces.TokenLists.{opened, tally-append, AreMarks, opened-marks}
-use Rattle.dom_model.proofs.TokenText.Pieces.TextParts.{breadth, inside, child_front, child_tokens-front, child_tokens-beside, Childless}
+use Rattle.dom_model.proofs.TokenText.Pieces.TextParts.{breadth, inside, child_front, child_tokens-front, child_tokens-beside}
 use Rattle.dom_model.proofs.TokenText.Pieces.TextCounts.{opened-children}
 use Rattle.dom_model.proofs.TokenText.Pieces.TextContexts.{Around, around_texts, no_data}
 use Rattle.dom_model.proofs.TokenText.Pieces.TextGaps.{Free, around-spells, around-free}

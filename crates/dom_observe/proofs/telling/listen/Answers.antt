@@ -4,7 +4,7 @@ use Rattle.std.specs.Prelude.{slice_index_or, unwrap_or, option_to_list}
 use Rattle.std.specs.List.{AllByRecursion}
 use Rattle.std.specs.Map.{keys_of, lookup}
 use Rattle.dom_model.specs.PlainLists.Lists.{among}
-use Rattle.dom_model.proofs.MutationObservers.Queues.{with_last, with_all_last}
+use Rattle.dom_model.specs.PlainLists.LastOnce.{with_last, with_all_last}
 use Rattle.dom_observe.specs.Names.{text_of}
 use Rattle.dom_observe.specs.Registrations.{at, Stands}
 use Rattle.dom_observe.specs.Telling.{listener_under, listeners, flag_of}

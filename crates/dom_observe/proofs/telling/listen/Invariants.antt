@@ -4,7 +4,7 @@ use Rattle.std.specs.List.{AllByRecursion}
 use Rattle.std.specs.Map.{keys_of}
 use Rattle.indexmap.specs.IndexMap.{get, IsUnique}
 use Rattle.dom_model.specs.PlainLists.Lists.{among}
-use Rattle.dom_model.proofs.MutationObservers.Queues.{with_all_last}
+use Rattle.dom_model.specs.PlainLists.LastOnce.{with_all_last}
 use Rattle.dom_observe.specs.Names.{text_of}
 use Rattle.dom_observe.specs.Registrations.{at, Stands}
 use Rattle.dom_observe.specs.Telling.{listeners, flag_of}

@@ -2,7 +2,8 @@
 use Rattle.std.proofs.Common.{◌*◌}
 use Rattle.dom_model.specs.Forests.Forest.{HasNode, size}
 use Rattle.dom_model.specs.Traversal.WalkSteps.{back_past_node, previous_step, previous_by_steps}
-use Rattle.dom_model.proofs.Traversal.WalksEnd.{Walks, moves_left}
+use Rattle.dom_model.specs.Traversal.Ending.{moves_left}
+use Rattle.dom_model.proofs.Traversal.WalksEnd.{Walks}
 use Rattle.dom_traverse.proofs.walks.previous_node.Given as goal
 
 abbrev pub invariant-loop-sibling : goal.invariant-loop-sibling

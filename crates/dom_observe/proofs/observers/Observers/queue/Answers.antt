@@ -7,7 +7,7 @@ use Rattle.dom_model.specs.Forests.Forest.{ancestors}
 use Rattle.dom_model.specs.Worlds.World.{Mutation}
 use Rattle.dom_model.specs.MutationObservers.Observing.{standing_on, registered_on}
 use Rattle.dom_model.specs.MutationObservers.Records.{interests}
-use Rattle.dom_model.proofs.MutationObservers.Queues.{with_all_last}
+use Rattle.dom_model.specs.PlainLists.LastOnce.{with_all_last}
 use Rattle.dom_observe.specs.Names.{text_of}
 use Rattle.dom_observe.specs.Watchers.{Watchers, Watches, on}
 use Rattle.dom_observe.specs.Registrations.{at, listed}

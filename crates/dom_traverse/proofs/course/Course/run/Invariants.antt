@@ -2,7 +2,7 @@
 use Rattle.std.proofs.Common.{◌*◌}
 use Rattle.dom_model.specs.Forests.Forest.{HasNode, size}
 use Rattle.dom_model.specs.Traversal.WalkSteps.{at}
-use Rattle.dom_model.proofs.Traversal.WalksEnd.{moves_left}
+use Rattle.dom_model.specs.Traversal.Ending.{moves_left}
 use Rattle.dom_traverse.specs.Courses.{course_step, LeadsTo}
 use Rattle.dom_traverse.proofs.course.Course.run.Given as goal
 
