@@ -2,7 +2,7 @@
 use Rattle.std.proofs.Common.{◌≡◌, ℕ, ◌<◌, ◌≤◌, Bool, true, List, [], ◌∷◌, None, refl, ap, sym, ◌∙◌, subst, arith, ⊎_elim}
 use Rattle.std.proofs.lemmas.Bool.{cases_lt}
 use Rattle.dom_model.specs.PlainLists.Lists.{hits, left_out}
-use Rattle.dom_model.specs.Forests.Forest.{Forest, occurs, parent_of, children_of, cut}
+use Rattle.dom_model.specs.Forests.Forest.{Forest, occurs, parent_of, children_of}
 use Rattle.dom_model.specs.Worlds.World.{Content, World}
 use Rattle.dom_model.specs.MutationAlgorithms.Editing.{remove, remove_all}
 use Rattle.dom_model.specs.Worlds.Sound.{IsSound}

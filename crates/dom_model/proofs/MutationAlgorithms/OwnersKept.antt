@@ -1,18 +1,17 @@
 -- In each tree one node document, a Document of the forest: kept as nodes leave and come in. DOM Standard, "Mutation algorithms".
 use Rattle.std.specs.Prelude.{IfSome}
-use Rattle.std.proofs.Common.{◌≡◌, ℕ, ◌<◌, Bool, true, false, if◌then◌else◌, List, [], ◌∷◌, Option, Some, None, refl, ap, sym, ◌∙◌, subst, arith}
+use Rattle.std.proofs.Common.{◌≡◌, ℕ, ◌<◌, Bool, true, false, if◌then◌else◌, List, [], ◌∷◌, Option, Some, None, refl, sym, ◌∙◌, subst, arith}
 use Rattle.dom_model.specs.declared.Kind.TheVariants.{Document}
 use Rattle.dom_model.specs.PlainLists.Lists.{hits}
 use Rattle.dom_model.specs.Forests.Kinds.{is_kind}
 use Rattle.dom_model.specs.Forests.Arena.{Entry}
-use Rattle.dom_model.specs.Forests.Forest.{Node, Forest, empty, node, occurs, tops, cut, put, adopted, entry_under, entry_in}
+use Rattle.dom_model.specs.Forests.Forest.{Node, Forest, empty, node, occurs, tops, cut, put, entry_under, entry_in}
 use Rattle.dom_model.specs.Forests.EachNode.{EachNode}
-use Rattle.dom_model.specs.Forests.Documents.{HasOneDocument}
 use Rattle.dom_model.specs.Worlds.World.{Content, World}
 use Rattle.dom_model.specs.Worlds.Sound.{IsSound}
 use Rattle.dom_model.specs.MutationAlgorithms.Checks.{is_of_kind}
 use Rattle.dom_model.specs.MutationAlgorithms.Editing.{remove, remove_all, is_fragment, emptied_fragment, freed, document_in, node_document, put_in}
-use Rattle.dom_model.specs.Worlds.Owners.{IsOwned, HasOwners, IsOwnedWell}
+use Rattle.dom_model.specs.Worlds.Owners.{IsOwned, IsOwnedWell}
 use Rattle.dom_model.specs.MutationAlgorithms.Insertable.{IsPlaceable}
 use Rattle.dom_model.proofs.PlainLists.Numbers.{same_or, same, apart}
 use Rattle.dom_model.proofs.Forests.Changes.{seen, nothing, just}

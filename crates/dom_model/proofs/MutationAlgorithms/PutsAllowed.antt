@@ -1,6 +1,5 @@
 -- Where an insertion's check passes, each node that comes in is a root that may be put: what a store asks of a put. DOM Standard, "Mutation algorithms".
 use Rattle.std.proofs.Common.{◌≡◌, ℕ, ◌<◌, true, false, Option, Some, None, IfSome}
-use Rattle.std.proofs.lemmas.Bool.{false≢true}
 use Rattle.dom_model.specs.declared.Kind.{Kind}
 use Rattle.dom_model.specs.PlainLists.Lists.{among}
 use Rattle.dom_model.specs.Forests.Kinds.{may_stand_in}

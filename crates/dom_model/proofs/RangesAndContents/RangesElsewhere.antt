@@ -1,6 +1,6 @@
 -- A map that leaves the points of some nodes leaves the live ranges of which no end stands elsewhere: a gap and a removal where no end stands.
 -- DOM Standard, "Live ranges".
-use Rattle.std.proofs.Common.{◌≡◌, ℕ, ◌==◌, nat_lt, Bool, true, false, ◌||◌, ◌&&◌, List, [], ◌∷◌, flat_map, Option, Some, None, refl, ap, sym, ◌∙◌}
+use Rattle.std.proofs.Common.{◌≡◌, ℕ, ◌==◌, Bool, true, false, ◌||◌, List, [], ◌∷◌, flat_map, Option, Some, None, refl, ap, sym, ◌∙◌}
 use Rattle.std.proofs.lemmas.Bool.{false≢true}
 use Rattle.std.specs.List.{list_any}
 use Rattle.dom_model.specs.PlainLists.Lists.{among}

@@ -1,6 +1,6 @@
 -- A walk by steps that ends, and what it finds: each step leaves fewer moves, and finds the same.
 -- Four moves for each node of the forest are enough for the walks of a tree walker.
-use Rattle.std.proofs.Common.{◌≡◌, ℕ, zero, suc, ◌*◌, ◌<◌, ◌≤◌, ◌==◌, false, Option, None, refl, ap, sym, ◌∙◌, subst, arith}
+use Rattle.std.proofs.Common.{◌≡◌, ℕ, zero, suc, ◌*◌, ◌<◌, ◌==◌, false, Option, None, refl, ap, sym, ◌∙◌, subst, arith}
 use Rattle.dom_model.specs.PlainLists.Lists.{head_of, last_of}
 use Rattle.dom_model.specs.Forests.Forest.{Forest, occurs, size, children_of}
 use Rattle.dom_model.specs.Worlds.World.{Filter}

@@ -1,5 +1,5 @@
 -- Every node document is a Document of the forest, wherever the trees go. DOM Standard, "Interface Node" (node document).
-use Rattle.std.proofs.Common.{◌≡◌, ℕ, zero, suc, ◌+◌, ◌<◌, Bool, true, false, ◌||◌, List, [], ◌∷◌, ◌++◌, map, Option, Some, None, is_some, refl, ap, sym, ◌∙◌, subst, arith}
+use Rattle.std.proofs.Common.{◌≡◌, ℕ, zero, suc, ◌<◌, Bool, true, false, ◌||◌, List, [], ◌∷◌, ◌++◌, map, Option, None, is_some, refl, ap, sym, ◌∙◌, arith}
 use Rattle.std.proofs.lemmas.Bool.{false≢true}
 use Rattle.std.specs.List.{list_any}
 use Rattle.dom_model.specs.declared.Kind.TheVariants.{Document}
@@ -8,7 +8,7 @@ use Rattle.dom_model.specs.Forests.Kinds.{is_kind}
 use Rattle.dom_model.specs.Forests.Forest.{Node, Row, Forest, empty, node, occurs, one_at, rows, beside, tree_at, without, cut, put, in_document, adopted, entry_in, parent_of, inclusive_descendants}
 use Rattle.dom_model.specs.Forests.EachNode.{EachNode}
 use Rattle.dom_model.specs.Worlds.World.{Content}
-use Rattle.dom_model.specs.MutationAlgorithms.Checks.{entry_has, kind_passes, is_of_kind}
+use Rattle.dom_model.specs.MutationAlgorithms.Checks.{entry_has, is_of_kind}
 use Rattle.dom_model.specs.MutationAlgorithms.Discarding.{documents, is_held_outside}
 use Rattle.dom_model.specs.Worlds.Owners.{IsOwned, HasOwners}
 use Rattle.dom_model.proofs.Forests.Changes.{seen, nothing, just}

@@ -1,15 +1,11 @@
 -- Over a list of primitive edits each end of each live range stands where its marker stands.
-use Rattle.std.proofs.Common.{◌≡◌, ℕ, suc, ◌+◌, ◌<◌, ◌≤◌, Bool, true, false, List, [], ◌∷◌, length, Option, Some, None, option_map, refl, ap, ◌∙◌, arith}
+use Rattle.std.proofs.Common.{◌≡◌, ℕ, suc, ◌+◌, Bool, true, false, List, [], ◌∷◌, Option, Some, None, option_map, refl, ap, ◌∙◌, arith}
 use Rattle.std.specs.Prelude.{slice_index_or}
-use Rattle.dom_model.specs.Forests.Kinds.{is_character_data}
-use Rattle.dom_model.specs.Forests.Forest.{Forest, occurs, tree_at, parent_of, children_of, index_of}
-use Rattle.dom_model.specs.Worlds.World.{Content, Point, Range, World}
-use Rattle.dom_model.specs.MutationAlgorithms.Checks.{kind_passes}
+use Rattle.dom_model.specs.Worlds.World.{Point, Range, World}
 use Rattle.dom_model.specs.RangesAndContents.Ranges.{end_of, range_at}
-use Rattle.dom_model.specs.DataAndCopies.Data.{data_of}
-use Rattle.dom_model.specs.TokenText.Tokens.{Token, Edit, Removal, Insertion, Splice, Parting, Merge, EndSet, Making, RangeMaking, Release, Discard, texts_of, gap_among, range_between, marked_ranges, on_texts, all_on_texts}
+use Rattle.dom_model.specs.TokenText.Tokens.{Token, Edit, texts_of, gap_among, range_between, marked_ranges, on_texts, all_on_texts}
 use Rattle.dom_model.specs.TokenText.Edits.{on_world, all_on_world}
-use Rattle.dom_model.specs.TokenText.Fitting.{Childless, end_at, IsPoint, IsReady, Fits, AllFit, fits_removal, fits_insertion, fits_splice, fits_parting, fits_merge, fits_end_set, fits_making, fits_range_making, fits_release, fits_discard}
+use Rattle.dom_model.specs.TokenText.Fitting.{Childless, end_at, IsReady, Fits, AllFit, fits_removal, fits_insertion, fits_splice, fits_parting, fits_merge, fits_end_set, fits_making, fits_range_making, fits_release, fits_discard}
 use Rattle.dom_model.proofs.TokenText.Marked.MarkedTexts.{Marked, marker-stands, no_gap}
 use Rattle.dom_model.proofs.TokenText.Marked.MarkedFirst.{marked-first}
 use Rattle.dom_model.proofs.TokenText.Marked.MarkedEnds.{point_of, marked-release, marked-end_set, marked-range_making}

@@ -3,9 +3,7 @@ use Rattle.std.proofs.Common.{◌≡◌, ℕ, ◌<◌, ◌≤◌, Bool, true, fa
 use Rattle.std.specs.Prelude.{slice_set}
 use Rattle.std.proofs.lemmas.Bool.{cases_lt, false≢true}
 use Rattle.std.proofs.lemmas.List.{length-set, get_or-set_same, get_or-set_other, get_or_append_left, get_or_past, get_or_push}
-use Rattle.dom_model.specs.Forests.Forest.{occurs}
 use Rattle.dom_model.specs.Worlds.World.{Point, Range, World}
-use Rattle.dom_model.specs.Forests.Lengths.{node_length, unit_count}
 use Rattle.dom_model.specs.RangesAndContents.Ranges.{end_of, range_at}
 use Rattle.dom_model.specs.TokenText.Tokens.{Token, Mark, is_mark_of, same_side, mark_in, mark_out, EndSet, RangeMaking, Release, on_texts}
 use Rattle.dom_model.specs.TokenText.Edits.{set_side, on_world}

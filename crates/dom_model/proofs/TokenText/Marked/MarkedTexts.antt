@@ -1,9 +1,7 @@
 -- Texts that stand for a world: without markers the token texts of its forest, and each marker in the gap of its end.
-use Rattle.std.proofs.Common.{◌≡◌, ℕ, ◌<◌, ◌≤◌, ◌==◌, Bool, true, false, ◌&&◌, if◌then◌else◌, List, [], ◌∷◌, ◌++◌, map, Option, Some, None, option_map, refl, ap, sym, ◌∙◌, subst, arith, append_assoc}
-use Rattle.std.specs.Prelude.{slice_index_or}
+use Rattle.std.proofs.Common.{◌≡◌, ℕ, ◌<◌, ◌≤◌, ◌==◌, Bool, true, false, ◌&&◌, if◌then◌else◌, List, [], ◌∷◌, ◌++◌, map, Option, Some, None, refl, ap, sym, ◌∙◌, subst, arith, append_assoc}
 use Rattle.dom_model.specs.Forests.Forest.{Node, Forest, empty, node, occurs, one_at, tree_at}
-use Rattle.dom_model.specs.Worlds.World.{Content, Point, Range, World}
-use Rattle.dom_model.specs.RangesAndContents.Ranges.{end_of}
+use Rattle.dom_model.specs.Worlds.World.{Content, Point, World}
 use Rattle.dom_model.specs.TokenText.Tokens.{Token, Close, is_mark_of, point, same_point, no_marks, token_texts, unmarked, gap_of, gap_among}
 use Rattle.dom_model.specs.TokenText.Fitting.{end_at}
 use Rattle.dom_model.proofs.PlainLists.Numbers.{same_or, same, apart}
