@@ -3,7 +3,7 @@ use Rattle.std.specs.Prelude.{ℕ, nat_eq, nat_le, if◌then◌else◌, List, []
 use Rattle.dom_model.specs.declared.Verdict.{Verdict}
 use Rattle.dom_model.specs.declared.Verdict.TheVariants.{Accept, Skip, Reject}
 use Rattle.dom_model.specs.Worlds.World.{FilterRule}
-use Rattle.dom_model.specs.Commands.Command.{GivenOptions}
+use Rattle.dom_model.specs.MutationObservers.GivenOptions.{GivenOptions}
 use Rattle.dom_c.specs.Statuses.{bad_lengths, bad_choice}
 use Rattle.dom_c.specs.Reads.{then_make, name_in, choice_in}
 use Rattle.dom_c.specs.declared.options.Options.{Options}

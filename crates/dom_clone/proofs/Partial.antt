@@ -10,7 +10,7 @@ use Rattle.dom_model.specs.Forests.Documents.{IsInDocument}
 use Rattle.dom_model.specs.Forests.Forest.{Node, Forest, empty, node, occurs, one_at, size, tops, beside, tree_at, placed_under, entry_in, HasNode, parent_of, children_of, next_of, KindsFit}
 use Rattle.dom_model.specs.Worlds.World.{Content}
 use Rattle.dom_model.specs.Worlds.World as model
-use Rattle.dom_model.specs.Commands.Making.{made_node}
+use Rattle.dom_model.specs.Worlds.Making.{made_node}
 use Rattle.dom_model.specs.DataAndCopies.Clones.{renumbered, alone_of, original, with_copies}
 use Rattle.dom_model.proofs.PlainLists.Numbers.{same_or, same, apart}
 use Rattle.dom_model.proofs.Forests.Changes.{seen, nothing, just}

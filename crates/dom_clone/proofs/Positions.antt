@@ -1,9 +1,8 @@
 -- How two nodes stand to each other: what is not there has no ancestors, and tree order by places in it.
 use Rattle.std.proofs.Common.{◌≡◌, ℕ, ◌+◌, ◌<◌, ◌≤◌, nat_lt, false, List, [], ◌∷◌, is_some, refl, ap, sym, ◌∙◌, arith, ⊎_elim}
 use Rattle.std.proofs.lemmas.Bool.{cases_lt, false≢true, lt-ltb, le-ltb}
-use Rattle.dom_model.specs.PlainLists.Lists.{among, place_in}
+use Rattle.dom_model.specs.PlainLists.Lists.{among, place_in, up_to}
 use Rattle.dom_model.specs.Forests.Forest.{Forest, occurs, entry_in}
-use Rattle.dom_model.specs.MutationAlgorithms.Checks.{up_to}
 use Rattle.dom_model.specs.DataAndCopies.Clones.{contains}
 use Rattle.dom_model.proofs.PlainLists.Numbers.{same_or, same, apart}
 use Rattle.dom_model.proofs.Forests.Entries.{HasNode-occurs}

@@ -2,7 +2,7 @@
 use Rattle.std.specs.Prelude.{ℕ, ◌+◌, List, [], ◌∷◌, Option, Some, None}
 use Rattle.dom_model.specs.Forests.Forest.{Node, put}
 use Rattle.dom_model.specs.Worlds.World.{Content, World}
-use Rattle.dom_model.specs.Commands.Making.{made_node}
+use Rattle.dom_model.specs.Worlds.Making.{made_node}
 use Rattle.dom_clone.specs.declared.copying.Waiting.{Waiting}
 
 -- a copy of a node in a document, as the last child of a parent

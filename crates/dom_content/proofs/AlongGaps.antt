@@ -5,7 +5,7 @@ use Rattle.std.specs.declared.cmp.Ordering.TheVariants.{Equal, Greater}
 use Rattle.std.proofs.lemmas.Bool.{false≢true, cases_lt}
 use Rattle.dom_model.specs.PlainLists.Lists.{hits, after, from_first}
 use Rattle.dom_model.specs.Forests.Forest.{Grove, IsForest, HasNode, occurs, root_of, tree_at, inclusive_descendants}
-use Rattle.dom_model.specs.Forests.Lengths.{node_length, unit_count}
+use Rattle.dom_model.specs.Worlds.Lengths.{node_length, unit_count}
 use Rattle.dom_model.specs.Worlds.World.{Content, Point}
 use Rattle.dom_model.specs.BoundaryPoints.Points.{order_of}
 use Rattle.dom_model.specs.RangesAndContents.Ranges.{is_less, is_before}

@@ -3,12 +3,11 @@ use Rattle.std.proofs.Common.{◌≡◌, ℕ, ◌<◌, ◌≤◌, true, false, �
 use Rattle.std.specs.declared.cmp.Ordering.TheVariants.{Less, Equal, Greater}
 use Rattle.std.specs.Ordering.{nat_cmp}
 use Rattle.std.proofs.lemmas.Bool.{cases_Bool, cases_lt}
-use Rattle.dom_model.specs.PlainLists.Lists.{among}
+use Rattle.dom_model.specs.PlainLists.Lists.{among, is_same}
 use Rattle.dom_model.specs.Forests.Forest.{Grove, IsForest, HasNode, occurs, ancestors, root_of}
-use Rattle.dom_model.specs.Forests.Lengths.{node_length, unit_count}
+use Rattle.dom_model.specs.Worlds.Lengths.{node_length, unit_count}
 use Rattle.dom_model.specs.Worlds.World.{Content, Point, Range}
-use Rattle.dom_model.specs.Worlds.Sound.{IsRange}
-use Rattle.dom_model.specs.MutationAlgorithms.Checks.{is_same}
+use Rattle.dom_model.specs.Soundness.Sound.{IsRange}
 use Rattle.dom_model.specs.RangesAndContents.Ranges.{is_less, is_before, is_contained}
 use Rattle.dom_model.proofs.PlainLists.Numbers.{same_or, same, apart}
 use Rattle.dom_model.proofs.Forests.Chains.{way}

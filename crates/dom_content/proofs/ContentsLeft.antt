@@ -3,7 +3,7 @@ use Rattle.std.proofs.Common.{◌≡◌, ◌≤◌, ℕ, List, true, false, Opti
 use Rattle.dom_model.specs.Forests.Forest.{Forest, entry_in}
 use Rattle.dom_model.specs.Worlds.World.{Content, Point, Range}
 use Rattle.dom_model.specs.Worlds.World as model
-use Rattle.dom_model.specs.Worlds.Sound.{IsSound}
+use Rattle.dom_model.specs.Soundness.Sound.{IsSound}
 use Rattle.dom_model.specs.RangesAndContents.Ranges.{collapsed_at, range_at}
 use Rattle.dom_model.specs.RangesAndContents.Contents.{delete_contents, check_extract, extract, clone_contents}
 use Rattle.dom_model.specs.DataAndCopies.Data.{content_in, attributes_of}

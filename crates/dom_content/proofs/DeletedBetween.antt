@@ -4,11 +4,12 @@ use Rattle.std.proofs.lemmas.Bool.{false≢true}
 use Rattle.dom_model.specs.PlainLists.Lists.{hits}
 use Rattle.dom_model.specs.Forests.Kinds.{is_character_data}
 use Rattle.dom_model.specs.Forests.Forest.{Forest, HasNode, entry_in, parent_of, numbers}
-use Rattle.dom_model.specs.Forests.Lengths.{unit_count}
+use Rattle.dom_model.specs.Worlds.Lengths.{unit_count}
 use Rattle.dom_model.specs.Worlds.World as model
 use Rattle.dom_model.specs.Worlds.World.{Content, Range}
-use Rattle.dom_model.specs.Worlds.Sound.{IsRange, IsSound}
-use Rattle.dom_model.specs.MutationAlgorithms.Checks.{kind_passes, if_given}
+use Rattle.dom_model.specs.Soundness.Sound.{IsRange, IsSound}
+use Rattle.dom_model.specs.MutationAlgorithms.Checks.{if_given}
+use Rattle.dom_model.specs.Forests.Nodes.{kind_passes}
 use Rattle.dom_model.specs.RangesAndContents.Ranges.{is_collapsed, is_contained, collapsed_at, with_range}
 use Rattle.dom_model.specs.RangesAndContents.Contents.{is_in_one_data, cut_from, cut_up_to, new_place, deleted_between, delete_contents}
 use Rattle.dom_model.specs.DataAndCopies.Data.{data_of, replace_data, remove_each}

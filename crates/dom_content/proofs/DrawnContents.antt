@@ -5,17 +5,18 @@ use Rattle.std.proofs.lemmas.Bool.{false≢true}
 use Rattle.std.proofs.lemmas.List.{drop_more}
 use Rattle.dom_model.specs.declared.Kind.{Kind}
 use Rattle.dom_model.specs.declared.Kind.TheVariants.{Document, DocumentType, DocumentFragment}
-use Rattle.dom_model.specs.PlainLists.Lists.{hits}
+use Rattle.dom_model.specs.PlainLists.Lists.{hits, is_same, up_to}
 use Rattle.dom_model.specs.Forests.Kinds.{is_character_data}
 use Rattle.dom_model.specs.Forests.Arena.{Entry}
 use Rattle.dom_model.specs.Forests.Forest.{Node, Forest, empty, node, occurs, beside, HasNode, entry_in, children_of, ancestors, root_of}
-use Rattle.dom_model.specs.Forests.Lengths.{unit_count, node_length}
+use Rattle.dom_model.specs.Worlds.Lengths.{unit_count, node_length}
 use Rattle.dom_model.specs.Worlds.World as model
 use Rattle.dom_model.specs.Worlds.World.{Content, Point, Range, no_content}
-use Rattle.dom_model.specs.Worlds.Sound.{IsRange, IsSound}
+use Rattle.dom_model.specs.Soundness.Sound.{IsRange, IsSound}
 use Rattle.dom_model.specs.BoundaryPoints.Points.{order_of}
-use Rattle.dom_model.specs.Commands.Making.{named}
-use Rattle.dom_model.specs.MutationAlgorithms.Checks.{kind_passes, is_of_kind, is_same, has_kind, up_to}
+use Rattle.dom_model.specs.Worlds.Making.{named}
+use Rattle.dom_model.specs.MutationAlgorithms.Checks.{has_kind}
+use Rattle.dom_model.specs.Forests.Nodes.{kind_passes, is_of_kind}
 use Rattle.dom_model.specs.MutationAlgorithms.Editing.{document_in, node_document}
 use Rattle.dom_model.specs.RangesAndContents.Ranges.{is_collapsed, collapsed_at, is_contained, is_less, common_ancestor, range_at, with_range}
 use Rattle.dom_model.specs.RangesAndContents.Contents.{for_range, is_in_one_data, new_place, new_fragment, children_into, tail_into, head_into, path_below, contents_drawn, check_draw, extracted, extract, clone_contents}

@@ -3,12 +3,11 @@
 use Rattle.std.proofs.Common.{◌≡◌, ℕ, ◌+◌, ◌<◌, Bool, true, false, ◌&&◌, List, [], ◌∷◌, ◌++◌, length, drop, flat_map, Option, Some, None, refl, ap, sym, ◌∙◌, subst, arith, append_assoc, append-nil}
 use Rattle.std.proofs.lemmas.Bool.{false≢true}
 use Rattle.std.proofs.lemmas.Grind.{flat_map-append}
-use Rattle.dom_model.specs.PlainLists.Lists.{hits, after, from_first}
+use Rattle.dom_model.specs.PlainLists.Lists.{hits, after, from_first, is_same}
 use Rattle.dom_model.specs.Forests.Forest.{Grove, IsForest, HasNode, occurs, one_at, numbers, root_of, tree_at, inclusive_descendants}
-use Rattle.dom_model.specs.Forests.Lengths.{node_length, unit_count}
+use Rattle.dom_model.specs.Worlds.Lengths.{node_length, unit_count}
 use Rattle.dom_model.specs.Worlds.World.{Content, Point, Range}
-use Rattle.dom_model.specs.Worlds.Sound.{IsRange}
-use Rattle.dom_model.specs.MutationAlgorithms.Checks.{is_same}
+use Rattle.dom_model.specs.Soundness.Sound.{IsRange}
 use Rattle.dom_model.specs.RangesAndContents.Ranges.{is_less, is_before, is_contained}
 use Rattle.dom_model.specs.TokenText.Gaps.{root_text, tokens_ahead}
 use Rattle.dom_model.proofs.PlainLists.Numbers.{same_or, same, apart}

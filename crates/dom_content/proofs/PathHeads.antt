@@ -1,11 +1,11 @@
 -- Going down the path to the end of a range: what comes before the path goes in on the way. DOM Standard, "Interface Range" (extract, clone the contents).
 use Rattle.std.proofs.Common.{◌≡◌, ℕ, ◌<◌, ◌≤◌, Bool, true, false, List, [], ◌∷◌, take, ap, sym, ◌∙◌, subst, arith}
-use Rattle.dom_model.specs.PlainLists.Lists.{hits}
+use Rattle.dom_model.specs.PlainLists.Lists.{hits, up_to}
 use Rattle.dom_model.specs.Forests.Kinds.{is_character_data}
 use Rattle.dom_model.specs.Forests.Forest.{Forest, children_of}
 use Rattle.dom_model.specs.Worlds.World as model
 use Rattle.dom_model.specs.Worlds.World.{Content}
-use Rattle.dom_model.specs.MutationAlgorithms.Checks.{kind_passes, up_to}
+use Rattle.dom_model.specs.Forests.Nodes.{kind_passes}
 use Rattle.dom_model.specs.MutationAlgorithms.Editing.{append}
 use Rattle.dom_model.specs.RangesAndContents.Contents.{units_into, children_into, copy_into, head_into}
 use Rattle.dom_model.proofs.Counting.CountsOfContents.{units_into-grown}

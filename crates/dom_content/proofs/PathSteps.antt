@@ -8,8 +8,8 @@ use Rattle.dom_model.specs.Forests.Arena.{Entry}
 use Rattle.dom_model.specs.Forests.Forest.{Node, Forest, occurs, children_of, entry_in, HasNode}
 use Rattle.dom_model.specs.Worlds.World as model
 use Rattle.dom_model.specs.Worlds.World.{Content}
-use Rattle.dom_model.specs.MutationAlgorithms.PreRemoval.{past}
-use Rattle.dom_model.specs.MutationAlgorithms.Checks.{kind_passes, is_of_kind, entry_has}
+use Rattle.dom_model.specs.PlainLists.Lists.{past}
+use Rattle.dom_model.specs.Forests.Nodes.{kind_passes, is_of_kind, entry_has}
 use Rattle.dom_model.specs.MutationAlgorithms.Editing.{append, document_in, node_document}
 use Rattle.dom_model.specs.DataAndCopies.Data.{content_in, data_of}
 use Rattle.dom_model.specs.DataAndCopies.Clones.{clone_node}

@@ -8,8 +8,9 @@ use Rattle.dom_model.specs.Forests.Forest.{Node, Forest, empty, node, occurs, si
 use Rattle.dom_model.specs.Forests.Texts.{substring, spliced}
 use Rattle.dom_model.specs.Worlds.World as model
 use Rattle.dom_model.specs.Worlds.World.{Content, no_content}
-use Rattle.dom_model.specs.Commands.Making.{made_node}
-use Rattle.dom_model.specs.MutationAlgorithms.Checks.{kind_passes, entry_has, check_insert}
+use Rattle.dom_model.specs.Worlds.Making.{made_node}
+use Rattle.dom_model.specs.MutationAlgorithms.Checks.{check_insert}
+use Rattle.dom_model.specs.Forests.Nodes.{kind_passes, entry_has}
 use Rattle.dom_model.specs.MutationAlgorithms.Editing.{append, nodes_of, document_in, node_document}
 use Rattle.dom_model.specs.DataAndCopies.Data.{content_in, cut_count, data_of, with_data, replace_data}
 use Rattle.dom_model.specs.DataAndCopies.Clones.{alone_of, original, with_copies, clone_node}

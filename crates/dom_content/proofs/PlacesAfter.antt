@@ -4,7 +4,7 @@ use Rattle.std.proofs.lemmas.Bool.{false≢true}
 use Rattle.dom_model.specs.PlainLists.Lists.{hits, among, head_of}
 use Rattle.dom_model.specs.Forests.Forest.{Forest, Grove, IsForest, HasNode, occurs, parent_of, index_of, ancestors}
 use Rattle.dom_model.specs.Worlds.World.{Content, Point, Range}
-use Rattle.dom_model.specs.Worlds.Sound.{IsRange}
+use Rattle.dom_model.specs.Soundness.Sound.{IsRange}
 use Rattle.dom_model.specs.MutationAlgorithms.Checks.{if_given}
 use Rattle.dom_model.specs.RangesAndContents.Ranges.{point_after, common_ancestor}
 use Rattle.dom_model.specs.RangesAndContents.Contents.{new_place}

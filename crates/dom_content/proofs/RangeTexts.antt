@@ -3,11 +3,11 @@ use Rattle.std.proofs.Common.{◌≡◌, ℕ, ◌-◌, ◌<◌, ◌≤◌, ◌==
 use Rattle.std.proofs.lemmas.Bool.{false≢true, cases_lt}
 use Rattle.dom_model.specs.declared.Kind.TheVariants.{Text}
 use Rattle.dom_model.specs.Forests.Forest.{Forest, Grove, numbers, entry_in}
-use Rattle.dom_model.specs.Forests.Lengths.{unit_count}
+use Rattle.dom_model.specs.Worlds.Lengths.{unit_count}
 use Rattle.dom_model.specs.Worlds.World.{Content, Point, Range}
-use Rattle.dom_model.specs.Worlds.Sound.{IsRange}
+use Rattle.dom_model.specs.Soundness.Sound.{IsRange}
 use Rattle.dom_model.specs.BoundaryPoints.Points.{order_of}
-use Rattle.dom_model.specs.MutationAlgorithms.Checks.{is_of_kind}
+use Rattle.dom_model.specs.Forests.Nodes.{is_of_kind}
 use Rattle.dom_model.specs.RangesAndContents.Ranges.{is_contained}
 use Rattle.dom_model.specs.RangesAndContents.Contents.{contained_in, range_text, text_between}
 use Rattle.dom_model.specs.DataAndCopies.Data.{content_in, joined_data}

@@ -1,14 +1,12 @@
 -- The contained nodes whose parents are not contained, gathered along the paths to the ends of a range. DOM Standard, "Interface Range".
 use Rattle.std.proofs.Common.{◌≡◌, ℕ, ◌+◌, ◌<◌, List, [], ◌∷◌, ◌++◌, take, drop, filter, length, slice_index_or, ap, sym, ◌∙◌, arith, append_assoc}
 use Rattle.std.proofs.lemmas.List.{take-append-drop}
-use Rattle.dom_model.specs.PlainLists.Lists.{hits}
+use Rattle.dom_model.specs.PlainLists.Lists.{hits, past, up_to}
 use Rattle.dom_model.specs.Forests.Forest.{HasNode, children_of}
-use Rattle.dom_model.specs.Forests.Lengths.{unit_count}
+use Rattle.dom_model.specs.Worlds.Lengths.{unit_count}
 use Rattle.dom_model.specs.Worlds.World as model
 use Rattle.dom_model.specs.Worlds.World.{Range}
-use Rattle.dom_model.specs.Worlds.Sound.{IsRange}
-use Rattle.dom_model.specs.MutationAlgorithms.PreRemoval.{past}
-use Rattle.dom_model.specs.MutationAlgorithms.Checks.{up_to}
+use Rattle.dom_model.specs.Soundness.Sound.{IsRange}
 use Rattle.dom_model.specs.RangesAndContents.Ranges.{is_contained, common_ancestor}
 use Rattle.dom_model.specs.RangesAndContents.Contents.{path_below, contained_tops}
 use Rattle.dom_model.specs.RangesAndContents.BesidePaths.{tail_nodes, head_nodes}

@@ -4,9 +4,9 @@ use Rattle.std.specs.Ordering.{nat_cmp}
 use Rattle.std.proofs.lemmas.Bool.{cases_lt, false≢true}
 use Rattle.dom_model.specs.PlainLists.Lists.{hits, after, from_first}
 use Rattle.dom_model.specs.Forests.Forest.{Grove, IsForest, HasNode, numbers, tree_at, root_of, inclusive_descendants}
-use Rattle.dom_model.specs.Forests.Lengths.{node_length, unit_count}
+use Rattle.dom_model.specs.Worlds.Lengths.{node_length, unit_count}
 use Rattle.dom_model.specs.Worlds.World.{Content, Point, Range}
-use Rattle.dom_model.specs.Worlds.Sound.{IsRange}
+use Rattle.dom_model.specs.Soundness.Sound.{IsRange}
 use Rattle.dom_model.specs.BoundaryPoints.Points.{order_of}
 use Rattle.dom_model.specs.RangesAndContents.Ranges.{is_less, is_before}
 use Rattle.dom_model.proofs.PlainLists.Numbers.{same_or, same, apart}

@@ -7,8 +7,8 @@ use Rattle.dom_model.specs.Forests.Arena.{Entry}
 use Rattle.dom_model.specs.Forests.Kinds.{is_kind, is_character_data}
 use Rattle.dom_model.specs.Forests.Forest.{Node, Grove, IsForest, HasNode, children_of, entry_in, ancestors, root_of}
 use Rattle.dom_model.specs.Worlds.World.{Content, Range}
-use Rattle.dom_model.specs.Worlds.Sound.{IsRange}
-use Rattle.dom_model.specs.MutationAlgorithms.Checks.{entry_has, is_of_kind}
+use Rattle.dom_model.specs.Soundness.Sound.{IsRange}
+use Rattle.dom_model.specs.Forests.Nodes.{entry_has, is_of_kind}
 use Rattle.dom_model.specs.RangesAndContents.Ranges.{is_before}
 use Rattle.dom_model.specs.RangesAndContents.Contents.{path_below}
 use Rattle.dom_model.specs.DataAndCopies.Data.{content_in}

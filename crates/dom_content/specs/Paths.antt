@@ -5,7 +5,8 @@ use Rattle.dom_model.specs.declared.Kind.{Kind}
 use Rattle.dom_model.specs.Forests.Forest.{Forest, HasNode, occurs, children_of}
 use Rattle.dom_model.specs.Worlds.World as model
 use Rattle.dom_model.specs.Worlds.World.{Content}
-use Rattle.dom_model.specs.MutationAlgorithms.Checks.{kind_passes, up_to}
+use Rattle.dom_model.specs.Forests.Nodes.{kind_passes}
+use Rattle.dom_model.specs.PlainLists.Lists.{up_to}
 use Rattle.dom_model.specs.MutationAlgorithms.Editing.{append, node_document}
 use Rattle.dom_model.specs.DataAndCopies.Clones.{clone_node}
 use Rattle.dom_model.specs.RangesAndContents.Contents.{new_fragment, children_into}

@@ -2,10 +2,10 @@
 use Rattle.std.specs.Prelude.{ℕ, ◌&&◌, if◌then◌else◌, List, [], flat_map}
 use Rattle.dom_model.specs.declared.Kind.TheVariants.{Text}
 use Rattle.dom_model.specs.Forests.Forest.{Forest, entry_in, numbers}
-use Rattle.dom_model.specs.Forests.Lengths.{unit_count}
+use Rattle.dom_model.specs.Worlds.Lengths.{unit_count}
 use Rattle.dom_model.specs.Forests.Texts.{substring}
 use Rattle.dom_model.specs.Worlds.World.{Content, Range}
-use Rattle.dom_model.specs.MutationAlgorithms.Checks.{is_of_kind}
+use Rattle.dom_model.specs.Forests.Nodes.{is_of_kind}
 use Rattle.dom_model.specs.RangesAndContents.Ranges.{is_contained}
 use Rattle.dom_model.specs.DataAndCopies.Data.{content_in}
 

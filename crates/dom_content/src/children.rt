@@ -2,9 +2,9 @@
 
 ghost use Rattle.std.specs.Prelude.{◌≡◌, filter, IfOk, slice_get};
 ghost use Rattle.dom_model.specs.Forests.Forest.{HasNode, children_of};
-ghost use Rattle.dom_model.specs.Forests.Lengths.{unit_count};
+ghost use Rattle.dom_model.specs.Worlds.Lengths.{unit_count};
 ghost use Rattle.dom_model.specs.Worlds.World.{Range};
-ghost use Rattle.dom_model.specs.Worlds.Sound.{IsRange};
+ghost use Rattle.dom_model.specs.Soundness.Sound.{IsRange};
 ghost use Rattle.dom_model.specs.RangesAndContents.Ranges.{is_contained, common_ancestor};
 ghost use Rattle.dom_model.specs.RangesAndContents.Contents.{path_below};
 ghost use Rattle.dom_model.specs.Forests.Ways.{IsWay};

@@ -3,8 +3,8 @@
 ghost use Rattle.std.specs.Prelude.{◌≡◌, ℕ, ◌≤◌, ◌∷◌, [], true, false, Some, IfOk};
 ghost use Rattle.dom_model.specs.PlainLists.Lists.{after};
 ghost use Rattle.dom_model.specs.Forests.Forest.{HasNode, root_of, inclusive_descendants};
-ghost use Rattle.dom_model.specs.Forests.Lengths.{unit_count, node_length};
-ghost use Rattle.dom_model.specs.Worlds.Sound.{IsRange};
+ghost use Rattle.dom_model.specs.Worlds.Lengths.{unit_count, node_length};
+ghost use Rattle.dom_model.specs.Soundness.Sound.{IsRange};
 ghost use Rattle.dom_model.specs.RangesAndContents.Ranges.{is_before};
 ghost use Rattle.dom_model.specs.RangesAndContents.Contents.{contained_tops};
 ghost use Rattle.dom_model.specs.RangesAndContents.BesidePaths.{tail_nodes, head_nodes};

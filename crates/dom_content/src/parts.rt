@@ -1,7 +1,7 @@
 //! The parts of a range: the paths down to its two nodes, and what lies between them (DOM Standard, "Interface Range", "partially contained").
 
 ghost use Rattle.std.specs.Prelude.{IfOk};
-ghost use Rattle.dom_model.specs.Worlds.Sound.{IsRange};
+ghost use Rattle.dom_model.specs.Soundness.Sound.{IsRange};
 ghost use Rattle.dom_content.specs.Drawing.{AreParts};
 
 use crate::children::contained_children;

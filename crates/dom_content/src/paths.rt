@@ -4,8 +4,8 @@ ghost use Rattle.std.specs.Prelude.{◌≡◌, ◌-◌, ◌∷◌, [], length, t
 ghost use Rattle.dom_model.specs.Worlds.World as model;
 ghost use Rattle.dom_model.specs.Forests.Forest.{HasNode, entry_in, children_of, ancestors};
 ghost use Rattle.dom_model.specs.Forests.Kinds.{is_character_data};
-ghost use Rattle.dom_model.specs.MutationAlgorithms.PreRemoval.{past};
-ghost use Rattle.dom_model.specs.MutationAlgorithms.Checks.{kind_passes, up_to};
+ghost use Rattle.dom_model.specs.PlainLists.Lists.{past, up_to};
+ghost use Rattle.dom_model.specs.Forests.Nodes.{kind_passes};
 ghost use Rattle.dom_model.specs.DataAndCopies.Data.{content_in};
 ghost use Rattle.dom_model.specs.RangesAndContents.Contents.{children_into, copy_into, tail_into, head_into, path_below};
 ghost use Rattle.dom_clone.specs.dom_edit.Inserting.{AreThere};

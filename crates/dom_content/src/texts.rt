@@ -4,8 +4,8 @@ ghost use Rattle.std.specs.Prelude.{◌≡◌, ◌-◌, ◌≤◌, ◌++◌, len
 ghost use Rattle.dom_model.specs.declared.Kind.TheVariants.{Text};
 ghost use Rattle.dom_model.specs.Forests.Forest.{HasNode, entry_in, root_of};
 ghost use Rattle.dom_model.specs.Worlds.World.{Range};
-ghost use Rattle.dom_model.specs.Worlds.Sound.{IsRange};
-ghost use Rattle.dom_model.specs.MutationAlgorithms.Checks.{is_of_kind};
+ghost use Rattle.dom_model.specs.Soundness.Sound.{IsRange};
+ghost use Rattle.dom_model.specs.Forests.Nodes.{is_of_kind};
 ghost use Rattle.dom_model.specs.RangesAndContents.Ranges.{is_before};
 ghost use Rattle.dom_model.specs.RangesAndContents.Contents.{range_text};
 ghost use Rattle.dom_model.specs.DataAndCopies.Data.{content_in};

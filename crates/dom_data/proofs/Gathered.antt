@@ -8,7 +8,7 @@ use Rattle.dom_model.specs.declared.Kind.TheVariants.{Element, Text, ProcessingI
 use Rattle.dom_model.specs.PlainLists.Lists.{hits, after, from_first}
 use Rattle.dom_model.specs.Forests.Forest.{Node, Forest, Grove, IsForest, HasNode, entry_in, inclusive_descendants}
 use Rattle.dom_model.specs.Worlds.World.{Content}
-use Rattle.dom_model.specs.MutationAlgorithms.Checks.{is_of_kind}
+use Rattle.dom_model.specs.Forests.Nodes.{is_of_kind}
 use Rattle.dom_model.specs.DataAndCopies.Data.{content_in, joined_data, descendant_text, text_content, text_content_by, by_kind}
 use Rattle.dom_edit.specs.dom_ranges.Inside.{IsAt, from-top, at-top, at-next, here-inside, rest-next, rest-end}
 use Rattle.dom_model.proofs.PlainLists.Numbers.{same_or, same, apart}

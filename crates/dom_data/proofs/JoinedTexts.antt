@@ -5,7 +5,7 @@ use Rattle.dom_model.specs.declared.Kind.TheVariants.{Text}
 use Rattle.dom_model.specs.Forests.Forest.{Forest, entry_in, parent_of}
 use Rattle.dom_model.specs.Worlds.World as model
 use Rattle.dom_model.specs.Worlds.World.{Content}
-use Rattle.dom_model.specs.MutationAlgorithms.Checks.{is_of_kind}
+use Rattle.dom_model.specs.Forests.Nodes.{is_of_kind}
 use Rattle.dom_model.specs.DataAndCopies.Data.{content_in, data_of, cut_count, data_record, replace_units, replace_data, following_texts, joined_data, join_following}
 use Rattle.dom_model.specs.DataAndCopies.Joinable.{AreJoinable}
 use Rattle.dom_model.proofs.Forests.Entries.{occurs-HasNode}

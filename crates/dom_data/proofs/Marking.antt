@@ -4,8 +4,8 @@ use Rattle.dom_model.specs.declared.Kind.TheVariants.{Text}
 use Rattle.dom_model.specs.Forests.Kinds.{is_character_data}
 use Rattle.dom_model.specs.Forests.Forest.{HasNode}
 use Rattle.dom_model.specs.Worlds.World as model
-use Rattle.dom_model.specs.Worlds.Sound.{IsSound}
-use Rattle.dom_model.specs.MutationAlgorithms.Checks.{kind_passes, is_of_kind}
+use Rattle.dom_model.specs.Soundness.Sound.{IsSound}
+use Rattle.dom_model.specs.Forests.Nodes.{kind_passes, is_of_kind}
 use Rattle.dom_model.specs.DataAndCopies.Data.{data_of, replace_data, set_data, split, normalize, set_text_content}
 use Rattle.dom_model.specs.TokenText.Edits.{replace_data_edits, set_data_edits, split_edits, normalize_edits, set_text_content_edits}
 use Rattle.dom_model.proofs.Forests.Entries.{occurs-HasNode}

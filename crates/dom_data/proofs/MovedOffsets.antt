@@ -5,11 +5,11 @@ use Rattle.std.proofs.lemmas.Bool.Decides.{nat_tests}
 use Rattle.std.proofs.lemmas.List.Elements.{All-weaker}
 use Rattle.dom_model.specs.Forests.Kinds.{is_character_data}
 use Rattle.dom_model.specs.Forests.Forest.{Forest, entry_in}
-use Rattle.dom_model.specs.Forests.Lengths.{unit_count, node_length}
+use Rattle.dom_model.specs.Worlds.Lengths.{unit_count, node_length}
 use Rattle.dom_model.specs.Worlds.World.{Content, Point, Range}
-use Rattle.dom_model.specs.Worlds.Sound.{IsBoundary, IsRange}
+use Rattle.dom_model.specs.Soundness.Sound.{IsBoundary, IsRange}
 use Rattle.dom_model.specs.BoundaryPoints.Points.{after_splice}
-use Rattle.dom_model.specs.MutationAlgorithms.Checks.{kind_passes}
+use Rattle.dom_model.specs.Forests.Nodes.{kind_passes}
 use Rattle.dom_model.specs.DataAndCopies.Data.{content_in}
 use Rattle.dom_model.proofs.PlainLists.Numbers.{same_or, same, apart}
 use Rattle.dom_model.proofs.Soundness.SoundData.{length-data}

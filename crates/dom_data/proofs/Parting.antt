@@ -9,9 +9,9 @@ use Rattle.dom_model.specs.Forests.Forest.{Node, Forest, empty, node, HasNode, e
 use Rattle.dom_model.specs.Forests.Texts.{substring}
 use Rattle.dom_model.specs.Worlds.World as model
 use Rattle.dom_model.specs.Worlds.World.{Content}
-use Rattle.dom_model.specs.MutationAlgorithms.Checks.{entry_has, is_of_kind}
+use Rattle.dom_model.specs.Forests.Nodes.{entry_has, is_of_kind}
 use Rattle.dom_model.specs.MutationAlgorithms.Editing.{document_in, node_document}
-use Rattle.dom_model.specs.Commands.Making.{made_node, named, with_text}
+use Rattle.dom_model.specs.Worlds.Making.{made_node, named, with_text}
 use Rattle.dom_model.specs.DataAndCopies.Data.{content_in, tail_of, replace_data, split_off, split}
 use Rattle.dom_model.proofs.Forests.Entries.{occurs-HasNode}
 use Rattle.dom_model.proofs.Worlds.Measured.{parent-beside}

@@ -7,13 +7,13 @@ use Rattle.dom_model.specs.Forests.Forest.{Node, Forest, Grove, empty, node, occ
 use Rattle.dom_model.specs.Forests.Documents.{HasOneDocument, IsInDocument}
 use Rattle.dom_model.specs.Worlds.World as model
 use Rattle.dom_model.specs.Worlds.World.{Content, Range}
-use Rattle.dom_model.specs.Worlds.Sound.{IsSound}
+use Rattle.dom_model.specs.Soundness.Sound.{IsSound}
 use Rattle.dom_model.specs.Forests.Texts.{spliced}
 use Rattle.dom_model.specs.BoundaryPoints.Points.{map_ranges, after_splice}
-use Rattle.dom_model.specs.MutationAlgorithms.Checks.{kind_passes, is_of_kind}
+use Rattle.dom_model.specs.Forests.Nodes.{kind_passes, is_of_kind}
 use Rattle.dom_model.specs.DataAndCopies.Data.{content_in, data_of, with_data, replace_units, cut_count, data_record, replace_data, set_data, attributes_of, with_attributes, set_attribute, has_attribute, remove_attribute_if}
 use Rattle.dom_model.specs.Forests.Attributes.{Attribute, with_attribute, without_attribute}
-use Rattle.dom_model.specs.Worlds.Owners.{HasOwners, IsOwned}
+use Rattle.dom_model.specs.Soundness.Owners.{HasOwners, IsOwned}
 use Rattle.dom_model.proofs.Soundness.SoundData.{sound-replace_units, sound-set_attribute, sound-remove_attribute}
 use Rattle.dom_edit.specs.dom_ranges.Tables.{RangeTable}
 use Rattle.dom_model.proofs.PlainLists.Numbers.{same_or, same, apart}

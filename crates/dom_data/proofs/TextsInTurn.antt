@@ -8,7 +8,7 @@ use Rattle.dom_model.specs.Forests.Kinds.{is_kind}
 use Rattle.dom_model.specs.Forests.Forest.{Forest, empty, node, occurs, one_at, tops, numbers, tree_at, ancestors, entry_in, inclusive_descendants}
 use Rattle.dom_model.specs.Worlds.World as model
 use Rattle.dom_model.specs.Worlds.World.{Content}
-use Rattle.dom_model.specs.MutationAlgorithms.Checks.{is_of_kind}
+use Rattle.dom_model.specs.Forests.Nodes.{is_of_kind}
 use Rattle.dom_model.specs.MutationAlgorithms.Editing.{remove}
 use Rattle.dom_model.specs.DataAndCopies.Data.{content_in, following_texts, join_following, is_descendant, normalize_text, normalize_each, normalize, text_descendants}
 use Rattle.dom_model.proofs.PlainLists.Numbers.{same_or, same, apart}

@@ -8,7 +8,7 @@ use Rattle.dom_model.specs.Worlds.World.{Content, Registration, Mutation, Observ
 use Rattle.dom_model.specs.MutationAlgorithms.Editing.{queued}
 use Rattle.dom_model.specs.MutationObservers.Observing.{noted, standing_on}
 use Rattle.dom_model.specs.MutationObservers.Records.{interested, asks_old_value, record_by, record_for, observers_of, queue_of, pending_of}
-use Rattle.dom_model.specs.Commands.Reply.{Record}
+use Rattle.dom_model.specs.MutationObservers.Record.{Record}
 use Rattle.dom_model.specs.PlainLists.LastOnce.{with_all_last}
 use Rattle.dom_model.proofs.PlainLists.Numbers.{same_or, same, apart}
 use Rattle.std.proofs.lemmas.Bool.{false≢true}

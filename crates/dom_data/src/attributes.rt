@@ -2,7 +2,7 @@
 
 ghost use Rattle.std.specs.Prelude.{◌≡◌, true, string_bytes, IfOk, OnOk};
 ghost use Rattle.dom_model.specs.declared.Kind.TheVariants.{Element};
-ghost use Rattle.dom_model.specs.MutationAlgorithms.Checks.{is_of_kind};
+ghost use Rattle.dom_model.specs.Forests.Nodes.{is_of_kind};
 ghost use Rattle.dom_model.specs.DataAndCopies.Data.{set_attribute, remove_attribute, toggle_attribute, has_attribute, is_toggled_on};
 ghost use Rattle.dom_edit.specs.Whole.{IsWhole, Follows, unwatched};
 

@@ -2,11 +2,11 @@
 
 ghost use Rattle.std.specs.Prelude.{◌≡◌, ◌<◌, [], true, IfOk, OnOk};
 ghost use Rattle.dom_model.specs.declared.Kind.TheVariants.{Document, Text};
-ghost use Rattle.dom_model.specs.Commands.Making.{made_node, named, with_text};
+ghost use Rattle.dom_model.specs.Worlds.Making.{made_node, named, with_text};
 ghost use Rattle.dom_model.specs.Forests.Forest.{HasNode, entry_in};
-ghost use Rattle.dom_model.specs.MutationAlgorithms.Checks.{is_of_kind};
+ghost use Rattle.dom_model.specs.Forests.Nodes.{is_of_kind};
 ghost use Rattle.dom_model.specs.MutationAlgorithms.Editing.{document_in};
-ghost use Rattle.dom_model.specs.Worlds.Owners.{HasOwners};
+ghost use Rattle.dom_model.specs.Soundness.Owners.{HasOwners};
 ghost use Rattle.dom_edit.specs.Whole.{IsWhole, Follows};
 
 use dom_edit::of_attrs::Attrs;

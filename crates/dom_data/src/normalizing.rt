@@ -4,7 +4,7 @@ ghost use Rattle.std.specs.Prelude.{◌≡◌, ◌≤◌, ℕ, ◌<◌, ◌+◌,
 ghost use Rattle.dom_model.specs.declared.Kind.TheVariants.{Text};
 ghost use Rattle.dom_model.specs.PlainLists.Lists.{hits, among};
 ghost use Rattle.dom_model.specs.Forests.Forest.{HasNode, parent_of, index_of, inclusive_descendants};
-ghost use Rattle.dom_model.specs.MutationAlgorithms.Checks.{is_of_kind};
+ghost use Rattle.dom_model.specs.Forests.Nodes.{is_of_kind};
 ghost use Rattle.dom_model.specs.DataAndCopies.Data.{data_of, replace_data, following_texts, is_descendant, join_following, normalize_text, normalize_each, normalize};
 ghost use Rattle.dom_edit.specs.dom_ranges.Tables.{live_nodes};
 ghost use Rattle.dom_model.specs.TokenText.Edits.{normalize_edits};

@@ -3,7 +3,7 @@
 ghost use Rattle.std.specs.Prelude.{◌≡◌, ◌+◌, ◌≤◌, length, true, None, IfOk, OnOk};
 ghost use Rattle.std.specs.Result.{IfErr};
 ghost use Rattle.dom_model.specs.Forests.Kinds.{is_character_data};
-ghost use Rattle.dom_model.specs.MutationAlgorithms.Checks.{kind_passes};
+ghost use Rattle.dom_model.specs.Forests.Nodes.{kind_passes};
 ghost use Rattle.dom_model.specs.DataAndCopies.Data.{data_of, data_record, replace_units, check_offset, replace_data, set_data, substring_data};
 ghost use Rattle.dom_model.specs.TokenText.Edits.{replace_data_edits, set_data_edits};
 ghost use Rattle.dom_edit.specs.Whole.{IsWhole, Follows, unwatched};

@@ -4,9 +4,9 @@ use Rattle.dom_model.specs.declared.Kind.TheVariants.{Document}
 use Rattle.dom_model.specs.Forests.Kinds.{is_kind}
 use Rattle.dom_model.specs.Forests.Forest.{HasNode, occurs, entry_in, parent_of, cut, adopted, in_document}
 use Rattle.dom_model.specs.Forests.Documents.{HasOneDocument, HasDocument}
-use Rattle.dom_model.specs.MutationAlgorithms.Checks.{is_of_kind}
+use Rattle.dom_model.specs.Forests.Nodes.{is_of_kind}
 use Rattle.dom_model.specs.MutationAlgorithms.Editing.{remove, adopt}
-use Rattle.dom_model.specs.Worlds.Owners.{HasOwners}
+use Rattle.dom_model.specs.Soundness.Owners.{HasOwners}
 use Rattle.dom_model.proofs.PlainLists.Numbers.{same_or, same, apart}
 use Rattle.dom_model.proofs.Forests.Entries.{occurs-HasNode, parent-cut}
 use Rattle.dom_model.proofs.Forests.Documents.{HasDocument-entry, HasOneDocument-adopted, adopted-same}

@@ -6,7 +6,8 @@ use Rattle.dom_model.specs.declared.Kind.{Kind}
 use Rattle.dom_model.specs.PlainLists.Lists.{hits, head_of, after, from_first}
 use Rattle.dom_model.specs.Forests.Arena.{list_under}
 use Rattle.dom_model.specs.Forests.Forest.{Forest, Grove, IsForest, entry_in, HasNode, children_of, next_of}
-use Rattle.dom_model.specs.MutationAlgorithms.Checks.{is_of_kind, count_kind, has_kind}
+use Rattle.dom_model.specs.MutationAlgorithms.Checks.{count_kind, has_kind}
+use Rattle.dom_model.specs.Forests.Nodes.{is_of_kind}
 use Rattle.dom_model.proofs.Forests.Changes.{seen, nothing, just}
 use Rattle.dom_model.proofs.Forests.Climbing.{hits-first}
 use Rattle.dom_model.proofs.Forests.PutBack.{hits-after}

@@ -5,7 +5,7 @@ use Rattle.dom_model.specs.Forests.Kinds.{Label}
 use Rattle.dom_model.specs.Forests.Forest.{empty}
 use Rattle.dom_model.specs.Worlds.World as model
 use Rattle.dom_model.specs.Worlds.World.{Content, document_label, no_content, first_world}
-use Rattle.dom_model.specs.Commands.Making.{made_node}
+use Rattle.dom_model.specs.Worlds.Making.{made_node}
 use Rattle.dom_model.proofs.Soundness.SoundAnswers.{sound-first}
 use Rattle.dom_observe.specs.Watchers.{Watchers, Watches}
 use Rattle.dom_edit.specs.declared.world.World.{World}

@@ -4,8 +4,8 @@ use Rattle.std.proofs.lemmas.List.Elements.{All-nil}
 use Rattle.dom_model.specs.Forests.Forest.{IsForest}
 use Rattle.dom_model.specs.Forests.Documents.{HasOneDocument}
 use Rattle.dom_model.specs.Worlds.World as model
-use Rattle.dom_model.specs.Worlds.Sound.{IsRegistration, IsSound}
-use Rattle.dom_model.specs.Worlds.Owners.{HasOwners}
+use Rattle.dom_model.specs.Soundness.Sound.{IsRegistration, IsSound}
+use Rattle.dom_model.specs.Soundness.Owners.{HasOwners}
 use Rattle.dom_edit.specs.declared.world.World.{World}
 use Rattle.dom_edit.specs.Whole.{AreHeld, AreCovered, IsWhole, Keeps, Shows, Follows, unwatched}
 

@@ -5,12 +5,12 @@ use Rattle.dom_model.specs.Forests.Forest.{HasNode, Forest, one_at, occurs, pare
 use Rattle.dom_model.specs.Forests.Documents.{HasOneDocument}
 use Rattle.dom_model.specs.Worlds.World as model
 use Rattle.dom_model.specs.Worlds.World.{Content, Range, Observing}
-use Rattle.dom_model.specs.Worlds.Sound.{IsSound}
+use Rattle.dom_model.specs.Soundness.Sound.{IsSound}
 use Rattle.dom_model.specs.BoundaryPoints.Points.{map_ranges, after_removal}
 use Rattle.dom_model.specs.MutationAlgorithms.PreRemoval.{pre_removed_all}
 use Rattle.dom_model.specs.MutationAlgorithms.Editing.{taken_out, transients_made, tree_record_unless, removed_from, remove}
 use Rattle.dom_model.specs.MutationObservers.Observing.{standing_on}
-use Rattle.dom_model.specs.Worlds.Owners.{HasOwners, IsOwnedWell}
+use Rattle.dom_model.specs.Soundness.Owners.{HasOwners, IsOwnedWell}
 use Rattle.dom_model.proofs.Forests.Entries.{HasNode-occurs, occurs-HasNode}
 use Rattle.dom_model.proofs.Forests.Indices.{parent-there}
 use Rattle.dom_model.proofs.Forests.Paths.{parent-path}

@@ -9,9 +9,9 @@ use Rattle.dom_model.specs.Forests.Kinds.{Label, is_kind}
 use Rattle.dom_model.specs.Forests.Forest.{Forest, Node, empty, node, one_at, occurs, beside, entry_under, HasNode}
 use Rattle.dom_model.specs.Forests.Documents.{HasOneDocument}
 use Rattle.dom_model.specs.Worlds.World.{Content}
-use Rattle.dom_model.specs.Commands.Making.{made_node}
-use Rattle.dom_model.specs.MutationAlgorithms.Checks.{entry_has, is_of_kind}
-use Rattle.dom_model.specs.Worlds.Owners.{IsOwned, HasOwners}
+use Rattle.dom_model.specs.Worlds.Making.{made_node}
+use Rattle.dom_model.specs.Forests.Nodes.{entry_has, is_of_kind}
+use Rattle.dom_model.specs.Soundness.Owners.{IsOwned, HasOwners}
 use Rattle.dom_model.proofs.PlainLists.Numbers.{same_or, same, apart}
 use Rattle.dom_model.proofs.Forests.Entries.{entry_under-absent, occurs-HasNode}
 use Rattle.dom_model.proofs.Forests.Totals.{total-beside}

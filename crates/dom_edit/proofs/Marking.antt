@@ -3,7 +3,7 @@ use Rattle.std.proofs.Common.{◌≡◌, ℕ, false, List, Option, Some, None, r
 use Rattle.std.specs.Option.{ForSome}
 use Rattle.dom_model.specs.Forests.Forest.{HasNode}
 use Rattle.dom_model.specs.Worlds.World as model
-use Rattle.dom_model.specs.Worlds.Sound.{IsSound}
+use Rattle.dom_model.specs.Soundness.Sound.{IsSound}
 use Rattle.dom_model.specs.MutationAlgorithms.Checks.{check_insert, check_replace}
 use Rattle.dom_model.specs.MutationAlgorithms.Editing.{remove, pre_insert, replace, replace_all}
 use Rattle.dom_model.specs.TokenText.Tokens.{Token, Edit, texts_of, all_on_texts}

@@ -14,9 +14,9 @@ use Rattle.dom_model.specs.Forests.Documents.{HasOneDocument}
 use Rattle.dom_model.specs.Forests.EachNode.{EachNode}
 use Rattle.dom_model.specs.Worlds.World as model
 use Rattle.dom_model.specs.Worlds.World.{Content, Range}
-use Rattle.dom_model.specs.MutationAlgorithms.Checks.{is_of_kind}
+use Rattle.dom_model.specs.Forests.Nodes.{is_of_kind}
 use Rattle.dom_model.specs.MutationAlgorithms.Discarding.{nodes_of_range, nodes_of_live, nodes_of_iterator, nodes_of_walker, observed_nodes, named_nodes, is_held_outside, is_in_use, discarded}
-use Rattle.dom_model.specs.Worlds.Owners.{IsOwned, HasOwners}
+use Rattle.dom_model.specs.Soundness.Owners.{IsOwned, HasOwners}
 use Rattle.dom_model.proofs.PlainLists.Numbers.{same_or, same, apart}
 use Rattle.dom_model.proofs.Forests.Changes.{seen, nothing, just}
 use Rattle.dom_model.proofs.Forests.Totals.{total-tree_at}

@@ -7,7 +7,7 @@ use Rattle.dom_model.specs.Forests.Arena.{Entry}
 use Rattle.dom_model.specs.Forests.Documents.{HasOneDocument}
 use Rattle.dom_model.specs.Forests.Forest.{Node, Forest, empty, node, Grove, IsForest, HasNode, occurs, size, numbers, entry_in, children_of, index_of, put}
 use Rattle.dom_model.specs.Worlds.World.{Content, Point, Range, World}
-use Rattle.dom_model.specs.Worlds.Sound.{IsBoundary, IsRange, IsIterator, IsWalker, IsRegistration, IsSound}
+use Rattle.dom_model.specs.Soundness.Sound.{IsBoundary, IsRange, IsIterator, IsWalker, IsRegistration, IsSound}
 use Rattle.dom_model.specs.BoundaryPoints.Points.{after_gap}
 use Rattle.dom_model.specs.MutationAlgorithms.Editing.{document_in, put_in, put_all, gap_before}
 use Rattle.dom_model.proofs.PlainLists.Numbers.{same_or, same, apart}
@@ -18,10 +18,10 @@ use Rattle.dom_model.proofs.Forests.Indices.{child-parent, child-once, child-the
 use Rattle.dom_model.proofs.Forests.TreeOrder.Flattened.{hits-numbers}
 use Rattle.dom_model.proofs.RangesAndContents.PlacesLeft.{length_within}
 use Rattle.dom_model.specs.Forests.Kinds.{may_be_parent}
-use Rattle.dom_model.specs.Forests.Lengths.{unit_count, node_length}
-use Rattle.dom_model.specs.MutationAlgorithms.Checks.{kind_passes}
+use Rattle.dom_model.specs.Worlds.Lengths.{unit_count, node_length}
+use Rattle.dom_model.specs.Forests.Nodes.{kind_passes}
 use Rattle.dom_model.specs.MutationAlgorithms.Insertable.{IsPlaceable, ArePlaceable}
-use Rattle.dom_model.specs.Worlds.Owners.{IsOwnedWell}
+use Rattle.dom_model.specs.Soundness.Owners.{IsOwnedWell}
 use Rattle.dom_model.proofs.Worlds.Measured.{length-parent}
 use Rattle.dom_model.proofs.Soundness.SoundForests.{parent-passes}
 use Rattle.dom_model.proofs.Soundness.SoundWorlds.{child_there}

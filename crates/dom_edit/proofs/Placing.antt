@@ -3,10 +3,10 @@ use Rattle.std.specs.Prelude.{filter, ◌==◌, nat_lt, if◌then◌else◌, not
 use Rattle.std.specs.List.{list_any}
 use Rattle.std.proofs.Common.{◌≡◌, ℕ, ◌≤◌, Bool, true, false, List, [], ◌∷◌, ◌++◌, Option, Some, None, refl, ap, sym, ◌∙◌, subst, arith}
 use Rattle.dom_model.specs.declared.Kind.TheVariants.{Element, Text, DocumentType, DocumentFragment}
-use Rattle.dom_model.specs.PlainLists.Lists.{hits, after, is_number, from_first}
+use Rattle.dom_model.specs.PlainLists.Lists.{hits, after, is_number, from_first, past, up_to, first_refusal}
 use Rattle.dom_model.specs.Forests.Forest.{Forest, Grove, IsForest, children_of, parent_of}
-use Rattle.dom_model.specs.MutationAlgorithms.PreRemoval.{past}
-use Rattle.dom_model.specs.MutationAlgorithms.Checks.{up_to, first_refusal, is_of_kind, has_kind, count_kind}
+use Rattle.dom_model.specs.MutationAlgorithms.Checks.{has_kind, count_kind}
+use Rattle.dom_model.specs.Forests.Nodes.{is_of_kind}
 use Rattle.dom_model.proofs.Forests.Indices.{child-listed, child-once, parent-there}
 use Rattle.dom_model.proofs.PlainLists.Numbers.{same_or, same, apart}
 use Rattle.dom_edit.specs.declared.surroundings.Place.{Place}

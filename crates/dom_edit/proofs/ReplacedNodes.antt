@@ -8,7 +8,8 @@ use Rattle.dom_model.specs.Forests.Kinds.{is_kind}
 use Rattle.dom_model.specs.Forests.Forest.{Forest, HasNode, occurs, parent_of, children_of, next_of, previous_of, ancestors}
 use Rattle.dom_model.specs.Worlds.World.{Content}
 use Rattle.dom_model.specs.Worlds.World as model
-use Rattle.dom_model.specs.MutationAlgorithms.Checks.{is_of_kind, kind_refuses, document_refuses_instead, check_insert, check_replace}
+use Rattle.dom_model.specs.MutationAlgorithms.Checks.{kind_refuses, document_refuses_instead, check_insert, check_replace}
+use Rattle.dom_model.specs.Forests.Nodes.{is_of_kind}
 use Rattle.dom_model.specs.MutationAlgorithms.Editing.{remove, remove_all, tree_record, insert, pre_insert, replace, added_by, insert_if_any, replaced_record, replace_all}
 use Rattle.dom_model.specs.MutationAlgorithms.Insertable.{IsInsertable}
 use Rattle.dom_model.proofs.Forests.Climbing.{ancestors-there, hits-first}

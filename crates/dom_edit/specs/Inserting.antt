@@ -6,7 +6,7 @@ use Rattle.dom_model.specs.Forests.Forest.{Forest, entry_in, occurs, children_of
 use Rattle.dom_model.specs.Worlds.World.{Content, Range}
 use Rattle.dom_model.specs.BoundaryPoints.Points.{after_gap, map_ranges}
 use Rattle.dom_model.specs.declared.Kind.TheVariants.{DocumentFragment}
-use Rattle.dom_model.specs.MutationAlgorithms.Checks.{is_of_kind}
+use Rattle.dom_model.specs.Forests.Nodes.{is_of_kind}
 use Rattle.dom_model.specs.MutationAlgorithms.Editing.{document_in}
 use Rattle.dom_model.specs.MutationAlgorithms.Insertable.{ArePlaceable, IsChildOf}
 use Rattle.dom_edit.specs.declared.inserting.NodeList.{NodeList}

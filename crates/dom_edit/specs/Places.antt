@@ -2,12 +2,11 @@
 use Rattle.std.specs.Prelude.{◌≡◌, ℕ, Bool, true, false, List, [], ◌∷◌, ◌++◌, Option, Some, None}
 use Rattle.std.specs.Option.{ForSome}
 use Rattle.dom_model.specs.declared.Kind.{Kind}
-use Rattle.dom_model.specs.PlainLists.Lists.{hits, from_first}
+use Rattle.dom_model.specs.PlainLists.Lists.{hits, from_first, up_to, past}
 use Rattle.dom_model.specs.Forests.Forest.{Forest, parent_of, children_of}
-use Rattle.dom_model.specs.MutationAlgorithms.Checks.{up_to, has_kind, common_conditions, kind_refuses, document_refuses, document_refuses_instead}
+use Rattle.dom_model.specs.MutationAlgorithms.Checks.{has_kind, common_conditions, kind_refuses, document_refuses, document_refuses_instead}
 use Rattle.dom_model.specs.declared.DomError.{DomError}
 use Rattle.dom_model.specs.declared.DomError.TheVariants.{HierarchyRequestError}
-use Rattle.dom_model.specs.MutationAlgorithms.PreRemoval.{past}
 use Rattle.dom_model.specs.declared.Kind.TheVariants.{Element, DocumentType}
 use Rattle.dom_edit.specs.declared.surroundings.Found.{Found}
 use Rattle.dom_edit.specs.declared.surroundings.Around.{Around}

@@ -4,9 +4,10 @@ use Rattle.std.specs.Prelude.{◌≡◌, ℕ, not, [], ◌∷◌, Option, Some, 
 use Rattle.dom_model.specs.declared.Kind.TheVariants.{Document}
 use Rattle.dom_model.specs.declared.DomError.{DomError}
 use Rattle.dom_model.specs.declared.DomError.TheVariants.{NotFoundError, NotSupportedError}
-use Rattle.dom_model.specs.PlainLists.Lists.{is_number}
+use Rattle.dom_model.specs.PlainLists.Lists.{is_number, first_refusal}
 use Rattle.dom_model.specs.Forests.Forest.{Forest, parent_of}
-use Rattle.dom_model.specs.MutationAlgorithms.Checks.{first_refusal, is_of_kind, check_insert}
+use Rattle.dom_model.specs.MutationAlgorithms.Checks.{check_insert}
+use Rattle.dom_model.specs.Forests.Nodes.{is_of_kind}
 use Rattle.dom_edit.specs.declared.world.World.{World}
 use Rattle.dom_edit.specs.declared.refusal.Refusal.{Refusal}
 use Rattle.dom_edit.specs.declared.refusal.Refusal.TheVariants.{Dom, Memory}

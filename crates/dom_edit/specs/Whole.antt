@@ -5,8 +5,8 @@ use Rattle.dom_model.specs.Forests.Forest.{Forest, Grove, HasNode, IsForest}
 use Rattle.dom_model.specs.Forests.Documents.{HasOneDocument}
 use Rattle.dom_model.specs.Worlds.World.{Content, Range}
 use Rattle.dom_model.specs.Worlds.World as model
-use Rattle.dom_model.specs.Worlds.Sound.{IsRange, IsIterator, IsWalker, IsSound}
-use Rattle.dom_model.specs.Worlds.Owners.{HasOwners}
+use Rattle.dom_model.specs.Soundness.Sound.{IsRange, IsIterator, IsWalker, IsSound}
+use Rattle.dom_model.specs.Soundness.Owners.{HasOwners}
 use Rattle.dom_ranges.specs.Chained.{covers}
 use Rattle.dom_observe.specs.Watchers.{Watches}
 use Rattle.dom_edit.specs.declared.world.World.{World}

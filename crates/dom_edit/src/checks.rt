@@ -4,9 +4,9 @@ ghost use Rattle.std.specs.Prelude.{◌≡◌, None, Some, MatchResult, not, ◌
 ghost use Rattle.std.specs.Option.{ForSome};
 ghost use Rattle.dom_model.specs.declared.Kind.TheVariants.{Text, Document, DocumentType};
 ghost use Rattle.dom_model.specs.Forests.Kinds.{may_be_parent, is_kind};
-ghost use Rattle.dom_model.specs.PlainLists.Lists.{among, is_number};
+ghost use Rattle.dom_model.specs.PlainLists.Lists.{among, is_number, first_refusal};
 ghost use Rattle.dom_model.specs.Forests.Forest.{HasNode, parent_of, ancestors};
-ghost use Rattle.dom_model.specs.MutationAlgorithms.Checks.{if_given, first_refusal, check_insert, check_replace};
+ghost use Rattle.dom_model.specs.MutationAlgorithms.Checks.{if_given, check_insert, check_replace};
 ghost use Rattle.dom_edit.specs.Places.{child_of, conditions_at};
 
 use crate::content::Content;

@@ -3,7 +3,7 @@
 ghost use Rattle.std.specs.Prelude.{◌≡◌, length};
 ghost use Rattle.dom_model.specs.Forests.Forest.{index_of, parent_of};
 ghost use Rattle.dom_model.specs.MutationAlgorithms.Editing.{put_all, gap_before};
-ghost use Rattle.dom_model.specs.Worlds.Owners.{IsOwnedWell};
+ghost use Rattle.dom_model.specs.Soundness.Owners.{IsOwnedWell};
 ghost use Rattle.dom_edit.specs.Inserting.{placed_in, all_placed, with_room, IsOpen};
 ghost use Rattle.dom_edit.specs.Whole.{IsWhole, Follows};
 ghost use Rattle.std.specs.Prelude.{Some, [], ◌∷◌};

@@ -4,7 +4,8 @@ ghost use Rattle.std.specs.Prelude.{◌≡◌, ℕ, ◌||◌, [], ◌∷◌};
 ghost use Rattle.dom_model.specs.declared.Kind.TheVariants.{Element, DocumentType, DocumentFragment};
 ghost use Rattle.dom_model.specs.PlainLists.Lists.{is_number};
 ghost use Rattle.dom_model.specs.Forests.Forest.{HasNode, children_of};
-ghost use Rattle.dom_model.specs.MutationAlgorithms.Checks.{is_of_kind, has_kind, count_kind};
+ghost use Rattle.dom_model.specs.MutationAlgorithms.Checks.{has_kind, count_kind};
+ghost use Rattle.dom_model.specs.Forests.Nodes.{is_of_kind};
 ghost use Rattle.dom_edit.specs.Places.{child_of, keeps_child, IsUnder, refuses, IsAmong, ahead_of, from_optional, IsFound, IsAround};
 
 use crate::content::Content;

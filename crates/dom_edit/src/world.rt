@@ -5,8 +5,8 @@ ghost use Rattle.std.specs.Option.{ForSome};
 ghost use Rattle.dom_model.specs.declared.Kind.TheVariants.{Document};
 ghost use Rattle.dom_model.specs.Forests.Kinds.{is_kind};
 ghost use Rattle.dom_model.specs.Worlds.World.{first_world};
-ghost use Rattle.dom_model.specs.Commands.Making.{made_node};
-ghost use Rattle.dom_model.specs.MutationAlgorithms.Checks.{is_of_kind};
+ghost use Rattle.dom_model.specs.Worlds.Making.{made_node};
+ghost use Rattle.dom_model.specs.Forests.Nodes.{is_of_kind};
 ghost use Rattle.dom_edit.specs.Whole.{IsWhole, Shows, Follows};
 
 use crate::content::Content;

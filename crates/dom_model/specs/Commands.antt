@@ -2,9 +2,9 @@
 -- the bytes that are read to the bytes that are written.
 pub mod Refusal
 pub mod Command
+pub mod Counts
 pub mod Reply
 pub mod Guards
-pub mod Making
 pub mod AnswerMaking
 pub mod AnswerTree
 pub mod AnswerData

@@ -4,11 +4,11 @@ pub mod Kinds
 pub mod Names
 pub mod Texts
 pub mod Attributes
+pub mod Arena
 pub mod Forest
+pub mod Nodes
 pub mod EachNode
 pub mod Documents
-pub mod Lengths
-pub mod Arena
 pub mod Lies
 pub mod ForestCode
 pub mod Ways

@@ -2,11 +2,12 @@ pub mod PlainLists
 pub mod Forests
 pub mod Worlds
 pub mod BoundaryPoints
+pub mod Soundness
+pub mod MutationObservers
 pub mod MutationAlgorithms
 pub mod DataAndCopies
 pub mod RangesAndContents
 pub mod Traversal
-pub mod MutationObservers
 pub mod Commands
 pub mod TokenText
 pub mod Erasure

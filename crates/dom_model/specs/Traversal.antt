@@ -1,6 +1,6 @@
 -- Filters, iterators and tree walkers. DOM Standard, "Traversal".
 pub mod Filters
 pub mod Iterators
-pub mod Walks
 pub mod WalkSteps
+pub mod Walks
 pub mod Ending

@@ -1,5 +1,4 @@
--- The world: all that a session stands for; what holds of each world that commands reach; how many numbers it has given out.
+-- The world: all that a session stands for; lengths in it; a new node.
 pub mod World
-pub mod Sound
-pub mod Counts
-pub mod Owners
+pub mod Lengths
+pub mod Making

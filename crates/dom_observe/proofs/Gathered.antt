@@ -7,7 +7,7 @@ use Rattle.std.proofs.lemmas.List.Elements.{filter-append}
 use Rattle.std.proofs.lemmas.Bool.{cases_lt}
 use Rattle.dom_model.specs.PlainLists.Lists.{among}
 use Rattle.dom_model.specs.Worlds.World.{Observing}
-use Rattle.dom_model.specs.Commands.Reply.{Record, Told}
+use Rattle.dom_model.specs.MutationObservers.Record.{Record, Told}
 use Rattle.dom_model.specs.MutationObservers.Records.{has_records, told_in, queue_of}
 use Rattle.dom_model.proofs.PlainLists.Numbers.{Same, same_or, same, apart}
 use Rattle.dom_observe.specs.Notifying.{waiting_for}

@@ -10,7 +10,7 @@ use Rattle.slab.specs.Slab.{Slab}
 use Rattle.dom_model.specs.PlainLists.Lists.{among}
 use Rattle.dom_model.specs.Worlds.World.{Registration}
 use Rattle.dom_model.specs.MutationObservers.Observing.{registered_on, standing_on}
-use Rattle.dom_model.specs.Commands.Reply.{Record}
+use Rattle.dom_model.specs.MutationObservers.Record.{Record}
 use Rattle.dom_model.proofs.PlainLists.Numbers.{Same, same_or, same, apart}
 use Rattle.dom_observe.specs.declared.registration.Registration as held
 use Rattle.dom_observe.specs.declared.registration.Ended.{Ended}

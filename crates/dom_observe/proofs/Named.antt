@@ -7,7 +7,7 @@ use Rattle.std.proofs.lemmas.Bool.{true≢false}
 use Rattle.std.proofs.lemmas.List.Folds.{list_any-append}
 use Rattle.slab.specs.Slab.{Slab}
 use Rattle.dom_model.specs.Worlds.World.{Registration, Observing}
-use Rattle.dom_model.specs.Commands.Reply.{Record}
+use Rattle.dom_model.specs.MutationObservers.Record.{Record}
 use Rattle.dom_model.specs.MutationObservers.Observing.{registered_on}
 use Rattle.dom_model.specs.MutationObservers.Records.{queue_of}
 use Rattle.dom_model.specs.MutationAlgorithms.Discarding.{nodes_of_registration, nodes_of_record, queues_from, queued_records, observed_nodes}

@@ -6,7 +6,7 @@ use Rattle.std.proofs.lemmas.List.{get_or_append_left, get_or-append_right, get_
 use Rattle.std.proofs.Math.Seq.{get_or-append_seam}
 use Rattle.std.proofs.lemmas.Bool.{cases_lt}
 use Rattle.dom_model.specs.Worlds.World.{Options, Registration, Mutation, Observing}
-use Rattle.dom_model.specs.Commands.Reply.{Record}
+use Rattle.dom_model.specs.MutationObservers.Record.{Record}
 use Rattle.dom_model.specs.MutationObservers.Observing.{registered_on, standing_on, transient_of, with_transients, noted}
 use Rattle.dom_model.specs.MutationObservers.Records.{is_registered, is_transient_from, new_registration, with_options, registered, observed, queue_of, with_observer, records_taken, record_by, record_for, interested, observers_of, after_notify}
 use Rattle.dom_model.specs.PlainLists.LastOnce.{with_all_last}

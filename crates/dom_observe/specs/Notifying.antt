@@ -1,6 +1,6 @@
 -- What pending observers are told.
 use Rattle.std.specs.Prelude.{ℕ, List, [], map, slice_index_or, Vec}
-use Rattle.dom_model.specs.Commands.Reply.{Record, Told}
+use Rattle.dom_model.specs.MutationObservers.Record.{Record, Told}
 
 -- observers with their records, as the definitions have them
 abbrev pub told_of : {A : Type 0} → List (ℕ × Vec Record A) → List Told

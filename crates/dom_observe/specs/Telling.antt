@@ -4,7 +4,7 @@ use Rattle.std.specs.List.{list_any}
 use Rattle.std.specs.Option.{option_and_then}
 use Rattle.dom_model.specs.declared.RecordType.{RecordType}
 use Rattle.dom_model.specs.Worlds.World.{Registration, Mutation}
-use Rattle.dom_model.specs.Commands.Reply.{Record}
+use Rattle.dom_model.specs.MutationObservers.Record.{Record}
 use Rattle.dom_model.specs.MutationObservers.Records.{asks_old_value, record_with}
 use Rattle.dom_observe.specs.Registrations.{concerns}
 

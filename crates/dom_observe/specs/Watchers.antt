@@ -2,7 +2,7 @@
 use Rattle.std.specs.Prelude.{◌≡◌, ℕ, ◌==◌, ◌<◌, ◌≤◌, if◌then◌else◌, List, [], ◌∷◌, length, filter, slice_index_or}
 use Rattle.dom_model.specs.Worlds.World.{Registration, Observing}
 use Rattle.dom_model.specs.MutationObservers.Observing.{registered_on}
-use Rattle.dom_model.specs.Commands.Reply.{Record}
+use Rattle.dom_model.specs.MutationObservers.Record.{Record}
 use Rattle.dom_model.specs.MutationObservers.Records.{is_registered, taken_up_to, queue_of, pending_of}
 
 -- nodes with the registrations on them, in their order; a queue for each observer; the pending list

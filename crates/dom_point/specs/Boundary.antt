@@ -3,7 +3,7 @@ use Rattle.std.specs.Prelude.{◌≡◌, ℕ, ◌≤◌, [], Some}
 use Rattle.dom_model.specs.Forests.Forest.{Forest, HasNode, Grove, root_of, IsForest}
 use Rattle.dom_model.specs.Worlds.World.{Content, Point}
 use Rattle.dom_model.specs.BoundaryPoints.Points.{order_of}
-use Rattle.dom_model.specs.Forests.Lengths.{node_length, unit_count}
+use Rattle.dom_model.specs.Worlds.Lengths.{node_length, unit_count}
 use Rattle.dom_model.specs.TokenText.Gaps.{root_text, gap_count, gap_order}
 
 -- the node is there, under the root, and the offset is within its length

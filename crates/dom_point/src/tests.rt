@@ -3,7 +3,7 @@
 ghost use Rattle.std.specs.Prelude.{◌≡◌, ◌<◌, ◌^◌};
 ghost use Rattle.dom_model.specs.declared.Kind.TheVariants.{Element};
 ghost use Rattle.dom_model.specs.Forests.Forest.{HasNode};
-ghost use Rattle.dom_model.specs.MutationAlgorithms.Checks.{is_of_kind};
+ghost use Rattle.dom_model.specs.Forests.Nodes.{is_of_kind};
 
 use crate::{Point, common, order};
 use dom_tree::of_kinds::{Kind, Label};

@@ -2,8 +2,8 @@
 use Rattle.std.proofs.Common.{◌≡◌, ℕ, true, Option, Some, None, refl, ap}
 use Rattle.std.proofs.lemmas.Bool.{eqb-true, false≢true}
 use Rattle.dom_model.specs.Forests.Forest.{Forest, root_of}
-use Rattle.dom_model.specs.MutationAlgorithms.Checks.{is_same}
-use Rattle.dom_model.specs.RangesAndContents.Ranges.{same_root}
+use Rattle.dom_model.specs.PlainLists.Lists.{is_same}
+use Rattle.dom_model.specs.Forests.Nodes.{same_root}
 
 same-number : (a b : Option ℕ) → is_same a b ≡ true → a ≡ b
 same-number None None h = refl

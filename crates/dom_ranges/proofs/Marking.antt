@@ -3,7 +3,7 @@ use Rattle.std.proofs.Common.{◌≡◌, ◌<◌, true, [], ◌∷◌, None, ref
 use Rattle.dom_model.specs.Forests.Kinds.{is_character_data}
 use Rattle.dom_model.specs.Forests.Forest.{occurs}
 use Rattle.dom_model.specs.Worlds.World.{World}
-use Rattle.dom_model.specs.Worlds.Sound.{IsSound}
+use Rattle.dom_model.specs.Soundness.Sound.{IsSound}
 use Rattle.dom_model.specs.MutationAlgorithms.Editing.{remove, put_in, gap_before}
 use Rattle.dom_model.specs.DataAndCopies.Data.{replace_units, split}
 use Rattle.dom_model.specs.TokenText.Tokens.{Edit, Insertion, Removal, Splice, Parting, point, texts_of, on_texts, marked_ranges}

@@ -4,11 +4,11 @@ use Rattle.dom_model.specs.declared.Kind.TheVariants.{Text}
 use Rattle.dom_model.specs.Forests.Kinds.{is_kind, is_character_data}
 use Rattle.dom_model.specs.Forests.Texts.{spliced}
 use Rattle.dom_model.specs.Forests.Forest.{occurs, parent_of, children_of, index_of, inclusive_descendants}
-use Rattle.dom_model.specs.Forests.Lengths.{unit_count, node_length}
+use Rattle.dom_model.specs.Worlds.Lengths.{unit_count, node_length}
 use Rattle.dom_model.specs.Worlds.World.{Point, World}
-use Rattle.dom_model.specs.Worlds.Sound.{IsBoundary, IsRange, IsSound}
+use Rattle.dom_model.specs.Soundness.Sound.{IsBoundary, IsRange, IsSound}
 use Rattle.dom_model.specs.BoundaryPoints.Points.{map_ranges, moved_range, after_removal, after_splice, after_merge}
-use Rattle.dom_model.specs.MutationAlgorithms.Checks.{kind_passes, is_of_kind}
+use Rattle.dom_model.specs.Forests.Nodes.{kind_passes, is_of_kind}
 use Rattle.dom_model.specs.MutationAlgorithms.Editing.{remove}
 use Rattle.dom_model.specs.DataAndCopies.Data.{content_in, data_of, with_data, replace_units}
 use Rattle.dom_model.specs.TokenText.Tokens.{Removal, Merge}

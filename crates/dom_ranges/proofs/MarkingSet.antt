@@ -2,10 +2,10 @@
 use Rattle.std.proofs.Common.{◌≡◌, ℕ, Bool, List, [], ◌∷◌, Option, Some, None, IfSome, sym, subst}
 use Rattle.dom_model.specs.declared.Kind.TheVariants.{DocumentType}
 use Rattle.dom_model.specs.declared.DomError.TheVariants.{InvalidNodeTypeError}
-use Rattle.dom_model.specs.Forests.Lengths.{unit_count}
+use Rattle.dom_model.specs.Worlds.Lengths.{unit_count}
 use Rattle.dom_model.specs.Worlds.World.{Range, World}
-use Rattle.dom_model.specs.Worlds.Sound.{IsRange, IsSound}
-use Rattle.dom_model.specs.MutationAlgorithms.Checks.{is_of_kind}
+use Rattle.dom_model.specs.Soundness.Sound.{IsRange, IsSound}
+use Rattle.dom_model.specs.Forests.Nodes.{is_of_kind}
 use Rattle.dom_model.specs.RangesAndContents.Ranges.{start_set, end_set, around, contents_of, collapsed, range_at, with_range}
 use Rattle.dom_model.specs.TokenText.Tokens.{texts_of, all_on_texts, marked_ranges}
 use Rattle.dom_model.specs.TokenText.Edits.{ends_edits}

@@ -7,11 +7,11 @@ use Rattle.dom_model.specs.PlainLists.Lists.{hits}
 use Rattle.dom_model.specs.Forests.Kinds.{is_character_data, may_stand_in}
 use Rattle.dom_model.specs.Forests.Forest.{Forest, HasNode, occurs, parent_of, index_of, ancestors, inclusive_descendants}
 use Rattle.dom_model.specs.Worlds.World.{Content, Point, Range, World}
-use Rattle.dom_model.specs.Worlds.Sound.{IsSound}
+use Rattle.dom_model.specs.Soundness.Sound.{IsSound}
 use Rattle.dom_model.specs.BoundaryPoints.Points.{map_ranges, after_gap, after_removal, after_splice, after_split, after_merge}
-use Rattle.dom_model.specs.Forests.Lengths.{unit_count}
+use Rattle.dom_model.specs.Worlds.Lengths.{unit_count}
 use Rattle.dom_model.specs.RangesAndContents.Ranges.{start_set, end_set, around, contents_of, collapsed, check_point, check_contents, range_at}
-use Rattle.dom_model.specs.MutationAlgorithms.Checks.{kind_passes, is_of_kind}
+use Rattle.dom_model.specs.Forests.Nodes.{kind_passes, is_of_kind}
 use Rattle.dom_model.specs.DataAndCopies.Data.{data_of, tail_of}
 use Rattle.dom_model.specs.TokenText.Tokens.{Edit, Insertion, Removal, Splice, Parting, Merge, point, texts_of, on_texts, all_on_texts, marked_ranges}
 use Rattle.dom_model.specs.TokenText.Edits.{index_before, ends_edits}

@@ -8,8 +8,8 @@ use Rattle.dom_model.specs.Worlds.World.{Point, Range}
 use Rattle.dom_model.specs.PlainLists.Lists.{among, hits}
 use Rattle.dom_model.specs.Forests.Forest.{Forest, HasNode, root_of}
 use Rattle.dom_model.specs.BoundaryPoints.Points.{order_of}
-use Rattle.dom_model.specs.MutationAlgorithms.Checks.{is_of_kind}
-use Rattle.dom_model.specs.Forests.Lengths.{node_length}
+use Rattle.dom_model.specs.Forests.Nodes.{is_of_kind}
+use Rattle.dom_model.specs.Worlds.Lengths.{node_length}
 use Rattle.dom_model.specs.MutationAlgorithms.Discarding.{nodes_of_live}
 use Rattle.dom_ranges.specs.declared.chains.End.{End}
 use Rattle.dom_ranges.specs.Chained.{Heads, covers, points_of, HasChains}

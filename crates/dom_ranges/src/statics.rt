@@ -8,7 +8,7 @@ ghost use Rattle.dom_model.specs.Forests.Forest.{HasNode, inclusive_descendants}
 ghost use Rattle.dom_model.specs.Worlds.World.{Range};
 ghost use Rattle.dom_model.specs.RangesAndContents.StaticRanges.{check_static, is_valid_static};
 ghost use Rattle.dom_model.specs.MutationAlgorithms.Discarding.{nodes_of_range};
-ghost use Rattle.dom_model.specs.Forests.Lengths.{node_length};
+ghost use Rattle.dom_model.specs.Worlds.Lengths.{node_length};
 ghost use Rattle.dom_ranges.specs.Tables.{refused};
 
 use crate::setting::{is_before, is_doctype, same_root};

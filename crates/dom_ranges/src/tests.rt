@@ -5,7 +5,7 @@ ghost use Rattle.std.specs.declared.cmp.Ordering.TheVariants.{Greater};
 ghost use Rattle.dom_model.specs.declared.Kind.TheVariants.{Element, Text};
 ghost use Rattle.dom_model.specs.Forests.Forest.{HasNode, root_of};
 ghost use Rattle.dom_model.specs.BoundaryPoints.Points.{order_of};
-ghost use Rattle.dom_model.specs.MutationAlgorithms.Checks.{is_of_kind};
+ghost use Rattle.dom_model.specs.Forests.Nodes.{is_of_kind};
 
 use crate::setting::is_doctype;
 use crate::{RangeId, Ranges, StaticId, Statics};

@@ -9,7 +9,7 @@ use Rattle.dom_model.specs.Forests.Kinds.{is_kind}
 use Rattle.dom_model.specs.Forests.Forest.{Forest, size, entry_in}
 use Rattle.dom_model.specs.Worlds.World.{Content}
 use Rattle.dom_model.specs.Worlds.World as model
-use Rattle.dom_model.specs.MutationAlgorithms.Checks.{kind_passes, is_of_kind}
+use Rattle.dom_model.specs.Forests.Nodes.{kind_passes, is_of_kind}
 use Rattle.dom_model.specs.DataAndCopies.Clones.{original, clone_node, import_node, is_equal, contains, position}
 use Rattle.dom_model.specs.Commands.Command.{ImportNode, CloneNode, IsEqual, IsContaining, ComparePosition}
 use Rattle.dom_model.specs.Commands.Reply as model_reply

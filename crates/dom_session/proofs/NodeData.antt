@@ -12,10 +12,11 @@ use Rattle.dom_model.specs.Forests.Attributes.{Attribute, attribute_value, attri
 use Rattle.dom_model.specs.Forests.Texts.{substring}
 use Rattle.dom_model.specs.Forests.Arena.{Entry}
 use Rattle.dom_model.specs.Forests.Forest.{Node, Forest, entry_in, inclusive_descendants}
-use Rattle.dom_model.specs.Forests.Lengths.{length_of, length_in, node_length, unit_count, length_at}
+use Rattle.dom_model.specs.Worlds.Lengths.{length_of, length_in, node_length, unit_count, length_at}
 use Rattle.dom_model.specs.Worlds.World.{Content}
 use Rattle.dom_model.specs.Worlds.World as model
-use Rattle.dom_model.specs.MutationAlgorithms.Checks.{first_refusal, kind_passes, is_of_kind}
+use Rattle.dom_model.specs.PlainLists.Lists.{first_refusal}
+use Rattle.dom_model.specs.Forests.Nodes.{kind_passes, is_of_kind}
 use Rattle.dom_model.specs.DataAndCopies.Data.{content_in, cut_count, check_offset, replace_data, set_data, substring_data, split, normalize, text_content_by, text_content, set_text_content, by_kind, set_attribute, has_attribute, remove_attribute, is_toggled_on, toggle_attribute}
 use Rattle.dom_model.specs.Commands.Command.{Command, SetAttribute, GetAttribute, HasAttribute, RemoveAttribute, ToggleAttribute, AttributeNames, GetData, SetData, AppendData, ReplaceData, SubstringData, SplitText, Normalize, TextContent, SetTextContent}
 use Rattle.dom_model.specs.Commands.Reply as model_reply

@@ -5,11 +5,13 @@ use Rattle.dom_model.specs.declared.DomError.{DomError}
 use Rattle.dom_model.specs.Forests.Forest.{entry_in}
 use Rattle.dom_model.specs.Worlds.World.{Observing, Options}
 use Rattle.dom_model.specs.Worlds.World as model
-use Rattle.dom_model.specs.Commands.Command.{Command, GivenOptions, Observe, Disconnect, Notify}
+use Rattle.dom_model.specs.Commands.Command.{Command, Observe, Disconnect, Notify}
+use Rattle.dom_model.specs.MutationObservers.GivenOptions.{GivenOptions}
 use Rattle.dom_model.specs.Commands.Reply as model_reply
 use Rattle.dom_model.specs.Commands.Answer.{Bounds, answer}
 use Rattle.dom_model.specs.Commands.AnswerObserving.{with_observing}
 use Rattle.dom_model.specs.MutationObservers.Records.{options_refusal, options_of, settled, settled_unless, observed, disconnected, told, after_notify}
+use Rattle.dom_model.specs.MutationObservers.Record.{Told}
 use Rattle.dom_wrap.specs.dom_observe.Watchers.{Watchers, Watches}
 use Rattle.dom_wrap.specs.dom_edit.declared.world.World.{World}
 use Rattle.dom_wrap.specs.dom_edit.Whole.{IsWhole, Shows}
@@ -41,7 +43,7 @@ module _ (v : World) (whole : IsWhole v) where
   step-disconnect b i o reply made said watched =
       step-observers b (Disconnect i) reply o (disconnected i) (λ w s. rw (said, s.watched.made, made) refl) watched
 
-  pub step-notify : (b : Bounds) (all : List model_reply.Told) (o : Watchers) (reply : Reply) → reply_view reply ≡ model_reply.Done (model_reply.Notified all) → ((x : Observing) → Watches v.observers x → all ≡ told x) → ((x : Observing) → Watches v.observers x → Watches o (after_notify x)) → IsStep v (record v { observers = o }) b Notify reply
+  pub step-notify : (b : Bounds) (all : List Told) (o : Watchers) (reply : Reply) → reply_view reply ≡ model_reply.Done (model_reply.Notified all) → ((x : Observing) → Watches v.observers x → all ≡ told x) → ((x : Observing) → Watches v.observers x → Watches o (after_notify x)) → IsStep v (record v { observers = o }) b Notify reply
   step-notify b all o reply said are watched =
       step-observers b Notify reply o after_notify (λ w s. rw (said, are w.observing s.watched) refl) watched
 

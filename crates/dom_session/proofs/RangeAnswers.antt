@@ -5,15 +5,16 @@ use Rattle.dom_model.specs.declared.Kind.TheVariants.{Document}
 use Rattle.dom_model.specs.declared.DomError.{DomError}
 use Rattle.dom_model.specs.declared.DomError.TheVariants.{InvalidNodeTypeError}
 use Rattle.dom_model.specs.Forests.Forest.{Forest, entry_in, parent_of, index_of}
-use Rattle.dom_model.specs.Forests.Lengths.{unit_count}
+use Rattle.dom_model.specs.Worlds.Lengths.{unit_count}
 use Rattle.dom_model.specs.Worlds.World as model
 use Rattle.dom_model.specs.Worlds.World.{Content, Point, Range}
 use Rattle.dom_model.specs.Commands.Command.{CreateRange, CloneRange, SetStart, SetEnd, SetStartBefore, SetStartAfter, SetEndBefore, SetEndAfter, Collapse, SelectNode, SelectNodeContents, ComparePoint, IsPointInRange, CreateStaticRange}
 use Rattle.dom_model.specs.Commands.Reply as model_reply
 use Rattle.dom_model.specs.Commands.Answer.{Bounds, answer}
 use Rattle.dom_model.specs.Commands.AnswerRanges.{sets_start, sets_end}
-use Rattle.dom_model.specs.MutationAlgorithms.Checks.{first_refusal, is_of_kind}
-use Rattle.dom_model.specs.RangesAndContents.Ranges.{same_root, start_set, end_set, point_before, point_after, around, contents_of, collapsed_at, collapsed, check_point, check_parent, check_contents, place_against, is_point_in}
+use Rattle.dom_model.specs.PlainLists.Lists.{first_refusal}
+use Rattle.dom_model.specs.Forests.Nodes.{is_of_kind, same_root}
+use Rattle.dom_model.specs.RangesAndContents.Ranges.{start_set, end_set, point_before, point_after, around, contents_of, collapsed_at, collapsed, check_point, check_parent, check_contents, place_against, is_point_in}
 use Rattle.dom_model.specs.RangesAndContents.StaticRanges.{check_static}
 use Rattle.dom_wrap.specs.dom_ranges.Tables.{range_in, refused}
 use Rattle.dom_wrap.specs.dom_edit.declared.world.World.{World}

@@ -5,10 +5,10 @@ use Rattle.std.proofs.lemmas.Bool.{cases_lt}
 use Rattle.std.proofs.lemmas.List.{get_or_past}
 use Rattle.dom_model.specs.declared.Kind.TheVariants.{Document}
 use Rattle.dom_model.specs.Forests.Forest.{Forest, Grove, HasNode, IsForest, parent_of, root_of}
-use Rattle.dom_model.specs.Forests.Lengths.{unit_count}
-use Rattle.dom_model.specs.MutationAlgorithms.Checks.{is_of_kind}
+use Rattle.dom_model.specs.Worlds.Lengths.{unit_count}
+use Rattle.dom_model.specs.Forests.Nodes.{is_of_kind}
 use Rattle.dom_model.specs.Worlds.World.{Content, Point, Range}
-use Rattle.dom_model.specs.Worlds.Sound.{IsBoundary, IsRange}
+use Rattle.dom_model.specs.Soundness.Sound.{IsBoundary, IsRange}
 use Rattle.dom_model.specs.PlainLists.Lists.{last_of}
 use Rattle.dom_model.proofs.Forests.Entries.{occurs-HasNode}
 use Rattle.dom_model.proofs.Forests.Climbing.{ancestors-there}

@@ -5,8 +5,8 @@ use Rattle.dom_model.specs.Worlds.World as model
 use Rattle.dom_model.specs.Commands.Command.{Command}
 use Rattle.dom_model.specs.Commands.Reply as model_reply
 use Rattle.dom_model.specs.Commands.Answer.{Bounds, Step, guarded, refused, answer}
-use Rattle.dom_model.specs.MutationAlgorithms.Checks.{first_refusal}
-use Rattle.dom_model.specs.Worlds.Sound.{IsSound}
+use Rattle.dom_model.specs.PlainLists.Lists.{first_refusal}
+use Rattle.dom_model.specs.Soundness.Sound.{IsSound}
 use Rattle.dom_model.proofs.Soundness.SoundAnswers.{sound-answer}
 use Rattle.dom_wrap.specs.dom_edit.declared.world.World.{World}
 use Rattle.dom_wrap.specs.dom_edit.Whole.{IsWhole, Shows, Follows}

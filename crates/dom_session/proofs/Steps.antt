@@ -9,7 +9,8 @@ use Rattle.dom_model.specs.Forests.Kinds.{Label, is_kind}
 use Rattle.dom_model.specs.Worlds.World.{Content, no_content, document_label}
 use Rattle.dom_model.specs.Worlds.World as model
 use Rattle.dom_model.specs.Commands.Reply as model_reply
-use Rattle.dom_model.specs.MutationAlgorithms.Checks.{first_refusal, kind_passes}
+use Rattle.dom_model.specs.PlainLists.Lists.{first_refusal}
+use Rattle.dom_model.specs.Forests.Nodes.{kind_passes}
 use Rattle.dom_model.specs.Forests.Names.{is_element_name, is_doctype_name}
 use Rattle.dom_model.specs.Commands.AnswerMaking.{closes_instruction, doctype_label}
 use Rattle.dom_model.specs.Commands.Command.{Command, NewDocument, CreateElement, CreateText, CreateComment, CreatePI, CreateDoctype, CreateFragment}

@@ -6,7 +6,7 @@ use Rattle.dom_model.specs.declared.Move.{Move}
 use Rattle.dom_model.specs.Forests.Forest.{entry_in}
 use Rattle.dom_model.specs.Worlds.World.{Filter, Iterator, Walker}
 use Rattle.dom_model.specs.Worlds.World as model
-use Rattle.dom_model.specs.Worlds.Sound.{IsSound}
+use Rattle.dom_model.specs.Soundness.Sound.{IsSound}
 use Rattle.dom_model.specs.Commands.Command.{Command, CreateIterator, CreateWalker, NextNode, PreviousNode, SetCurrent, Walk}
 use Rattle.dom_model.specs.Commands.Reply as model_reply
 use Rattle.dom_model.specs.Commands.Answer.{Bounds, Step, answer}

@@ -5,7 +5,7 @@ use Rattle.dom_model.specs.declared.Kind.{Kind}
 use Rattle.dom_model.specs.declared.Kind.TheVariants.{Document}
 use Rattle.dom_model.specs.declared.DomError.{DomError}
 use Rattle.dom_model.specs.declared.DomError.TheVariants.{NotFoundError, NotSupportedError, TypeError}
-use Rattle.dom_model.specs.PlainLists.Lists.{is_number}
+use Rattle.dom_model.specs.PlainLists.Lists.{is_number, first_refusal}
 use Rattle.dom_model.specs.Forests.Kinds.{Label, is_kind, may_be_parent}
 use Rattle.dom_model.specs.Forests.Arena.{Entry}
 use Rattle.dom_model.specs.Forests.Forest.{Node, Forest, entry_in, parent_of}
@@ -18,7 +18,8 @@ use Rattle.dom_model.specs.Commands.Guards.{does}
 use Rattle.dom_model.specs.Commands.AnswerTree.{is_child_node}
 use Rattle.dom_model.specs.declared.OwnError.TheVariants.{NoSuchObject, InUse}
 use Rattle.dom_model.specs.MutationAlgorithms.Discarding.{is_in_use, discarded}
-use Rattle.dom_model.specs.MutationAlgorithms.Checks.{first_refusal, entry_has, kind_passes, is_of_kind, check_insert, check_replace}
+use Rattle.dom_model.specs.MutationAlgorithms.Checks.{check_insert, check_replace}
+use Rattle.dom_model.specs.Forests.Nodes.{entry_has, kind_passes, is_of_kind}
 use Rattle.dom_model.specs.MutationAlgorithms.Editing.{remove, pre_insert, append, replace, replace_all, adopt}
 use Rattle.dom_wrap.specs.dom_edit.declared.world.World.{World}
 use Rattle.dom_wrap.specs.dom_edit.Whole.{Shows}

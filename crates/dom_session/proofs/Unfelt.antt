@@ -10,10 +10,11 @@ use Rattle.dom_model.specs.Forests.Forest.{Forest, parent_of, children_of, next_
 use Rattle.dom_model.specs.Forests.Texts.{substring}
 use Rattle.dom_model.specs.Worlds.World.{Content, Point, Range, Observing, Mutation, World, no_content}
 use Rattle.dom_model.specs.BoundaryPoints.Points.{map_ranges, after_split}
-use Rattle.dom_model.specs.MutationAlgorithms.PreRemoval.{past}
-use Rattle.dom_model.specs.MutationAlgorithms.Checks.{up_to, kind_passes, check_insert}
+use Rattle.dom_model.specs.PlainLists.Lists.{past, up_to}
+use Rattle.dom_model.specs.MutationAlgorithms.Checks.{check_insert}
+use Rattle.dom_model.specs.Forests.Nodes.{kind_passes}
 use Rattle.dom_model.specs.MutationAlgorithms.Editing.{queued, tree_record, tree_record_unless, taken_out, transients_made, removed_from, remove, remove_all, is_fragment, nodes_of, freed, put_in, put_all, gap_before, previous_to, insert_all, insert_nodes, insert, reference_child, pre_insert, append, added_by, insert_if_any, replaced_record, replace_all, node_document}
-use Rattle.dom_model.specs.Commands.Making.{made_node, named, with_text}
+use Rattle.dom_model.specs.Worlds.Making.{made_node, named, with_text}
 use Rattle.dom_model.specs.DataAndCopies.Data.{data_of, with_data, cut_count, data_record, replace_units, replace_data, tail_of, split_off, split}
 use Rattle.dom_model.specs.DataAndCopies.Clones.{original, with_copies, document_of_clone, clone_node}
 use Rattle.dom_model.specs.RangesAndContents.Ranges.{is_collapsed, collapsed_at, around, range_at, with_range}

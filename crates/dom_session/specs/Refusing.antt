@@ -6,7 +6,8 @@ use Rattle.dom_model.specs.declared.DomError.TheVariants.{TypeError}
 use Rattle.dom_model.specs.declared.OwnError.TheVariants.{NoSuchObject, Limit}
 use Rattle.dom_model.specs.Forests.Kinds.{is_kind}
 use Rattle.dom_model.specs.Forests.Forest.{entry_in}
-use Rattle.dom_model.specs.MutationAlgorithms.Checks.{first_refusal, kind_passes}
+use Rattle.dom_model.specs.PlainLists.Lists.{first_refusal}
+use Rattle.dom_model.specs.Forests.Nodes.{kind_passes}
 use Rattle.dom_model.specs.Commands.Reply as model
 use Rattle.dom_wrap.specs.dom_edit.declared.world.World.{World}
 

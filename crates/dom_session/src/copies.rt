@@ -4,7 +4,7 @@ ghost use Rattle.std.specs.Prelude.{◌≡◌, ◌≤◌, ◌+◌, ◌*◌, nat_
 ghost use Rattle.dom_model.specs.declared.Kind.TheVariants.{Document};
 ghost use Rattle.dom_model.specs.Forests.Kinds.{is_kind};
 ghost use Rattle.dom_model.specs.Forests.Forest.{HasNode, size};
-ghost use Rattle.dom_model.specs.MutationAlgorithms.Checks.{kind_passes};
+ghost use Rattle.dom_model.specs.Forests.Nodes.{kind_passes};
 ghost use Rattle.dom_model.specs.Commands.Command.{ImportNode, CloneNode, IsEqual, IsContaining, ComparePosition};
 ghost use Rattle.dom_model.specs.Commands.Guards.{Bounds};
 ghost use Rattle.dom_model.specs.Commands.Reply.{is_refusal};

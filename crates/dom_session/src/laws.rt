@@ -16,8 +16,8 @@ ghost use Rattle.dom_model.specs.TokenText.CommandEdits.{world_past, texts_after
 ghost use Rattle.dom_model.specs.Commands.Table.{Row};
 ghost use Rattle.dom_model.specs.Commands.Line.{command_within};
 ghost use Rattle.dom_model.specs.Commands.Output.{whole_lines, last_piece, line_step, world_after, replies_from, due};
-ghost use Rattle.dom_model.specs.Worlds.Counts.{counts_of, asked, plus, of_each, AreAtMost};
-ghost use Rattle.dom_model.specs.Worlds.Sound.{IsSound};
+ghost use Rattle.dom_model.specs.Commands.Counts.{counts_of, asked, plus, of_each, AreAtMost};
+ghost use Rattle.dom_model.specs.Soundness.Sound.{IsSound};
 ghost use Rattle.dom_model.specs.Erasure.DiscardsAlike.{replies_to_discards};
 ghost use Rattle.dom_model.specs.Erasure.Erasing.{replies_to, makes_no_discard, without_observers, replies_without_observers, makes_no_edit_by_range, without_watchers, replies_without_watchers};
 

@@ -3,7 +3,7 @@
 ghost use Rattle.std.specs.Prelude.{◌≡◌, ℕ, ◌≤◌, true, IfOk, IfSome};
 ghost use Rattle.dom_model.specs.Forests.Forest.{HasNode};
 ghost use Rattle.dom_model.specs.Worlds.World.{World as PlainWorld};
-ghost use Rattle.dom_model.specs.Worlds.Sound.{IsBoundary};
+ghost use Rattle.dom_model.specs.Soundness.Sound.{IsBoundary};
 ghost use Rattle.dom_model.specs.RangesAndContents.Ranges.{point_before as place_before, point_after as place_after};
 ghost use Rattle.dom_model.specs.Commands.Command.{Command as PlainCommand, SetStart, SetEnd, SetStartBefore, SetStartAfter, SetEndBefore, SetEndAfter, Collapse, SelectNode, SelectNodeContents};
 ghost use Rattle.dom_model.specs.Commands.Guards.{Bounds};

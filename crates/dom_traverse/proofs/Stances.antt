@@ -4,7 +4,7 @@ use Rattle.std.proofs.lemmas.Bool.{false≢true}
 use Rattle.dom_model.specs.PlainLists.Lists.{hits, among}
 use Rattle.dom_model.specs.Forests.Forest.{Forest, HasNode, ancestors, inclusive_descendants}
 use Rattle.dom_model.specs.Worlds.World.{Content, Iterator, Walker}
-use Rattle.dom_model.specs.Worlds.Sound.{IsIterator, IsWalker}
+use Rattle.dom_model.specs.Soundness.Sound.{IsIterator, IsWalker}
 use Rattle.dom_model.proofs.Forests.Totals.{IsOnce}
 use Rattle.dom_model.proofs.Forests.Climbing.{among-hits}
 use Rattle.dom_traverse.specs.Standing.{StandsInside, StandsThere}

@@ -2,13 +2,12 @@
 
 ghost use Rattle.std.specs.Prelude.{◌≡◌, ℕ, ◌==◌, true, not, ◌&&◌, find, reverse};
 ghost use Rattle.std.specs.List.{list_any};
-ghost use Rattle.dom_model.specs.PlainLists.Lists.{among};
+ghost use Rattle.dom_model.specs.PlainLists.Lists.{among, up_to, past};
 ghost use Rattle.dom_model.specs.MutationAlgorithms.Discarding.{nodes_of_iterator};
 ghost use Rattle.dom_model.specs.Forests.Forest.{HasNode, ancestors, inclusive_descendants};
-ghost use Rattle.dom_model.specs.MutationAlgorithms.Checks.{up_to};
 ghost use Rattle.dom_model.specs.Traversal.Filters.{accepts};
 ghost use Rattle.dom_model.specs.Traversal.Iterators.{next_found, previous_found, moved_to_next, moved_to_previous};
-ghost use Rattle.dom_model.specs.MutationAlgorithms.PreRemoval.{past, pre_removed};
+ghost use Rattle.dom_model.specs.MutationAlgorithms.PreRemoval.{pre_removed};
 ghost use Rattle.dom_traverse.specs.Standing.{StandsInside};
 
 use crate::filter::Filter;

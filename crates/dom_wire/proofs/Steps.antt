@@ -23,7 +23,7 @@ use Rattle.serde_json.proofs.Views.{view-Array}
 use Rattle.serde_json.specs.Written.{items_outline, compact_text}
 use Rattle.serde_json.proofs.Texts.{print-outline}
 use Rattle.dom_model.specs.Commands.Line.{list_of, arguments_from, with_argument, json_of, command_in_array, command_among, is_row_of, named_in, rule_from, if_member, list_in, options_in}
-use Rattle.dom_model.specs.Commands.Command.{GivenOptions}
+use Rattle.dom_model.specs.MutationObservers.GivenOptions.{GivenOptions}
 use Rattle.dom_model.specs.Commands.Table.{Row, Shape, Arguments}
 use Rattle.dom_model.specs.Commands.Printed as printed
 use Rattle.dom_wire.specs.Rows.{is_of_length}

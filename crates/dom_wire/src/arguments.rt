@@ -1,7 +1,7 @@
 //! The arguments of a command, as they were read.
 
 ghost use Rattle.std.specs.Prelude.{◌≡◌, ◌<◌, ◌+◌, [], map, slice_index, slice_index_or, slice_set, string_bytes};
-ghost use Rattle.dom_model.specs.Commands.Command.{no_options};
+ghost use Rattle.dom_model.specs.MutationObservers.GivenOptions.{no_options};
 
 use dom_session::{
     Filter, IterId, Move, NodeId, ObserverId, Point, RangeId, RawOptions, Rule, StaticId, Units,

@@ -4,7 +4,7 @@ use Rattle.std.proofs.lemmas.Bool.{cases_lt}
 use Rattle.dom_model.specs.PlainLists.Lists.{hits, among}
 use Rattle.dom_model.specs.Forests.Forest.{Forest, occurs, tree_at, cut, parent_of, index_of, ancestors, inclusive_descendants}
 use Rattle.dom_model.specs.Worlds.World.{Content, Point, Range, World}
-use Rattle.dom_model.specs.Worlds.Sound.{IsSound}
+use Rattle.dom_model.specs.Soundness.Sound.{IsSound}
 use Rattle.dom_model.specs.BoundaryPoints.Points.{after_removal, moved_range, map_ranges}
 use Rattle.dom_model.specs.MutationAlgorithms.Editing.{removed_from, remove}
 use Rattle.dom_model.specs.RangesAndContents.Ranges.{range_at}

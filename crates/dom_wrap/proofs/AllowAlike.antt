@@ -3,13 +3,13 @@ use Rattle.std.proofs.Common.{◌≡◌, ℕ, zero, suc, ◌<◌, ◌≤◌, Boo
 use Rattle.std.proofs.lemmas.Bool.{false≢true}
 use Rattle.dom_model.specs.declared.Kind.{Kind}
 use Rattle.dom_model.specs.declared.Kind.TheVariants.{Element, Text, Document, DocumentType}
-use Rattle.dom_model.specs.PlainLists.Lists.{hits, among, head_of}
+use Rattle.dom_model.specs.PlainLists.Lists.{hits, among, head_of, past}
 use Rattle.dom_model.specs.Forests.Kinds.{is_kind, may_be_parent}
 use Rattle.dom_model.specs.Forests.Forest.{Forest, occurs, parent_of, children_of, ancestors}
 use Rattle.dom_model.specs.Worlds.World.{Content, Point, World}
-use Rattle.dom_model.specs.Worlds.Sound.{IsSound}
-use Rattle.dom_model.specs.MutationAlgorithms.PreRemoval.{past}
-use Rattle.dom_model.specs.MutationAlgorithms.Checks.{kind_passes, is_of_kind, has_kind, doctype_from, element_refused}
+use Rattle.dom_model.specs.Soundness.Sound.{IsSound}
+use Rattle.dom_model.specs.MutationAlgorithms.Checks.{has_kind, doctype_from, element_refused}
+use Rattle.dom_model.specs.Forests.Nodes.{kind_passes, is_of_kind}
 use Rattle.dom_model.specs.RangesAndContents.Ranges.{common_ancestor}
 use Rattle.dom_model.specs.RangesAndContents.Wrapping.{is_text, reference_at}
 use Rattle.dom_model.proofs.PlainLists.Numbers.{same_or, same, apart}

@@ -4,16 +4,16 @@ use Rattle.std.proofs.lemmas.Bool.{false≢true, le-ltb}
 use Rattle.std.specs.List.{list_any}
 use Rattle.dom_model.specs.declared.Kind.{Kind}
 use Rattle.dom_model.specs.declared.Kind.TheVariants.{Element, Text, ProcessingInstruction, Comment, Document, DocumentType, DocumentFragment}
-use Rattle.dom_model.specs.PlainLists.Lists.{hits, among, place_in, left_out}
+use Rattle.dom_model.specs.PlainLists.Lists.{hits, among, place_in, left_out, past}
 use Rattle.dom_model.specs.Forests.Kinds.{is_kind, is_character_data}
 use Rattle.dom_model.specs.Forests.Texts.{substring, spliced}
 use Rattle.dom_model.specs.Forests.Forest.{Forest, occurs, tree_at, put, cut, in_document, parent_of, children_of}
 use Rattle.dom_model.specs.Worlds.World.{Content, Range, World}
 use Rattle.dom_model.specs.BoundaryPoints.Points.{after_splice, moved_range}
 use Rattle.dom_model.specs.RangesAndContents.Ranges.{range_at}
-use Rattle.dom_model.specs.Worlds.Sound.{IsSound}
-use Rattle.dom_model.specs.MutationAlgorithms.PreRemoval.{past}
-use Rattle.dom_model.specs.MutationAlgorithms.Checks.{if_given, kind_passes, is_of_kind, has_kind}
+use Rattle.dom_model.specs.Soundness.Sound.{IsSound}
+use Rattle.dom_model.specs.MutationAlgorithms.Checks.{if_given, has_kind}
+use Rattle.dom_model.specs.Forests.Nodes.{kind_passes, is_of_kind}
 use Rattle.dom_model.specs.MutationAlgorithms.Editing.{removed_from, remove, nodes_of, freed, insert_all, insert_nodes, insert, append, node_document}
 use Rattle.dom_model.specs.DataAndCopies.Data.{data_of, with_data, cut_count}
 use Rattle.dom_model.specs.RangesAndContents.Contents.{clone_with, units_into, children_into}

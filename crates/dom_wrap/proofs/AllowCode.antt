@@ -9,8 +9,9 @@ use Rattle.dom_model.specs.PlainLists.Lists.{hits, among, last_of, place_in, aft
 use Rattle.dom_model.specs.Forests.Forest.{Forest, HasNode, occurs, numbers, parent_of, children_of, next_of, index_of, ancestors, root_of}
 use Rattle.dom_model.specs.Worlds.World.{Content, Point, Range}
 use Rattle.dom_model.specs.Worlds.World as model
-use Rattle.dom_model.specs.Worlds.Sound.{IsRange, IsSound}
-use Rattle.dom_model.specs.MutationAlgorithms.Checks.{if_given, is_of_kind, has_kind, check_insert}
+use Rattle.dom_model.specs.Soundness.Sound.{IsRange, IsSound}
+use Rattle.dom_model.specs.MutationAlgorithms.Checks.{if_given, has_kind, check_insert}
+use Rattle.dom_model.specs.Forests.Nodes.{is_of_kind}
 use Rattle.dom_model.specs.RangesAndContents.Ranges.{point_after, is_partially_contained, common_ancestor}
 use Rattle.dom_model.specs.RangesAndContents.Contents.{for_range, new_place, common_of}
 use Rattle.dom_model.specs.RangesAndContents.Wrapping.{is_text, reference_at, parent_at, check_whole_surround}

@@ -5,17 +5,18 @@ use Rattle.std.proofs.lemmas.Bool.{false≢true}
 use Rattle.dom_model.specs.declared.Kind.{Kind}
 use Rattle.dom_model.specs.declared.Kind.TheVariants.{Text, DocumentType, DocumentFragment}
 use Rattle.dom_model.specs.declared.DomError.TheVariants.{HierarchyRequestError}
-use Rattle.dom_model.specs.PlainLists.Lists.{hits, among, head_of}
+use Rattle.dom_model.specs.PlainLists.Lists.{hits, among, head_of, up_to, is_same}
 use Rattle.dom_model.specs.Forests.Kinds.{is_kind, is_character_data}
 use Rattle.dom_model.specs.Forests.Forest.{Forest, empty, node, occurs, entry_in, parent_of, children_of, ancestors, root_of}
 use Rattle.dom_model.specs.Worlds.World.{Content, Point, Range, World, no_content}
-use Rattle.dom_model.specs.Worlds.Sound.{IsRange, IsSound}
-use Rattle.dom_model.specs.Forests.Lengths.{unit_count, node_length}
-use Rattle.dom_model.specs.Commands.Making.{named}
-use Rattle.dom_model.specs.MutationAlgorithms.Checks.{up_to, kind_passes, is_of_kind, has_kind, is_same}
+use Rattle.dom_model.specs.Soundness.Sound.{IsRange, IsSound}
+use Rattle.dom_model.specs.Worlds.Lengths.{unit_count, node_length}
+use Rattle.dom_model.specs.Worlds.Making.{named}
+use Rattle.dom_model.specs.MutationAlgorithms.Checks.{has_kind}
+use Rattle.dom_model.specs.Forests.Nodes.{kind_passes, is_of_kind, same_root}
 use Rattle.dom_model.specs.MutationAlgorithms.Editing.{node_document}
 use Rattle.dom_model.specs.DataAndCopies.Data.{data_of}
-use Rattle.dom_model.specs.RangesAndContents.Ranges.{same_root, is_less, is_before, is_collapsed, collapsed_at, range_at, with_range}
+use Rattle.dom_model.specs.RangesAndContents.Ranges.{is_less, is_before, is_collapsed, collapsed_at, range_at, with_range}
 use Rattle.dom_model.specs.RangesAndContents.Contents.{is_in_one_data, contained_in, new_place, new_fragment, units_into, children_into, tail_into, head_into, path_below, common_of, contained_children, parts_into, contents_drawn, check_draw, extracted}
 use Rattle.dom_model.proofs.Forests.Climbing.{hits-append, hits-first}
 use Rattle.dom_model.proofs.Forests.Entries.{occurs-HasNode}

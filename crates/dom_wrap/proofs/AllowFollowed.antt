@@ -10,8 +10,9 @@ use Rattle.dom_model.specs.Forests.Kinds.{is_kind, may_be_parent}
 use Rattle.dom_model.specs.Forests.Forest.{Node, Forest, occurs, entry_in, next_of, parent_of, children_of, index_of, ancestors}
 use Rattle.dom_model.specs.Forests.Texts.{spliced}
 use Rattle.dom_model.specs.Worlds.World.{Content, Point, Range, World}
-use Rattle.dom_model.specs.Worlds.Sound.{IsBoundary, IsSound}
-use Rattle.dom_model.specs.MutationAlgorithms.Checks.{entry_has, kind_passes, is_of_kind, check_insert}
+use Rattle.dom_model.specs.Soundness.Sound.{IsBoundary, IsSound}
+use Rattle.dom_model.specs.MutationAlgorithms.Checks.{check_insert}
+use Rattle.dom_model.specs.Forests.Nodes.{entry_has, kind_passes, is_of_kind}
 use Rattle.dom_model.specs.MutationAlgorithms.Editing.{remove, insert, reference_child, pre_insert, nodes_of, is_fragment}
 use Rattle.dom_model.specs.RangesAndContents.Ranges.{is_collapsed, range_at, with_range}
 use Rattle.dom_model.specs.DataAndCopies.Data.{data_of, tail_of, with_data, cut_count, split_off, split}

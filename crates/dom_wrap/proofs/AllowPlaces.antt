@@ -5,13 +5,14 @@ use Rattle.dom_model.specs.declared.Kind.{Kind}
 use Rattle.dom_model.specs.declared.Kind.TheVariants.{Element, Text, ProcessingInstruction, Comment, Document, DocumentType, DocumentFragment}
 use Rattle.dom_model.specs.declared.DomError.{DomError}
 use Rattle.dom_model.specs.declared.DomError.TheVariants.{HierarchyRequestError, NotFoundError}
-use Rattle.dom_model.specs.PlainLists.Lists.{among, is_number, or_else}
+use Rattle.dom_model.specs.PlainLists.Lists.{among, is_number, or_else, first_refusal}
 use Rattle.dom_model.specs.Forests.Arena.{Entry}
 use Rattle.dom_model.specs.Forests.Kinds.{is_kind, may_be_parent}
 use Rattle.dom_model.specs.Forests.Forest.{Node, Forest, occurs, entry_in, parent_of, children_of, ancestors}
 use Rattle.dom_model.specs.Worlds.World.{Content, Point, World}
-use Rattle.dom_model.specs.Worlds.Sound.{IsSound}
-use Rattle.dom_model.specs.MutationAlgorithms.Checks.{first_refusal, if_given, entry_has, kind_passes, is_of_kind, document_refuses, is_misplaced, kind_refuses, check_insert}
+use Rattle.dom_model.specs.Soundness.Sound.{IsSound}
+use Rattle.dom_model.specs.MutationAlgorithms.Checks.{if_given, document_refuses, is_misplaced, kind_refuses, check_insert}
+use Rattle.dom_model.specs.Forests.Nodes.{entry_has, kind_passes, is_of_kind}
 use Rattle.dom_model.specs.RangesAndContents.Wrapping.{Outcome, and_then, unless, is_text, reference_at, parent_by, parent_at, check_start, inserted_at, refusal_in}
 use Rattle.dom_model.proofs.PlainLists.Numbers.{same_or, same, apart}
 use Rattle.dom_model.proofs.Forests.Changes.{seen, nothing, just}

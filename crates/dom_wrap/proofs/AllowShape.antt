@@ -4,12 +4,12 @@ use Rattle.std.proofs.Common.{◌≡◌, ℕ, ◌+◌, ◌<◌, ◌≤◌, ◌==
 use Rattle.std.proofs.lemmas.Bool.{false≢true}
 use Rattle.std.specs.List.{list_any}
 use Rattle.dom_model.specs.declared.Kind.TheVariants.{Text}
-use Rattle.dom_model.specs.PlainLists.Lists.{hits, among, is_number}
+use Rattle.dom_model.specs.PlainLists.Lists.{hits, among, is_number, up_to}
 use Rattle.dom_model.specs.Forests.Kinds.{may_be_parent}
 use Rattle.dom_model.specs.Forests.Forest.{Forest, occurs, one_at, numbers, parent_of, ancestors}
 use Rattle.dom_model.specs.Worlds.World.{Content, Range}
-use Rattle.dom_model.specs.Worlds.Sound.{IsRange}
-use Rattle.dom_model.specs.MutationAlgorithms.Checks.{up_to, is_of_kind}
+use Rattle.dom_model.specs.Soundness.Sound.{IsRange}
+use Rattle.dom_model.specs.Forests.Nodes.{is_of_kind}
 use Rattle.dom_model.specs.RangesAndContents.Ranges.{is_partially_contained, common_ancestor}
 use Rattle.dom_model.specs.RangesAndContents.Contents.{path_below}
 use Rattle.dom_model.specs.Forests.Ways.{IsWay}

@@ -9,17 +9,18 @@ use Rattle.dom_model.specs.declared.Kind.{Kind}
 use Rattle.dom_model.specs.declared.Kind.TheVariants.{Element, Text, ProcessingInstruction, Comment, Document, DocumentType, DocumentFragment}
 use Rattle.dom_model.specs.declared.DomError.{DomError}
 use Rattle.dom_model.specs.declared.DomError.TheVariants.{HierarchyRequestError, InvalidStateError, InvalidNodeTypeError, NotFoundError}
-use Rattle.dom_model.specs.PlainLists.Lists.{hits, among, is_number, or_else}
+use Rattle.dom_model.specs.PlainLists.Lists.{hits, among, is_number, or_else, first_refusal}
 use Rattle.dom_model.specs.Forests.Arena.{Entry}
 use Rattle.dom_model.specs.Forests.Kinds.{is_kind, may_be_parent, may_stand_in, is_character_data}
 use Rattle.dom_model.specs.Forests.Forest.{Node, Forest, occurs, entry_in, numbers, parent_of, children_of, index_of, ancestors}
 use Rattle.dom_model.specs.Worlds.World.{Content, Point, Range, World}
-use Rattle.dom_model.specs.Worlds.Sound.{IsRange, IsSound}
-use Rattle.dom_model.specs.Forests.Lengths.{unit_count, node_length}
+use Rattle.dom_model.specs.Soundness.Sound.{IsRange, IsSound}
+use Rattle.dom_model.specs.Worlds.Lengths.{unit_count, node_length}
 use Rattle.dom_model.specs.BoundaryPoints.Points.{place_of, order_of}
-use Rattle.dom_model.specs.MutationAlgorithms.Checks.{first_refusal, if_given, entry_has, kind_passes, is_of_kind, has_kind, is_misplaced, kind_refuses, document_refuses, check_insert}
+use Rattle.dom_model.specs.MutationAlgorithms.Checks.{if_given, has_kind, is_misplaced, kind_refuses, document_refuses, check_insert}
+use Rattle.dom_model.specs.Forests.Nodes.{entry_has, kind_passes, is_of_kind, same_root}
 use Rattle.dom_model.specs.MutationAlgorithms.Editing.{pre_insert, replace_all}
-use Rattle.dom_model.specs.RangesAndContents.Ranges.{is_less, same_root, is_before, is_collapsed, is_partially_contained, range_at}
+use Rattle.dom_model.specs.RangesAndContents.Ranges.{is_less, is_before, is_collapsed, is_partially_contained, range_at}
 use Rattle.dom_model.specs.RangesAndContents.Contents.{for_range, is_in_one_data, contained_in, new_place, common_of, contained_children, check_draw, check_extract, extracted, extract}
 use Rattle.dom_model.specs.RangesAndContents.Wrapping.{Outcome, and_then, unless, try_pre_insert, is_text, reference_at, parent_at, check_start, inserted_at, insert_node, check_surround, try_extract, try_select, surrounded, refusal_in, check_whole_surround}
 use Rattle.dom_model.proofs.PlainLists.Numbers.{same_or, same, apart}

@@ -11,11 +11,13 @@ use Rattle.dom_model.specs.declared.DomError.{DomError}
 use Rattle.dom_model.specs.Forests.Forest.{Forest, HasNode, occurs, parent_of, children_of, root_of}
 use Rattle.dom_model.specs.Worlds.World as model
 use Rattle.dom_model.specs.Worlds.World.{Content, Point, Range}
-use Rattle.dom_model.specs.Worlds.Sound.{IsBoundary, IsRange, IsSound}
+use Rattle.dom_model.specs.Soundness.Sound.{IsBoundary, IsRange, IsSound}
 use Rattle.dom_model.specs.BoundaryPoints.Points.{place_of, order_of}
-use Rattle.dom_model.specs.MutationAlgorithms.Checks.{is_same, check_insert}
+use Rattle.dom_model.specs.MutationAlgorithms.Checks.{check_insert}
+use Rattle.dom_model.specs.PlainLists.Lists.{is_same}
 use Rattle.dom_model.specs.MutationAlgorithms.Editing.{remove, pre_insert, reference_child}
-use Rattle.dom_model.specs.RangesAndContents.Ranges.{is_less, same_root, is_before, end_set, check_point, range_at, with_range, is_collapsed}
+use Rattle.dom_model.specs.RangesAndContents.Ranges.{is_less, is_before, end_set, check_point, range_at, with_range, is_collapsed}
+use Rattle.dom_model.specs.Forests.Nodes.{same_root}
 use Rattle.dom_model.specs.RangesAndContents.Contents.{for_range}
 use Rattle.dom_model.specs.RangesAndContents.Wrapping.{Outcome, and_then, unless, is_text, reference_at, parent_by, parent_at, check_start, split_at, reference_after, offset_past, end_if_collapsed, placed_at, inserted_at, insert_node, refusal_in}
 use Rattle.dom_model.proofs.PlainLists.Numbers.{same_or, same, apart}
@@ -27,7 +29,7 @@ use Rattle.dom_model.proofs.RangesAndContents.InsertAllowed.{insert-allowed}
 use Rattle.dom_model.proofs.Soundness.SoundPlacedNode.{Gives}
 use Rattle.dom_model.proofs.Soundness.SoundInsertedNode.{insert-next}
 use Rattle.dom_model.specs.DataAndCopies.Data.{data_of, split}
-use Rattle.dom_model.specs.Forests.Lengths.{unit_count, node_length}
+use Rattle.dom_model.specs.Worlds.Lengths.{unit_count, node_length}
 use Rattle.std.proofs.lemmas.Bool.Decides.{nat_tests}
 use Rattle.dom_content.specs.dom_edit.Leaving.{parent-held}
 use Rattle.dom_model.proofs.Forests.Changes.{seen, nothing, just}

@@ -3,13 +3,14 @@ use Rattle.std.proofs.Common.{◌≡◌, ℕ, ◌+◌, ◌<◌, ◌≤◌, Bool,
 use Rattle.std.specs.Prelude.{IsSome, Result, OnOk}
 use Rattle.dom_model.specs.declared.DomError.{DomError}
 use Rattle.dom_model.specs.declared.DomError.TheVariants.{InvalidNodeTypeError}
-use Rattle.dom_model.specs.PlainLists.Lists.{head_of, hits}
+use Rattle.dom_model.specs.PlainLists.Lists.{head_of, hits, first_refusal}
 use Rattle.dom_model.specs.Forests.Kinds.{may_be_parent}
 use Rattle.dom_model.specs.Forests.Forest.{Forest, HasNode, occurs, parent_of, children_of, index_of, IsForest}
 use Rattle.dom_model.specs.Worlds.World as model
 use Rattle.dom_model.specs.Worlds.World.{Content, Range}
-use Rattle.dom_model.specs.Worlds.Sound.{IsRange, IsSound}
-use Rattle.dom_model.specs.MutationAlgorithms.Checks.{first_refusal, kind_passes, check_insert}
+use Rattle.dom_model.specs.Soundness.Sound.{IsRange, IsSound}
+use Rattle.dom_model.specs.MutationAlgorithms.Checks.{check_insert}
+use Rattle.dom_model.specs.Forests.Nodes.{kind_passes}
 use Rattle.dom_model.specs.MutationAlgorithms.Editing.{pre_insert, append, remove_all, replaced_record, replace_all}
 use Rattle.dom_model.specs.RangesAndContents.Ranges.{is_collapsed, collapsed_at, around, check_parent, range_at, with_range}
 use Rattle.dom_model.specs.RangesAndContents.Contents.{for_range, is_in_one_data, new_place, contents_drawn, check_extract, extracted, extract}

@@ -6,11 +6,12 @@ use Rattle.std.specs.List.{list_any}
 use Rattle.dom_model.specs.declared.Kind.TheVariants.{Element, Text, Document, DocumentType, DocumentFragment}
 use Rattle.dom_model.specs.declared.DomError.{DomError}
 use Rattle.dom_model.specs.declared.DomError.TheVariants.{HierarchyRequestError, InvalidStateError, InvalidNodeTypeError}
-use Rattle.dom_model.specs.PlainLists.Lists.{among, is_number}
+use Rattle.dom_model.specs.PlainLists.Lists.{among, is_number, first_refusal}
 use Rattle.dom_model.specs.Forests.Kinds.{may_be_parent}
 use Rattle.dom_model.specs.Forests.Forest.{Forest, numbers, parent_of, children_of, ancestors}
 use Rattle.dom_model.specs.Worlds.World.{Content, Point, Range, World}
-use Rattle.dom_model.specs.MutationAlgorithms.Checks.{first_refusal, kind_passes, is_of_kind, has_kind, element_refused}
+use Rattle.dom_model.specs.MutationAlgorithms.Checks.{has_kind, element_refused}
+use Rattle.dom_model.specs.Forests.Nodes.{kind_passes, is_of_kind}
 use Rattle.dom_model.specs.RangesAndContents.Ranges.{is_collapsed, is_partially_contained, range_at}
 use Rattle.dom_model.specs.RangesAndContents.Contents.{for_range, is_in_one_data, contained_in, new_place, common_of}
 use Rattle.dom_model.specs.RangesAndContents.Wrapping.{is_text, reference_at}

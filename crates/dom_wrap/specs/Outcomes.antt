@@ -3,7 +3,7 @@ use Rattle.std.specs.Prelude.{◌≡◌, ℕ, ◌<◌, true, false, Option, None
 use Rattle.std.specs.Option.{ForSome}
 use Rattle.dom_model.specs.Worlds.World as model
 use Rattle.dom_model.specs.Worlds.World.{Point, Range}
-use Rattle.dom_model.specs.Worlds.Sound.{IsSound}
+use Rattle.dom_model.specs.Soundness.Sound.{IsSound}
 use Rattle.dom_model.specs.MutationAlgorithms.Checks.{check_insert}
 use Rattle.dom_model.specs.MutationAlgorithms.Editing.{remove}
 use Rattle.dom_model.specs.RangesAndContents.Wrapping.{Outcome, and_then, is_text, end_if_collapsed, placed_at, insert_node, try_pre_insert, try_select, refusal_in}

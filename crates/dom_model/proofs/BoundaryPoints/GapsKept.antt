@@ -8,7 +8,7 @@ use Rattle.dom_model.specs.PlainLists.Lists.{hits, place_in}
 use Rattle.dom_model.specs.Forests.Forest.{Forest, occurs, parent_of, children_of, index_of}
 use Rattle.dom_model.specs.Worlds.World.{Content, Point, World}
 use Rattle.dom_model.specs.MutationAlgorithms.Editing.{tree_record, tree_record_unless, remove, remove_all, is_fragment, nodes_of, emptied_fragment, insert_all, insert_nodes, insert}
-use Rattle.dom_model.specs.Worlds.Sound.{IsSound}
+use Rattle.dom_model.specs.Soundness.Sound.{IsSound}
 use Rattle.dom_model.specs.MutationAlgorithms.Insertable.{IsChildOf, IsInsertable}
 use Rattle.dom_model.proofs.Forests.Climbing.{hits-append, hits-first, ancestors-there}
 use Rattle.dom_model.proofs.Forests.Lying.{left_out-absent}

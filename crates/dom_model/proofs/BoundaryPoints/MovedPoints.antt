@@ -8,7 +8,7 @@ use Rattle.dom_model.specs.Worlds.World.{Point, Range, World}
 use Rattle.dom_model.specs.BoundaryPoints.Points.{moved_range, map_ranges, after_gap, after_removal}
 use Rattle.dom_model.specs.MutationAlgorithms.Editing.{tree_record_unless, taken_out, transients_made, removed_from, remove, remove_all, put_in, put_all, gap_before, previous_to, insert_all}
 use Rattle.dom_model.specs.RangesAndContents.Ranges.{range_at}
-use Rattle.dom_model.specs.Worlds.Sound.{IsRange, IsSound}
+use Rattle.dom_model.specs.Soundness.Sound.{IsRange, IsSound}
 use Rattle.dom_model.proofs.PlainLists.Numbers.{same_or, same, apart}
 use Rattle.dom_model.proofs.Forests.Climbing.{hits-append, hits-first, hits-ancestors, hits-not_among}
 use Rattle.dom_model.proofs.Forests.TreeOrder.Flattened.{hits-numbers}

@@ -5,7 +5,7 @@ use Rattle.dom_model.specs.Forests.Forest.{Node, Forest, occurs, put, with_node,
 use Rattle.dom_model.specs.Worlds.World.{Content, Point, World}
 use Rattle.dom_model.specs.BoundaryPoints.Points.{order_of, after_gap, after_split, after_splice, map_ranges}
 use Rattle.dom_model.specs.MutationAlgorithms.Editing.{node_document}
-use Rattle.dom_model.specs.Commands.Making.{named, with_text}
+use Rattle.dom_model.specs.Worlds.Making.{named, with_text}
 use Rattle.dom_model.specs.DataAndCopies.Data.{tail_of, with_data}
 use Rattle.dom_model.specs.TokenText.Tokens.{point, Parting}
 use Rattle.dom_model.specs.TokenText.Edits.{parting_from, on_world}

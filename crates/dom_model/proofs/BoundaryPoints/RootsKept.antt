@@ -2,12 +2,10 @@
 use Rattle.std.proofs.Common.{◌≡◌, ℕ, ◌<◌, ◌≤◌, ◌==◌, nat_lt, Bool, true, false, ◌&&◌, if◌then◌else◌, List, [], ◌∷◌, ◌++◌, reverse, Option, Some, None, refl, ap, sym, ◌∙◌, subst, arith, append-nil}
 use Rattle.std.specs.Prelude.{find}
 use Rattle.std.proofs.lemmas.Bool.{false≢true}
-use Rattle.dom_model.specs.PlainLists.Lists.{hits, among, last_of}
+use Rattle.dom_model.specs.PlainLists.Lists.{hits, among, last_of, past, up_to}
 use Rattle.dom_model.specs.Forests.Forest.{Forest, occurs, one_at, tree_at, inclusive_descendants, cut, put, parent_of, index_of, ancestors, root_of}
 use Rattle.dom_model.specs.Worlds.World.{Iterator}
 use Rattle.dom_model.specs.BoundaryPoints.Points.{after_removal}
-use Rattle.dom_model.specs.MutationAlgorithms.PreRemoval.{past}
-use Rattle.dom_model.specs.MutationAlgorithms.Checks.{up_to}
 use Rattle.dom_model.specs.Traversal.Iterators.{from_reference, back_from_reference, iterator_moved, next_found, previous_found, moved_to_next, moved_to_previous}
 use Rattle.dom_model.specs.Traversal.Filters.{accepts}
 use Rattle.dom_model.proofs.PlainLists.Numbers.{same_or, same, apart}

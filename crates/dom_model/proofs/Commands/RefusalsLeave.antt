@@ -3,7 +3,7 @@ use Rattle.std.proofs.Common.{◌≡◌, true}
 use Rattle.dom_model.specs.Worlds.World.{World}
 use Rattle.dom_model.specs.Commands.Reply.{is_refusal}
 use Rattle.dom_model.specs.Commands.Command.{Command}
-use Rattle.dom_model.specs.Worlds.Counts.{counts_of, plus, of_each, asked, AreAtMost}
+use Rattle.dom_model.specs.Commands.Counts.{counts_of, plus, of_each, asked, AreAtMost}
 use Rattle.dom_model.specs.Commands.Answer.{Bounds, answer}
 use Rattle.dom_model.proofs.Counting.StepsCounted.{counted-leaves, counted-never_fall, counted-at_most, counted-within}
 use Rattle.dom_model.proofs.Counting.CommandsCounted.{command-counted, Needed}

@@ -10,17 +10,18 @@ use Rattle.dom_model.specs.declared.OwnError.TheVariants.{InUse}
 use Rattle.dom_model.specs.PlainLists.Lists.{is_number}
 use Rattle.dom_model.specs.Forests.Kinds.{is_kind, is_character_data, may_be_parent}
 use Rattle.dom_model.specs.Forests.Names.{is_element_name, is_attribute_name, is_doctype_name}
-use Rattle.dom_model.specs.Forests.Lengths.{length_at, unit_count}
+use Rattle.dom_model.specs.Worlds.Lengths.{length_at, unit_count}
 use Rattle.dom_model.specs.Worlds.World.{Content, Point, Range, Iterator, Walker, World}
 use Rattle.dom_model.specs.Commands.Reply.{Answer, Reply, Own}
-use Rattle.dom_model.specs.MutationAlgorithms.Checks.{is_of_kind, check_insert, check_replace}
+use Rattle.dom_model.specs.MutationAlgorithms.Checks.{check_insert, check_replace}
+use Rattle.dom_model.specs.Forests.Nodes.{is_of_kind}
 use Rattle.dom_model.specs.DataAndCopies.Data.{check_offset}
 use Rattle.dom_model.specs.RangesAndContents.Ranges.{range_at, start_set, end_set, point_before, point_after, around, check_point, check_contents, check_compare, check_point_against, check_point_in, collapsed, with_range}
 use Rattle.dom_model.specs.RangesAndContents.Contents.{check_extract}
 use Rattle.dom_model.specs.RangesAndContents.Wrapping.{insert_node, surround}
 use Rattle.dom_model.specs.RangesAndContents.StaticRanges.{check_static, static_at, made_static}
 use Rattle.dom_model.specs.MutationObservers.Records.{options_refusal, with_observer}
-use Rattle.dom_model.specs.Worlds.Counts.{no_numbers, node_numbers, numbers_for_copies, asked}
+use Rattle.dom_model.specs.Commands.Counts.{no_numbers, node_numbers, numbers_for_copies, asked}
 use Rattle.dom_model.specs.Commands.Guards.{Bounds, Step, guarded, answers, does, no_node, no_node_given, wrong_kind, no_room, no_room_for_copies, bad_name, throws}
 use Rattle.dom_model.specs.Commands.Command.{Command, NewDocument, CreateElement, CreateText, CreateComment, CreatePI, CreateDoctype, CreateFragment, InsertBefore, AppendChild, AdoptNode, ReplaceChild, RemoveChild, Remove, ReplaceChildren, ImportNode, CloneNode, Normalize, DescribeNode, Children, Index, Length, Root, IsContaining, IsEqual, ComparePosition, TextContent, SetTextContent, Tree, GetData, SetData, AppendData, InsertData, DeleteData, ReplaceData, SubstringData, SplitText, SetAttribute, GetAttribute, HasAttribute, RemoveAttribute, ToggleAttribute, AttributeNames, CreateRange, CloneRange, DescribeRange, SetStart, SetEnd, SetStartBefore, SetStartAfter, SetEndBefore, SetEndAfter, Collapse, SelectNode, SelectNodeContents, CompareBoundaryPoints, ComparePoint, IsPointInRange, IntersectsNode, CommonAncestor, RangeText, DeleteContents, ExtractContents, CloneContents, InsertNode, SurroundContents, ReleaseRange, CreateIterator, CreateWalker, DescribeIterator, NextNode, PreviousNode, DescribeWalker, SetCurrent, Walk, CreateObserver, Observe, Disconnect, TakeRecords, Notify, Pending, Discard, CreateStaticRange, DescribeStaticRange}
 use Rattle.dom_model.specs.Commands.AnswerTree.{is_child_node, described, check_replace_children}

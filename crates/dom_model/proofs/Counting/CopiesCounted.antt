@@ -5,8 +5,8 @@ use Rattle.dom_model.specs.Forests.Kinds.{is_character_data}
 use Rattle.dom_model.specs.Forests.Forest.{Forest, empty, size, tree_at, map_nodes, children_of}
 use Rattle.dom_model.specs.Forests.Texts.{substring}
 use Rattle.dom_model.specs.Worlds.World.{Content, World}
-use Rattle.dom_model.specs.MutationAlgorithms.PreRemoval.{past}
-use Rattle.dom_model.specs.MutationAlgorithms.Checks.{kind_passes, up_to}
+use Rattle.dom_model.specs.PlainLists.Lists.{past, up_to}
+use Rattle.dom_model.specs.Forests.Nodes.{kind_passes}
 use Rattle.dom_model.specs.MutationAlgorithms.Editing.{node_document, append}
 use Rattle.dom_model.specs.DataAndCopies.Data.{data_of, with_data}
 use Rattle.dom_model.specs.DataAndCopies.Clones.{original, document_of_clone, clone_node}

@@ -3,13 +3,12 @@ use Rattle.std.proofs.Common.{◌≡◌, ℕ, ◌+◌, ◌*◌, ◌-◌, ◌<◌
 use Rattle.std.specs.Prelude.{filter, cond, unwrap_or}
 use Rattle.std.proofs.lemmas.Bool.{cases_lt, false≢true}
 use Rattle.dom_model.specs.declared.Kind.TheVariants.{DocumentFragment}
-use Rattle.dom_model.specs.PlainLists.Lists.{hits, among, head_of}
+use Rattle.dom_model.specs.PlainLists.Lists.{hits, among, head_of, up_to}
 use Rattle.dom_model.specs.Forests.Forest.{Forest, empty, node, occurs, one_at, size, tree_at, children_of, ancestors, root_of, HasNode, KindsFit, IsForest}
 use Rattle.dom_model.specs.Worlds.World.{Content, Range, World, no_content}
-use Rattle.dom_model.specs.Commands.Making.{named}
-use Rattle.dom_model.specs.MutationAlgorithms.Checks.{up_to}
+use Rattle.dom_model.specs.Worlds.Making.{named}
 use Rattle.dom_model.specs.MutationAlgorithms.Editing.{node_document}
-use Rattle.dom_model.specs.Forests.Lengths.{unit_count, node_length, length_in}
+use Rattle.dom_model.specs.Worlds.Lengths.{unit_count, node_length, length_in}
 use Rattle.dom_model.specs.RangesAndContents.Ranges.{is_collapsed, common_ancestor, range_at}
 use Rattle.dom_model.specs.RangesAndContents.Contents.{for_range, is_in_one_data, contained_in, new_fragment, children_into, tail_into, path_below, common_of, contained_children, parts_into, contents_drawn, clone_contents}
 use Rattle.dom_model.specs.Forests.Ways.{IsWay}

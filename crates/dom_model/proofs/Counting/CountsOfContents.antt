@@ -5,8 +5,8 @@ use Rattle.dom_model.specs.Forests.Kinds.{is_character_data}
 use Rattle.dom_model.specs.Forests.Forest.{Node, Forest, empty, node, size, map_nodes, children_of, tree_at}
 use Rattle.dom_model.specs.Forests.Texts.{substring}
 use Rattle.dom_model.specs.Worlds.World.{Content, Range, World, no_content}
-use Rattle.dom_model.specs.MutationAlgorithms.PreRemoval.{past}
-use Rattle.dom_model.specs.MutationAlgorithms.Checks.{kind_passes, up_to}
+use Rattle.dom_model.specs.PlainLists.Lists.{past, up_to}
+use Rattle.dom_model.specs.Forests.Nodes.{kind_passes}
 use Rattle.dom_model.specs.MutationAlgorithms.Editing.{append, node_document}
 use Rattle.dom_model.specs.RangesAndContents.Ranges.{with_range, collapsed_at, is_collapsed, range_at}
 use Rattle.dom_model.specs.DataAndCopies.Data.{data_of, with_data, remove_each}

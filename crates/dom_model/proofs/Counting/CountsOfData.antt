@@ -7,7 +7,7 @@ use Rattle.dom_model.specs.Forests.Kinds.{Label}
 use Rattle.dom_model.specs.Forests.Arena.{Entry}
 use Rattle.dom_model.specs.Forests.Forest.{Node, parent_of, entry_in, next_of}
 use Rattle.dom_model.specs.Worlds.World.{Content, World}
-use Rattle.dom_model.specs.Commands.Making.{made_node, named, with_text}
+use Rattle.dom_model.specs.Worlds.Making.{made_node, named, with_text}
 use Rattle.dom_model.specs.MutationAlgorithms.Editing.{remove, insert, node_document}
 use Rattle.dom_model.specs.BoundaryPoints.Points.{map_ranges, after_splice}
 use Rattle.dom_model.specs.DataAndCopies.Data.{data_of, tail_of, data_record, replace_units, replace_data, set_data, split_off, split, following_texts, joined_data, merged_ends, merge_ends, remove_each, join_following, normalize_text, is_descendant, text_descendants, normalize_each, normalize, by_kind, string_replace_all, set_text_content_by, set_text_content, attribute_record, set_attribute, has_attribute, remove_attribute_if, remove_attribute, is_toggled_on, toggled, toggle_attribute}

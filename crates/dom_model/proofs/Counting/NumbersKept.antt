@@ -6,8 +6,8 @@ use Rattle.dom_model.specs.Commands.Guards.{Bounds}
 use Rattle.dom_model.specs.Commands.Answer.{answer}
 use Rattle.dom_model.specs.TokenText.CommandEdits.{world_past}
 use Rattle.dom_model.specs.RangesAndContents.Ranges.{range_at}
-use Rattle.dom_model.specs.Worlds.Counts.{counts_of, asked, plus, of_each, AreAtMost}
-use Rattle.dom_model.specs.Worlds.Sound.{IsRange, IsSound}
+use Rattle.dom_model.specs.Commands.Counts.{counts_of, asked, plus, of_each, AreAtMost}
+use Rattle.dom_model.specs.Soundness.Sound.{IsRange, IsSound}
 use Rattle.dom_model.proofs.Soundness.SoundWorlds.{IsLive}
 use Rattle.dom_model.proofs.Soundness.SoundRangeSteps.{live_range}
 use Rattle.dom_model.proofs.Soundness.SoundAnswers.{sound-answer, sound-first, sound-reached}

@@ -5,7 +5,7 @@ use Rattle.std.proofs.lemmas.Bool.{false≢true, ltb-false}
 use Rattle.dom_model.specs.declared.DomError.{DomError}
 use Rattle.dom_model.specs.Worlds.World.{Point, Range, World}
 use Rattle.dom_model.specs.Commands.Reply.{Answer, Reply, Done, is_refusal}
-use Rattle.dom_model.specs.Worlds.Counts.{Counts, counts_of, no_numbers, node_numbers, plus, of_each, AreAtMost}
+use Rattle.dom_model.specs.Commands.Counts.{Counts, counts_of, no_numbers, node_numbers, plus, of_each, AreAtMost}
 use Rattle.dom_model.specs.Commands.Guards.{Bounds, Step, refused, guarded, checked}
 use Rattle.dom_model.specs.RangesAndContents.Wrapping.{Outcome}
 use Rattle.dom_model.specs.Commands.AnswerRanges.{on_range, at_point, at_ends, done_or_refused}

@@ -6,7 +6,7 @@ use Rattle.dom_model.specs.PlainLists.Lists.{or_else}
 use Rattle.dom_model.specs.Forests.Arena.{Entry, parent_in}
 use Rattle.dom_model.specs.Forests.Forest.{Node, Forest, empty, node, occurs, size, beside, tree_at, map_nodes, entry_under, parent_of}
 use Rattle.dom_model.specs.Worlds.World.{Content}
-use Rattle.dom_model.specs.MutationAlgorithms.Checks.{entry_has, kind_passes}
+use Rattle.dom_model.specs.Forests.Nodes.{entry_has, kind_passes}
 use Rattle.dom_model.specs.DataAndCopies.Clones.{renumbered, alone_of, original}
 use Rattle.dom_model.proofs.PlainLists.Numbers.{same_or, same, apart}
 use Rattle.dom_model.proofs.Forests.Totals.{tree_at-absent, beside-empty}

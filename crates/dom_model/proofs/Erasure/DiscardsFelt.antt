@@ -2,7 +2,8 @@
 use Rattle.std.specs.Prelude.{◌≡◌, refl, codes, ◌==◌, List, [], ◌∷◌, Some, true}
 use Rattle.dom_model.specs.declared.OwnError.TheVariants.{InUse}
 use Rattle.dom_model.specs.Worlds.World.{first_world}
-use Rattle.dom_model.specs.Commands.Command.{no_options, Command, CreateElement, CreateObserver, Observe, CreateRange, SetStart, Discard}
+use Rattle.dom_model.specs.Commands.Command.{Command, CreateElement, CreateObserver, Observe, CreateRange, SetStart, Discard}
+use Rattle.dom_model.specs.MutationObservers.GivenOptions.{no_options}
 use Rattle.dom_model.specs.Commands.Reply.{Nothing, Number, Done, Own}
 use Rattle.dom_model.specs.Commands.Guards.{Bounds}
 use Rattle.dom_model.specs.Erasure.Erasing.{replies_to, without_observers, replies_without_observers, without_watchers, replies_without_watchers}

@@ -11,7 +11,7 @@ use Rattle.dom_model.specs.Worlds.World.{Content}
 use Rattle.dom_model.specs.BoundaryPoints.Points.{map_ranges, after_splice, after_split, after_merge}
 use Rattle.dom_model.specs.Forests.Texts.{spliced}
 use Rattle.dom_model.specs.MutationAlgorithms.Editing.{node_document}
-use Rattle.dom_model.specs.Commands.Making.{made_node, named, with_text}
+use Rattle.dom_model.specs.Worlds.Making.{made_node, named, with_text}
 use Rattle.dom_model.specs.DataAndCopies.Data.{data_of, with_data, attributes_of, with_attributes, cut_count, data_record, replace_units, replace_data, set_data, tail_of, split_off, split, following_texts, joined_data, merged_ends, merge_ends, remove_each, join_following, normalize_text, is_descendant, text_descendants, normalize_each, normalize, by_kind, string_replace_all, set_text_content_by, set_text_content, attribute_record, set_attribute, has_attribute, remove_attribute_if, remove_attribute, is_toggled_on, toggled, toggle_attribute}
 use Rattle.dom_model.specs.DataAndCopies.Clones.{original, with_copies, document_of_clone, clone_node, import_node}
 use Rattle.dom_model.proofs.Erasure.ErasedWorlds.{without, Keeps, moved_ranges-left, with_forest-left, choice-left, queued-left, remove-left, insert-left, replace_all-left}

@@ -5,7 +5,8 @@ use Rattle.std.specs.Fmt.{digits}
 use lib.Utf8.{encode}
 use Rattle.serde_json.proofs.OnLiterals.{serde_json_on_literals}
 use Rattle.dom_model.specs.Worlds.World.{first_world}
-use Rattle.dom_model.specs.Commands.Command.{no_options, Command, AppendChild, Children, CreateComment, CreateElement, CreateFragment, CreateIterator, CreateObserver, CreateRange, CreateText, DescribeIterator, DescribeRange, Disconnect, GetData, InsertBefore, NextNode, Normalize, Notify, Observe, Pending, PreviousNode, Remove, ReplaceChildren, ReplaceData, SetAttribute, SetData, SetEnd, SetStart, SplitText, TakeRecords}
+use Rattle.dom_model.specs.Commands.Command.{Command, AppendChild, Children, CreateComment, CreateElement, CreateFragment, CreateIterator, CreateObserver, CreateRange, CreateText, DescribeIterator, DescribeRange, Disconnect, GetData, InsertBefore, NextNode, Normalize, Notify, Observe, Pending, PreviousNode, Remove, ReplaceChildren, ReplaceData, SetAttribute, SetData, SetEnd, SetStart, SplitText, TakeRecords}
+use Rattle.dom_model.specs.MutationObservers.GivenOptions.{no_options}
 use Rattle.dom_model.specs.Commands.Reply.{Reply}
 use Rattle.dom_model.specs.Commands.Printed.{reply_line}
 use Rattle.dom_model.specs.Commands.Guards.{Bounds}

@@ -7,7 +7,8 @@ use Rattle.dom_model.specs.declared.DomError.{DomError}
 use Rattle.dom_model.specs.declared.OwnError.TheVariants.{NoSuchObject}
 use Rattle.dom_model.specs.Forests.Forest.{entry_in}
 use Rattle.dom_model.specs.Worlds.World.{World, first_world}
-use Rattle.dom_model.specs.Commands.Command.{GivenOptions, Command, Observe, Disconnect, TakeRecords, Notify, Pending}
+use Rattle.dom_model.specs.Commands.Command.{Command, Observe, Disconnect, TakeRecords, Notify, Pending}
+use Rattle.dom_model.specs.MutationObservers.GivenOptions.{GivenOptions}
 use Rattle.dom_model.specs.Commands.Reply.{Reply, Own}
 use Rattle.dom_model.specs.MutationObservers.Records.{options_refusal, options_of, observed}
 use Rattle.dom_model.specs.Commands.Guards.{Bounds, Step, refused, checked, does}

@@ -4,7 +4,8 @@ use Rattle.std.proofs.Common.{◌≡◌, ℕ, ◌<◌, Bool, true, false, not, n
 use Rattle.std.proofs.lemmas.Bool.{ltb-true}
 use Rattle.dom_model.specs.declared.OwnError.TheVariants.{NoSuchObject}
 use Rattle.dom_model.specs.Worlds.World.{World}
-use Rattle.dom_model.specs.Commands.Command.{GivenOptions, Command, CreateObserver, Observe, Disconnect, TakeRecords, Notify, Pending, Discard}
+use Rattle.dom_model.specs.Commands.Command.{Command, CreateObserver, Observe, Disconnect, TakeRecords, Notify, Pending, Discard}
+use Rattle.dom_model.specs.MutationObservers.GivenOptions.{GivenOptions}
 use Rattle.dom_model.specs.Commands.Reply.{Number, Numbers, Records, Notified, Done, Own}
 use Rattle.dom_model.specs.MutationObservers.Records.{options_refusal, options_of, observed, with_observer, records_taken, disconnected, after_notify}
 use Rattle.dom_model.specs.Commands.Guards.{Bounds, Step, refused, guarded, no_node, no_room, answers}

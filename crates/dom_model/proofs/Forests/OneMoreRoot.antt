@@ -9,7 +9,7 @@ use Rattle.dom_model.specs.Forests.Kinds.{may_stand_under}
 use Rattle.dom_model.specs.Forests.Forest.{Node, Forest, empty, node, occurs, one_at, beside, tree_at, without, put, entry_in, parent_of, children_of, next_of, index_of, ancestors, root_of, KindsFit}
 use Rattle.dom_model.specs.Forests.Arena.{Entry, parent_in, children_in, list_under}
 use Rattle.dom_model.specs.BoundaryPoints.Points.{place_of, order_of}
-use Rattle.dom_model.specs.MutationAlgorithms.Checks.{entry_has, kind_passes}
+use Rattle.dom_model.specs.Forests.Nodes.{entry_has, kind_passes}
 use Rattle.dom_model.specs.Forests.Ways.{IsWay}
 use Rattle.dom_model.proofs.PlainLists.Numbers.{same_or, same, apart}
 use Rattle.dom_model.proofs.Forests.Totals.{IsOnce, total-beside, total-tree_at, total-put}

@@ -6,9 +6,9 @@ use Rattle.dom_model.specs.declared.Kind.{Kind}
 use Rattle.dom_model.specs.PlainLists.Lists.{hits}
 use Rattle.dom_model.specs.Forests.Forest.{Forest, occurs, parent_of, children_of}
 use Rattle.dom_model.specs.Worlds.World.{Content, World}
-use Rattle.dom_model.specs.MutationAlgorithms.Checks.{kind_passes}
+use Rattle.dom_model.specs.Forests.Nodes.{kind_passes}
 use Rattle.dom_model.specs.MutationAlgorithms.Editing.{remove, remove_all, is_fragment, nodes_of, emptied_fragment, freed, put_in, put_all, insert_nodes, append}
-use Rattle.dom_model.specs.Worlds.Sound.{IsSound}
+use Rattle.dom_model.specs.Soundness.Sound.{IsSound}
 use Rattle.dom_model.specs.MutationAlgorithms.Insertable.{ArePlaceable, IsInsertable}
 use Rattle.dom_model.proofs.PlainLists.Numbers.{same_or, same, apart}
 use Rattle.dom_model.proofs.Forests.Indices.{child-there}

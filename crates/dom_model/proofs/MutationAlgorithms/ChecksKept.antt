@@ -11,7 +11,8 @@ use Rattle.dom_model.specs.Forests.Arena.{Entry}
 use Rattle.dom_model.specs.Forests.Kinds.{is_kind, may_be_parent, may_stand_under}
 use Rattle.dom_model.specs.Forests.Forest.{Node, Forest, empty, node, occurs, tops, entry_under, entry_in, parent_of, children_of, ancestors, KindsFit}
 use Rattle.dom_model.specs.Worlds.World.{Content}
-use Rattle.dom_model.specs.MutationAlgorithms.Checks.{if_given, kind_passes, is_of_kind, has_kind, count_kind, doctype_from, holds_too_much, element_refused, doctype_refused, document_refuses, is_misplaced, kind_refuses, check_insert}
+use Rattle.dom_model.specs.MutationAlgorithms.Checks.{if_given, has_kind, count_kind, doctype_from, holds_too_much, element_refused, doctype_refused, document_refuses, is_misplaced, kind_refuses, check_insert}
+use Rattle.dom_model.specs.Forests.Nodes.{kind_passes, is_of_kind}
 use Rattle.dom_model.proofs.PlainLists.Numbers.{same_or, same, apart}
 use Rattle.dom_model.proofs.Forests.Changes.{seen, nothing, just}
 use Rattle.dom_model.proofs.Forests.Totals.{IsOnce}

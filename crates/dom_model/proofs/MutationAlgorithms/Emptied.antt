@@ -5,7 +5,7 @@ use Rattle.dom_model.specs.PlainLists.Lists.{hits, left_out}
 use Rattle.dom_model.specs.Forests.Forest.{Forest, occurs, parent_of, children_of}
 use Rattle.dom_model.specs.Worlds.World.{Content, World}
 use Rattle.dom_model.specs.MutationAlgorithms.Editing.{remove, remove_all}
-use Rattle.dom_model.specs.Worlds.Sound.{IsSound}
+use Rattle.dom_model.specs.Soundness.Sound.{IsSound}
 use Rattle.dom_model.proofs.PlainLists.Numbers.{same_or, same, apart}
 use Rattle.dom_model.proofs.Forests.Climbing.{hits-first}
 use Rattle.dom_model.proofs.Forests.Entries.{children-cut}

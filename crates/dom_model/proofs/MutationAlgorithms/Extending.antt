@@ -7,10 +7,10 @@ use Rattle.dom_model.specs.Forests.Attributes.{Attribute}
 use Rattle.dom_model.specs.Forests.Arena.{Entry, parent_in}
 use Rattle.dom_model.specs.Forests.Forest.{Node, Forest, occurs, one_at, beside, cut, map_nodes, adopted, entry_in, parent_of, children_of}
 use Rattle.dom_model.specs.Worlds.World.{Content, World}
-use Rattle.dom_model.specs.MutationAlgorithms.Checks.{entry_has, kind_passes}
+use Rattle.dom_model.specs.Forests.Nodes.{entry_has, kind_passes}
 use Rattle.dom_model.specs.MutationAlgorithms.Editing.{node_document, remove, remove_all, is_fragment, nodes_of, emptied_fragment, freed, put_in, put_all, gap_before, previous_to, insert_nodes, insert}
 use Rattle.dom_model.specs.DataAndCopies.Data.{content_in}
-use Rattle.dom_model.specs.Worlds.Sound.{IsSound}
+use Rattle.dom_model.specs.Soundness.Sound.{IsSound}
 use Rattle.dom_model.specs.TokenText.Originals.{label_in}
 use Rattle.dom_model.specs.MutationAlgorithms.Insertable.{IsPlaceable, ArePlaceable, IsChildOf, IsInsertable}
 use Rattle.dom_model.proofs.PlainLists.Numbers.{same_or, same, apart}

@@ -8,10 +8,10 @@ use Rattle.dom_model.specs.Forests.Arena.{Entry}
 use Rattle.dom_model.specs.Forests.Forest.{Node, Forest, empty, node, occurs, tops, cut, put, entry_under, entry_in}
 use Rattle.dom_model.specs.Forests.EachNode.{EachNode}
 use Rattle.dom_model.specs.Worlds.World.{Content, World}
-use Rattle.dom_model.specs.Worlds.Sound.{IsSound}
-use Rattle.dom_model.specs.MutationAlgorithms.Checks.{is_of_kind}
+use Rattle.dom_model.specs.Soundness.Sound.{IsSound}
+use Rattle.dom_model.specs.Forests.Nodes.{is_of_kind}
 use Rattle.dom_model.specs.MutationAlgorithms.Editing.{remove, remove_all, is_fragment, emptied_fragment, freed, document_in, node_document, put_in}
-use Rattle.dom_model.specs.Worlds.Owners.{IsOwned, IsOwnedWell}
+use Rattle.dom_model.specs.Soundness.Owners.{IsOwned, IsOwnedWell}
 use Rattle.dom_model.specs.MutationAlgorithms.Insertable.{IsPlaceable}
 use Rattle.dom_model.proofs.PlainLists.Numbers.{same_or, same, apart}
 use Rattle.dom_model.proofs.Forests.Changes.{seen, nothing, just}

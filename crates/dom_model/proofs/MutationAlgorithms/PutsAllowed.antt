@@ -6,8 +6,9 @@ use Rattle.dom_model.specs.Forests.Kinds.{may_stand_in}
 use Rattle.dom_model.specs.Forests.Arena.{Entry}
 use Rattle.dom_model.specs.Forests.Forest.{Node, Forest, occurs, entry_in, ancestors, HasNode}
 use Rattle.dom_model.specs.Worlds.World.{Content, World}
-use Rattle.dom_model.specs.Worlds.Sound.{IsSound}
-use Rattle.dom_model.specs.MutationAlgorithms.Checks.{entry_has, check_insert}
+use Rattle.dom_model.specs.Soundness.Sound.{IsSound}
+use Rattle.dom_model.specs.MutationAlgorithms.Checks.{check_insert}
+use Rattle.dom_model.specs.Forests.Nodes.{entry_has}
 use Rattle.dom_model.specs.MutationAlgorithms.Editing.{nodes_of, freed, reference_child}
 use Rattle.dom_model.specs.MutationAlgorithms.Insertable.{IsPlaceable}
 use Rattle.dom_model.proofs.Forests.Climbing.{hits-not_among}

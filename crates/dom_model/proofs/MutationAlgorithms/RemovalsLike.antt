@@ -3,13 +3,13 @@ use Rattle.std.proofs.Common.{◌≡◌, ℕ, ◌<◌, ◌≤◌, ◌==◌, Bool
 use Rattle.std.proofs.lemmas.Bool.{cases_lt}
 use Rattle.dom_model.specs.declared.Kind.{Kind}
 use Rattle.dom_model.specs.declared.Kind.TheVariants.{Element, DocumentType}
-use Rattle.dom_model.specs.PlainLists.Lists.{hits, among, is_number, after, left_out}
+use Rattle.dom_model.specs.PlainLists.Lists.{hits, among, is_number, after, left_out, past, up_to}
 use Rattle.dom_model.specs.Forests.Arena.{Entry, list_under}
 use Rattle.dom_model.specs.Forests.Kinds.{is_kind}
 use Rattle.dom_model.specs.Forests.Forest.{Node, Forest, cut, entry_in, parent_of, children_of, next_of, ancestors}
 use Rattle.dom_model.specs.Worlds.World.{Content}
-use Rattle.dom_model.specs.MutationAlgorithms.PreRemoval.{past}
-use Rattle.dom_model.specs.MutationAlgorithms.Checks.{up_to, if_given, entry_has, kind_passes, is_of_kind, has_kind, doctype_from, doctype_refused}
+use Rattle.dom_model.specs.MutationAlgorithms.Checks.{if_given, has_kind, doctype_from, doctype_refused}
+use Rattle.dom_model.specs.Forests.Nodes.{entry_has, kind_passes, is_of_kind}
 use Rattle.dom_model.proofs.PlainLists.Numbers.{same_or, same, apart}
 use Rattle.dom_model.proofs.Forests.Changes.{cut_at}
 use Rattle.dom_model.proofs.Forests.Totals.{IsOnce}

@@ -8,7 +8,7 @@ use Rattle.std.proofs.lemmas.List.Elements.{filter-append}
 use Rattle.dom_model.specs.PlainLists.Lists.{left_out}
 use Rattle.dom_model.specs.Worlds.World.{Options, Registration, Mutation, Observing}
 use Rattle.dom_model.specs.MutationObservers.Observing.{registered_on, standing_on, noted, transient_of, with_transients}
-use Rattle.dom_model.specs.Commands.Reply.{Told}
+use Rattle.dom_model.specs.MutationObservers.Record.{Told}
 use Rattle.dom_model.specs.MutationObservers.Records.{interests, interested, record_by, record_for, observers_of, each_once, queue_of, pending_of, told_in, has_records, told, after_notify, records_taken, disconnected, is_registered, is_transient_from, new_registration, with_options, registered, observed, with_observer}
 use Rattle.dom_model.proofs.PlainLists.Numbers.{Same, same_or, same, apart}
 use Rattle.dom_model.proofs.MutationObservers.NodeRegistrations.{filter-twice, filter-map_kept, registered_on-filter}

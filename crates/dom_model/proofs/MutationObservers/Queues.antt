@@ -10,7 +10,7 @@ use Rattle.std.proofs.lemmas.Bool.{cases_lt}
 use Rattle.dom_model.specs.PlainLists.Lists.{among, left_out}
 use Rattle.dom_model.specs.Worlds.World.{Options, Mutation, Observing}
 use Rattle.dom_model.specs.MutationObservers.Observing.{noted}
-use Rattle.dom_model.specs.Commands.Reply.{Record}
+use Rattle.dom_model.specs.MutationObservers.Record.{Record}
 use Rattle.dom_model.specs.MutationObservers.Records.{observed, record_for, taken_up_to, queue_of, observers_of, each_once, pending_of, with_observer, records_taken, disconnected, after_notify}
 use Rattle.dom_model.specs.PlainLists.LastOnce.{with_last, with_all_last}
 use Rattle.dom_model.proofs.PlainLists.Numbers.{Same, same_or, same, apart}

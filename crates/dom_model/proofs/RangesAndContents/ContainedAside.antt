@@ -12,8 +12,9 @@ use Rattle.dom_model.specs.Forests.Kinds.{is_kind, is_character_data, may_be_par
 use Rattle.dom_model.specs.Forests.Forest.{Node, Forest, empty, node, occurs, tops, entry_under, entry_in, parent_of, children_of, index_of, ancestors, KindsFit}
 use Rattle.dom_model.specs.Worlds.World.{Range}
 use Rattle.dom_model.specs.BoundaryPoints.Points.{path_places, order_of}
-use Rattle.dom_model.specs.Forests.Lengths.{node_length}
-use Rattle.dom_model.specs.RangesAndContents.Ranges.{is_less, same_root, is_before, contents_of, is_contained}
+use Rattle.dom_model.specs.Worlds.Lengths.{node_length}
+use Rattle.dom_model.specs.RangesAndContents.Ranges.{is_less, is_before, contents_of, is_contained}
+use Rattle.dom_model.specs.Forests.Nodes.{same_root}
 use Rattle.dom_model.proofs.PlainLists.Numbers.{same_or, same, apart}
 use Rattle.dom_model.proofs.Forests.Changes.{seen, nothing, just}
 use Rattle.dom_model.proofs.Forests.Totals.{IsOnce}

@@ -3,15 +3,14 @@
 use Rattle.std.proofs.Common.{◌≡◌, ℕ, zero, suc, ◌+◌, ◌*◌, ◌<◌, ◌≤◌, Bool, true, false, ◌&&◌, List, [], ◌∷◌, ◌++◌, take, filter, Option, Some, None, refl, ap, sym, ◌∙◌, subst, arith, slice_get, ⊎_elim}
 use Rattle.std.proofs.lemmas.Bool.{cases_lt, false≢true, lt-ltb, le-ltb}
 use lib.Seq.{take-nil}
-use Rattle.dom_model.specs.PlainLists.Lists.{hits, among, place_in}
+use Rattle.dom_model.specs.PlainLists.Lists.{hits, among, place_in, past, is_same, up_to}
 use Rattle.dom_model.specs.Forests.Forest.{Forest, Grove, IsForest, occurs, parent_of, children_of, index_of, ancestors, root_of}
-use Rattle.dom_model.specs.Forests.Lengths.{unit_count, node_length}
+use Rattle.dom_model.specs.Worlds.Lengths.{unit_count, node_length}
 use Rattle.dom_model.specs.Worlds.World.{Content, Point, Range}
-use Rattle.dom_model.specs.Worlds.Sound.{IsRange}
+use Rattle.dom_model.specs.Soundness.Sound.{IsRange}
 use Rattle.dom_model.specs.BoundaryPoints.Points.{path_places, order_of}
-use Rattle.dom_model.specs.MutationAlgorithms.PreRemoval.{past}
-use Rattle.dom_model.specs.MutationAlgorithms.Checks.{is_same, up_to}
-use Rattle.dom_model.specs.RangesAndContents.Ranges.{is_less, is_before, same_root, is_contained, common_ancestor}
+use Rattle.dom_model.specs.RangesAndContents.Ranges.{is_less, is_before, is_contained, common_ancestor}
+use Rattle.dom_model.specs.Forests.Nodes.{same_root}
 use Rattle.dom_model.specs.RangesAndContents.Contents.{path_below}
 use Rattle.dom_model.specs.Forests.Ways.{IsWay}
 use Rattle.dom_model.proofs.PlainLists.Numbers.{same_or, same, apart}

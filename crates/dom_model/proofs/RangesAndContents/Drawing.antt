@@ -9,11 +9,11 @@ use Rattle.dom_model.specs.Forests.Kinds.{may_be_parent}
 use Rattle.dom_model.specs.Forests.Arena.{Entry}
 use Rattle.dom_model.specs.Forests.Forest.{Node, Forest, occurs, one_at, parent_of, children_of, ancestors, entry_in}
 use Rattle.dom_model.specs.Worlds.World.{Content, World}
-use Rattle.dom_model.specs.MutationAlgorithms.Checks.{entry_has, kind_passes, is_of_kind}
+use Rattle.dom_model.specs.Forests.Nodes.{entry_has, kind_passes, is_of_kind}
 use Rattle.dom_model.specs.MutationAlgorithms.Editing.{is_fragment, nodes_of, append}
 use Rattle.dom_model.specs.DataAndCopies.Data.{content_in, data_of}
 use Rattle.dom_model.specs.DataAndCopies.Clones.{renumbered, with_copies}
-use Rattle.dom_model.specs.Worlds.Sound.{IsSound}
+use Rattle.dom_model.specs.Soundness.Sound.{IsSound}
 use Rattle.dom_model.specs.TokenText.Tokens.{Edit}
 use Rattle.dom_model.specs.TokenText.Edits.{Trace, doing_append, append_edits}
 use Rattle.dom_model.specs.MutationAlgorithms.Insertable.{IsInsertable}

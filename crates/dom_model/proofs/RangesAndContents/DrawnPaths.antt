@@ -3,14 +3,13 @@ use Rattle.std.proofs.Common.{◌≡◌, ℕ, zero, suc, ◌-◌, ◌<◌, ◌�
 use Rattle.std.proofs.lemmas.Bool.{cases_lt, false≢true}
 use Rattle.dom_model.specs.declared.Kind.{Kind}
 use Rattle.dom_model.specs.declared.Kind.TheVariants.{Element, Text, ProcessingInstruction, Comment, Document, DocumentType, DocumentFragment}
-use Rattle.dom_model.specs.PlainLists.Lists.{hits}
+use Rattle.dom_model.specs.PlainLists.Lists.{hits, past, up_to}
 use Rattle.dom_model.specs.Forests.Kinds.{is_kind, is_character_data, may_be_parent, may_stand_in}
 use Rattle.dom_model.specs.Forests.Forest.{Forest, empty, node, occurs, parent_of, children_of}
 use Rattle.dom_model.specs.Worlds.World.{Content, World, no_content}
-use Rattle.dom_model.specs.MutationAlgorithms.PreRemoval.{past}
-use Rattle.dom_model.specs.MutationAlgorithms.Checks.{up_to, entry_has, kind_passes, is_of_kind}
+use Rattle.dom_model.specs.Forests.Nodes.{entry_has, kind_passes, is_of_kind}
 use Rattle.dom_model.specs.MutationAlgorithms.Editing.{node_document, append}
-use Rattle.dom_model.specs.Commands.Making.{named}
+use Rattle.dom_model.specs.Worlds.Making.{named}
 use Rattle.dom_model.specs.DataAndCopies.Data.{data_of}
 use Rattle.dom_model.specs.DataAndCopies.Clones.{original, document_of_clone, clone_node}
 use Rattle.dom_model.specs.RangesAndContents.Contents.{new_fragment, units_into, children_into, copy_into, tail_into, head_into}

@@ -10,9 +10,9 @@ use Rattle.dom_model.specs.Forests.Arena.{Entry}
 use Rattle.dom_model.specs.Forests.Forest.{Node, Forest, empty, node, occurs, map_nodes, entry_in, KindsFit}
 use Rattle.dom_model.specs.Worlds.World.{Content, World, no_content}
 use Rattle.dom_model.specs.Forests.Texts.{substring, spliced}
-use Rattle.dom_model.specs.MutationAlgorithms.Checks.{kind_passes}
+use Rattle.dom_model.specs.Forests.Nodes.{kind_passes}
 use Rattle.dom_model.specs.MutationAlgorithms.Editing.{is_fragment, node_document, append}
-use Rattle.dom_model.specs.Commands.Making.{named}
+use Rattle.dom_model.specs.Worlds.Making.{named}
 use Rattle.dom_model.specs.DataAndCopies.Data.{data_of, with_data, cut_count, replace_data}
 use Rattle.dom_model.specs.DataAndCopies.Clones.{original, document_of_clone, clone_node}
 use Rattle.dom_model.specs.RangesAndContents.Contents.{new_fragment, clone_with, cut_if, units_into, child_into, children_into}

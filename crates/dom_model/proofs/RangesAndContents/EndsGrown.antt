@@ -8,10 +8,10 @@ use Rattle.dom_model.specs.Forests.Kinds.{may_be_parent}
 use Rattle.dom_model.specs.Forests.Forest.{Forest, parent_of, children_of, root_of}
 use Rattle.dom_model.specs.Worlds.World.{Content, Point, Range, World}
 use Rattle.dom_model.specs.BoundaryPoints.Points.{place_of, order_of, moved_range}
-use Rattle.dom_model.specs.MutationAlgorithms.Checks.{kind_passes}
+use Rattle.dom_model.specs.Forests.Nodes.{kind_passes}
 use Rattle.dom_model.specs.MutationAlgorithms.Editing.{is_fragment, nodes_of, insert}
 use Rattle.dom_model.specs.RangesAndContents.Wrapping.{offset_past}
-use Rattle.dom_model.specs.Worlds.Sound.{IsBoundary, IsRange, IsSound}
+use Rattle.dom_model.specs.Soundness.Sound.{IsBoundary, IsRange, IsSound}
 use Rattle.dom_model.specs.MutationAlgorithms.Insertable.{IsChildOf, IsInsertable}
 use Rattle.dom_model.proofs.PlainLists.Numbers.{same_or, same, apart}
 use Rattle.dom_model.proofs.Forests.Climbing.{hits-append}

@@ -8,8 +8,9 @@ use Rattle.dom_model.specs.declared.Kind.TheVariants.{Text, DocumentFragment}
 use Rattle.dom_model.specs.Forests.Kinds.{is_kind}
 use Rattle.dom_model.specs.Forests.Forest.{Node, Forest, HasNode, occurs, put, adopted, in_document, cut, parent_of, next_of, IsForest}
 use Rattle.dom_model.specs.Worlds.World.{Content, Point, World}
-use Rattle.dom_model.specs.Commands.Making.{made_node, named, with_text}
-use Rattle.dom_model.specs.MutationAlgorithms.Checks.{is_of_kind, check_insert}
+use Rattle.dom_model.specs.Worlds.Making.{made_node, named, with_text}
+use Rattle.dom_model.specs.MutationAlgorithms.Checks.{check_insert}
+use Rattle.dom_model.specs.Forests.Nodes.{is_of_kind}
 use Rattle.dom_model.specs.MutationAlgorithms.Editing.{remove, removed_from, tree_record_unless, is_fragment, nodes_of, freed, gap_before, insert_all, insert_nodes, insert, node_document, reference_child, pre_insert}
 use Rattle.dom_model.specs.DataAndCopies.Data.{tail_of, with_data, replace_data, split_off, split}
 use Rattle.dom_model.specs.RangesAndContents.Wrapping.{is_text, reference_at, parent_by, parent_at, check_start, split_at, reference_after, offset_past, end_if_collapsed, Outcome, and_then, unless, placed_at, inserted_at}

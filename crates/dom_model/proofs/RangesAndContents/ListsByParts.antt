@@ -1,9 +1,7 @@
 -- A list of which each element gives itself or nothing, but for one that gives more: what the whole list gives.
 use Rattle.std.proofs.Common.{◌≡◌, ℕ, zero, suc, ◌<◌, ◌≤◌, Bool, true, false, if◌then◌else◌, List, [], ◌∷◌, ◌++◌, take, drop, filter, flat_map, Some, slice_get, refl, ap, sym, ◌∙◌, arith, append-nil}
 use Rattle.std.proofs.lemmas.Grind.{flat_map-append}
-use Rattle.dom_model.specs.PlainLists.Lists.{hits, place_in}
-use Rattle.dom_model.specs.MutationAlgorithms.PreRemoval.{past}
-use Rattle.dom_model.specs.MutationAlgorithms.Checks.{up_to}
+use Rattle.dom_model.specs.PlainLists.Lists.{hits, place_in, past, up_to}
 use Rattle.dom_model.proofs.PlainLists.Numbers.{same_or, same, apart}
 use Rattle.dom_model.proofs.Forests.Climbing.{hits-first}
 use Rattle.dom_model.proofs.Forests.Listed.{parted_at}

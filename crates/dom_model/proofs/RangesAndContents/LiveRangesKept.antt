@@ -6,7 +6,7 @@ use Rattle.dom_model.specs.Forests.Forest.{parent_of, children_of, next_of}
 use Rattle.dom_model.specs.Worlds.World.{Point, Range, World}
 use Rattle.dom_model.specs.BoundaryPoints.Points.{map_ranges}
 use Rattle.dom_model.specs.MutationAlgorithms.Editing.{tree_record_unless, removed_from, remove, remove_all, is_fragment, nodes_of, emptied_fragment, freed, put_all, gap_before, insert_nodes, insert, reference_child, pre_insert, append, insert_if_any, replaced_record, replace_all, added_by, node_document}
-use Rattle.dom_model.specs.Commands.Making.{made_node, named, with_text}
+use Rattle.dom_model.specs.Worlds.Making.{made_node, named, with_text}
 use Rattle.dom_model.specs.RangesAndContents.Ranges.{range_at, with_range}
 use Rattle.dom_model.specs.DataAndCopies.Data.{replace_data, split, split_off, tail_of, remove_each}
 use Rattle.dom_model.proofs.Forests.Changes.{seen, nothing, just}

@@ -9,9 +9,9 @@ use Rattle.dom_model.specs.Forests.Kinds.{is_kind}
 use Rattle.dom_model.specs.Forests.Texts.{spliced}
 use Rattle.dom_model.specs.Forests.Forest.{Node, Forest, empty, node, occurs, one_at, tops, beside, tree_at, without, placed_root, put, in_document, adopted, with_node, entry_under, entry_in, parent_of, children_of, ancestors}
 use Rattle.dom_model.specs.Worlds.World.{Content, World, no_content}
-use Rattle.dom_model.specs.MutationAlgorithms.Checks.{entry_has}
+use Rattle.dom_model.specs.Forests.Nodes.{entry_has}
 use Rattle.dom_model.specs.MutationAlgorithms.Editing.{tree_record_unless, emptied_fragment, taken_out, transients_made, removed_from, remove, remove_all, is_fragment, nodes_of, freed, node_document, put_in, put_all, insert_all, insert_nodes, append}
-use Rattle.dom_model.specs.Commands.Making.{named}
+use Rattle.dom_model.specs.Worlds.Making.{named}
 use Rattle.dom_model.specs.DataAndCopies.Clones.{renumbered, with_copies}
 use Rattle.dom_model.specs.DataAndCopies.Data.{content_in, data_of, with_data, cut_count, replace_data, remove_each}
 use Rattle.dom_model.specs.RangesAndContents.Contents.{new_fragment}

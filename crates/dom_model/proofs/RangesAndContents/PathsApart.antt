@@ -2,10 +2,9 @@
 use Rattle.std.proofs.Common.{◌≡◌, ℕ, ◌+◌, ◌≤◌, Bool, true, false, if◌then◌else◌, List, [], ◌∷◌, ◌++◌, length, Option, Some, None, refl, arith}
 use Rattle.std.specs.Prelude.{filter, cond, unwrap_or}
 use Rattle.std.proofs.lemmas.List.{length-reverse}
-use Rattle.dom_model.specs.PlainLists.Lists.{among, head_of, or_list}
+use Rattle.dom_model.specs.PlainLists.Lists.{among, head_of, or_list, up_to}
 use Rattle.dom_model.specs.Forests.Forest.{Forest, empty, node, total, size, ancestors, path_through}
 use Rattle.dom_model.specs.Worlds.World.{Content}
-use Rattle.dom_model.specs.MutationAlgorithms.Checks.{up_to}
 use Rattle.dom_model.specs.RangesAndContents.Ranges.{common_ancestor}
 use Rattle.dom_model.specs.RangesAndContents.Contents.{path_below}
 use Rattle.dom_model.proofs.PlainLists.Numbers.{same_or, same, apart}

@@ -5,14 +5,14 @@ use Rattle.std.proofs.lemmas.Bool.{false≢true}
 use Rattle.std.proofs.lemmas.List.{reverse-append}
 use Rattle.dom_model.specs.declared.Kind.{Kind}
 use Rattle.dom_model.specs.declared.Kind.TheVariants.{Element, Text, ProcessingInstruction, Comment, Document, DocumentType, DocumentFragment}
-use Rattle.dom_model.specs.PlainLists.Lists.{hits, among, head_of, last_of}
+use Rattle.dom_model.specs.PlainLists.Lists.{hits, among, head_of, last_of, up_to}
 use Rattle.dom_model.specs.Forests.Kinds.{is_kind, is_character_data, may_be_parent, may_stand_in}
 use Rattle.dom_model.specs.Forests.Forest.{Forest, occurs, parent_of, ancestors, root_of}
 use Rattle.dom_model.specs.Worlds.World.{Content, World}
-use Rattle.dom_model.specs.MutationAlgorithms.Checks.{up_to, kind_passes, is_of_kind}
+use Rattle.dom_model.specs.Forests.Nodes.{kind_passes, is_of_kind}
 use Rattle.dom_model.specs.DataAndCopies.Data.{data_of}
 use Rattle.dom_model.specs.RangesAndContents.Contents.{path_below}
-use Rattle.dom_model.specs.Worlds.Sound.{IsSound}
+use Rattle.dom_model.specs.Soundness.Sound.{IsSound}
 use Rattle.dom_model.specs.RangesAndContents.Ranges.{common_ancestor}
 use Rattle.dom_model.proofs.PlainLists.Numbers.{same_or, same, apart}
 use Rattle.dom_model.proofs.PlainLists.Members.{hits-last_of}

@@ -8,10 +8,11 @@ use Rattle.dom_model.specs.Forests.Arena.{Entry}
 use Rattle.dom_model.specs.Forests.Kinds.{is_character_data, may_be_parent}
 use Rattle.dom_model.specs.Forests.Forest.{Node, Forest, occurs, entry_in, parent_of, children_of, index_of, ancestors}
 use Rattle.dom_model.specs.Worlds.World.{Content, Point, Range}
-use Rattle.dom_model.specs.MutationAlgorithms.Checks.{entry_has, if_given, kind_passes, is_of_kind}
+use Rattle.dom_model.specs.MutationAlgorithms.Checks.{if_given}
+use Rattle.dom_model.specs.Forests.Nodes.{entry_has, kind_passes, is_of_kind}
 use Rattle.dom_model.specs.RangesAndContents.Ranges.{is_before, point_after, common_ancestor}
 use Rattle.dom_model.specs.RangesAndContents.Contents.{new_place}
-use Rattle.dom_model.specs.Worlds.Sound.{IsBoundary, IsRange}
+use Rattle.dom_model.specs.Soundness.Sound.{IsBoundary, IsRange}
 use Rattle.dom_model.proofs.PlainLists.Numbers.{same_or, same, apart}
 use Rattle.dom_model.proofs.Forests.Changes.{seen, nothing, just}
 use Rattle.dom_model.proofs.Forests.Climbing.{hits-append, hits-first, among-hits, ancestors-there}

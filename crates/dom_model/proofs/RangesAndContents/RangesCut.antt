@@ -10,9 +10,9 @@ use Rattle.dom_model.specs.Forests.Forest.{Node, Forest, occurs, one_at, cut, en
 use Rattle.dom_model.specs.Worlds.World.{Content, Point, Range, Iterator}
 use Rattle.dom_model.specs.BoundaryPoints.Points.{after_removal, moved_range}
 use Rattle.dom_model.specs.MutationAlgorithms.PreRemoval.{pre_removed}
-use Rattle.dom_model.specs.MutationAlgorithms.Checks.{entry_has, kind_passes, is_of_kind}
-use Rattle.dom_model.specs.Forests.Lengths.{unit_count, node_length}
-use Rattle.dom_model.specs.Worlds.Sound.{IsBoundary, IsRange, IsIterator}
+use Rattle.dom_model.specs.Forests.Nodes.{entry_has, kind_passes, is_of_kind}
+use Rattle.dom_model.specs.Worlds.Lengths.{unit_count, node_length}
+use Rattle.dom_model.specs.Soundness.Sound.{IsBoundary, IsRange, IsIterator}
 use Rattle.dom_model.proofs.PlainLists.Numbers.{same_or, same, apart}
 use Rattle.dom_model.proofs.Forests.Totals.{total-cut}
 use Rattle.dom_model.proofs.Forests.Entries.{HasNode-occurs, occurs-HasNode}

@@ -7,9 +7,9 @@ use Rattle.dom_model.specs.Forests.Kinds.{is_kind, may_be_parent}
 use Rattle.dom_model.specs.Forests.Forest.{Forest, occurs, one_at, tree_at, put, HasNode, parent_of, children_of, ancestors, root_of}
 use Rattle.dom_model.specs.Worlds.World.{Content, Point, Range, Iterator}
 use Rattle.dom_model.specs.BoundaryPoints.Points.{after_gap, moved_range, order_of}
-use Rattle.dom_model.specs.MutationAlgorithms.Checks.{kind_passes, is_of_kind}
-use Rattle.dom_model.specs.Forests.Lengths.{unit_count, node_length}
-use Rattle.dom_model.specs.Worlds.Sound.{IsBoundary, IsRange, IsIterator}
+use Rattle.dom_model.specs.Forests.Nodes.{kind_passes, is_of_kind}
+use Rattle.dom_model.specs.Worlds.Lengths.{unit_count, node_length}
+use Rattle.dom_model.specs.Soundness.Sound.{IsBoundary, IsRange, IsIterator}
 use Rattle.dom_model.proofs.PlainLists.Numbers.{same_or, same, apart}
 use Rattle.dom_model.proofs.Forests.Totals.{total-tree_at, total-put}
 use Rattle.dom_model.proofs.Forests.Climbing.{among-hits, hits-among, hits-ancestors}

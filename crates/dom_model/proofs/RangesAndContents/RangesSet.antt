@@ -10,10 +10,11 @@ use Rattle.dom_model.specs.declared.DomError.TheVariants.{InvalidNodeTypeError, 
 use Rattle.dom_model.specs.Forests.Forest.{Forest, occurs, parent_of, children_of, index_of, root_of}
 use Rattle.dom_model.specs.Worlds.World.{Content, Point, Range}
 use Rattle.dom_model.specs.BoundaryPoints.Points.{place_of, order_of}
-use Rattle.dom_model.specs.MutationAlgorithms.Checks.{is_same, is_of_kind}
-use Rattle.dom_model.specs.Forests.Lengths.{unit_count, node_length}
-use Rattle.dom_model.specs.RangesAndContents.Ranges.{collapsed_at, collapsed, same_root, is_before, start_set, end_set, point_before, point_after, around, contents_of, check_point}
-use Rattle.dom_model.specs.Worlds.Sound.{IsBoundary, IsRange}
+use Rattle.dom_model.specs.PlainLists.Lists.{is_same}
+use Rattle.dom_model.specs.Forests.Nodes.{is_of_kind, same_root}
+use Rattle.dom_model.specs.Worlds.Lengths.{unit_count, node_length}
+use Rattle.dom_model.specs.RangesAndContents.Ranges.{collapsed_at, collapsed, is_before, start_set, end_set, point_before, point_after, around, contents_of, check_point}
+use Rattle.dom_model.specs.Soundness.Sound.{IsBoundary, IsRange}
 use Rattle.dom_model.proofs.PlainLists.Numbers.{same_or, same, apart}
 use Rattle.dom_model.proofs.Forests.Entries.{HasNode-occurs}
 use Rattle.dom_model.proofs.Forests.Paths.{parent-path}

@@ -8,9 +8,9 @@ use Rattle.dom_model.specs.Forests.Kinds.{is_kind, is_character_data}
 use Rattle.dom_model.specs.Forests.Forest.{Forest, HasNode, root_of}
 use Rattle.dom_model.specs.Worlds.World.{Content, Point, Range, Iterator}
 use Rattle.dom_model.specs.BoundaryPoints.Points.{after_splice, moved_range}
-use Rattle.dom_model.specs.MutationAlgorithms.Checks.{kind_passes, is_of_kind}
-use Rattle.dom_model.specs.Forests.Lengths.{unit_count, node_length}
-use Rattle.dom_model.specs.Worlds.Sound.{IsBoundary, IsRange, IsIterator}
+use Rattle.dom_model.specs.Forests.Nodes.{kind_passes, is_of_kind}
+use Rattle.dom_model.specs.Worlds.Lengths.{unit_count, node_length}
+use Rattle.dom_model.specs.Soundness.Sound.{IsBoundary, IsRange, IsIterator}
 use Rattle.dom_model.proofs.PlainLists.Numbers.{same_or, same, apart}
 use Rattle.dom_model.proofs.Forests.Entries.{HasNode-occurs, occurs-HasNode}
 use Rattle.dom_model.proofs.BoundaryPoints.SpliceOrder.{splice-order_kept}

@@ -6,9 +6,9 @@ use Rattle.dom_model.specs.Forests.Kinds.{may_be_parent}
 use Rattle.dom_model.specs.Forests.Forest.{Forest, occurs, parent_of, children_of, index_of, root_of}
 use Rattle.dom_model.specs.Worlds.World.{Content, Point}
 use Rattle.dom_model.specs.BoundaryPoints.Points.{after_split}
-use Rattle.dom_model.specs.MutationAlgorithms.Checks.{kind_passes, is_of_kind}
-use Rattle.dom_model.specs.Forests.Lengths.{unit_count, node_length}
-use Rattle.dom_model.specs.Worlds.Sound.{IsBoundary}
+use Rattle.dom_model.specs.Forests.Nodes.{kind_passes, is_of_kind}
+use Rattle.dom_model.specs.Worlds.Lengths.{unit_count, node_length}
+use Rattle.dom_model.specs.Soundness.Sound.{IsBoundary}
 use Rattle.dom_model.proofs.PlainLists.Numbers.{same_or, same, apart}
 use Rattle.dom_model.proofs.Forests.Entries.{HasNode-occurs}
 use Rattle.dom_model.proofs.Forests.Paths.{parent-path}

@@ -8,7 +8,7 @@ use Rattle.dom_model.specs.PlainLists.Lists.{hits, place_in, among, is_number, l
 use Rattle.dom_model.specs.Forests.Forest.{Forest, occurs, cut, parent_of, ancestors, index_of, tree_at, children_of, next_of, inclusive_descendants}
 use Rattle.dom_model.specs.Worlds.World.{Content, Point, Range, World}
 use Rattle.dom_model.specs.BoundaryPoints.Points.{place_of, moved_range}
-use Rattle.dom_model.specs.Worlds.Sound.{IsBoundary, IsRange, IsSound}
+use Rattle.dom_model.specs.Soundness.Sound.{IsBoundary, IsRange, IsSound}
 use Rattle.dom_model.specs.MutationAlgorithms.Editing.{remove, reference_child}
 use Rattle.dom_model.specs.RangesAndContents.Ranges.{range_at}
 use Rattle.dom_model.proofs.PlainLists.Numbers.{same_or, same, apart}

@@ -3,14 +3,14 @@
 use Rattle.std.proofs.Common.{◌≡◌, ℕ, ◌<◌, Bool, true, false, not, ◌&&◌, if◌then◌else◌, List, [], ◌∷◌, ◌++◌, filter, flat_map, Option, Some, None, refl, ap, sym, ◌∙◌, subst, arith, append-nil}
 use Rattle.std.proofs.lemmas.List.Elements.{filter-append}
 use Rattle.std.specs.declared.cmp.Ordering.TheVariants.{Less, Greater}
-use Rattle.dom_model.specs.PlainLists.Lists.{hits}
+use Rattle.dom_model.specs.PlainLists.Lists.{hits, is_same}
 use Rattle.dom_model.specs.Forests.Forest.{Forest, empty, node, occurs, numbers, tops, tree_at, parent_of, children_of, ancestors, root_of, inclusive_descendants}
 use Rattle.dom_model.specs.Forests.Arena.{children_in}
 use Rattle.dom_model.specs.Worlds.World.{Content, Range, World}
-use Rattle.dom_model.specs.Worlds.Sound.{IsRange, IsSound}
+use Rattle.dom_model.specs.Soundness.Sound.{IsRange, IsSound}
 use Rattle.dom_model.specs.BoundaryPoints.Points.{order_of}
-use Rattle.dom_model.specs.MutationAlgorithms.Checks.{if_given, is_same}
-use Rattle.dom_model.specs.Forests.Lengths.{unit_count, node_length}
+use Rattle.dom_model.specs.MutationAlgorithms.Checks.{if_given}
+use Rattle.dom_model.specs.Worlds.Lengths.{unit_count, node_length}
 use Rattle.dom_model.specs.RangesAndContents.Ranges.{is_less, is_before}
 use Rattle.dom_model.specs.RangesAndContents.Contents.{contained_in}
 use Rattle.dom_model.specs.TokenText.Tokens.{point}

@@ -3,10 +3,9 @@ use Rattle.std.proofs.Common.{◌≡◌, ℕ, zero, suc, ◌<◌, ◌≤◌, Boo
 use Rattle.std.specs.Prelude.{filter, cond, unwrap_or}
 use Rattle.std.proofs.lemmas.Bool.{cases_lt, false≢true}
 use Rattle.std.proofs.lemmas.List.{reverse-append}
-use Rattle.dom_model.specs.PlainLists.Lists.{hits, among, head_of, last_of}
+use Rattle.dom_model.specs.PlainLists.Lists.{hits, among, head_of, last_of, up_to}
 use Rattle.dom_model.specs.Forests.Forest.{Forest, occurs, tree_at, parent_of, ancestors, root_of}
 use Rattle.dom_model.specs.Worlds.World.{Content}
-use Rattle.dom_model.specs.MutationAlgorithms.Checks.{up_to}
 use Rattle.dom_model.specs.RangesAndContents.Ranges.{common_ancestor}
 use Rattle.dom_model.specs.RangesAndContents.Contents.{path_below}
 use Rattle.dom_model.specs.Forests.Ways.{IsWay}

@@ -4,14 +4,14 @@ use Rattle.std.proofs.lemmas.List.Elements.{All-nil}
 use Rattle.dom_model.specs.Worlds.World.{World, first_world}
 use Rattle.dom_model.specs.Commands.Command.{Command, NewDocument, CreateElement, CreateText, CreateComment, CreatePI, CreateDoctype, CreateFragment, InsertBefore, AppendChild, ReplaceChild, RemoveChild, Remove, ReplaceChildren, AdoptNode, ImportNode, CloneNode, Normalize, DescribeNode, Children, Index, Length, Root, IsContaining, IsEqual, ComparePosition, TextContent, SetTextContent, Tree, GetData, SetData, AppendData, InsertData, DeleteData, ReplaceData, SubstringData, SplitText, SetAttribute, GetAttribute, HasAttribute, RemoveAttribute, ToggleAttribute, AttributeNames, CreateRange, CloneRange, DescribeRange, SetStart, SetEnd, SetStartBefore, SetStartAfter, SetEndBefore, SetEndAfter, Collapse, SelectNode, SelectNodeContents, CompareBoundaryPoints, ComparePoint, IsPointInRange, IntersectsNode, CommonAncestor, RangeText, DeleteContents, ExtractContents, CloneContents, InsertNode, SurroundContents, ReleaseRange, CreateIterator, CreateWalker, DescribeIterator, NextNode, PreviousNode, DescribeWalker, SetCurrent, Walk, CreateObserver, Observe, Disconnect, TakeRecords, Notify, Pending, Discard, CreateStaticRange, DescribeStaticRange}
 use Rattle.dom_model.specs.Commands.Reply.{Number, Done}
-use Rattle.dom_model.specs.Forests.Lengths.{length_at}
+use Rattle.dom_model.specs.Worlds.Lengths.{length_at}
 use Rattle.dom_model.specs.RangesAndContents.Contents.{delete_contents, check_extract, extract, clone_contents}
 use Rattle.dom_model.specs.RangesAndContents.Wrapping.{Outcome, insert_node, surround}
 use Rattle.dom_model.specs.Commands.Guards.{Bounds, checked, no_node, no_room, no_room_for_copies, does}
 use Rattle.dom_model.specs.Commands.AnswerRanges.{no_range, done_or_refused, answer_delete_contents, answer_extract_contents, answer_clone_contents, answer_insert_node, answer_surround_contents}
 use Rattle.dom_model.specs.Commands.Answer.{answer}
 use Rattle.dom_model.specs.TokenText.CommandEdits.{world_past}
-use Rattle.dom_model.specs.Worlds.Sound.{IsIterator, IsWalker, IsRegistration, IsSound}
+use Rattle.dom_model.specs.Soundness.Sound.{IsIterator, IsWalker, IsRegistration, IsSound}
 use Rattle.dom_model.proofs.PlainLists.Numbers.{same_or, same, apart}
 use Rattle.dom_model.proofs.Soundness.SoundWorlds.{IsLive}
 use Rattle.dom_model.proofs.Soundness.SoundGuards.{sound-guarded, sound-checked, there_unless}

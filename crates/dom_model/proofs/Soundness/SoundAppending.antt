@@ -8,13 +8,13 @@ use Rattle.dom_model.specs.Forests.Arena.{Entry, parent_in}
 use Rattle.dom_model.specs.Forests.Kinds.{is_kind, may_be_parent}
 use Rattle.dom_model.specs.Forests.Forest.{Node, Forest, empty, node, occurs, tops, beside, tree_at, map_nodes, entry_under, entry_in, parent_of, children_of, ancestors, KindsFit}
 use Rattle.dom_model.specs.Worlds.World.{Content, World, no_content}
-use Rattle.dom_model.specs.MutationAlgorithms.Checks.{entry_has, kind_passes, is_of_kind}
-use Rattle.dom_model.specs.Commands.Making.{named}
+use Rattle.dom_model.specs.Forests.Nodes.{entry_has, kind_passes, is_of_kind}
+use Rattle.dom_model.specs.Worlds.Making.{named}
 use Rattle.dom_model.specs.MutationAlgorithms.Editing.{node_document, nodes_of, append}
 use Rattle.dom_model.specs.DataAndCopies.Clones.{renumbered, alone_of, with_copies, document_of_clone, clone_node}
 use Rattle.dom_model.specs.DataAndCopies.Data.{with_data}
 use Rattle.dom_model.specs.RangesAndContents.Contents.{new_fragment, clone_with}
-use Rattle.dom_model.specs.Worlds.Sound.{IsSound}
+use Rattle.dom_model.specs.Soundness.Sound.{IsSound}
 use Rattle.dom_model.specs.MutationAlgorithms.Insertable.{IsInsertable}
 use Rattle.dom_model.proofs.PlainLists.Numbers.{same_or, same, apart}
 use Rattle.dom_model.proofs.Forests.Totals.{tree_at-absent}

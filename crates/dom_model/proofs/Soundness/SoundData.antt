@@ -11,10 +11,10 @@ use Rattle.dom_model.specs.Forests.Attributes.{Attribute, with_attribute, withou
 use Rattle.dom_model.specs.Forests.Texts.{spliced}
 use Rattle.dom_model.specs.Worlds.World.{Content, Range, World}
 use Rattle.dom_model.specs.BoundaryPoints.Points.{after_splice}
-use Rattle.dom_model.specs.MutationAlgorithms.Checks.{entry_has, kind_passes}
-use Rattle.dom_model.specs.Forests.Lengths.{unit_count, length_in, node_length}
+use Rattle.dom_model.specs.Forests.Nodes.{entry_has, kind_passes}
+use Rattle.dom_model.specs.Worlds.Lengths.{unit_count, length_in, node_length}
 use Rattle.dom_model.specs.DataAndCopies.Data.{content_in, data_of, attributes_of, with_data, with_attributes, cut_count, data_record, replace_units, replace_data, set_data, attribute_record, set_attribute, has_attribute, remove_attribute_if, remove_attribute, is_toggled_on, toggled, toggle_attribute}
-use Rattle.dom_model.specs.Worlds.Sound.{IsIterator, IsSound}
+use Rattle.dom_model.specs.Soundness.Sound.{IsIterator, IsSound}
 use Rattle.dom_model.proofs.PlainLists.Numbers.{same_or, same, apart}
 use Rattle.dom_model.proofs.Forests.Changes.{change_at}
 use Rattle.dom_model.proofs.Worlds.SameShape.{IsAlike, bare_node, with_node-alike}

@@ -5,12 +5,13 @@ use Rattle.dom_model.specs.PlainLists.Lists.{hits}
 use Rattle.dom_model.specs.Forests.Kinds.{is_character_data, may_be_parent}
 use Rattle.dom_model.specs.Forests.Forest.{occurs, numbers, parent_of, index_of}
 use Rattle.dom_model.specs.Worlds.World.{Range, World}
-use Rattle.dom_model.specs.MutationAlgorithms.Checks.{if_given, kind_passes}
+use Rattle.dom_model.specs.MutationAlgorithms.Checks.{if_given}
+use Rattle.dom_model.specs.Forests.Nodes.{kind_passes, same_root}
 use Rattle.dom_model.specs.MutationAlgorithms.Editing.{removed_from, remove}
-use Rattle.dom_model.specs.RangesAndContents.Ranges.{same_root, is_before, is_collapsed, collapsed_at, range_at}
+use Rattle.dom_model.specs.RangesAndContents.Ranges.{is_before, is_collapsed, collapsed_at, range_at}
 use Rattle.dom_model.specs.DataAndCopies.Data.{data_of, replace_data, remove_each}
 use Rattle.dom_model.specs.RangesAndContents.Contents.{for_range, is_in_one_data, cut_from, cut_up_to, contained_in, contained_tops, new_place, deleted_between, deleted, delete_contents}
-use Rattle.dom_model.specs.Worlds.Sound.{IsRange, IsSound}
+use Rattle.dom_model.specs.Soundness.Sound.{IsRange, IsSound}
 use Rattle.dom_model.proofs.PlainLists.Numbers.{same_or, same, apart}
 use Rattle.dom_model.proofs.Forests.Totals.{IsOnce-cut}
 use Rattle.dom_model.proofs.Forests.Climbing.{hits-append, hits-first}

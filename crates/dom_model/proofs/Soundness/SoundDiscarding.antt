@@ -11,7 +11,7 @@ use Rattle.dom_model.specs.Commands.Reply.{Own}
 use Rattle.dom_model.specs.MutationAlgorithms.Discarding.{if_any, documents, nodes_of_range, nodes_of_live, nodes_of_iterator, nodes_of_walker, nodes_of_registration, named_nodes, is_held_outside, is_in_use, discarded}
 use Rattle.dom_model.specs.Commands.Guards.{Bounds, no_node, does}
 use Rattle.dom_model.specs.Commands.AnswerDiscard.{answer_discard}
-use Rattle.dom_model.specs.Worlds.Sound.{IsIterator, IsWalker, IsRegistration, IsSound}
+use Rattle.dom_model.specs.Soundness.Sound.{IsIterator, IsWalker, IsRegistration, IsSound}
 use Rattle.dom_model.proofs.Forests.Totals.{total-tree_at}
 use Rattle.dom_model.proofs.Forests.Lying.{Lies-without_root}
 use Rattle.dom_model.proofs.Forests.Climbing.{not_among-hits}

@@ -8,11 +8,11 @@ use Rattle.dom_model.specs.PlainLists.Lists.{hits}
 use Rattle.dom_model.specs.Forests.Kinds.{is_kind, may_be_parent}
 use Rattle.dom_model.specs.Forests.Forest.{occurs, parent_of}
 use Rattle.dom_model.specs.Worlds.World.{World}
-use Rattle.dom_model.specs.MutationAlgorithms.Checks.{kind_passes}
+use Rattle.dom_model.specs.Forests.Nodes.{kind_passes}
 use Rattle.dom_model.specs.MutationAlgorithms.Editing.{append}
 use Rattle.dom_model.specs.DataAndCopies.Clones.{clone_node}
 use Rattle.dom_model.specs.RangesAndContents.Contents.{child_into, children_into}
-use Rattle.dom_model.specs.Worlds.Sound.{IsSound}
+use Rattle.dom_model.specs.Soundness.Sound.{IsSound}
 use Rattle.dom_model.proofs.Forests.Climbing.{hits-append, hits-first}
 use Rattle.dom_model.proofs.Forests.Listed.{hits-other}
 use Rattle.dom_model.proofs.MutationAlgorithms.Extending.{extends-then, extends-of}

@@ -5,14 +5,15 @@ use Rattle.std.proofs.lemmas.List.Elements.{All-weaker}
 use Rattle.dom_model.specs.declared.Kind.TheVariants.{Text, Document, DocumentType}
 use Rattle.dom_model.specs.declared.DomError.{DomError}
 use Rattle.dom_model.specs.declared.DomError.TheVariants.{HierarchyRequestError}
-use Rattle.dom_model.specs.PlainLists.Lists.{hits, is_number, head_of, after, place_in}
+use Rattle.dom_model.specs.PlainLists.Lists.{hits, is_number, head_of, after, place_in, first_refusal}
 use Rattle.dom_model.specs.Forests.Arena.{list_under}
 use Rattle.dom_model.specs.Forests.Kinds.{is_kind, may_be_parent}
 use Rattle.dom_model.specs.Forests.Forest.{Forest, occurs, in_document, adopted, entry_in, parent_of, children_of, next_of, ancestors}
 use Rattle.dom_model.specs.Worlds.World.{Content, World}
-use Rattle.dom_model.specs.MutationAlgorithms.Checks.{first_refusal, if_given, kind_passes, is_of_kind, common_conditions, check_insert, check_replace, kind_refuses, document_refuses, document_refuses_instead}
+use Rattle.dom_model.specs.MutationAlgorithms.Checks.{if_given, common_conditions, check_insert, check_replace, kind_refuses, document_refuses, document_refuses_instead}
+use Rattle.dom_model.specs.Forests.Nodes.{kind_passes, is_of_kind}
 use Rattle.dom_model.specs.MutationAlgorithms.Editing.{remove, remove_all, insert, reference_child, pre_insert, replace, insert_if_any, added_by, replaced_record, replace_all, adopt}
-use Rattle.dom_model.specs.Worlds.Sound.{IsIterator, IsSound}
+use Rattle.dom_model.specs.Soundness.Sound.{IsIterator, IsSound}
 use Rattle.dom_model.specs.MutationAlgorithms.Insertable.{IsChildOf, IsInsertable}
 use Rattle.dom_model.proofs.PlainLists.Numbers.{same_or, same, apart}
 use Rattle.dom_model.proofs.Forests.Changes.{seen, nothing, just}

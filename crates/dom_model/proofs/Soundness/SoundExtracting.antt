@@ -4,12 +4,12 @@ use Rattle.std.proofs.lemmas.Bool.{cases_lt, false≢true}
 use Rattle.std.specs.List.{list_any}
 use Rattle.dom_model.specs.declared.Kind.{Kind}
 use Rattle.dom_model.specs.declared.Kind.TheVariants.{DocumentType}
-use Rattle.dom_model.specs.PlainLists.Lists.{hits, among, head_of, last_of}
+use Rattle.dom_model.specs.PlainLists.Lists.{hits, among, head_of, last_of, up_to}
 use Rattle.dom_model.specs.Forests.Forest.{occurs, parent_of, children_of, ancestors}
 use Rattle.dom_model.specs.Worlds.World.{Range, World}
-use Rattle.dom_model.specs.MutationAlgorithms.Checks.{up_to, kind_passes, is_of_kind}
+use Rattle.dom_model.specs.Forests.Nodes.{kind_passes, is_of_kind}
 use Rattle.dom_model.specs.RangesAndContents.Contents.{contained_in, children_into, tail_into, head_into, path_below, common_of, contained_children, parts_into}
-use Rattle.dom_model.specs.Worlds.Sound.{IsRange, IsSound}
+use Rattle.dom_model.specs.Soundness.Sound.{IsRange, IsSound}
 use Rattle.dom_model.proofs.PlainLists.Numbers.{same_or, same, apart}
 use Rattle.dom_model.proofs.Forests.Climbing.{hits-first, among-hits, hits-among}
 use Rattle.dom_model.proofs.Forests.Entries.{occurs-HasNode}

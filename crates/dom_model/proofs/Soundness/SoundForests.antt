@@ -8,7 +8,7 @@ use Rattle.dom_model.specs.declared.Kind.TheVariants.{Element, Text, ProcessingI
 use Rattle.dom_model.specs.Forests.Kinds.{is_kind, is_character_data, may_be_parent, may_stand_in, may_stand_under}
 use Rattle.dom_model.specs.Forests.Forest.{Node, Forest, empty, node, occurs, one_at, tops, beside, tree_at, without, cut, put, entry_in, parent_of, children_of, IsRising, KindsFit, IsForest}
 use Rattle.dom_model.specs.Worlds.World.{Content}
-use Rattle.dom_model.specs.MutationAlgorithms.Checks.{entry_has, kind_passes}
+use Rattle.dom_model.specs.Forests.Nodes.{entry_has, kind_passes}
 use Rattle.dom_model.specs.Forests.Lies.{Lies}
 use Rattle.dom_model.specs.MutationAlgorithms.Insertable.{may_stand_at}
 use Rattle.dom_model.proofs.PlainLists.Numbers.{same_or, same, apart}

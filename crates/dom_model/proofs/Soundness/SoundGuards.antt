@@ -6,7 +6,7 @@ use Rattle.dom_model.specs.Forests.Forest.{Forest, occurs, entry_in}
 use Rattle.dom_model.specs.Worlds.World.{Content, World}
 use Rattle.dom_model.specs.Commands.Reply.{Reply}
 use Rattle.dom_model.specs.Commands.Guards.{Step, refused, guarded, checked}
-use Rattle.dom_model.specs.Worlds.Sound.{IsSound}
+use Rattle.dom_model.specs.Soundness.Sound.{IsSound}
 use Rattle.dom_model.proofs.Forests.Changes.{seen, nothing, just}
 use Rattle.dom_model.proofs.Forests.Entries.{occurs-HasNode}
 use Rattle.dom_model.proofs.Soundness.SoundEditing.{AreClear}

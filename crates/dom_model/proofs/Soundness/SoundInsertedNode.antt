@@ -10,13 +10,14 @@ use Rattle.dom_model.specs.Forests.Kinds.{is_kind, is_character_data}
 use Rattle.dom_model.specs.Forests.Forest.{Node, Forest, occurs, cut, entry_in, parent_of, children_of, ancestors, index_of, inclusive_descendants}
 use Rattle.dom_model.specs.Worlds.World.{Content, Point, Range, World}
 use Rattle.dom_model.specs.BoundaryPoints.Points.{moved_range}
-use Rattle.dom_model.specs.MutationAlgorithms.Checks.{entry_has, kind_passes, is_of_kind, check_insert}
+use Rattle.dom_model.specs.MutationAlgorithms.Checks.{check_insert}
+use Rattle.dom_model.specs.Forests.Nodes.{entry_has, kind_passes, is_of_kind}
 use Rattle.dom_model.specs.MutationAlgorithms.Editing.{remove, reference_child}
 use Rattle.dom_model.specs.RangesAndContents.Ranges.{range_at}
 use Rattle.dom_model.specs.DataAndCopies.Data.{data_of, split}
 use Rattle.dom_model.specs.RangesAndContents.Contents.{for_range}
 use Rattle.dom_model.specs.RangesAndContents.Wrapping.{and_then, unless, is_text, reference_at, parent_by, parent_at, check_start, split_at, reference_after, placed_at, inserted_at, insert_node}
-use Rattle.dom_model.specs.Worlds.Sound.{IsBoundary, IsRange, IsSound}
+use Rattle.dom_model.specs.Soundness.Sound.{IsBoundary, IsRange, IsSound}
 use Rattle.dom_model.proofs.PlainLists.Numbers.{same_or, same, apart}
 use Rattle.dom_model.proofs.Forests.Changes.{seen, nothing, just}
 use Rattle.dom_model.proofs.Forests.Entries.{occurs-HasNode}

@@ -10,11 +10,11 @@ use Rattle.dom_model.specs.Forests.Kinds.{is_kind}
 use Rattle.dom_model.specs.Forests.Forest.{Node, Forest, occurs, one_at, tree_at, cut, entry_in, parent_of, children_of, index_of, inclusive_descendants}
 use Rattle.dom_model.specs.Worlds.World.{Content, Point, Range, World}
 use Rattle.dom_model.specs.BoundaryPoints.Points.{after_merge, map_ranges}
-use Rattle.dom_model.specs.MutationAlgorithms.Checks.{entry_has, is_of_kind}
-use Rattle.dom_model.specs.Forests.Lengths.{unit_count, node_length}
+use Rattle.dom_model.specs.Forests.Nodes.{entry_has, is_of_kind}
+use Rattle.dom_model.specs.Worlds.Lengths.{unit_count, node_length}
 use Rattle.dom_model.specs.MutationAlgorithms.Editing.{remove}
 use Rattle.dom_model.specs.DataAndCopies.Data.{content_in, data_of, joined_data, merged_ends, merge_ends, remove_each}
-use Rattle.dom_model.specs.Worlds.Sound.{IsRange, IsSound}
+use Rattle.dom_model.specs.Soundness.Sound.{IsRange, IsSound}
 use Rattle.dom_model.specs.DataAndCopies.Joinable.{Lives, IsUpTo, AreUpTo, AreJoinable}
 use Rattle.dom_model.proofs.PlainLists.Numbers.{same_or, same, apart}
 use Rattle.dom_model.proofs.Forests.Changes.{cut_at}

@@ -6,9 +6,9 @@ use Rattle.dom_model.specs.declared.Kind.{Kind}
 use Rattle.dom_model.specs.Forests.Kinds.{Label}
 use Rattle.dom_model.specs.Forests.Forest.{Node, Forest, empty, node, occurs, one_at, size, tops, beside, tree_at, entry_in, HasNode, IsRising, KindsFit}
 use Rattle.dom_model.specs.Worlds.World.{Content, Iterator, World}
-use Rattle.dom_model.specs.Commands.Making.{made_node}
+use Rattle.dom_model.specs.Worlds.Making.{made_node}
 use Rattle.dom_model.specs.DataAndCopies.Clones.{renumbered, alone_of, original, with_copies, document_of_clone, clone_node, import_node}
-use Rattle.dom_model.specs.Worlds.Sound.{IsIterator, IsSound}
+use Rattle.dom_model.specs.Soundness.Sound.{IsIterator, IsSound}
 use Rattle.dom_model.proofs.PlainLists.Numbers.{same_or, same, apart}
 use Rattle.dom_model.proofs.Forests.Totals.{total-beside, total-tree_at}
 use Rattle.dom_model.proofs.Forests.Entries.{HasNode-occurs, occurs-HasNode}

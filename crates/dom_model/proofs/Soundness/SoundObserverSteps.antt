@@ -4,12 +4,12 @@ use Rattle.std.proofs.lemmas.List.Elements.{All-map, All-weaker, All-filter, All
 use Rattle.std.specs.List.{list_any}
 use Rattle.dom_model.specs.Forests.Forest.{Forest, HasNode}
 use Rattle.dom_model.specs.Worlds.World.{Content, Options, Registration, Observing, World}
-use Rattle.dom_model.specs.Commands.Command.{GivenOptions}
+use Rattle.dom_model.specs.MutationObservers.GivenOptions.{GivenOptions}
 use Rattle.dom_model.specs.Commands.Reply.{Number, Records}
 use Rattle.dom_model.specs.MutationObservers.Records.{options_refusal, options_of, is_registered, is_transient_from, new_registration, with_options, registered, observed, queue_of, with_observer, records_taken, disconnected, after_notify}
 use Rattle.dom_model.specs.Commands.Guards.{Bounds, checked, no_node, no_room, answers, does}
 use Rattle.dom_model.specs.Commands.AnswerObserving.{observers_made, no_observer, with_observing, answer_create_observer, answer_observe, answer_disconnect, answer_take_records, answer_notify}
-use Rattle.dom_model.specs.Worlds.Sound.{IsRegistration, IsSound}
+use Rattle.dom_model.specs.Soundness.Sound.{IsRegistration, IsSound}
 use Rattle.dom_model.proofs.Forests.Entries.{HasNode-occurs}
 use Rattle.dom_model.proofs.Soundness.SoundGuards.{sound-guarded, sound-checked, there_unless}
 

@@ -4,17 +4,16 @@ use Rattle.std.proofs.Common.{◌≡◌, ℕ, zero, suc, ◌-◌, ◌<◌, ◌�
 use Rattle.std.proofs.lemmas.Bool.{cases_lt, false≢true}
 use Rattle.dom_model.specs.declared.Kind.{Kind}
 use Rattle.dom_model.specs.declared.Kind.TheVariants.{Element, Text, ProcessingInstruction, Comment, Document, DocumentType, DocumentFragment}
-use Rattle.dom_model.specs.PlainLists.Lists.{hits}
+use Rattle.dom_model.specs.PlainLists.Lists.{hits, past, up_to}
 use Rattle.dom_model.specs.Forests.Kinds.{is_kind, is_character_data, may_be_parent, may_stand_in}
 use Rattle.dom_model.specs.Forests.Forest.{occurs, parent_of, children_of}
 use Rattle.dom_model.specs.Worlds.World.{World}
-use Rattle.dom_model.specs.MutationAlgorithms.PreRemoval.{past}
-use Rattle.dom_model.specs.MutationAlgorithms.Checks.{up_to, kind_passes, is_of_kind}
+use Rattle.dom_model.specs.Forests.Nodes.{kind_passes, is_of_kind}
 use Rattle.dom_model.specs.MutationAlgorithms.Editing.{append}
 use Rattle.dom_model.specs.DataAndCopies.Clones.{clone_node}
 use Rattle.dom_model.specs.DataAndCopies.Data.{data_of}
 use Rattle.dom_model.specs.RangesAndContents.Contents.{units_into, children_into, copy_into, tail_into, head_into}
-use Rattle.dom_model.specs.Worlds.Sound.{IsSound}
+use Rattle.dom_model.specs.Soundness.Sound.{IsSound}
 use Rattle.dom_model.proofs.Forests.Climbing.{hits-append, hits-first}
 use Rattle.dom_model.proofs.Forests.Indices.{child-parent, child-there}
 use Rattle.dom_model.proofs.Traversal.IteratorsStay.{hits-past}

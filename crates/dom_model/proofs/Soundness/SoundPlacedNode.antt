@@ -10,7 +10,7 @@ use Rattle.dom_model.specs.MutationAlgorithms.Editing.{remove, reference_child, 
 use Rattle.dom_model.specs.RangesAndContents.Ranges.{is_collapsed, range_at, with_range}
 use Rattle.dom_model.specs.RangesAndContents.Contents.{for_range}
 use Rattle.dom_model.specs.RangesAndContents.Wrapping.{Outcome, and_then, unless, try_pre_insert, offset_past, end_if_collapsed, placed_at}
-use Rattle.dom_model.specs.Worlds.Sound.{IsRange, IsSound}
+use Rattle.dom_model.specs.Soundness.Sound.{IsRange, IsSound}
 use Rattle.dom_model.specs.MutationAlgorithms.Insertable.{IsChildOf, IsInsertable}
 use Rattle.dom_model.proofs.PlainLists.Numbers.{same_or, same, apart}
 use Rattle.dom_model.proofs.Soundness.SoundWorlds.{IsLive, sound-remove}

@@ -10,10 +10,10 @@ use Rattle.dom_model.specs.Forests.Kinds.{may_be_parent, may_stand_in}
 use Rattle.dom_model.specs.Forests.Forest.{Forest, occurs, one_at, tree_at, put, in_document, adopted, HasNode, parent_of, children_of, index_of, ancestors}
 use Rattle.dom_model.specs.Worlds.World.{Content, Point, Range, World}
 use Rattle.dom_model.specs.BoundaryPoints.Points.{after_gap, moved_range, map_ranges}
-use Rattle.dom_model.specs.MutationAlgorithms.Checks.{kind_passes}
-use Rattle.dom_model.specs.Forests.Lengths.{unit_count, node_length}
+use Rattle.dom_model.specs.Forests.Nodes.{kind_passes}
+use Rattle.dom_model.specs.Worlds.Lengths.{unit_count, node_length}
 use Rattle.dom_model.specs.MutationAlgorithms.Editing.{node_document, put_in, put_all, gap_before}
-use Rattle.dom_model.specs.Worlds.Sound.{IsBoundary, IsRange, IsIterator, IsSound}
+use Rattle.dom_model.specs.Soundness.Sound.{IsBoundary, IsRange, IsIterator, IsSound}
 use Rattle.dom_model.specs.MutationAlgorithms.Insertable.{may_stand_at, IsPlaceable, ArePlaceable, IsChildOf}
 use Rattle.dom_model.specs.DataAndCopies.Joinable.{Lives}
 use Rattle.dom_model.proofs.PlainLists.Numbers.{same_or, same, apart}

@@ -8,7 +8,7 @@ use Rattle.dom_model.specs.Forests.Forest.{Node, entry_in, children_of, index_of
 use Rattle.dom_model.specs.Worlds.World.{Content, Point, Range, World}
 use Rattle.dom_model.specs.Commands.Reply.{Number, Numbers, Flag, Order, Ends, Units, MaybeUnits, Names, Rows, Reply, Done}
 use Rattle.dom_model.specs.MutationAlgorithms.Checks.{if_given}
-use Rattle.dom_model.specs.Forests.Lengths.{unit_count, length_at}
+use Rattle.dom_model.specs.Worlds.Lengths.{unit_count, length_at}
 use Rattle.dom_model.specs.DataAndCopies.Clones.{is_equal, position, contains, root_number}
 use Rattle.dom_model.specs.DataAndCopies.Data.{data_of, attributes_of, has_attribute, text_content}
 use Rattle.dom_model.specs.RangesAndContents.Ranges.{check_compare, compared, check_point_against, place_against, check_point_in, is_point_in, intersects, common_ancestor, range_at}
@@ -19,7 +19,7 @@ use Rattle.dom_model.specs.Commands.AnswerTree.{described, answer_node, answer_c
 use Rattle.dom_model.specs.Commands.AnswerData.{answer_data, answer_get_attribute, answer_has_attribute, answer_attribute_names}
 use Rattle.dom_model.specs.Commands.AnswerRanges.{no_range, on_range, answer_range, answer_compare_boundary_points, answer_compare_point, answer_is_point_in_range, answer_intersects_node, answer_common_ancestor, answer_range_text}
 use Rattle.dom_model.specs.Commands.AnswerStatic.{no_static, static_told, answer_create_static_range, answer_static_range}
-use Rattle.dom_model.specs.Worlds.Sound.{IsSound}
+use Rattle.dom_model.specs.Soundness.Sound.{IsSound}
 use Rattle.dom_model.proofs.Soundness.SoundGuards.{sound-guarded, sound-checked}
 use Rattle.dom_model.proofs.Soundness.SoundRangeSteps.{live_range, sound-on_range}
 

@@ -11,12 +11,12 @@ use Rattle.dom_model.specs.Forests.Arena.{Entry}
 use Rattle.dom_model.specs.Forests.Kinds.{is_kind}
 use Rattle.dom_model.specs.Forests.Forest.{Node, Forest, entry_in}
 use Rattle.dom_model.specs.Worlds.World.{Content, Point, Range, World}
-use Rattle.dom_model.specs.Forests.Lengths.{unit_count}
-use Rattle.dom_model.specs.MutationAlgorithms.Checks.{entry_has, kind_passes, is_of_kind}
+use Rattle.dom_model.specs.Worlds.Lengths.{unit_count}
+use Rattle.dom_model.specs.Forests.Nodes.{entry_has, kind_passes, is_of_kind}
 use Rattle.dom_model.specs.RangesAndContents.Ranges.{start_set, end_set, point_before, point_after, around, contents_of, collapsed_at, collapsed, check_point, check_contents, range_at, with_range, made_range, released}
 use Rattle.dom_model.specs.Commands.Guards.{Bounds, Step, checked, no_node, wrong_kind, no_room, does}
 use Rattle.dom_model.specs.Commands.AnswerRanges.{no_range, on_range, at_point, at_ends, makes_range, sets_start, sets_end, answer_create_range, answer_clone_range, answer_release_range, answer_set_start, answer_set_end, answer_set_start_before, answer_set_start_after, answer_set_end_before, answer_set_end_after, answer_collapse, answer_select_node, answer_select_node_contents}
-use Rattle.dom_model.specs.Worlds.Sound.{IsBoundary, IsRange, IsSound}
+use Rattle.dom_model.specs.Soundness.Sound.{IsBoundary, IsRange, IsSound}
 use Rattle.dom_model.proofs.Forests.Entries.{HasNode-occurs}
 use Rattle.dom_model.proofs.Soundness.SoundWorlds.{IsLive}
 use Rattle.dom_model.proofs.Soundness.SoundEditing.{clear}

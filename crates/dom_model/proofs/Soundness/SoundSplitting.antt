@@ -9,12 +9,12 @@ use Rattle.dom_model.specs.Forests.Kinds.{is_kind, is_character_data}
 use Rattle.dom_model.specs.Forests.Forest.{Node, Forest, empty, node, occurs, one_at, tree_at, put, entry_in, parent_of, children_of, next_of, index_of}
 use Rattle.dom_model.specs.Worlds.World.{Content, Point, Range, World}
 use Rattle.dom_model.specs.BoundaryPoints.Points.{after_gap, after_split, moved_range, map_ranges, order_of}
-use Rattle.dom_model.specs.MutationAlgorithms.Checks.{entry_has, kind_passes, is_of_kind}
-use Rattle.dom_model.specs.Forests.Lengths.{unit_count, length_in, node_length}
-use Rattle.dom_model.specs.Commands.Making.{made_node, named, with_text}
+use Rattle.dom_model.specs.Forests.Nodes.{entry_has, kind_passes, is_of_kind}
+use Rattle.dom_model.specs.Worlds.Lengths.{unit_count, length_in, node_length}
+use Rattle.dom_model.specs.Worlds.Making.{made_node, named, with_text}
 use Rattle.dom_model.specs.MutationAlgorithms.Editing.{tree_record, removed_from, remove, is_fragment, nodes_of, freed, node_document, put_in, gap_before, previous_to, insert_nodes, insert}
 use Rattle.dom_model.specs.DataAndCopies.Data.{content_in, data_of, replace_data, tail_of, split_off, split}
-use Rattle.dom_model.specs.Worlds.Sound.{IsBoundary, IsRange, IsSound}
+use Rattle.dom_model.specs.Soundness.Sound.{IsBoundary, IsRange, IsSound}
 use Rattle.dom_model.specs.DataAndCopies.Joinable.{Lives}
 use Rattle.dom_model.specs.MutationAlgorithms.Insertable.{IsPlaceable, IsChildOf}
 use Rattle.dom_model.proofs.PlainLists.Numbers.{same_or, same, apart}

@@ -8,7 +8,7 @@ use Rattle.dom_model.specs.MutationAlgorithms.Editing.{remove_all, reference_chi
 use Rattle.dom_model.specs.RangesAndContents.Ranges.{is_collapsed, collapsed_at, around, range_at, with_range}
 use Rattle.dom_model.specs.RangesAndContents.Contents.{for_range, is_in_one_data, new_place, contents_drawn, check_draw, check_extract, extracted, extract}
 use Rattle.dom_model.specs.RangesAndContents.Wrapping.{and_then, unless, try_pre_insert, insert_node, check_surround, try_extract, selected, try_select, surrounded, surround}
-use Rattle.dom_model.specs.Worlds.Sound.{IsRange, IsSound}
+use Rattle.dom_model.specs.Soundness.Sound.{IsRange, IsSound}
 use Rattle.dom_model.proofs.Forests.Indices.{child-there}
 use Rattle.dom_model.proofs.Soundness.SoundWorlds.{IsLive}
 use Rattle.dom_model.proofs.MutationAlgorithms.Loosened.{IsLoosened, loosened-remove_all}

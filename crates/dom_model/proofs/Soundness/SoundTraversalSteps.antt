@@ -11,7 +11,7 @@ use Rattle.dom_model.specs.Traversal.Walks.{new_walker, walk_list, is_inside_roo
 use Rattle.dom_model.specs.Traversal.Filters.{accepts}
 use Rattle.dom_model.specs.Commands.Guards.{Bounds, Step, guarded, no_node, no_room, answers, does}
 use Rattle.dom_model.specs.Commands.AnswerTraversal.{with_object, iterator_at, walker_at, with_iterator, with_walker, answer_create_iterator, answer_create_walker, answer_iterator, answer_next_node, answer_previous_node, answer_walker, answer_set_current, answer_walk}
-use Rattle.dom_model.specs.Worlds.Sound.{IsIterator, IsWalker, IsSound}
+use Rattle.dom_model.specs.Soundness.Sound.{IsIterator, IsWalker, IsSound}
 use Rattle.dom_model.proofs.Forests.Totals.{total-tree_at, occurs-without}
 use Rattle.dom_model.proofs.Forests.Entries.{HasNode-occurs, occurs-HasNode}
 use Rattle.dom_model.proofs.Forests.TreeOrder.Flattened.{hits-numbers}

@@ -9,16 +9,17 @@ use Rattle.dom_model.specs.Forests.Names.{is_element_name, is_doctype_name, is_a
 use Rattle.dom_model.specs.Forests.Forest.{parent_of}
 use Rattle.dom_model.specs.Worlds.World.{World, no_content, document_label}
 use Rattle.dom_model.specs.Commands.Reply.{Number, Flag, Units, Done}
-use Rattle.dom_model.specs.MutationAlgorithms.Checks.{kind_passes, is_of_kind, check_insert, check_replace}
+use Rattle.dom_model.specs.MutationAlgorithms.Checks.{check_insert, check_replace}
+use Rattle.dom_model.specs.Forests.Nodes.{kind_passes, is_of_kind}
 use Rattle.dom_model.specs.MutationAlgorithms.Editing.{remove, pre_insert, append, replace, replace_all, adopt}
-use Rattle.dom_model.specs.Forests.Lengths.{length_at}
+use Rattle.dom_model.specs.Worlds.Lengths.{length_at}
 use Rattle.dom_model.specs.DataAndCopies.Clones.{clone_node, import_node}
 use Rattle.dom_model.specs.DataAndCopies.Data.{data_of, check_offset, replace_data, set_data, substring_data, split, normalize, set_text_content, set_attribute, has_attribute, remove_attribute, is_toggled_on, toggle_attribute}
 use Rattle.dom_model.specs.Commands.Guards.{Bounds, checked, no_node, no_node_given, wrong_kind, no_room, no_room_for_copies, bad_name, throws, makes, named, with_text, answers, does}
 use Rattle.dom_model.specs.Commands.AnswerMaking.{closes_instruction, doctype_label, answer_new_document, answer_create_element, answer_create_text, answer_create_comment, answer_create_instruction, answer_create_doctype, answer_create_fragment}
 use Rattle.dom_model.specs.Commands.AnswerTree.{gives, is_child_node, check_replace_children, answer_insert_before, answer_append_child, answer_replace_child, answer_remove_child, answer_remove, answer_replace_children, answer_adopt_node, answer_import_node, answer_clone_node, answer_normalize, answer_set_text_content}
 use Rattle.dom_model.specs.Commands.AnswerData.{answer_set_data, answer_replace_data, answer_substring_data, answer_split_text, answer_set_attribute, answer_remove_attribute, answer_toggle_attribute}
-use Rattle.dom_model.specs.Worlds.Sound.{IsSound}
+use Rattle.dom_model.specs.Soundness.Sound.{IsSound}
 use Rattle.dom_model.proofs.Soundness.SoundMaking.{sound-made_node, sound-clone_node, sound-import_node}
 use Rattle.dom_model.proofs.Soundness.SoundWorlds.{sound-remove}
 use Rattle.dom_model.proofs.Soundness.SoundEditing.{clear, sound-pre_insert, sound-replace, MayComeIn, sound-replace_all, may_come_in, sound-adopt}

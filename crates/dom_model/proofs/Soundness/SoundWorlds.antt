@@ -7,7 +7,7 @@ use Rattle.dom_model.specs.BoundaryPoints.Points.{moved_range, map_ranges}
 use Rattle.dom_model.specs.MutationAlgorithms.PreRemoval.{pre_removed}
 use Rattle.dom_model.specs.MutationObservers.Observing.{registered_on, standing_on, transient_of}
 use Rattle.dom_model.specs.MutationAlgorithms.Editing.{queued, tree_record, tree_record_unless, taken_out, transients_made, removed_from, remove, remove_all}
-use Rattle.dom_model.specs.Worlds.Sound.{IsRange, IsIterator, IsWalker, IsRegistration, IsSound}
+use Rattle.dom_model.specs.Soundness.Sound.{IsRange, IsIterator, IsWalker, IsRegistration, IsSound}
 use Rattle.dom_model.specs.DataAndCopies.Joinable.{Lives}
 use Rattle.dom_model.proofs.Forests.Changes.{seen, nothing, just}
 use Rattle.dom_model.proofs.Forests.Totals.{total-cut}

@@ -2,11 +2,9 @@
 use Rattle.std.proofs.Common.{◌≡◌, ℕ, ◌<◌, ◌≤◌, ◌==◌, Bool, true, false, if◌then◌else◌, List, [], ◌∷◌, ◌++◌, length, reverse, Option, Some, None, refl, ap, sym, ◌∙◌, subst, arith, append_assoc}
 use Rattle.std.specs.Prelude.{find}
 use Rattle.std.proofs.lemmas.List.{reverse-append, length-reverse}
-use Rattle.dom_model.specs.PlainLists.Lists.{hits, among, head_of, after, before}
+use Rattle.dom_model.specs.PlainLists.Lists.{hits, among, head_of, after, before, past, up_to}
 use Rattle.dom_model.specs.Forests.Forest.{Forest, tree_at, ancestors, inclusive_descendants}
 use Rattle.dom_model.specs.Worlds.World.{Filter, Iterator}
-use Rattle.dom_model.specs.MutationAlgorithms.PreRemoval.{past}
-use Rattle.dom_model.specs.MutationAlgorithms.Checks.{up_to}
 use Rattle.dom_model.specs.Traversal.Filters.{accepts}
 use Rattle.dom_model.specs.Traversal.Iterators.{next_found, previous_found}
 use Rattle.dom_model.proofs.PlainLists.Numbers.{same_or, same, apart}

@@ -2,10 +2,10 @@
 use Rattle.std.proofs.Common.{◌≡◌, ℕ, ◌+◌, ◌<◌, ◌≤◌, ◌==◌, nat_lt, Bool, true, false, not, ◌&&◌, if◌then◌else◌, List, [], ◌∷◌, ◌++◌, Option, Some, None, refl, ap, sym, ◌∙◌, subst, arith, length, length-append, ◌⊎◌, inl, inr, ⊎_elim}
 use Rattle.std.specs.Prelude.{filter, unwrap_or}
 use Rattle.std.proofs.lemmas.Bool.{cases_lt, false≢true}
-use Rattle.dom_model.specs.PlainLists.Lists.{hits, among, head_of, before, before_from}
+use Rattle.dom_model.specs.PlainLists.Lists.{hits, among, head_of, before, before_from, past}
 use Rattle.dom_model.specs.Forests.Forest.{Forest, empty, node, occurs, one_at, numbers, tops, beside, tree_at, without, placed_root, cut, ancestors, inclusive_descendants}
 use Rattle.dom_model.specs.Worlds.World.{Iterator}
-use Rattle.dom_model.specs.MutationAlgorithms.PreRemoval.{past, following_outside, moved_on, moved_back, stepped_off, pre_removed_among, pre_removed}
+use Rattle.dom_model.specs.MutationAlgorithms.PreRemoval.{following_outside, moved_on, moved_back, stepped_off, pre_removed_among, pre_removed}
 use Rattle.dom_model.proofs.PlainLists.Numbers.{same_or, same, apart}
 use Rattle.dom_model.proofs.Forests.Totals.{total-tree_at, tree_at-absent, without-absent, total-beside, occurs-without}
 use Rattle.dom_model.proofs.Forests.Climbing.{among-hits, hits-among, not_among-hits, hits-append, hits-ancestors, ancestors-there, hits-first}

@@ -8,8 +8,8 @@ use Rattle.dom_model.specs.declared.Kind.TheVariants.{Element, Text, ProcessingI
 use Rattle.dom_model.specs.Forests.Kinds.{is_kind, is_character_data, may_be_parent}
 use Rattle.dom_model.specs.Forests.Forest.{Node, Forest, empty, node, occurs, tops, beside, tree_at, cut, put, map_nodes, with_node, in_document, adopted, entry_under, entry_in, parent_of, children_of}
 use Rattle.dom_model.specs.Worlds.World.{Content}
-use Rattle.dom_model.specs.MutationAlgorithms.Checks.{entry_has, kind_passes}
-use Rattle.dom_model.specs.Forests.Lengths.{length_of, length_in, node_length, unit_count}
+use Rattle.dom_model.specs.Forests.Nodes.{entry_has, kind_passes}
+use Rattle.dom_model.specs.Worlds.Lengths.{length_of, length_in, node_length, unit_count}
 use Rattle.dom_model.proofs.PlainLists.Numbers.{same_or, same, apart}
 use Rattle.dom_model.proofs.Forests.Changes.{cut_at, link_at, change_at}
 use Rattle.dom_model.proofs.Forests.Lying.{left_out-absent, tops-with_node}

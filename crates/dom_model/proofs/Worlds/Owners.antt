@@ -8,9 +8,9 @@ use Rattle.dom_model.specs.Forests.Kinds.{is_kind}
 use Rattle.dom_model.specs.Forests.Forest.{Node, Row, Forest, empty, node, occurs, one_at, rows, beside, tree_at, without, cut, put, in_document, adopted, entry_in, parent_of, inclusive_descendants}
 use Rattle.dom_model.specs.Forests.EachNode.{EachNode}
 use Rattle.dom_model.specs.Worlds.World.{Content}
-use Rattle.dom_model.specs.MutationAlgorithms.Checks.{entry_has, is_of_kind}
+use Rattle.dom_model.specs.Forests.Nodes.{entry_has, is_of_kind}
 use Rattle.dom_model.specs.MutationAlgorithms.Discarding.{documents, is_held_outside}
-use Rattle.dom_model.specs.Worlds.Owners.{IsOwned, HasOwners}
+use Rattle.dom_model.specs.Soundness.Owners.{IsOwned, HasOwners}
 use Rattle.dom_model.proofs.Forests.Changes.{seen, nothing, just}
 use Rattle.dom_model.proofs.Forests.Totals.{IsOnce, total-tree_at}
 use Rattle.dom_model.proofs.Forests.Lying.{Lies-without_root}

@@ -9,9 +9,9 @@ use Rattle.dom_model.specs.Forests.Kinds.{is_kind}
 use Rattle.dom_model.specs.Forests.Forest.{Forest, occurs, tree_at, entry_in, parent_of, index_of, ancestors, root_of, inclusive_descendants}
 use Rattle.dom_model.specs.Worlds.World.{Content, Point, Range, Iterator}
 use Rattle.dom_model.specs.BoundaryPoints.Points.{place_of, order_of}
-use Rattle.dom_model.specs.MutationAlgorithms.Checks.{entry_has, is_of_kind}
-use Rattle.dom_model.specs.Forests.Lengths.{unit_count, length_in, node_length}
-use Rattle.dom_model.specs.Worlds.Sound.{IsBoundary, IsRange, IsIterator}
+use Rattle.dom_model.specs.Forests.Nodes.{entry_has, is_of_kind}
+use Rattle.dom_model.specs.Worlds.Lengths.{unit_count, length_in, node_length}
+use Rattle.dom_model.specs.Soundness.Sound.{IsBoundary, IsRange, IsIterator}
 use Rattle.dom_model.proofs.PlainLists.Numbers.{same_or, same, apart}
 use Rattle.dom_model.proofs.Forests.Changes.{seen, nothing, just}
 use Rattle.dom_model.proofs.Forests.Totals.{tree_at-absent}

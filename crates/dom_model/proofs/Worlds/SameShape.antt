@@ -7,7 +7,7 @@ use Rattle.dom_model.specs.Forests.Arena.{Entry, parent_in, children_in, list_un
 use Rattle.dom_model.specs.Forests.Forest.{Node, Forest, empty, node, total, occurs, one_at, tops, numbers, beside, tree_at, map_nodes, with_node, with_tree, entry_under, entry_in, parent_of, children_of, index_of, ancestors, root_of, inclusive_descendants, KindsFit}
 use Rattle.dom_model.specs.Worlds.World.{Content, Point, no_content}
 use Rattle.dom_model.specs.BoundaryPoints.Points.{place_of, order_of}
-use Rattle.dom_model.specs.MutationAlgorithms.Checks.{entry_has, kind_passes}
+use Rattle.dom_model.specs.Forests.Nodes.{entry_has, kind_passes}
 use Rattle.dom_model.proofs.PlainLists.Numbers.{same_or, same, apart}
 
 -- a node without its node document and contents

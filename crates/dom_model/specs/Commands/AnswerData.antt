@@ -6,7 +6,7 @@ use Rattle.dom_model.specs.Forests.Names.{is_attribute_name}
 use Rattle.dom_model.specs.Forests.Attributes.{attribute_value, attribute_names}
 use Rattle.dom_model.specs.Worlds.World.{World}
 use Rattle.dom_model.specs.Commands.Reply.{Number, Flag, Units, MaybeUnits, Names, Done}
-use Rattle.dom_model.specs.Forests.Lengths.{length_at}
+use Rattle.dom_model.specs.Worlds.Lengths.{length_at}
 use Rattle.dom_model.specs.DataAndCopies.Data.{data_of, attributes_of, check_offset, replace_data, set_data, substring_data, split, set_attribute, has_attribute, remove_attribute, is_toggled_on, toggle_attribute}
 use Rattle.dom_model.specs.Commands.Guards.{Bounds, Step, guarded, checked, no_node, wrong_kind, no_room, bad_name, answers, does}
 

@@ -3,7 +3,7 @@
 use Rattle.std.specs.Prelude.{ℕ, nat_lt, Bool, not, [], ◌∷◌, length}
 use Rattle.dom_model.specs.declared.OwnError.TheVariants.{NoSuchObject}
 use Rattle.dom_model.specs.Worlds.World.{Observing, World}
-use Rattle.dom_model.specs.Commands.Command.{GivenOptions}
+use Rattle.dom_model.specs.MutationObservers.GivenOptions.{GivenOptions}
 use Rattle.dom_model.specs.Commands.Reply.{Number, Numbers, Records, Notified, Reply, Own}
 use Rattle.dom_model.specs.Commands.Guards.{Bounds, Step, guarded, checked, no_node, no_room, answers, does}
 use Rattle.dom_model.specs.MutationObservers.Records.{options_refusal, options_of, observed, queue_of, pending_of, with_observer, records_taken, disconnected, told, after_notify}

@@ -6,7 +6,7 @@ use Rattle.dom_model.specs.declared.OwnError.TheVariants.{NoSuchObject}
 use Rattle.dom_model.specs.Forests.Kinds.{is_kind}
 use Rattle.dom_model.specs.Worlds.World.{Point, Range, World}
 use Rattle.dom_model.specs.Commands.Reply.{Number, Flag, Order, Ends, Units, Reply, Done, Dom, Own}
-use Rattle.dom_model.specs.Forests.Lengths.{unit_count}
+use Rattle.dom_model.specs.Worlds.Lengths.{unit_count}
 use Rattle.dom_model.specs.RangesAndContents.Ranges.{start_set, end_set, point_before, point_after, around, contents_of, collapsed_at, collapsed, check_point, check_contents, check_compare, compared, check_point_against, place_against, check_point_in, is_point_in, intersects, common_ancestor, range_at, with_range, made_range, released}
 use Rattle.dom_model.specs.RangesAndContents.Contents.{range_text, delete_contents, check_extract, extract, clone_contents}
 use Rattle.dom_model.specs.RangesAndContents.Wrapping.{Outcome, insert_node, surround}

@@ -3,7 +3,7 @@ use Rattle.std.specs.Prelude.{ℕ, [], ◌∷◌, length, Bool, Option, Some, No
 use Rattle.dom_model.specs.declared.OwnError.TheVariants.{NoSuchObject}
 use Rattle.dom_model.specs.Worlds.World.{Point, Range, World}
 use Rattle.dom_model.specs.Commands.Reply.{Number, StaticEnds, Reply, Done, Own}
-use Rattle.dom_model.specs.Forests.Lengths.{unit_count}
+use Rattle.dom_model.specs.Worlds.Lengths.{unit_count}
 use Rattle.dom_model.specs.RangesAndContents.StaticRanges.{check_static, is_valid_static, static_at, made_static}
 use Rattle.dom_model.specs.Commands.Guards.{Bounds, Step, refused, guarded, checked, no_node, no_room, answers}
 

@@ -12,9 +12,10 @@ use Rattle.dom_model.specs.Forests.Arena.{Entry}
 use Rattle.dom_model.specs.Forests.Forest.{Node, entry_in, parent_of, children_of, next_of, previous_of, index_of}
 use Rattle.dom_model.specs.Worlds.World.{Content, World}
 use Rattle.dom_model.specs.Commands.Reply.{Number, Numbers, Flag, MaybeUnits, NodeAt, Rows, Done, Own}
-use Rattle.dom_model.specs.MutationAlgorithms.Checks.{if_given, is_of_kind, check_insert, check_replace}
+use Rattle.dom_model.specs.MutationAlgorithms.Checks.{if_given, check_insert, check_replace}
+use Rattle.dom_model.specs.Forests.Nodes.{is_of_kind}
 use Rattle.dom_model.specs.MutationAlgorithms.Editing.{remove, pre_insert, append, replace, replace_all, adopt}
-use Rattle.dom_model.specs.Forests.Lengths.{length_at}
+use Rattle.dom_model.specs.Worlds.Lengths.{length_at}
 use Rattle.dom_model.specs.DataAndCopies.Data.{normalize, text_content, set_text_content}
 use Rattle.dom_model.specs.DataAndCopies.Clones.{clone_node, import_node, is_equal, position, contains, root_number}
 use Rattle.dom_model.specs.Commands.Guards.{Bounds, Step, refused, guarded, checked, no_node, no_node_given, wrong_kind, no_room, no_room_for_copies, throws, answers, does, tree_rows}

@@ -1,28 +1,8 @@
 -- The commands, one for each name of the table, and the options of `observe` as they are given.
-use Rattle.std.specs.Prelude.{ℕ, List, Bool, Option, None}
+use Rattle.std.specs.Prelude.{ℕ, List, Bool, Option}
 use Rattle.dom_model.specs.declared.Move.{Move}
 use Rattle.dom_model.specs.Worlds.World.{Filter, Point}
-
--- the members of an observer's options, each where it is given
-pub record GivenOptions : Type 0 where
-  pub child_list : Option Bool
-  pub attributes : Option Bool
-  pub character_data : Option Bool
-  pub subtree : Option Bool
-  pub attribute_old_value : Option Bool
-  pub character_data_old_value : Option Bool
-  pub attribute_filter : Option (List (List ℕ))
-
-abbrev pub no_options : GivenOptions
-no_options = record {
-  child_list = None;
-  attributes = None;
-  character_data = None;
-  subtree = None;
-  attribute_old_value = None;
-  character_data_old_value = None;
-  attribute_filter = None;
-}
+use Rattle.dom_model.specs.MutationObservers.GivenOptions.{GivenOptions}
 
 -- numbers are those of nodes, ranges, iterators, walkers, observers and static ranges; names are UTF-8, texts UTF-16 units
 pub data Command : Type 0 where

@@ -8,8 +8,8 @@ use Rattle.dom_model.specs.Forests.Kinds.{Label}
 use Rattle.dom_model.specs.Forests.Forest.{Forest, Row, entry_in, rows, tree_at, size}
 use Rattle.dom_model.specs.Worlds.World.{Content, World}
 use Rattle.dom_model.specs.Commands.Reply.{TreeRow, Answer, Nothing, Number, Reply, Done, Dom, Own}
-use Rattle.dom_model.specs.MutationAlgorithms.Checks.{kind_passes}
-pub use Rattle.dom_model.specs.Commands.Making.{made_node, named, with_text}
+use Rattle.dom_model.specs.Forests.Nodes.{kind_passes}
+pub use Rattle.dom_model.specs.Worlds.Making.{made_node, named, with_text}
 
 -- how many numbers each kind of object has, and how many bytes a line may have
 pub record Bounds : Type 0 where

@@ -12,7 +12,8 @@ use Rattle.dom_model.specs.declared.Move.{Move}
 use Rattle.dom_model.specs.declared.Move.TheVariants.{ParentNode, FirstChild, LastChild, PreviousSibling, NextSibling, PreviousNode, NextNode}
 use Rattle.dom_model.specs.Forests.Texts.{units_of}
 use Rattle.dom_model.specs.Worlds.World.{FilterRule}
-use Rattle.dom_model.specs.Commands.Command.{Command, GivenOptions}
+use Rattle.dom_model.specs.Commands.Command.{Command}
+use Rattle.dom_model.specs.MutationObservers.GivenOptions.{GivenOptions}
 use Rattle.dom_model.specs.Commands.Table.{Shape, a_number, a_number_or_null, a_string, a_text, a_text_or_null, a_flag, a_flag_or_null, a_filter, a_move, the_options, Arguments, no_arguments, Row}
 
 -- the value, where it is within the limit

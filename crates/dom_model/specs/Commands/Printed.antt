@@ -13,7 +13,8 @@ use Rattle.dom_model.specs.Commands.Refusal.{name_of_error, name_of_own}
 use Rattle.dom_model.specs.Forests.Texts.{text_of_units}
 use Rattle.dom_model.specs.Forests.Attributes.{Attribute}
 use Rattle.dom_model.specs.Worlds.World.{Content, Range}
-use Rattle.dom_model.specs.Commands.Reply.{Description, TreeRow, Record, Told, Answer, Nothing, Number, MaybeNumber, Numbers, Flag, Order, Units, MaybeUnits, Names, NodeAt, Rows, Ends, StaticEnds, IteratorAt, WalkerAt, Records, Notified, Reply, Done, Dom, Own}
+use Rattle.dom_model.specs.Commands.Reply.{Description, TreeRow, Answer, Nothing, Number, MaybeNumber, Numbers, Flag, Order, Units, MaybeUnits, Names, NodeAt, Rows, Ends, StaticEnds, IteratorAt, WalkerAt, Records, Notified, Reply, Done, Dom, Own}
+use Rattle.dom_model.specs.MutationObservers.Record.{Record, Told}
 
 abbrev pub number_json : ℕ → Data
 number_json n = number (unsigned n)

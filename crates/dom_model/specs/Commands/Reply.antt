@@ -3,9 +3,9 @@ use Rattle.std.specs.Prelude.{ℕ, List, Bool, true, false, Option}
 use Rattle.std.specs.declared.cmp.Ordering.{Ordering}
 use Rattle.dom_model.specs.declared.DomError.{DomError}
 use Rattle.dom_model.specs.declared.OwnError.{OwnError}
-use Rattle.dom_model.specs.declared.RecordType.{RecordType}
 use Rattle.dom_model.specs.Forests.Kinds.{Label}
 use Rattle.dom_model.specs.Worlds.World.{Content, Range}
+use Rattle.dom_model.specs.MutationObservers.Record.{Record, Told}
 
 -- a node, where it stands; of a doctype the label's ids are told too
 pub record Description : Type 0 where
@@ -21,22 +21,6 @@ pub record TreeRow : Type 0 where
   pub number : ℕ
   pub label : Label
   pub body : Content
-
--- what an observer is told of a change
-pub record Record : Type 0 where
-  pub type : RecordType
-  pub target : ℕ
-  pub added : List ℕ
-  pub removed : List ℕ
-  pub previous : Option ℕ
-  pub next : Option ℕ
-  pub name : Option (List ℕ)
-  pub old_value : Option (List ℕ)
-
--- an observer and the records that it is told
-pub record Told : Type 0 where
-  pub observer : ℕ
-  pub records : List Record
 
 pub data Answer : Type 0 where
   Nothing : Answer

@@ -3,14 +3,13 @@
 use Rattle.std.specs.Prelude.{ℕ, ◌+◌, ◌==◌, nat_lt, Bool, true, false, not, ◌&&◌, if◌then◌else◌, bytes_eq, unwrap_or}
 use Rattle.dom_model.specs.declared.Kind.{Kind}
 use Rattle.dom_model.specs.declared.Kind.TheVariants.{Element, Text, ProcessingInstruction, Comment, Document, DocumentType, DocumentFragment}
-use Rattle.dom_model.specs.PlainLists.Lists.{among}
+use Rattle.dom_model.specs.PlainLists.Lists.{among, up_to}
 use Rattle.dom_model.specs.Forests.Kinds.{is_kind}
 use Rattle.dom_model.specs.Forests.Attributes.{same_attributes}
 use Rattle.dom_model.specs.Forests.Forest.{Node, Forest, empty, node, size, numbers, beside, tree_at, ancestors, root_of}
 use Rattle.dom_model.specs.Worlds.World.{Content, World}
-use Rattle.dom_model.specs.MutationAlgorithms.Checks.{is_of_kind, up_to}
+use Rattle.dom_model.specs.Forests.Nodes.{is_of_kind, same_root}
 use Rattle.dom_model.specs.MutationAlgorithms.Editing.{node_document}
-use Rattle.dom_model.specs.RangesAndContents.Ranges.{same_root}
 
 module _ {X : Type 0} where
   -- the trees with new numbers from `next` on, in tree order, and with another node document

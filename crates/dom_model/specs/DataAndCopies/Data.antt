@@ -6,18 +6,17 @@ use Rattle.dom_model.specs.declared.Kind.TheVariants.{Element, Text, ProcessingI
 use Rattle.dom_model.specs.declared.DomError.{DomError}
 use Rattle.dom_model.specs.declared.DomError.TheVariants.{IndexSizeError}
 use Rattle.dom_model.specs.declared.RecordType.TheVariants.{Attributes, CharacterData}
-use Rattle.dom_model.specs.PlainLists.Lists.{among}
+use Rattle.dom_model.specs.PlainLists.Lists.{among, past, first_refusal}
 use Rattle.dom_model.specs.Forests.Arena.{Entry, siblings_in}
 use Rattle.dom_model.specs.Forests.Forest.{Node, entry_in, parent_of, next_of, index_of, inclusive_descendants, with_node}
 use Rattle.dom_model.specs.Forests.Attributes.{Attribute, attribute_value, with_attribute, without_attribute}
 use Rattle.dom_model.specs.Forests.Texts.{substring, spliced}
 use Rattle.dom_model.specs.Worlds.World.{Content, World}
 use Rattle.dom_model.specs.BoundaryPoints.Points.{map_ranges, after_splice, after_split, after_merge}
-use Rattle.dom_model.specs.MutationAlgorithms.PreRemoval.{past}
-use Rattle.dom_model.specs.MutationAlgorithms.Checks.{first_refusal, is_of_kind}
+use Rattle.dom_model.specs.Forests.Nodes.{is_of_kind}
 use Rattle.dom_model.specs.MutationAlgorithms.Editing.{queued, remove, insert, replace_all, node_document}
-use Rattle.dom_model.specs.Commands.Making.{made_node, named, with_text}
-use Rattle.dom_model.specs.Forests.Lengths.{length_at}
+use Rattle.dom_model.specs.Worlds.Making.{made_node, named, with_text}
+use Rattle.dom_model.specs.Worlds.Lengths.{length_at}
 
 abbrev pub content_in : Option (Entry (Node Content)) → Content
 content_in None = with_text []

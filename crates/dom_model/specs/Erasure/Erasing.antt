@@ -4,7 +4,8 @@ use Rattle.std.specs.Prelude.{ℕ, Bool, true, false, not, if◌then◌else◌, 
 use Rattle.std.specs.List.{list_any}
 use Rattle.dom_model.specs.Worlds.World.{World}
 use Rattle.dom_model.specs.Commands.Command.{Command, CreateRange, CloneRange, DescribeRange, SetStart, SetEnd, SetStartBefore, SetStartAfter, SetEndBefore, SetEndAfter, Collapse, SelectNode, SelectNodeContents, CompareBoundaryPoints, ComparePoint, IsPointInRange, IntersectsNode, CommonAncestor, RangeText, DeleteContents, ExtractContents, CloneContents, InsertNode, SurroundContents, ReleaseRange, CreateIterator, CreateWalker, DescribeIterator, NextNode, PreviousNode, DescribeWalker, SetCurrent, Walk, Observe, Disconnect, TakeRecords, Notify, Pending, CreateStaticRange, DescribeStaticRange, Discard}
-use Rattle.dom_model.specs.Commands.Reply.{Told, Answer, Numbers, Notified, Reply, Done, Dom, Own}
+use Rattle.dom_model.specs.Commands.Reply.{Answer, Numbers, Notified, Reply, Done, Dom, Own}
+use Rattle.dom_model.specs.MutationObservers.Record.{Told}
 use Rattle.dom_model.specs.Commands.Guards.{Bounds}
 use Rattle.dom_model.specs.Commands.Answer.{answer}
 

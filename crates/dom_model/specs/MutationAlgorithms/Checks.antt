@@ -1,33 +1,15 @@
 -- The checks ahead of an insertion and of a replacement, each an ordered list of a test and a name: the first that holds is the refusal.
 -- DOM Standard, "Mutation algorithms": ensure pre-insertion validity; replace.
-use Rattle.std.specs.Prelude.{ℕ, ◌==◌, nat_lt, Bool, true, false, not, ◌&&◌, ◌||◌, if◌then◌else◌, List, [], ◌∷◌, ◌++◌, filter, length, Option, Some, None}
+use Rattle.std.specs.Prelude.{ℕ, ◌==◌, nat_lt, Bool, false, not, ◌&&◌, ◌||◌, List, [], ◌∷◌, ◌++◌, filter, length, Option, Some, None}
 use Rattle.std.specs.List.{list_any}
 use Rattle.dom_model.specs.declared.Kind.{Kind}
 use Rattle.dom_model.specs.declared.Kind.TheVariants.{Element, Text, ProcessingInstruction, Comment, Document, DocumentType, DocumentFragment}
 use Rattle.dom_model.specs.declared.DomError.{DomError}
 use Rattle.dom_model.specs.declared.DomError.TheVariants.{HierarchyRequestError, NotFoundError}
-use Rattle.dom_model.specs.PlainLists.Lists.{among, is_number}
-use Rattle.dom_model.specs.Forests.Kinds.{is_kind, may_be_parent}
-use Rattle.dom_model.specs.Forests.Arena.{Entry}
-use Rattle.dom_model.specs.Forests.Forest.{Node, Forest, entry_in, parent_of, children_of, ancestors}
-use Rattle.dom_model.specs.MutationAlgorithms.PreRemoval.{past}
-
--- the first test that holds gives its name
-abbrev pub first_refusal : {E : Type 0} → List (Bool × E) → Option E
-first_refusal [] = None
-first_refusal (c ∷ cs) = if c.0 then Some c.1 else first_refusal cs
-
--- what comes before the first n of a list; the whole list where n is not there
-abbrev pub up_to : ℕ → List ℕ → List ℕ
-up_to n [] = []
-up_to n (x ∷ xs) = if x == n then [] else x ∷ up_to n xs
-
--- the same optional number
-abbrev pub is_same : Option ℕ → Option ℕ → Bool
-is_same None None = true
-is_same None (Some b) = false
-is_same (Some a) None = false
-is_same (Some a) (Some b) = a == b
+use Rattle.dom_model.specs.PlainLists.Lists.{among, is_number, past, up_to, first_refusal}
+use Rattle.dom_model.specs.Forests.Kinds.{may_be_parent}
+use Rattle.dom_model.specs.Forests.Forest.{Forest, parent_of, children_of, ancestors}
+use Rattle.dom_model.specs.Forests.Nodes.{kind_passes, is_of_kind}
 
 -- there is no number, or the test holds of it
 abbrev pub if_given : (ℕ → Bool) → Option ℕ → Bool
@@ -35,17 +17,6 @@ if_given test None = false
 if_given test (Some n) = test n
 
 module _ {X : Type 0} where
-  abbrev pub entry_has : (Kind → Bool) → Option (Entry (Node X)) → Bool
-  entry_has test None = false
-  entry_has test (Some e) = test e.value.label.kind
-
-  -- the node stands in the forest, and its kind passes the test
-  abbrev pub kind_passes : (Kind → Bool) → Forest X → ℕ → Bool
-  kind_passes test f n = entry_has test (entry_in f n)
-
-  abbrev pub is_of_kind : Kind → Forest X → ℕ → Bool
-  is_of_kind k f n = kind_passes (is_kind k) f n
-
   -- some node of the list is of the kind
   abbrev pub has_kind : Kind → Forest X → List ℕ → Bool
   has_kind k f ns = list_any (is_of_kind k f) ns

@@ -4,7 +4,7 @@ use Rattle.std.specs.List.{list_any}
 use Rattle.dom_model.specs.PlainLists.Lists.{among}
 use Rattle.dom_model.specs.Forests.Forest.{Row, Forest, rows, parent_of, without, inclusive_descendants}
 use Rattle.dom_model.specs.Worlds.World.{Range, Iterator, Walker, Registration, Observing, World}
-use Rattle.dom_model.specs.Commands.Reply.{Record}
+use Rattle.dom_model.specs.MutationObservers.Record.{Record}
 use Rattle.dom_model.specs.MutationObservers.Records.{queue_of}
 
 abbrev pub if_any : Option ℕ → List ℕ

@@ -10,7 +10,7 @@ use Rattle.dom_model.specs.Worlds.World.{Content, World, Mutation}
 use Rattle.dom_model.specs.BoundaryPoints.Points.{map_ranges, after_gap, after_removal}
 use Rattle.dom_model.specs.MutationAlgorithms.PreRemoval.{pre_removed_all}
 use Rattle.dom_model.specs.MutationObservers.Observing.{noted, standing_on, with_transients}
-use Rattle.dom_model.specs.MutationAlgorithms.Checks.{is_of_kind}
+use Rattle.dom_model.specs.Forests.Nodes.{is_of_kind}
 
 -- a change is noted, with the registrations that stand on the target's inclusive ancestors
 abbrev pub queued : Mutation → World → World

@@ -5,7 +5,7 @@ use Rattle.dom_model.specs.PlainLists.Lists.{hits}
 use Rattle.dom_model.specs.Forests.Kinds.{may_be_parent, may_stand_in}
 use Rattle.dom_model.specs.Forests.Forest.{Forest, occurs, parent_of, ancestors}
 use Rattle.dom_model.specs.Worlds.World.{Content}
-use Rattle.dom_model.specs.MutationAlgorithms.Checks.{kind_passes, is_of_kind}
+use Rattle.dom_model.specs.Forests.Nodes.{kind_passes, is_of_kind}
 
 -- the kinds of two nodes let the second stand under the first
 abbrev pub may_stand_at : Forest Content → ℕ → ℕ → Bool

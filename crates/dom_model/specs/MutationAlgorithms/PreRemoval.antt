@@ -1,13 +1,8 @@
 -- What an iterator does before a node is removed. DOM Standard, "Interface NodeIterator", pre-removing steps.
-use Rattle.std.specs.Prelude.{ℕ, ◌==◌, false, not, ◌&&◌, if◌then◌else◌, List, [], ◌∷◌, map, filter, Option, Some, None, unwrap_or}
-use Rattle.dom_model.specs.PlainLists.Lists.{among, head_of, before}
+use Rattle.std.specs.Prelude.{ℕ, ◌==◌, false, not, ◌&&◌, if◌then◌else◌, List, map, filter, Option, Some, None, unwrap_or}
+use Rattle.dom_model.specs.PlainLists.Lists.{among, head_of, before, past}
 use Rattle.dom_model.specs.Forests.Forest.{Forest, inclusive_descendants}
 use Rattle.dom_model.specs.Worlds.World.{Iterator}
-
--- the part of a list after its first n
-abbrev pub past : ℕ → List ℕ → List ℕ
-past n [] = []
-past n (x ∷ xs) = if x == n then xs else past n xs
 
 -- the nodes of a flattening that follow n and are not in it
 abbrev pub following_outside : ℕ → List ℕ → List ℕ → List ℕ

@@ -7,11 +7,10 @@ use Rattle.dom_model.specs.declared.RecordType.{RecordType}
 use Rattle.dom_model.specs.declared.RecordType.TheVariants.{ChildList, Attributes, CharacterData}
 use Rattle.dom_model.specs.declared.DomError.{DomError}
 use Rattle.dom_model.specs.declared.DomError.TheVariants.{TypeError}
-use Rattle.dom_model.specs.PlainLists.Lists.{is_number, left_out}
+use Rattle.dom_model.specs.PlainLists.Lists.{is_number, left_out, first_refusal}
 use Rattle.dom_model.specs.Worlds.World.{Options, Registration, Mutation, Observing}
-use Rattle.dom_model.specs.Commands.Command.{GivenOptions}
-use Rattle.dom_model.specs.Commands.Reply.{Record, Told}
-use Rattle.dom_model.specs.MutationAlgorithms.Checks.{first_refusal}
+use Rattle.dom_model.specs.MutationObservers.GivenOptions.{GivenOptions}
+use Rattle.dom_model.specs.MutationObservers.Record.{Record, Told}
 
 -- Options.
 

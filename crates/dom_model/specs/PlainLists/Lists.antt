@@ -67,3 +67,25 @@ or_else (Some x) other = Some x
 abbrev pub from_first : ℕ → List ℕ → List ℕ
 from_first n [] = []
 from_first n (x ∷ xs) = if x == n then x ∷ xs else from_first n xs
+
+-- the first test that holds gives its name
+abbrev pub first_refusal : {E : Type 0} → List (Bool × E) → Option E
+first_refusal [] = None
+first_refusal (c ∷ cs) = if c.0 then Some c.1 else first_refusal cs
+
+-- what comes before the first n of a list; the whole list where n is not there
+abbrev pub up_to : ℕ → List ℕ → List ℕ
+up_to n [] = []
+up_to n (x ∷ xs) = if x == n then [] else x ∷ up_to n xs
+
+-- the same optional number
+abbrev pub is_same : Option ℕ → Option ℕ → Bool
+is_same None None = true
+is_same None (Some b) = false
+is_same (Some a) None = false
+is_same (Some a) (Some b) = a == b
+
+-- the part of a list after its first n
+abbrev pub past : ℕ → List ℕ → List ℕ
+past n [] = []
+past n (x ∷ xs) = if x == n then xs else past n xs

@@ -4,8 +4,8 @@ use Rattle.std.specs.Prelude.{ℕ, if◌then◌else◌, List, [], ◌∷◌, ◌
 use Rattle.dom_model.specs.Forests.Kinds.{is_character_data}
 use Rattle.dom_model.specs.Forests.Forest.{children_of}
 use Rattle.dom_model.specs.Worlds.World.{World}
-use Rattle.dom_model.specs.MutationAlgorithms.PreRemoval.{past}
-use Rattle.dom_model.specs.MutationAlgorithms.Checks.{up_to, kind_passes}
+use Rattle.dom_model.specs.PlainLists.Lists.{past, up_to}
+use Rattle.dom_model.specs.Forests.Nodes.{kind_passes}
 
 -- from an offset of the path's last node to the end of its first
 abbrev pub tail_nodes : World → ℕ → List ℕ → List ℕ

@@ -6,16 +6,16 @@ use Rattle.std.specs.Prelude.{ℕ, ◌-◌, ◌==◌, Bool, true, false, not, �
 use Rattle.dom_model.specs.declared.Kind.TheVariants.{Text, DocumentType, DocumentFragment}
 use Rattle.dom_model.specs.declared.DomError.{DomError}
 use Rattle.dom_model.specs.declared.DomError.TheVariants.{HierarchyRequestError}
-use Rattle.dom_model.specs.PlainLists.Lists.{among}
+use Rattle.dom_model.specs.PlainLists.Lists.{among, past, first_refusal, up_to}
 use Rattle.dom_model.specs.Forests.Kinds.{is_character_data}
 use Rattle.dom_model.specs.Forests.Forest.{Forest, numbers, parent_of, children_of, ancestors, map_nodes}
 use Rattle.dom_model.specs.Forests.Texts.{substring}
 use Rattle.dom_model.specs.Worlds.World.{Content, Point, Range, World, no_content}
-use Rattle.dom_model.specs.MutationAlgorithms.PreRemoval.{past}
-use Rattle.dom_model.specs.MutationAlgorithms.Checks.{first_refusal, up_to, if_given, kind_passes, is_of_kind, has_kind}
+use Rattle.dom_model.specs.MutationAlgorithms.Checks.{if_given, has_kind}
+use Rattle.dom_model.specs.Forests.Nodes.{kind_passes, is_of_kind}
 use Rattle.dom_model.specs.MutationAlgorithms.Editing.{append, node_document}
-use Rattle.dom_model.specs.Commands.Making.{made_node, named}
-use Rattle.dom_model.specs.Forests.Lengths.{unit_count}
+use Rattle.dom_model.specs.Worlds.Making.{made_node, named}
+use Rattle.dom_model.specs.Worlds.Lengths.{unit_count}
 use Rattle.dom_model.specs.RangesAndContents.Ranges.{is_collapsed, collapsed_at, point_after, is_contained, common_ancestor, range_at, with_range}
 use Rattle.dom_model.specs.DataAndCopies.Data.{data_of, with_data, replace_data, joined_data, remove_each}
 use Rattle.dom_model.specs.DataAndCopies.Clones.{original, with_copies, clone_node}

@@ -5,12 +5,12 @@ use Rattle.std.specs.declared.cmp.Ordering.TheVariants.{Less, Equal, Greater}
 use Rattle.dom_model.specs.declared.Kind.TheVariants.{DocumentType}
 use Rattle.dom_model.specs.declared.DomError.{DomError}
 use Rattle.dom_model.specs.declared.DomError.TheVariants.{InvalidNodeTypeError, IndexSizeError, NotSupportedError, WrongDocumentError}
-use Rattle.dom_model.specs.PlainLists.Lists.{among, head_of}
-use Rattle.dom_model.specs.Forests.Forest.{Forest, root_of, parent_of, index_of, ancestors}
+use Rattle.dom_model.specs.PlainLists.Lists.{among, head_of, first_refusal}
+use Rattle.dom_model.specs.Forests.Forest.{Forest, parent_of, index_of, ancestors}
 use Rattle.dom_model.specs.Worlds.World.{Point, Range, World}
 use Rattle.dom_model.specs.BoundaryPoints.Points.{order_of}
-use Rattle.dom_model.specs.MutationAlgorithms.Checks.{first_refusal, is_same, is_of_kind}
-use Rattle.dom_model.specs.Forests.Lengths.{node_length}
+use Rattle.dom_model.specs.Forests.Nodes.{is_of_kind, same_root}
+use Rattle.dom_model.specs.Worlds.Lengths.{node_length}
 
 abbrev pub is_less : Ordering → Bool
 is_less Less = true
@@ -41,9 +41,6 @@ abbrev pub source_point : ℕ → Range → Point
 source_point how r = end_of ((how == 0) || (how == 1)) r
 
 module _ {X : Type 0} where
-  abbrev pub same_root : Forest X → ℕ → ℕ → Bool
-  same_root f n m = is_same (root_of f n) (root_of f m)
-
   -- of two points of one root, the first comes before the second
   abbrev pub is_before : Forest X → Point → Point → Bool
   is_before f p q = is_less (order_of f p q)

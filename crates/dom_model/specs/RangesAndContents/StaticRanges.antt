@@ -6,9 +6,10 @@ use Rattle.dom_model.specs.declared.DomError.{DomError}
 use Rattle.dom_model.specs.declared.DomError.TheVariants.{InvalidNodeTypeError}
 use Rattle.dom_model.specs.Forests.Forest.{Forest}
 use Rattle.dom_model.specs.Worlds.World.{Range, World}
-use Rattle.dom_model.specs.MutationAlgorithms.Checks.{first_refusal, is_of_kind}
-use Rattle.dom_model.specs.Forests.Lengths.{node_length}
-use Rattle.dom_model.specs.RangesAndContents.Ranges.{same_root, is_before}
+use Rattle.dom_model.specs.PlainLists.Lists.{first_refusal}
+use Rattle.dom_model.specs.Forests.Nodes.{is_of_kind, same_root}
+use Rattle.dom_model.specs.Worlds.Lengths.{node_length}
+use Rattle.dom_model.specs.RangesAndContents.Ranges.{is_before}
 
 module _ {X : Type 0} where
   -- the refusal of a doctype as either node

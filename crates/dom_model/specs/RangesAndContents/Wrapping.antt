@@ -7,9 +7,11 @@ use Rattle.dom_model.specs.declared.DomError.{DomError}
 use Rattle.dom_model.specs.declared.DomError.TheVariants.{HierarchyRequestError, InvalidStateError, InvalidNodeTypeError}
 use Rattle.dom_model.specs.Forests.Forest.{numbers, parent_of, children_of, index_of}
 use Rattle.dom_model.specs.Worlds.World.{Point, Range, World}
-use Rattle.dom_model.specs.MutationAlgorithms.Checks.{first_refusal, is_of_kind, check_insert}
+use Rattle.dom_model.specs.MutationAlgorithms.Checks.{check_insert}
+use Rattle.dom_model.specs.Forests.Nodes.{is_of_kind}
+use Rattle.dom_model.specs.PlainLists.Lists.{first_refusal}
 use Rattle.dom_model.specs.MutationAlgorithms.Editing.{remove, pre_insert, replace_all, reference_child, nodes_of}
-use Rattle.dom_model.specs.Forests.Lengths.{length_at}
+use Rattle.dom_model.specs.Worlds.Lengths.{length_at}
 use Rattle.dom_model.specs.RangesAndContents.Ranges.{is_collapsed, around, is_partially_contained, range_at, with_range}
 use Rattle.dom_model.specs.DataAndCopies.Data.{split}
 use Rattle.dom_model.specs.RangesAndContents.Contents.{for_range, check_extract, extract}

@@ -5,8 +5,8 @@ use Rattle.dom_model.specs.declared.OwnError.{OwnError}
 use Rattle.dom_model.specs.Worlds.World.{Point, Range, World, no_content, document_label}
 use Rattle.dom_model.specs.Commands.Command.{Command, NewDocument, CreateElement, CreateText, CreateComment, CreatePI, CreateDoctype, CreateFragment, InsertBefore, AppendChild, AdoptNode, ReplaceChild, RemoveChild, Remove, ReplaceChildren, ImportNode, CloneNode, Normalize, SetTextContent, SetData, AppendData, InsertData, DeleteData, ReplaceData, SplitText, CreateRange, CloneRange, SetStart, SetEnd, SetStartBefore, SetStartAfter, SetEndBefore, SetEndAfter, Collapse, SelectNode, SelectNodeContents, DeleteContents, ExtractContents, CloneContents, InsertNode, SurroundContents, ReleaseRange, Discard as DiscardTree}
 use Rattle.dom_model.specs.Commands.Reply.{Reply, Done, Dom, Own}
-use Rattle.dom_model.specs.Commands.Making.{named, with_text}
-use Rattle.dom_model.specs.Forests.Lengths.{unit_count, length_at}
+use Rattle.dom_model.specs.Worlds.Making.{named, with_text}
+use Rattle.dom_model.specs.Worlds.Lengths.{unit_count, length_at}
 use Rattle.dom_model.specs.RangesAndContents.Ranges.{start_set, end_set, point_before, point_after, around, contents_of, collapsed, collapsed_at, range_at}
 use Rattle.dom_model.specs.RangesAndContents.Contents.{for_range}
 use Rattle.dom_model.specs.TokenText.Tokens.{point, Token, Edit, RangeMaking, Release, Discard, all_on_texts, marked_ranges}

@@ -7,11 +7,11 @@ use Rattle.dom_model.specs.Forests.Kinds.{Label, is_character_data}
 use Rattle.dom_model.specs.Forests.Forest.{Forest, empty, node, entry_in, parent_of, children_of, next_of, index_of, inclusive_descendants, size, beside, cut, without, map_nodes}
 use Rattle.dom_model.specs.Worlds.World.{Content, Point, Range, World, no_content}
 use Rattle.dom_model.specs.BoundaryPoints.Points.{map_ranges, after_gap, after_removal, after_split, after_merge}
-use Rattle.dom_model.specs.MutationAlgorithms.PreRemoval.{past}
-use Rattle.dom_model.specs.MutationAlgorithms.Checks.{up_to, kind_passes}
+use Rattle.dom_model.specs.PlainLists.Lists.{past, up_to}
+use Rattle.dom_model.specs.Forests.Nodes.{kind_passes}
 use Rattle.dom_model.specs.Forests.Texts.{substring}
 use Rattle.dom_model.specs.MutationAlgorithms.Editing.{remove, remove_all, is_fragment, nodes_of, freed, put_in, node_document, reference_child, pre_insert, append, replace_all}
-use Rattle.dom_model.specs.Commands.Making.{made_node, named, with_text}
+use Rattle.dom_model.specs.Worlds.Making.{made_node, named, with_text}
 use Rattle.dom_model.specs.RangesAndContents.Ranges.{is_collapsed, collapsed_at, around, range_at, with_range}
 use Rattle.dom_model.specs.DataAndCopies.Data.{data_of, cut_count, replace_units, replace_data, tail_of, split, with_data, following_texts, is_descendant, normalize_text, text_descendants, by_kind}
 use Rattle.dom_model.specs.DataAndCopies.Clones.{renumbered, original, document_of_clone, clone_node}

@@ -3,8 +3,7 @@
 use Rattle.std.specs.Prelude.{ℕ, Bool, true, false, if◌then◌else◌, List, ◌∷◌, reverse, find, Option, Some, None}
 use Rattle.dom_model.specs.Forests.Forest.{Forest, inclusive_descendants}
 use Rattle.dom_model.specs.Worlds.World.{Filter, Iterator}
-use Rattle.dom_model.specs.MutationAlgorithms.PreRemoval.{past}
-use Rattle.dom_model.specs.MutationAlgorithms.Checks.{up_to}
+use Rattle.dom_model.specs.PlainLists.Lists.{past, up_to}
 use Rattle.dom_model.specs.Traversal.Filters.{accepts}
 
 -- a new iterator stands before its root

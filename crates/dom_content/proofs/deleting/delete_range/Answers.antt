@@ -3,7 +3,7 @@ use Rattle.std.proofs.Common.{◌≤◌, ◌==◌, refl, ap, sym, arith}
 use Rattle.std.proofs.lemmas.Result.{on_ok_weaker}
 use Rattle.dom_model.specs.Forests.Kinds.{is_character_data}
 use Rattle.dom_model.specs.Worlds.World.{Point, Range}
-use Rattle.dom_model.specs.MutationAlgorithms.Checks.{kind_passes}
+use Rattle.dom_model.specs.Forests.Nodes.{kind_passes}
 use Rattle.dom_content.proofs.PartsBetween.{and-both}
 use Rattle.dom_content.proofs.RangeTexts.{range-held, ahead-of}
 use Rattle.dom_content.proofs.DeletedBetween.{follows-between}

@@ -1,6 +1,6 @@
 -- The start is set, and the end becomes the start.
 use Rattle.std.proofs.Common.{is_some, ap, sym, ◌∙◌}
-use Rattle.dom_model.specs.Forests.Lengths.{unit_count}
+use Rattle.dom_model.specs.Worlds.Lengths.{unit_count}
 use Rattle.dom_model.specs.RangesAndContents.Ranges.{check_point}
 use Rattle.dom_model.proofs.RangesAndContents.LiveRangesKept.{live-there}
 use Rattle.dom_clone.specs.dom_edit.Whole.{unwatched}

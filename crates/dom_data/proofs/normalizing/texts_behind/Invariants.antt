@@ -2,7 +2,7 @@
 use Rattle.std.proofs.Common.{length}
 use Rattle.dom_model.specs.Forests.Arena.{siblings_in}
 use Rattle.dom_model.specs.Forests.Forest.{entry_in}
-use Rattle.dom_model.specs.MutationAlgorithms.PreRemoval.{past}
+use Rattle.dom_model.specs.PlainLists.Lists.{past}
 use Rattle.dom_data.proofs.FollowingTexts.{IsFollowing}
 use Rattle.dom_data.proofs.normalizing.texts_behind.Given as goal
 

@@ -3,7 +3,8 @@ use Rattle.std.proofs.Common.{◌≡◌, ℕ, ◌≤◌, refl, sym, ◌∙◌, a
 use Rattle.dom_model.specs.PlainLists.Lists.{hits, after}
 use Rattle.dom_model.specs.Forests.Forest.{children_of}
 use Rattle.dom_model.specs.declared.Kind.TheVariants.{Element, DocumentType}
-use Rattle.dom_model.specs.MutationAlgorithms.Checks.{is_of_kind, has_kind}
+use Rattle.dom_model.specs.MutationAlgorithms.Checks.{has_kind}
+use Rattle.dom_model.specs.Forests.Nodes.{is_of_kind}
 use Rattle.dom_model.proofs.Forests.Indices.{child-once}
 use Rattle.dom_edit.specs.Places.{from_optional, ahead_of}
 use Rattle.dom_edit.proofs.AmongChildren.{IsAmong-after, from_first-after, HasNode-child, next_of-child}

@@ -6,7 +6,7 @@ use Rattle.dom_model.specs.PlainLists.Lists.{or_else}
 use Rattle.dom_model.specs.Forests.Arena.{parent_in}
 use Rattle.dom_model.specs.Forests.Forest.{Node, Forest, empty, node, occurs, one_at, beside, tree_at, put, adopted, entry_in, parent_of}
 use Rattle.dom_model.specs.Worlds.World.{Content, Point}
-use Rattle.dom_model.specs.Commands.Making.{named, with_text}
+use Rattle.dom_model.specs.Worlds.Making.{named, with_text}
 use Rattle.dom_model.specs.DataAndCopies.Data.{content_in}
 use Rattle.dom_model.specs.TokenText.Tokens.{Token, point}
 use Rattle.dom_model.specs.TokenText.Fitting.{Childless}

@@ -7,10 +7,11 @@ use Rattle.dom_model.specs.Forests.Kinds.{is_character_data, is_kind}
 use Rattle.dom_model.specs.declared.Kind.{Kind}
 use Rattle.dom_model.specs.declared.Kind.TheVariants.{Element, Text, ProcessingInstruction, Comment, Document, DocumentType, DocumentFragment}
 use Rattle.dom_model.specs.Forests.Forest.{Node, Forest, Grove, empty, node, occurs, entry_in, children_of, root_of}
-use Rattle.dom_model.specs.Forests.Lengths.{node_length, unit_count}
+use Rattle.dom_model.specs.Worlds.Lengths.{node_length, unit_count}
 use Rattle.dom_model.specs.Worlds.World.{Content, Point, Range, World}
-use Rattle.dom_model.specs.Worlds.Sound.{IsSound, IsRange, IsBoundary}
-use Rattle.dom_model.specs.MutationAlgorithms.Checks.{up_to, kind_passes}
+use Rattle.dom_model.specs.Soundness.Sound.{IsSound, IsRange, IsBoundary}
+use Rattle.dom_model.specs.PlainLists.Lists.{up_to}
+use Rattle.dom_model.specs.Forests.Nodes.{kind_passes}
 use Rattle.dom_model.specs.DataAndCopies.Data.{data_of}
 use Rattle.dom_model.specs.RangesAndContents.Ranges.{is_collapsed, range_at}
 use Rattle.dom_model.specs.RangesAndContents.Contents.{is_in_one_data, common_of, contained_children}

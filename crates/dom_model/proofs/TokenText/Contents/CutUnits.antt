@@ -5,8 +5,8 @@ use Rattle.std.proofs.lemmas.List.{drop_all}
 use Rattle.dom_model.specs.Forests.Kinds.{is_character_data}
 use Rattle.dom_model.specs.Forests.Forest.{with_node}
 use Rattle.dom_model.specs.Worlds.World.{World}
-use Rattle.dom_model.specs.Worlds.Sound.{IsSound}
-use Rattle.dom_model.specs.MutationAlgorithms.Checks.{kind_passes}
+use Rattle.dom_model.specs.Soundness.Sound.{IsSound}
+use Rattle.dom_model.specs.Forests.Nodes.{kind_passes}
 use Rattle.dom_model.specs.DataAndCopies.Data.{cut_count, data_of, with_data}
 use Rattle.dom_model.specs.RangesAndContents.Contents.{cut_from, cut_up_to}
 use Rattle.dom_model.specs.TokenText.Tokens.{Token, Open, Close, is_open, no_marks, before_open, from_open, unit_tokens}

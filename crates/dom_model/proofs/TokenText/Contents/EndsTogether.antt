@@ -1,7 +1,7 @@
 -- Both markers of a range whose ends are one point stand in one gap.
 use Rattle.std.proofs.Common.{◌≡◌, ℕ, true, false, Option, Some, option_map, ap, ◌∙◌}
 use Rattle.dom_model.specs.Worlds.World.{Point, Range, World}
-use Rattle.dom_model.specs.Worlds.Sound.{IsSound}
+use Rattle.dom_model.specs.Soundness.Sound.{IsSound}
 use Rattle.dom_model.specs.RangesAndContents.Ranges.{end_of, collapsed_at, range_at}
 use Rattle.dom_model.specs.TokenText.Tokens.{texts_of, gap_among}
 use Rattle.dom_model.proofs.TokenText.Marked.MarkedFirst.{marked-first, kinds-childless}

@@ -9,9 +9,9 @@ use Rattle.dom_model.specs.Forests.Kinds.{is_kind, is_character_data}
 use Rattle.dom_model.specs.Forests.Forest.{Forest, empty, node, occurs, tops, tree_at, map_nodes, parent_of, root_of}
 use Rattle.dom_model.specs.Forests.Texts.{substring}
 use Rattle.dom_model.specs.Worlds.World.{Content, Point, Range, World}
-use Rattle.dom_model.specs.Worlds.Sound.{IsRange, IsSound}
+use Rattle.dom_model.specs.Soundness.Sound.{IsRange, IsSound}
 use Rattle.dom_model.specs.BoundaryPoints.Points.{after_splice, moved_range, map_ranges}
-use Rattle.dom_model.specs.MutationAlgorithms.Checks.{kind_passes}
+use Rattle.dom_model.specs.Forests.Nodes.{kind_passes}
 use Rattle.dom_model.specs.MutationAlgorithms.Editing.{is_fragment, node_document, append}
 use Rattle.dom_model.specs.DataAndCopies.Clones.{original}
 use Rattle.dom_model.specs.DataAndCopies.Data.{data_of, with_data, cut_count, replace_data, remove_each}

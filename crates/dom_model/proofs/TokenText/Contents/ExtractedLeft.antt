@@ -2,7 +2,7 @@
 use Rattle.std.proofs.Common.{◌≡◌, ℕ, Some, None}
 use Rattle.dom_model.specs.Forests.Forest.{root_of}
 use Rattle.dom_model.specs.Worlds.World.{Range, World}
-use Rattle.dom_model.specs.Worlds.Sound.{IsSound}
+use Rattle.dom_model.specs.Soundness.Sound.{IsSound}
 use Rattle.dom_model.specs.RangesAndContents.Ranges.{range_at}
 use Rattle.dom_model.specs.RangesAndContents.Contents.{check_extract, extract}
 use Rattle.dom_model.proofs.TokenText.Contents.DeletedInPlace.{IsLeft}

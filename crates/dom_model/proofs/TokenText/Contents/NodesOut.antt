@@ -3,7 +3,7 @@ use Rattle.std.proofs.Common.{◌≡◌, ℕ, suc, ◌+◌, ◌<◌, ◌≤◌, 
 use Rattle.std.proofs.lemmas.Bool.{cases_lt}
 use Rattle.dom_model.specs.Forests.Forest.{Node, Forest, empty, node, occurs, beside, tree_at, without, placed_root, cut, parent_of}
 use Rattle.dom_model.specs.Worlds.World.{Content, World}
-use Rattle.dom_model.specs.Worlds.Sound.{IsSound}
+use Rattle.dom_model.specs.Soundness.Sound.{IsSound}
 use Rattle.dom_model.specs.MutationAlgorithms.Editing.{remove, removed_from}
 use Rattle.dom_model.specs.DataAndCopies.Data.{remove_each}
 use Rattle.dom_model.specs.TokenText.Tokens.{Token, Open, Close, no_marks, is_open, has_open, before_open, from_open, past_close, child_tokens, token_texts}

@@ -2,15 +2,14 @@
 -- top one after another, the units of the end node. DOM Standard, "Interface Range".
 use Rattle.std.proofs.Common.{◌≡◌, ℕ, ◌-◌, ◌<◌, ◌≤◌, Bool, true, false, if◌then◌else◌, List, [], ◌∷◌, take, drop, length, Option, Some, None, option_map, refl, ap, sym, ◌∙◌, subst, arith, ⊎_elim}
 use Rattle.std.proofs.lemmas.Bool.{cases_lt, false≢true}
-use Rattle.dom_model.specs.PlainLists.Lists.{hits, left_out}
+use Rattle.dom_model.specs.PlainLists.Lists.{hits, left_out, past, up_to}
 use Rattle.dom_model.specs.Forests.Arena.{Entry, children_in}
 use Rattle.dom_model.specs.Forests.Kinds.{is_character_data}
 use Rattle.dom_model.specs.Forests.Forest.{Node, Forest, occurs, one_at, tree_at, without, with_node, entry_in, parent_of, children_of, ancestors}
 use Rattle.dom_model.specs.Forests.Texts.{spliced}
 use Rattle.dom_model.specs.Worlds.World.{Content, World}
-use Rattle.dom_model.specs.Worlds.Sound.{IsSound}
-use Rattle.dom_model.specs.MutationAlgorithms.PreRemoval.{past}
-use Rattle.dom_model.specs.MutationAlgorithms.Checks.{up_to, entry_has, kind_passes}
+use Rattle.dom_model.specs.Soundness.Sound.{IsSound}
+use Rattle.dom_model.specs.Forests.Nodes.{entry_has, kind_passes}
 use Rattle.dom_model.specs.DataAndCopies.Data.{with_data, cut_count}
 use Rattle.dom_model.specs.Forests.Ways.{IsWay}
 use Rattle.dom_model.specs.RangesAndContents.BesidePaths.{tail_nodes, head_nodes}

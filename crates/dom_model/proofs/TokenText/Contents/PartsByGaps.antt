@@ -3,7 +3,7 @@
 use Rattle.std.proofs.Common.{◌≡◌, ℕ, ◌-◌, ◌≤◌, true, false, [], ◌++◌, take, drop, Some, refl, ap, ◌∙◌}
 use Rattle.dom_model.specs.Forests.Forest.{root_of}
 use Rattle.dom_model.specs.Worlds.World.{Range, World}
-use Rattle.dom_model.specs.Worlds.Sound.{IsSound}
+use Rattle.dom_model.specs.Soundness.Sound.{IsSound}
 use Rattle.dom_model.specs.RangesAndContents.Ranges.{range_at}
 use Rattle.dom_model.specs.TokenText.Tokens.{unmarked, marks_from, texts_of}
 use Rattle.dom_model.specs.TokenText.Gaps.{text_among, root_text, tokens_ahead}

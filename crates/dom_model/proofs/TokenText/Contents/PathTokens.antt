@@ -4,8 +4,8 @@ use Rattle.std.proofs.Common.{ℕ, if◌then◌else◌, List, [], ◌∷◌, ◌
 use Rattle.dom_model.specs.Forests.Kinds.{is_character_data}
 use Rattle.dom_model.specs.Forests.Forest.{Forest, children_of}
 use Rattle.dom_model.specs.Worlds.World.{Content, Range, World}
-use Rattle.dom_model.specs.MutationAlgorithms.PreRemoval.{past}
-use Rattle.dom_model.specs.MutationAlgorithms.Checks.{up_to, kind_passes}
+use Rattle.dom_model.specs.PlainLists.Lists.{past, up_to}
+use Rattle.dom_model.specs.Forests.Nodes.{kind_passes}
 use Rattle.dom_model.specs.DataAndCopies.Data.{data_of}
 use Rattle.dom_model.specs.RangesAndContents.Contents.{path_below, common_of, contained_children}
 use Rattle.dom_model.specs.TokenText.Tokens.{Token, Open, Close, no_marks, unit_tokens, token_texts, tokens_among}

@@ -2,11 +2,10 @@
 -- DOM Standard, "Interface Range": delete the contents, extract.
 use Rattle.std.proofs.Common.{◌≡◌, ℕ, suc, ◌+◌, ◌<◌, true, List, [], ◌∷◌, ◌++◌, length, Some, None, unwrap_or, option_map, option_and_then, refl, ap, sym, ◌∙◌, subst, arith, append_assoc, append-nil, length-append}
 use Rattle.std.proofs.lemmas.List.{length-take-le}
-use Rattle.dom_model.specs.PlainLists.Lists.{hits, among, place_in}
+use Rattle.dom_model.specs.PlainLists.Lists.{hits, among, place_in, up_to}
 use Rattle.dom_model.specs.Forests.Forest.{Forest, empty, node, occurs, tops, entry_in, children_of, index_of, ancestors, root_of}
 use Rattle.dom_model.specs.Worlds.World.{Content, Range, World}
-use Rattle.dom_model.specs.Worlds.Sound.{IsSound, IsRange}
-use Rattle.dom_model.specs.MutationAlgorithms.Checks.{up_to}
+use Rattle.dom_model.specs.Soundness.Sound.{IsSound, IsRange}
 use Rattle.dom_model.specs.RangesAndContents.Ranges.{point_after}
 use Rattle.dom_model.specs.RangesAndContents.Contents.{common_of, new_place}
 use Rattle.dom_model.specs.TokenText.Tokens.{Token, Open, Close, point, is_open, no_marks, token_texts}

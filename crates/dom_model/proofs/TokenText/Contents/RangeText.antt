@@ -3,13 +3,13 @@ use Rattle.std.proofs.Common.{◌≡◌, ℕ, suc, ◌+◌, ◌-◌, ◌<◌, �
 use Rattle.std.specs.Ordering.{nat_cmp}
 use Rattle.std.proofs.lemmas.Bool.{false≢true, cases_lt}
 use Rattle.dom_model.specs.declared.Kind.TheVariants.{Text}
-use Rattle.dom_model.specs.PlainLists.Lists.{hits}
+use Rattle.dom_model.specs.PlainLists.Lists.{hits, is_same}
 use Rattle.dom_model.specs.Forests.Forest.{Node, numbers, entry_in, root_of}
-use Rattle.dom_model.specs.Forests.Lengths.{node_length, unit_count}
+use Rattle.dom_model.specs.Worlds.Lengths.{node_length, unit_count}
 use Rattle.dom_model.specs.Worlds.World.{Content, Point, Range, World}
-use Rattle.dom_model.specs.Worlds.Sound.{IsSound, IsRange}
+use Rattle.dom_model.specs.Soundness.Sound.{IsSound, IsRange}
 use Rattle.dom_model.specs.BoundaryPoints.Points.{order_of}
-use Rattle.dom_model.specs.MutationAlgorithms.Checks.{is_same, is_of_kind}
+use Rattle.dom_model.specs.Forests.Nodes.{is_of_kind}
 use Rattle.dom_model.specs.RangesAndContents.Ranges.{is_less, range_at}
 use Rattle.dom_model.specs.RangesAndContents.Contents.{contained_in, text_part, text_between, range_text}
 use Rattle.dom_model.specs.DataAndCopies.Data.{content_in, data_of}

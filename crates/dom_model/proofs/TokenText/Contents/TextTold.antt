@@ -11,9 +11,9 @@ use Rattle.dom_model.specs.Forests.Kinds.{is_kind, is_character_data}
 use Rattle.dom_model.specs.Forests.Arena.{Entry}
 use Rattle.dom_model.specs.Forests.Forest.{Node, Forest, empty, node, tops, numbers, entry_in}
 use Rattle.dom_model.specs.Forests.Lies.{Lies}
-use Rattle.dom_model.specs.Forests.Lengths.{node_length, unit_count}
+use Rattle.dom_model.specs.Worlds.Lengths.{node_length, unit_count}
 use Rattle.dom_model.specs.Worlds.World.{Content, Point, World}
-use Rattle.dom_model.specs.MutationAlgorithms.Checks.{is_of_kind}
+use Rattle.dom_model.specs.Forests.Nodes.{is_of_kind}
 use Rattle.dom_model.specs.DataAndCopies.Data.{content_in, data_of, joined_data}
 use Rattle.dom_model.specs.TokenText.Tokens.{Token, is_open, Open, Close, point, same_point, no_marks, unit_tokens, child_tokens, stands_at}
 use Rattle.dom_model.specs.TokenText.Gaps.{tokens_ahead}

@@ -4,15 +4,16 @@ use Rattle.std.proofs.Common.{◌≡◌, ℕ, ◌+◌, ◌*◌, ◌<◌, ◌≤�
 use Rattle.std.proofs.lemmas.Bool.{cases_lt, false≢true, lt-ltb, le-ltb}
 use Rattle.std.proofs.lemmas.List.Elements.{filter-append}
 use Rattle.std.specs.declared.cmp.Ordering.TheVariants.{Less, Greater}
-use Rattle.dom_model.specs.PlainLists.Lists.{hits, among, place_in}
+use Rattle.dom_model.specs.PlainLists.Lists.{hits, among, place_in, is_same}
 use Rattle.dom_model.specs.Forests.Kinds.{is_character_data, may_be_parent}
 use Rattle.dom_model.specs.Forests.Forest.{occurs, one_at, without, parent_of, children_of, index_of, ancestors, root_of, inclusive_descendants}
 use Rattle.dom_model.specs.Worlds.World.{Range, World}
-use Rattle.dom_model.specs.Worlds.Sound.{IsRange, IsSound}
+use Rattle.dom_model.specs.Soundness.Sound.{IsRange, IsSound}
 use Rattle.dom_model.specs.BoundaryPoints.Points.{path_places, order_of}
-use Rattle.dom_model.specs.MutationAlgorithms.Checks.{if_given, is_same, kind_passes}
-use Rattle.dom_model.specs.Forests.Lengths.{unit_count, node_length}
-use Rattle.dom_model.specs.RangesAndContents.Ranges.{is_less, is_before, same_root, common_ancestor}
+use Rattle.dom_model.specs.MutationAlgorithms.Checks.{if_given}
+use Rattle.dom_model.specs.Forests.Nodes.{kind_passes, same_root}
+use Rattle.dom_model.specs.Worlds.Lengths.{unit_count, node_length}
+use Rattle.dom_model.specs.RangesAndContents.Ranges.{is_less, is_before, common_ancestor}
 use Rattle.dom_model.specs.RangesAndContents.Contents.{path_below, common_of, contained_in, contained_tops, contained_children}
 use Rattle.dom_model.specs.TokenText.Tokens.{point}
 use Rattle.dom_model.specs.Forests.Ways.{IsWay}

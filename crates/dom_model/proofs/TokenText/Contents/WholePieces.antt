@@ -5,7 +5,7 @@ use Rattle.dom_model.specs.PlainLists.Lists.{hits}
 use Rattle.dom_model.specs.Forests.Kinds.{is_character_data}
 use Rattle.dom_model.specs.Forests.Forest.{Node, Forest, empty, node, occurs, one_at, tops, tree_at, entry_in, children_of}
 use Rattle.dom_model.specs.Worlds.World.{Content, Point}
-use Rattle.dom_model.specs.MutationAlgorithms.Checks.{kind_passes}
+use Rattle.dom_model.specs.Forests.Nodes.{kind_passes}
 use Rattle.dom_model.specs.DataAndCopies.Data.{content_in}
 use Rattle.dom_model.specs.TokenText.Tokens.{Token, Open, Close, OneUnit, point, same_point, is_open, no_marks, unit_tokens, child_tokens, token_texts, tokens_among}
 use Rattle.dom_model.specs.TokenText.Gaps.{tokens_ahead}

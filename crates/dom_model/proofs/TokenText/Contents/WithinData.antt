@@ -6,11 +6,11 @@ use Rattle.std.proofs.lemmas.List.{length-take-le}
 use Rattle.dom_model.specs.Forests.Kinds.{is_character_data}
 use Rattle.dom_model.specs.Forests.Forest.{root_of}
 use Rattle.dom_model.specs.Forests.Texts.{spliced}
-use Rattle.dom_model.specs.Forests.Lengths.{node_length, unit_count}
+use Rattle.dom_model.specs.Worlds.Lengths.{node_length, unit_count}
 use Rattle.dom_model.specs.Worlds.World.{Point, Range, World}
-use Rattle.dom_model.specs.Worlds.Sound.{IsSound, IsRange}
+use Rattle.dom_model.specs.Soundness.Sound.{IsSound, IsRange}
 use Rattle.dom_model.specs.BoundaryPoints.Points.{after_splice, moved_range}
-use Rattle.dom_model.specs.MutationAlgorithms.Checks.{kind_passes}
+use Rattle.dom_model.specs.Forests.Nodes.{kind_passes}
 use Rattle.dom_model.specs.RangesAndContents.Ranges.{is_collapsed, range_at}
 use Rattle.dom_model.specs.RangesAndContents.Contents.{for_range, is_in_one_data, deleted, delete_contents}
 use Rattle.dom_model.specs.DataAndCopies.Data.{cut_count, data_of, with_data, replace_data}

@@ -10,7 +10,7 @@ use Rattle.dom_model.specs.Forests.Attributes.{Attribute}
 use Rattle.dom_model.specs.Forests.Forest.{Node, Forest, empty, node, map_nodes, with_node, in_document, adopted}
 use Rattle.dom_model.specs.Worlds.World.{Content, World}
 use Rattle.dom_model.specs.Commands.Reply.{Reply, Flag, Done}
-use Rattle.dom_model.specs.MutationAlgorithms.Checks.{is_of_kind}
+use Rattle.dom_model.specs.Forests.Nodes.{is_of_kind}
 use Rattle.dom_model.specs.MutationAlgorithms.Editing.{remove, adopt}
 use Rattle.dom_model.specs.DataAndCopies.Data.{with_attributes, set_attribute, has_attribute, remove_attribute, remove_attribute_if, is_toggled_on, toggled, toggle_attribute}
 use Rattle.dom_model.specs.Commands.Guards.{Bounds, Step, refused, guarded, no_node, wrong_kind, bad_name, throws, does}
@@ -20,7 +20,7 @@ use Rattle.dom_model.specs.Commands.Answer.{answer}
 use Rattle.dom_model.specs.TokenText.Tokens.{Edit}
 use Rattle.dom_model.specs.TokenText.Edits.{all_on_world, remove_edits}
 use Rattle.dom_model.specs.TokenText.CommandEdits.{unless_refused, command_edits, edits_of}
-use Rattle.dom_model.specs.Worlds.Sound.{IsSound}
+use Rattle.dom_model.specs.Soundness.Sound.{IsSound}
 use Rattle.dom_model.specs.TokenText.Fitting.{AllFit}
 use Rattle.dom_model.proofs.PlainLists.Numbers.{same_or, same, apart}
 use Rattle.dom_model.proofs.TokenText.EditsMade.EditsLeave.{laid, Leave, leave-laid}

@@ -2,13 +2,13 @@
 use Rattle.std.proofs.Common.{◌≡◌, ℕ, ◌-◌, ◌≤◌, Bool, true, false, if◌then◌else◌, List, [], ◌∷◌, length, Option, Some, None, is_some, refl, ap, ◌∙◌, subst, arith}
 use Rattle.dom_model.specs.Forests.Kinds.{is_character_data}
 use Rattle.dom_model.specs.Worlds.World.{Range, World}
-use Rattle.dom_model.specs.MutationAlgorithms.Checks.{kind_passes}
+use Rattle.dom_model.specs.Forests.Nodes.{kind_passes}
 use Rattle.dom_model.specs.MutationAlgorithms.Editing.{remove}
 use Rattle.dom_model.specs.RangesAndContents.Ranges.{is_collapsed, collapsed_at, range_at, with_range}
 use Rattle.dom_model.specs.DataAndCopies.Data.{data_of, replace_data, remove_each}
 use Rattle.dom_model.specs.RangesAndContents.Contents.{for_range, is_in_one_data, cut_from, cut_up_to, contained_tops, new_place, deleted_between, deleted, delete_contents}
 use Rattle.dom_model.specs.TokenText.Edits.{Trace, begun, remove_edits, ends_edits_at, replace_data_edits, doing_ends, doing_remove, doing_remove_each, doing_replace_data, doing_cut_from, doing_cut_up_to, deleted_between_trace, deleted_edits, delete_contents_edits}
-use Rattle.dom_model.specs.Worlds.Sound.{IsRange, IsSound}
+use Rattle.dom_model.specs.Soundness.Sound.{IsRange, IsSound}
 use Rattle.dom_model.proofs.Soundness.SoundWorlds.{IsLive, sound-remove}
 use Rattle.dom_model.proofs.Soundness.SoundRangeSteps.{live_range}
 use Rattle.dom_model.proofs.Soundness.SoundDeleting.{offset_of_start, in_data, one, sound-second, three, place_left}

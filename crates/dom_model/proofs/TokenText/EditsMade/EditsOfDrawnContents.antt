@@ -6,21 +6,22 @@ use Rattle.std.specs.List.{list_any}
 use Rattle.dom_model.specs.declared.DomError.TheVariants.{HierarchyRequestError}
 use Rattle.dom_model.specs.declared.Kind.{Kind}
 use Rattle.dom_model.specs.declared.Kind.TheVariants.{DocumentType, DocumentFragment}
-use Rattle.dom_model.specs.PlainLists.Lists.{hits, among, head_of}
+use Rattle.dom_model.specs.PlainLists.Lists.{hits, among, head_of, first_refusal, is_same}
 use Rattle.dom_model.specs.Forests.Kinds.{is_kind, is_character_data, may_be_parent}
 use Rattle.dom_model.specs.Forests.Forest.{Node, empty, node, occurs, entry_in, parent_of, children_of, ancestors, root_of}
 use Rattle.dom_model.specs.Worlds.World.{Content, Range, World, no_content}
 use Rattle.dom_model.specs.BoundaryPoints.Points.{order_of}
-use Rattle.dom_model.specs.MutationAlgorithms.Checks.{first_refusal, entry_has, kind_passes, is_of_kind, is_same, has_kind}
+use Rattle.dom_model.specs.MutationAlgorithms.Checks.{has_kind}
+use Rattle.dom_model.specs.Forests.Nodes.{entry_has, kind_passes, is_of_kind}
 use Rattle.dom_model.specs.MutationAlgorithms.Editing.{node_document}
-use Rattle.dom_model.specs.Forests.Lengths.{unit_count, node_length}
-use Rattle.dom_model.specs.Commands.Making.{named}
+use Rattle.dom_model.specs.Worlds.Lengths.{unit_count, node_length}
+use Rattle.dom_model.specs.Worlds.Making.{named}
 use Rattle.dom_model.specs.DataAndCopies.Data.{data_of}
 use Rattle.dom_model.specs.RangesAndContents.Ranges.{is_collapsed, is_less, range_at, collapsed_at, with_range}
 use Rattle.dom_model.specs.RangesAndContents.Contents.{for_range, is_in_one_data, new_place, new_fragment, common_of, path_below, contained_in, contained_children, units_into, children_into, tail_into, parts_into, contents_drawn, check_draw, check_extract, extracted, extract, clone_contents}
 use Rattle.dom_model.specs.TokenText.Tokens.{point}
 use Rattle.dom_model.specs.TokenText.Edits.{Trace, doing_fragment, doing_units, doing_children, doing_tail, doing_head, doing_parts, doing_ends, drawn_trace, extracted_trace, extract_edits, clone_contents_edits}
-use Rattle.dom_model.specs.Worlds.Sound.{IsRange, IsSound}
+use Rattle.dom_model.specs.Soundness.Sound.{IsRange, IsSound}
 use Rattle.dom_model.proofs.PlainLists.Numbers.{same_or, same, apart}
 use Rattle.dom_model.proofs.Forests.Entries.{occurs-HasNode}
 use Rattle.dom_model.proofs.Forests.Indices.{child-parent, child-there}

@@ -7,7 +7,7 @@ use Rattle.dom_model.specs.Commands.Guards.{Bounds}
 use Rattle.dom_model.specs.Commands.Answer.{answer}
 use Rattle.dom_model.specs.TokenText.Edits.{all_on_world}
 use Rattle.dom_model.specs.TokenText.CommandEdits.{edits_of, world_past}
-use Rattle.dom_model.specs.Worlds.Sound.{IsSound}
+use Rattle.dom_model.specs.Soundness.Sound.{IsSound}
 use Rattle.dom_model.specs.Forests.Forest.{occurs}
 use Rattle.dom_model.specs.RangesAndContents.Wrapping.{insert_node}
 use Rattle.dom_model.specs.TokenText.Fitting.{AllFit}

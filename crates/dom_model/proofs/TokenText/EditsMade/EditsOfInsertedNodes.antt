@@ -4,16 +4,17 @@ use Rattle.dom_model.specs.declared.DomError.{DomError}
 use Rattle.dom_model.specs.declared.Kind.TheVariants.{Text}
 use Rattle.dom_model.specs.Forests.Forest.{Forest, empty, node, occurs, one_at, with_node, parent_of}
 use Rattle.dom_model.specs.Worlds.World.{Content, Point, Range, World}
-use Rattle.dom_model.specs.MutationAlgorithms.Checks.{check_insert, is_of_kind}
+use Rattle.dom_model.specs.MutationAlgorithms.Checks.{check_insert}
+use Rattle.dom_model.specs.Forests.Nodes.{is_of_kind}
 use Rattle.dom_model.specs.MutationAlgorithms.Editing.{remove, pre_insert, reference_child, node_document}
-use Rattle.dom_model.specs.Commands.Making.{made_node, named, with_text}
+use Rattle.dom_model.specs.Worlds.Making.{made_node, named, with_text}
 use Rattle.dom_model.specs.RangesAndContents.Ranges.{is_collapsed, range_at, with_range}
 use Rattle.dom_model.specs.DataAndCopies.Data.{data_of, tail_of, replace_data, split_off, split, with_data, cut_count}
 use Rattle.dom_model.specs.Forests.Texts.{spliced}
 use Rattle.dom_model.specs.RangesAndContents.Contents.{for_range}
 use Rattle.dom_model.specs.RangesAndContents.Wrapping.{Outcome, and_then, unless, is_text, reference_at, parent_at, check_start, split_at, reference_after, offset_past, end_if_collapsed, placed_at, inserted_at, insert_node}
 use Rattle.dom_model.specs.TokenText.Edits.{Trace, remove_edits, split_edits, pre_insert_edits, doing, doing_remove, doing_ends, doing_split_at, doing_pre_insert, doing_end_if_collapsed, doing_placed, doing_insert_at, doing_insert_node, insert_node_edits}
-use Rattle.dom_model.specs.Worlds.Sound.{IsBoundary, IsSound}
+use Rattle.dom_model.specs.Soundness.Sound.{IsBoundary, IsSound}
 use Rattle.dom_model.proofs.Forests.Totals.{total-beside}
 use Rattle.dom_model.proofs.Forests.Entries.{occurs-HasNode}
 use Rattle.dom_model.proofs.Worlds.SameShape.{with_node-alike, occurs-alike}

@@ -9,12 +9,12 @@ use Rattle.dom_model.specs.Forests.Kinds.{may_be_parent}
 use Rattle.dom_model.specs.Forests.Forest.{Forest, occurs, children_of, index_of, put}
 use Rattle.dom_model.specs.Worlds.World.{Content, Point, Range, World}
 use Rattle.dom_model.specs.BoundaryPoints.Points.{after_gap, map_ranges}
-use Rattle.dom_model.specs.MutationAlgorithms.Checks.{kind_passes}
-use Rattle.dom_model.specs.Forests.Lengths.{unit_count, node_length}
+use Rattle.dom_model.specs.Forests.Nodes.{kind_passes}
+use Rattle.dom_model.specs.Worlds.Lengths.{unit_count, node_length}
 use Rattle.dom_model.specs.MutationAlgorithms.Editing.{put_in, put_all, gap_before}
 use Rattle.dom_model.specs.TokenText.Tokens.{point, Insertion}
 use Rattle.dom_model.specs.TokenText.Edits.{index_before, insertions, on_world}
-use Rattle.dom_model.specs.Worlds.Sound.{IsBoundary, IsRange, IsSound}
+use Rattle.dom_model.specs.Soundness.Sound.{IsBoundary, IsRange, IsSound}
 use Rattle.dom_model.specs.MutationAlgorithms.Insertable.{IsPlaceable, ArePlaceable, IsChildOf}
 use Rattle.dom_model.specs.TokenText.Fitting.{Fits, fits_insertion}
 use Rattle.dom_model.proofs.PlainLists.Numbers.{same_or, same, apart}

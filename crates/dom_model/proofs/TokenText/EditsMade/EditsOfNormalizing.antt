@@ -12,14 +12,14 @@ use Rattle.dom_model.specs.Forests.Forest.{Node, Forest, occurs, cut, with_node,
 use Rattle.dom_model.specs.Forests.Texts.{spliced}
 use Rattle.dom_model.specs.Worlds.World.{Content, Point, Range, World}
 use Rattle.dom_model.specs.BoundaryPoints.Points.{after_splice, after_merge, after_removal, moved_range, map_ranges}
-use Rattle.dom_model.specs.MutationAlgorithms.Checks.{is_of_kind}
-use Rattle.dom_model.specs.Forests.Lengths.{unit_count, node_length}
+use Rattle.dom_model.specs.Forests.Nodes.{is_of_kind}
+use Rattle.dom_model.specs.Worlds.Lengths.{unit_count, node_length}
 use Rattle.dom_model.specs.MutationAlgorithms.Editing.{removed_from, remove}
 use Rattle.dom_model.specs.RangesAndContents.Ranges.{end_of}
 use Rattle.dom_model.specs.DataAndCopies.Data.{content_in, data_of, with_data, following_texts, joined_data, merge_ends, remove_each, join_following, normalize_text, is_descendant, text_descendants, normalize_each, normalize}
 use Rattle.dom_model.specs.TokenText.Tokens.{Merge}
 use Rattle.dom_model.specs.TokenText.Edits.{merge_from, on_world, remove_edits, merges, normalize_text_edits, normalize_each_edits, normalize_edits}
-use Rattle.dom_model.specs.Worlds.Sound.{IsBoundary, IsRange, IsSound}
+use Rattle.dom_model.specs.Soundness.Sound.{IsBoundary, IsRange, IsSound}
 use Rattle.dom_model.specs.DataAndCopies.Joinable.{Lives, AreUpTo, AreJoinable}
 use Rattle.dom_model.specs.TokenText.Fitting.{IsPoint, IsReady, Fits, fits_merge}
 use Rattle.dom_model.proofs.PlainLists.Numbers.{same_or, same, apart}

@@ -6,10 +6,10 @@ use Rattle.dom_model.specs.declared.DomError.TheVariants.{InvalidNodeTypeError}
 use Rattle.dom_model.specs.declared.OwnError.TheVariants.{InUse}
 use Rattle.dom_model.specs.Forests.Kinds.{is_kind}
 use Rattle.dom_model.specs.Forests.Forest.{parent_of}
-use Rattle.dom_model.specs.MutationAlgorithms.Checks.{kind_passes, is_of_kind}
+use Rattle.dom_model.specs.Forests.Nodes.{kind_passes, is_of_kind}
 use Rattle.dom_model.specs.Worlds.World.{Point, Range, World}
 use Rattle.dom_model.specs.Commands.Reply.{Number, Nothing, Done, Dom, Own}
-use Rattle.dom_model.specs.Forests.Lengths.{unit_count}
+use Rattle.dom_model.specs.Worlds.Lengths.{unit_count}
 use Rattle.dom_model.specs.RangesAndContents.Ranges.{start_set, end_set, point_before, point_after, around, contents_of, collapsed_at, collapsed, check_point, check_contents, range_at, with_range, made_range, released}
 use Rattle.dom_model.specs.RangesAndContents.Contents.{for_range, delete_contents, check_extract, extract, clone_contents}
 use Rattle.dom_model.specs.RangesAndContents.Wrapping.{insert_node, surround}
@@ -21,7 +21,7 @@ use Rattle.dom_model.specs.Commands.Answer.{answer}
 use Rattle.dom_model.specs.TokenText.Tokens.{Edit, RangeMaking, Release, Discard, point}
 use Rattle.dom_model.specs.TokenText.Edits.{ends_edits, ends_edits_at, delete_contents_edits, extract_edits, clone_contents_edits, insert_node_edits, surround_edits}
 use Rattle.dom_model.specs.TokenText.CommandEdits.{start_edits, end_edits, start_edits_at, end_edits_at, select_edits, command_edits}
-use Rattle.dom_model.specs.Worlds.Sound.{IsBoundary, IsRange, IsSound}
+use Rattle.dom_model.specs.Soundness.Sound.{IsBoundary, IsRange, IsSound}
 use Rattle.dom_model.proofs.Forests.Entries.{HasNode-occurs}
 use Rattle.dom_model.proofs.Soundness.SoundWorlds.{IsLive}
 use Rattle.dom_model.proofs.Soundness.SoundEditing.{clear}

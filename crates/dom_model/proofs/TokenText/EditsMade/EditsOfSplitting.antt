@@ -7,13 +7,13 @@ use Rattle.dom_model.specs.Forests.Kinds.{is_character_data}
 use Rattle.dom_model.specs.Forests.Forest.{Forest, empty, node, occurs, parent_of, children_of, next_of, index_of}
 use Rattle.dom_model.specs.Worlds.World.{Content, World}
 use Rattle.dom_model.specs.BoundaryPoints.Points.{map_ranges, after_split}
-use Rattle.dom_model.specs.MutationAlgorithms.Checks.{is_of_kind}
+use Rattle.dom_model.specs.Forests.Nodes.{is_of_kind}
 use Rattle.dom_model.specs.MutationAlgorithms.Editing.{node_document}
-use Rattle.dom_model.specs.Commands.Making.{made_node, named, with_text}
+use Rattle.dom_model.specs.Worlds.Making.{made_node, named, with_text}
 use Rattle.dom_model.specs.DataAndCopies.Data.{content_in, data_of, cut_count, replace_units, replace_data, tail_of, split_off, split}
 use Rattle.dom_model.specs.TokenText.Tokens.{point, Splice, Parting}
 use Rattle.dom_model.specs.TokenText.Edits.{index_before, insertion_at, parting_from, making, replace_data_edits, split_edits_by, split_edits}
-use Rattle.dom_model.specs.Worlds.Sound.{IsSound}
+use Rattle.dom_model.specs.Soundness.Sound.{IsSound}
 use Rattle.dom_model.specs.MutationAlgorithms.Insertable.{IsChildOf}
 use Rattle.dom_model.specs.TokenText.Fitting.{fits_parting}
 use Rattle.dom_model.proofs.Forests.Siblings.{place-next}

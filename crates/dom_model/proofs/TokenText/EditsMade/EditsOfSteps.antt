@@ -7,11 +7,11 @@ use Rattle.dom_model.specs.PlainLists.Lists.{hits}
 use Rattle.dom_model.specs.Forests.Forest.{Node, Forest, empty, node, size, parent_of, KindsFit}
 use Rattle.dom_model.specs.Worlds.World.{Content, Point, Range, World}
 use Rattle.dom_model.specs.MutationAlgorithms.Editing.{removed_from, remove, remove_all, tree_record_unless}
-use Rattle.dom_model.specs.Commands.Making.{made_node}
+use Rattle.dom_model.specs.Worlds.Making.{made_node}
 use Rattle.dom_model.specs.RangesAndContents.Ranges.{end_of, range_at, with_range, made_range, released}
 use Rattle.dom_model.specs.DataAndCopies.Data.{data_of, cut_count, replace_data}
-use Rattle.dom_model.specs.MutationAlgorithms.Checks.{kind_passes}
-use Rattle.dom_model.specs.Worlds.Sound.{IsRange, IsSound}
+use Rattle.dom_model.specs.Forests.Nodes.{kind_passes}
+use Rattle.dom_model.specs.Soundness.Sound.{IsRange, IsSound}
 use Rattle.dom_model.specs.DataAndCopies.Clones.{renumbered, with_copies}
 use Rattle.dom_model.specs.MutationAlgorithms.Discarding.{discarded}
 use Rattle.dom_model.specs.TokenText.Tokens.{same_point, Removal, Splice, EndSet, Making, RangeMaking, Release, Discard}

@@ -10,7 +10,7 @@ use Rattle.dom_model.specs.RangesAndContents.Ranges.{is_collapsed, collapsed_at,
 use Rattle.dom_model.specs.RangesAndContents.Contents.{for_range, is_in_one_data, new_place, contents_drawn, check_extract, extracted, extract}
 use Rattle.dom_model.specs.RangesAndContents.Wrapping.{Outcome, and_then, unless, try_pre_insert, insert_node, check_surround, try_extract, selected, try_select, surrounded, surround}
 use Rattle.dom_model.specs.TokenText.Edits.{begun, append_edits, replace_all_edits, extract_edits, doing, doing_append, doing_insert_node, doing_ends, doing_selected, doing_select, doing_surround, surround_edits}
-use Rattle.dom_model.specs.Worlds.Sound.{IsSound}
+use Rattle.dom_model.specs.Soundness.Sound.{IsSound}
 use Rattle.dom_model.proofs.Forests.Indices.{child-there}
 use Rattle.dom_model.proofs.MutationAlgorithms.Loosened.{loosened-remove_all}
 use Rattle.dom_model.proofs.Soundness.SoundEditing.{sound-pre_insert, sound-replace_all}

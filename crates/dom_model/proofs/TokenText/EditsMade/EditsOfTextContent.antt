@@ -6,12 +6,12 @@ use Rattle.dom_model.specs.Forests.Kinds.{is_kind, is_character_data, may_be_par
 use Rattle.dom_model.specs.Forests.Arena.{Entry}
 use Rattle.dom_model.specs.Forests.Forest.{Node, occurs, entry_in}
 use Rattle.dom_model.specs.Worlds.World.{Content, World}
-use Rattle.dom_model.specs.MutationAlgorithms.Checks.{entry_has, kind_passes}
+use Rattle.dom_model.specs.Forests.Nodes.{entry_has, kind_passes}
 use Rattle.dom_model.specs.MutationAlgorithms.Editing.{node_document, replace_all}
-use Rattle.dom_model.specs.Commands.Making.{made_node, named, with_text}
+use Rattle.dom_model.specs.Worlds.Making.{made_node, named, with_text}
 use Rattle.dom_model.specs.DataAndCopies.Data.{data_of, by_kind, set_data, string_replace_all, set_text_content_by, set_text_content}
 use Rattle.dom_model.specs.TokenText.Edits.{making, set_data_edits, replace_all_edits, string_replace_all_edits, set_text_content_edits_by, set_text_content_edits}
-use Rattle.dom_model.specs.Worlds.Sound.{IsSound}
+use Rattle.dom_model.specs.Soundness.Sound.{IsSound}
 use Rattle.dom_model.specs.MutationAlgorithms.Insertable.{IsInsertable}
 use Rattle.dom_model.proofs.Forests.Climbing.{hits-ancestors}
 use Rattle.dom_model.proofs.Forests.OneMoreRoot.{more-there, new-there, children-new, entry-new}

@@ -9,9 +9,10 @@ use Rattle.dom_model.specs.Forests.Names.{is_element_name, is_doctype_name}
 use Rattle.dom_model.specs.Forests.Forest.{parent_of}
 use Rattle.dom_model.specs.Worlds.World.{Content, World, no_content, document_label}
 use Rattle.dom_model.specs.Commands.Reply.{Reply, Number, Nothing, Done}
-use Rattle.dom_model.specs.MutationAlgorithms.Checks.{kind_passes, is_of_kind, check_insert, check_replace}
+use Rattle.dom_model.specs.MutationAlgorithms.Checks.{check_insert, check_replace}
+use Rattle.dom_model.specs.Forests.Nodes.{kind_passes, is_of_kind}
 use Rattle.dom_model.specs.MutationAlgorithms.Editing.{remove, pre_insert, append, replace, replace_all}
-use Rattle.dom_model.specs.Forests.Lengths.{length_at}
+use Rattle.dom_model.specs.Worlds.Lengths.{length_at}
 use Rattle.dom_model.specs.DataAndCopies.Clones.{original, document_of_clone, clone_node, import_node}
 use Rattle.dom_model.specs.DataAndCopies.Data.{data_of, check_offset, replace_data, set_data, split, normalize, set_text_content}
 use Rattle.dom_model.specs.Commands.Guards.{Bounds, Step, guarded, checked, no_node, no_node_given, wrong_kind, no_room, no_room_for_copies, bad_name, throws, makes, named, with_text, does}
@@ -22,7 +23,7 @@ use Rattle.dom_model.specs.Commands.Answer.{answer}
 use Rattle.dom_model.specs.TokenText.Tokens.{Edit}
 use Rattle.dom_model.specs.TokenText.Edits.{making, pre_insert_edits, append_edits, replace_edits, remove_edits, replace_all_edits, import_edits, clone_edits, normalize_edits, set_text_content_edits, set_data_edits, replace_data_edits, split_edits}
 use Rattle.dom_model.specs.TokenText.CommandEdits.{command_edits}
-use Rattle.dom_model.specs.Worlds.Sound.{IsSound}
+use Rattle.dom_model.specs.Soundness.Sound.{IsSound}
 use Rattle.dom_model.proofs.Soundness.SoundEditing.{MayComeIn, may_come_in}
 use Rattle.dom_model.proofs.Soundness.SoundMaking.{fits-original}
 use Rattle.dom_model.proofs.Soundness.SoundSplitting.{text_has_data}

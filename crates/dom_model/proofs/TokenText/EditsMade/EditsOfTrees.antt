@@ -6,7 +6,7 @@ use Rattle.dom_model.specs.Worlds.World.{World}
 use Rattle.dom_model.specs.MutationAlgorithms.Checks.{check_insert, check_replace}
 use Rattle.dom_model.specs.MutationAlgorithms.Editing.{remove, remove_all, is_fragment, nodes_of, emptied_fragment, freed, put_all, gap_before, insert_nodes, insert, reference_child, pre_insert, append, replace, added_by, insert_if_any, replaced_record, replace_all, previous_to}
 use Rattle.dom_model.specs.TokenText.Edits.{removals, remove_edits, freed_edits, index_before, insertions, insert_edits, pre_insert_edits, append_edits, replace_edits, insert_edits_if_any, replace_all_edits}
-use Rattle.dom_model.specs.Worlds.Sound.{IsSound}
+use Rattle.dom_model.specs.Soundness.Sound.{IsSound}
 use Rattle.dom_model.specs.MutationAlgorithms.Insertable.{IsInsertable}
 use Rattle.dom_model.proofs.Forests.Indices.{child-once, child-parent, child-there}
 use Rattle.dom_model.proofs.MutationAlgorithms.Loosened.{loosened-remove_all}

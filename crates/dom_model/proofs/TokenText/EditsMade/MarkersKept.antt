@@ -8,7 +8,7 @@ use Rattle.dom_model.specs.RangesAndContents.Ranges.{end_of, range_at}
 use Rattle.dom_model.specs.TokenText.Tokens.{Token, texts_of, unmarked, tokens_among, gap_among, all_on_texts}
 use Rattle.dom_model.specs.TokenText.Edits.{all_on_world}
 use Rattle.dom_model.specs.TokenText.CommandEdits.{edits_of, texts_after, world_past, ranges_along, marks_along}
-use Rattle.dom_model.specs.Worlds.Sound.{IsSound}
+use Rattle.dom_model.specs.Soundness.Sound.{IsSound}
 use Rattle.dom_model.proofs.TokenText.AlikeTrees.TreesAlike.{bared}
 use Rattle.dom_model.proofs.TokenText.Marked.MarkedTexts.{Marked}
 use Rattle.dom_model.proofs.TokenText.Pieces.NodeTokens.{tokens-same}

@@ -5,7 +5,7 @@ use Rattle.dom_model.specs.PlainLists.Lists.{hits, entered}
 use Rattle.dom_model.specs.Forests.Forest.{occurs, children_of}
 use Rattle.dom_model.specs.Worlds.World.{World}
 use Rattle.dom_model.specs.MutationAlgorithms.Editing.{remove, is_fragment, nodes_of, emptied_fragment, freed, put_in, put_all, insert_nodes, append}
-use Rattle.dom_model.specs.Worlds.Sound.{IsSound}
+use Rattle.dom_model.specs.Soundness.Sound.{IsSound}
 use Rattle.dom_model.specs.MutationAlgorithms.Insertable.{IsPlaceable, ArePlaceable, IsInsertable}
 use Rattle.dom_model.proofs.Forests.Climbing.{hits-first}
 use Rattle.dom_model.proofs.Forests.Lying.{left_out-absent}

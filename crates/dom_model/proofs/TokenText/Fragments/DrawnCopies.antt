@@ -7,9 +7,9 @@ use Rattle.dom_model.specs.Forests.Kinds.{is_kind, is_character_data, may_be_par
 use Rattle.dom_model.specs.Forests.Forest.{Node, Forest, empty, node, occurs, tops, map_nodes, entry_in, children_of}
 use Rattle.dom_model.specs.Forests.Texts.{substring}
 use Rattle.dom_model.specs.Worlds.World.{Content, World, no_content}
-use Rattle.dom_model.specs.MutationAlgorithms.Checks.{entry_has, kind_passes}
+use Rattle.dom_model.specs.Forests.Nodes.{entry_has, kind_passes}
 use Rattle.dom_model.specs.MutationAlgorithms.Editing.{is_fragment, node_document, append}
-use Rattle.dom_model.specs.Commands.Making.{named}
+use Rattle.dom_model.specs.Worlds.Making.{named}
 use Rattle.dom_model.specs.DataAndCopies.Data.{data_of, with_data}
 use Rattle.dom_model.specs.DataAndCopies.Clones.{renumbered, alone_of, original, document_of_clone, clone_node}
 use Rattle.dom_model.specs.RangesAndContents.Contents.{new_fragment, clone_with, cut_if, units_into, copy_into}

@@ -8,7 +8,7 @@ use Rattle.dom_model.specs.Forests.Kinds.{is_kind, may_be_parent}
 use Rattle.dom_model.specs.Forests.Forest.{Forest, occurs, tops, tree_at, parent_of, children_of}
 use Rattle.dom_model.specs.Forests.EachNode.{EachNode}
 use Rattle.dom_model.specs.Worlds.World.{Content, World}
-use Rattle.dom_model.specs.MutationAlgorithms.Checks.{kind_passes}
+use Rattle.dom_model.specs.Forests.Nodes.{kind_passes}
 use Rattle.dom_model.specs.MutationAlgorithms.Editing.{is_fragment, append}
 use Rattle.dom_model.specs.DataAndCopies.Clones.{renumbered, document_of_clone, clone_node}
 use Rattle.dom_model.specs.RangesAndContents.Contents.{child_into, children_into}

@@ -3,13 +3,12 @@
 use Rattle.std.proofs.Common.{◌≡◌, ℕ, ◌<◌, ◌≤◌, Bool, List, [], ◌∷◌, ◌++◌, length, None, Some, refl, ap, sym, ◌∙◌, subst, arith, append_assoc}
 use Rattle.std.specs.Prelude.{replicate, reverse}
 use Rattle.dom_model.specs.declared.Kind.TheVariants.{DocumentFragment}
-use Rattle.dom_model.specs.PlainLists.Lists.{hits}
+use Rattle.dom_model.specs.PlainLists.Lists.{hits, up_to}
 use Rattle.dom_model.specs.Forests.Forest.{Forest, empty, node, occurs, tree_at, parent_of, children_of, ancestors}
 use Rattle.dom_model.specs.Worlds.World.{Content, Range, World, no_content}
-use Rattle.dom_model.specs.Worlds.Sound.{IsRange, IsSound}
-use Rattle.dom_model.specs.MutationAlgorithms.Checks.{up_to}
+use Rattle.dom_model.specs.Soundness.Sound.{IsRange, IsSound}
 use Rattle.dom_model.specs.MutationAlgorithms.Editing.{node_document}
-use Rattle.dom_model.specs.Commands.Making.{named}
+use Rattle.dom_model.specs.Worlds.Making.{named}
 use Rattle.dom_model.specs.RangesAndContents.Contents.{new_fragment, common_of, path_below, contained_in, contained_children, children_into, tail_into, head_into, parts_into, check_draw}
 use Rattle.dom_model.specs.TokenText.Tokens.{Token, Close}
 use Rattle.dom_model.specs.TokenText.Originals.{opened_in}

@@ -4,12 +4,11 @@ use Rattle.std.proofs.Common.{◌≡◌, ℕ, suc, ◌+◌, ◌-◌, ◌<◌, �
 use Rattle.std.specs.Prelude.{replicate}
 use Rattle.std.proofs.lemmas.Bool.{cases_lt}
 use Rattle.std.proofs.lemmas.List.{take_all, replicate_more}
-use Rattle.dom_model.specs.PlainLists.Lists.{hits}
+use Rattle.dom_model.specs.PlainLists.Lists.{hits, past, up_to}
 use Rattle.dom_model.specs.Forests.Kinds.{is_character_data, may_be_parent}
 use Rattle.dom_model.specs.Forests.Forest.{occurs, tree_at, children_of}
 use Rattle.dom_model.specs.Worlds.World.{World}
-use Rattle.dom_model.specs.MutationAlgorithms.PreRemoval.{past}
-use Rattle.dom_model.specs.MutationAlgorithms.Checks.{up_to, kind_passes}
+use Rattle.dom_model.specs.Forests.Nodes.{kind_passes}
 use Rattle.dom_model.specs.DataAndCopies.Data.{data_of}
 use Rattle.dom_model.specs.RangesAndContents.Contents.{units_into, children_into, copy_into, tail_into, head_into}
 use Rattle.dom_model.specs.TokenText.Tokens.{Token, Open, Close, no_marks, unit_tokens}

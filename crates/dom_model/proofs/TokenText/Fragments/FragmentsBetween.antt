@@ -11,10 +11,10 @@ use Rattle.dom_model.specs.Forests.Arena.{Entry, parent_in, children_in}
 use Rattle.dom_model.specs.Forests.Forest.{Node, Forest, empty, node, occurs, tops, entry_in, parent_of, children_of, root_of}
 use Rattle.dom_model.specs.Forests.Texts.{substring}
 use Rattle.dom_model.specs.Worlds.World.{Content, Range, World, no_content}
-use Rattle.dom_model.specs.Worlds.Sound.{IsRange, IsSound}
-use Rattle.dom_model.specs.MutationAlgorithms.Checks.{entry_has, kind_passes}
+use Rattle.dom_model.specs.Soundness.Sound.{IsRange, IsSound}
+use Rattle.dom_model.specs.Forests.Nodes.{entry_has, kind_passes}
 use Rattle.dom_model.specs.MutationAlgorithms.Editing.{node_document}
-use Rattle.dom_model.specs.Commands.Making.{named}
+use Rattle.dom_model.specs.Worlds.Making.{named}
 use Rattle.dom_model.specs.DataAndCopies.Data.{data_of}
 use Rattle.dom_model.specs.RangesAndContents.Ranges.{is_collapsed, range_at, with_range, collapsed_at}
 use Rattle.dom_model.specs.RangesAndContents.Contents.{for_range, is_in_one_data, new_place, new_fragment, units_into, parts_into, contents_drawn, check_draw, check_extract, extracted, extract, clone_contents}

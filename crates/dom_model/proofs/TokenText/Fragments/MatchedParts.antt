@@ -5,7 +5,7 @@ use Rattle.std.proofs.lemmas.Bool.{false≢true}
 use Rattle.dom_model.specs.PlainLists.Lists.{hits}
 use Rattle.dom_model.specs.Forests.Forest.{occurs, children_of}
 use Rattle.dom_model.specs.Worlds.World.{Range, World}
-use Rattle.dom_model.specs.Worlds.Sound.{IsRange, IsSound}
+use Rattle.dom_model.specs.Soundness.Sound.{IsRange, IsSound}
 use Rattle.dom_model.specs.RangesAndContents.Contents.{common_of, contained_in, contained_children}
 use Rattle.dom_model.specs.TokenText.Tokens.{Token, Open, Close, OneUnit, Mark}
 use Rattle.dom_model.specs.TokenText.Between.{opens_left, closes_left, are_units, matched, fragment_shape}

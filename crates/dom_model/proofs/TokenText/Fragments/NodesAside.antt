@@ -2,15 +2,14 @@
 -- DOM Standard, "Interface Range".
 use Rattle.std.proofs.Common.{◌≡◌, ℕ, ◌<◌, ◌≤◌, Bool, true, false, if◌then◌else◌, List, [], ◌∷◌, ◌++◌, take, drop, None, Some, refl, ap, sym, ◌∙◌, subst, arith, append-nil, ◌⊎◌, inl, inr, ⊎_elim}
 use Rattle.std.proofs.lemmas.Bool.{cases_lt, false≢true}
-use Rattle.dom_model.specs.PlainLists.Lists.{hits}
+use Rattle.dom_model.specs.PlainLists.Lists.{hits, past, up_to}
 use Rattle.dom_model.specs.Forests.Kinds.{is_character_data}
 use Rattle.dom_model.specs.Forests.Forest.{Forest, empty, node, occurs, one_at, tops, tree_at, parent_of, children_of, ancestors}
 use Rattle.dom_model.specs.Forests.EachNode.{EachNode}
-use Rattle.dom_model.specs.Forests.Lengths.{unit_count}
+use Rattle.dom_model.specs.Worlds.Lengths.{unit_count}
 use Rattle.dom_model.specs.Worlds.World.{Content, Range, World}
-use Rattle.dom_model.specs.Worlds.Sound.{IsRange, IsSound}
-use Rattle.dom_model.specs.MutationAlgorithms.PreRemoval.{past}
-use Rattle.dom_model.specs.MutationAlgorithms.Checks.{up_to, kind_passes}
+use Rattle.dom_model.specs.Soundness.Sound.{IsRange, IsSound}
+use Rattle.dom_model.specs.Forests.Nodes.{kind_passes}
 use Rattle.dom_model.specs.RangesAndContents.Contents.{path_below, common_of, contained_in, contained_children}
 use Rattle.dom_model.specs.TokenText.Tokens.{no_marks, token_texts, tokens_among}
 use Rattle.dom_model.specs.TokenText.Originals.{opened_in}

@@ -1,11 +1,10 @@
 -- The opens that wait for their closes ahead of the start marker of a live range: the innermost are those of the path down to the start.
 use Rattle.std.proofs.Common.{◌≡◌, ℕ, ◌+◌, ◌-◌, ◌<◌, ◌≤◌, ◌==◌, Bool, true, false, ◌||◌, if◌then◌else◌, List, [], ◌∷◌, ◌++◌, drop, take, length, reverse, Some, refl, ap, sym, ◌∙◌, arith, append_assoc, append-nil, length-append}
 use Rattle.std.proofs.lemmas.List.{reverse-append}
-use Rattle.dom_model.specs.PlainLists.Lists.{hits}
+use Rattle.dom_model.specs.PlainLists.Lists.{hits, up_to}
 use Rattle.dom_model.specs.Forests.Forest.{children_of, root_of}
 use Rattle.dom_model.specs.Worlds.World.{Range, World}
-use Rattle.dom_model.specs.Worlds.Sound.{IsSound, IsRange}
-use Rattle.dom_model.specs.MutationAlgorithms.Checks.{up_to}
+use Rattle.dom_model.specs.Soundness.Sound.{IsSound, IsRange}
 use Rattle.dom_model.specs.RangesAndContents.Ranges.{range_at}
 use Rattle.dom_model.specs.RangesAndContents.Contents.{is_in_one_data, common_of}
 use Rattle.dom_model.specs.TokenText.Tokens.{Token, Open, Close, OneUnit, Mark, no_marks, unit_tokens, unmarked, texts_of, is_open, has_open}

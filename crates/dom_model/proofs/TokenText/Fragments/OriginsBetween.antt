@@ -10,7 +10,7 @@ use Rattle.dom_model.specs.Forests.Attributes.{Attribute}
 use Rattle.dom_model.specs.Forests.Texts.{substring}
 use Rattle.dom_model.specs.Forests.Forest.{Forest, entry_in, root_of}
 use Rattle.dom_model.specs.Worlds.World.{Content, Range, World}
-use Rattle.dom_model.specs.Worlds.Sound.{IsRange, IsSound}
+use Rattle.dom_model.specs.Soundness.Sound.{IsRange, IsSound}
 use Rattle.dom_model.specs.MutationAlgorithms.Editing.{node_document}
 use Rattle.dom_model.specs.DataAndCopies.Data.{content_in, data_of, attributes_of}
 use Rattle.dom_model.specs.RangesAndContents.Ranges.{is_collapsed, range_at, with_range, collapsed_at}

@@ -7,7 +7,7 @@ use Rattle.dom_model.specs.Forests.Arena.{Entry, children_in}
 use Rattle.dom_model.specs.Forests.Forest.{Node, Forest, empty, node, occurs, beside, tree_at, entry_in, parent_of, children_of}
 use Rattle.dom_model.specs.Forests.Texts.{spliced}
 use Rattle.dom_model.specs.Worlds.World.{Content, World}
-use Rattle.dom_model.specs.Worlds.Sound.{IsSound}
+use Rattle.dom_model.specs.Soundness.Sound.{IsSound}
 use Rattle.dom_model.specs.MutationAlgorithms.Editing.{is_fragment, nodes_of, append}
 use Rattle.dom_model.specs.DataAndCopies.Data.{content_in, data_of, with_data, cut_count, replace_data}
 use Rattle.dom_model.specs.DataAndCopies.Clones.{renumbered, with_copies}

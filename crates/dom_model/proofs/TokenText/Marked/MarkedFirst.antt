@@ -8,7 +8,7 @@ use Rattle.dom_model.specs.Forests.Arena.{Entry}
 use Rattle.dom_model.specs.Forests.Forest.{Node, Forest, empty, node, occurs, one_at, tops, entry_in, KindsFit}
 use Rattle.dom_model.specs.Worlds.World.{Content, Point, Range, World}
 use Rattle.dom_model.specs.RangesAndContents.Ranges.{end_of}
-use Rattle.dom_model.specs.Forests.Lengths.{length_of, length_in, node_length, unit_count}
+use Rattle.dom_model.specs.Worlds.Lengths.{length_of, length_in, node_length, unit_count}
 use Rattle.dom_model.specs.TokenText.Tokens.{Token, Open, Close, is_mark_of, same_side, point, same_point, mark_if, marks_from, unit_tokens, child_tokens, token_texts, texts_of}
 use Rattle.dom_model.specs.TokenText.Fitting.{Childless, end_at}
 use Rattle.dom_model.proofs.PlainLists.Numbers.{same_or, same, apart}

@@ -8,7 +8,7 @@ use Rattle.dom_model.specs.Forests.Arena.{Entry, children_in}
 use Rattle.dom_model.specs.Forests.Forest.{Node, Forest, empty, node, occurs, one_at, tops, beside, tree_at, without, placed_before, placed_under, put, entry_in, parent_of, children_of}
 use Rattle.dom_model.specs.Worlds.World.{Content, Point, World}
 use Rattle.dom_model.specs.BoundaryPoints.Points.{after_gap}
-use Rattle.dom_model.specs.MutationAlgorithms.Checks.{entry_has, kind_passes}
+use Rattle.dom_model.specs.Forests.Nodes.{entry_has, kind_passes}
 use Rattle.dom_model.specs.MutationAlgorithms.Editing.{node_document}
 use Rattle.dom_model.specs.DataAndCopies.Data.{content_in}
 use Rattle.dom_model.specs.TokenText.Tokens.{Token, Open, Close, point, child_tokens, token_texts, in_gap, after_marks, other_texts, on_texts, Insertion}

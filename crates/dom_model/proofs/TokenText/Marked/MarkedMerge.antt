@@ -8,7 +8,7 @@ use Rattle.dom_model.specs.Forests.Forest.{Node, Forest, empty, node, occurs, on
 use Rattle.dom_model.specs.Worlds.World.{Content, Point, World}
 use Rattle.dom_model.specs.BoundaryPoints.Points.{after_removal, after_splice, after_merge, map_ranges}
 use Rattle.dom_model.specs.Forests.Texts.{spliced}
-use Rattle.dom_model.specs.MutationAlgorithms.Checks.{kind_passes}
+use Rattle.dom_model.specs.Forests.Nodes.{kind_passes}
 use Rattle.dom_model.specs.DataAndCopies.Data.{data_of, with_data}
 use Rattle.dom_model.specs.TokenText.Tokens.{Token, point, token_texts, on_texts, Merge}
 use Rattle.dom_model.specs.TokenText.Edits.{on_world, merge_from}

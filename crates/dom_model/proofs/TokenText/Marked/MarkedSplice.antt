@@ -7,7 +7,7 @@ use Rattle.dom_model.specs.Forests.Forest.{Node, Forest, empty, node, occurs, tr
 use Rattle.dom_model.specs.Worlds.World.{Content, Point, World}
 use Rattle.dom_model.specs.BoundaryPoints.Points.{after_splice}
 use Rattle.dom_model.specs.Forests.Texts.{spliced}
-use Rattle.dom_model.specs.MutationAlgorithms.Checks.{kind_passes}
+use Rattle.dom_model.specs.Forests.Nodes.{kind_passes}
 use Rattle.dom_model.specs.DataAndCopies.Data.{data_of, with_data}
 use Rattle.dom_model.specs.TokenText.Tokens.{Token, Open, Close, OneUnit, point, unit_tokens, token_texts, after_marks, units_out, unit_list, on_texts, Splice}
 use Rattle.dom_model.specs.TokenText.Edits.{on_world}

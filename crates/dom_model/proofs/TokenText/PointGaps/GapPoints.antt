@@ -6,7 +6,7 @@ use Rattle.dom_model.specs.declared.Kind.TheVariants.{Element, Text, ProcessingI
 use Rattle.dom_model.specs.Forests.Kinds.{is_kind, is_character_data, may_be_parent, may_stand_in}
 use Rattle.dom_model.specs.Forests.Forest.{Node, Forest, empty, node, occurs, tops, entry_under, ancestors, KindsFit}
 use Rattle.dom_model.specs.Worlds.World.{Content}
-use Rattle.dom_model.specs.Forests.Lengths.{length_of, length_in, unit_count}
+use Rattle.dom_model.specs.Worlds.Lengths.{length_of, length_in, unit_count}
 use Rattle.dom_model.specs.TokenText.Tokens.{point}
 use Rattle.dom_model.proofs.Forests.Chains.{way_to}
 use Rattle.dom_model.proofs.BoundaryPoints.WaysKept.{place_by}

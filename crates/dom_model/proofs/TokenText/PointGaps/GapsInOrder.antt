@@ -4,7 +4,7 @@ use Rattle.dom_model.specs.PlainLists.Lists.{hits}
 use Rattle.dom_model.specs.Forests.Forest.{Node, Forest, empty, node, occurs, one_at, tops, entry_under, root_of, index_of, KindsFit}
 use Rattle.dom_model.specs.Worlds.World.{Content, Point}
 use Rattle.dom_model.specs.BoundaryPoints.Points.{place_of, order_of}
-use Rattle.dom_model.specs.Forests.Lengths.{length_in, node_length, unit_count}
+use Rattle.dom_model.specs.Worlds.Lengths.{length_in, node_length, unit_count}
 use Rattle.dom_model.specs.TokenText.Tokens.{Open, Close, point, no_marks, token_texts}
 use Rattle.dom_model.specs.TokenText.Gaps.{text_among, root_text, tokens_ahead, gap_count, gap_order}
 use Rattle.dom_model.proofs.PlainLists.Numbers.{same_or, same, apart}

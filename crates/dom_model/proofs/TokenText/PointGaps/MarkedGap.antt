@@ -7,7 +7,7 @@ use Rattle.dom_model.specs.PlainLists.Lists.{or_else}
 use Rattle.dom_model.specs.Forests.Kinds.{is_character_data}
 use Rattle.dom_model.specs.Forests.Forest.{Node, Forest, empty, node, occurs, root_of, KindsFit}
 use Rattle.dom_model.specs.Worlds.World.{Content, Point}
-use Rattle.dom_model.specs.Forests.Lengths.{node_length, unit_count}
+use Rattle.dom_model.specs.Worlds.Lengths.{node_length, unit_count}
 use Rattle.dom_model.specs.TokenText.Tokens.{Token, Open, Close, Mark, point, same_point, same_side, no_marks, unit_tokens, child_tokens, token_texts, is_mark_of, passed, gap_of, gap_among, at_gap, mark_in}
 use Rattle.dom_model.specs.TokenText.Gaps.{text_among, tokens_ahead}
 use Rattle.dom_model.proofs.PlainLists.Numbers.{same_or, same, apart}

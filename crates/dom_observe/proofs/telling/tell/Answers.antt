@@ -3,7 +3,7 @@ use Rattle.std.proofs.Common.{◌≡◌, ℕ, ◌<◌, ◌==◌, ◌++◌, [], �
 use Rattle.std.specs.Prelude.{slice_index_or, slice_get}
 use Rattle.std.specs.Map.{lookup}
 use Rattle.dom_model.specs.Worlds.World.{Mutation}
-use Rattle.dom_model.specs.Commands.Reply.{Record}
+use Rattle.dom_model.specs.MutationObservers.Record.{Record}
 use Rattle.dom_model.specs.MutationObservers.Records.{record_with}
 use Rattle.dom_observe.specs.Kept.{queues_of}
 use Rattle.dom_observe.specs.Telling.{delivered}

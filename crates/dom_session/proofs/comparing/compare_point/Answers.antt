@@ -1,9 +1,10 @@
 use Rattle.std.proofs.Common.{◌≡◌, true, sym, ◌∙◌, subst}
 use Rattle.std.specs.Prelude.{is_some}
 use Rattle.dom_model.specs.Forests.Forest.{entry_in}
-use Rattle.dom_model.specs.Forests.Lengths.{unit_count}
+use Rattle.dom_model.specs.Worlds.Lengths.{unit_count}
 use Rattle.dom_model.specs.Worlds.World.{Point, Range}
-use Rattle.dom_model.specs.RangesAndContents.Ranges.{same_root, check_point, place_against}
+use Rattle.dom_model.specs.RangesAndContents.Ranges.{check_point, place_against}
+use Rattle.dom_model.specs.Forests.Nodes.{same_root}
 use Rattle.dom_model.specs.Commands.Command.{ComparePoint}
 use Rattle.dom_wrap.specs.dom_ranges.Tables.{range_in}
 use Rattle.dom_session.specs.declared.reply.Answer.TheVariants.{Order}

@@ -4,7 +4,7 @@ use Rattle.dom_model.specs.declared.Kind.TheVariants.{Document}
 use Rattle.dom_model.specs.declared.DomError.TheVariants.{NotSupportedError}
 use Rattle.dom_model.specs.Forests.Kinds.{is_kind}
 use Rattle.dom_model.specs.Forests.Forest.{entry_in, size}
-use Rattle.dom_model.specs.MutationAlgorithms.Checks.{kind_passes}
+use Rattle.dom_model.specs.Forests.Nodes.{kind_passes}
 use Rattle.dom_model.specs.DataAndCopies.Clones.{import_node}
 use Rattle.dom_model.specs.Commands.Command.{ImportNode}
 use Rattle.dom_wrap.specs.dom_edit.declared.refusal.Refusal.{Refusal}

@@ -8,7 +8,7 @@ use Rattle.dom_model.specs.declared.DomError.{DomError}
 use Rattle.dom_model.specs.declared.Kind.TheVariants.{Document}
 use Rattle.dom_model.specs.Forests.Kinds.{is_kind}
 use Rattle.dom_model.specs.Commands.Command.{AdoptNode}
-use Rattle.dom_model.specs.MutationAlgorithms.Checks.{kind_passes}
+use Rattle.dom_model.specs.Forests.Nodes.{kind_passes}
 use Rattle.dom_model.specs.MutationAlgorithms.Editing.{adopt}
 use Rattle.dom_wrap.specs.dom_edit.Refusals.{check_adopt}
 use Rattle.dom_session.proofs.Stepping.{step-follows}

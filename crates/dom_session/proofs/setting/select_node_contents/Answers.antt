@@ -1,7 +1,7 @@
 use Rattle.std.proofs.Common.{◌≡◌, true, Some, sym, ◌∙◌}
 use Rattle.std.specs.Prelude.{is_some, slice_set}
 use Rattle.dom_model.specs.Forests.Forest.{entry_in}
-use Rattle.dom_model.specs.Forests.Lengths.{unit_count}
+use Rattle.dom_model.specs.Worlds.Lengths.{unit_count}
 use Rattle.dom_model.specs.RangesAndContents.Ranges.{contents_of, check_contents}
 use Rattle.dom_model.specs.Commands.Command.{SelectNodeContents}
 use Rattle.dom_wrap.specs.dom_ranges.Tables.{range_in}

@@ -1,7 +1,7 @@
 use Rattle.std.proofs.Common.{◌≡◌, true, subst, ◌∙◌}
 use Rattle.std.specs.Prelude.{IfSome, is_some}
 use Rattle.dom_model.specs.Forests.Forest.{entry_in}
-use Rattle.dom_model.specs.Worlds.Sound.{IsBoundary}
+use Rattle.dom_model.specs.Soundness.Sound.{IsBoundary}
 use Rattle.dom_model.specs.RangesAndContents.Ranges.{start_set}
 use Rattle.dom_wrap.specs.dom_ranges.Tables.{range_in}
 use Rattle.dom_session.specs.declared.reply.Answer.TheVariants.{Nothing}

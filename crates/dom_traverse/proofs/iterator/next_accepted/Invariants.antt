@@ -1,8 +1,7 @@
 -- What is still to be found follows where the walk stands.
 use Rattle.std.proofs.Common.{◌≡◌, length, true}
-use Rattle.dom_model.specs.PlainLists.Lists.{among}
+use Rattle.dom_model.specs.PlainLists.Lists.{among, past}
 use Rattle.dom_model.specs.Forests.Forest.{HasNode, ancestors, inclusive_descendants}
-use Rattle.dom_model.specs.MutationAlgorithms.PreRemoval.{past}
 use Rattle.dom_model.proofs.Traversal.IteratorSteps.{following_found}
 use Rattle.dom_traverse.proofs.iterator.next_accepted.Given as goal
 

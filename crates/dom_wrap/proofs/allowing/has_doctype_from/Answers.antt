@@ -2,7 +2,8 @@ use Rattle.std.proofs.Common.{◌≡◌, ℕ, ◌≤◌, false, sym, ◌∙◌, 
 use Rattle.dom_model.specs.declared.Kind.TheVariants.{DocumentType}
 use Rattle.dom_model.specs.PlainLists.Lists.{hits}
 use Rattle.dom_model.specs.Forests.Forest.{children_of}
-use Rattle.dom_model.specs.MutationAlgorithms.Checks.{is_of_kind, has_kind}
+use Rattle.dom_model.specs.MutationAlgorithms.Checks.{has_kind}
+use Rattle.dom_model.specs.Forests.Nodes.{is_of_kind}
 use Rattle.dom_model.proofs.Forests.Indices.{child-once}
 use Rattle.dom_content.specs.dom_edit.Places.{from_optional}
 use Rattle.dom_content.specs.dom_edit.AmongChildren.{IsAmong-after, from_first-after, HasNode-child, next_of-child}

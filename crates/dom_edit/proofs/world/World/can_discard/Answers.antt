@@ -2,7 +2,7 @@ use Rattle.std.specs.Prelude.{None, is_some}
 use Rattle.std.proofs.Common.{◌≡◌, false, refl, ap, sym, ◌∙◌}
 use Rattle.dom_model.specs.declared.Kind.TheVariants.{Document}
 use Rattle.dom_model.specs.Forests.Forest.{parent_of}
-use Rattle.dom_model.specs.MutationAlgorithms.Checks.{is_of_kind}
+use Rattle.dom_model.specs.Forests.Nodes.{is_of_kind}
 use Rattle.dom_edit.proofs.Naming.{no_parent, root-not_held, not_in_use}
 use Rattle.dom_edit.proofs.world.World.can_discard.Goals as goal
 

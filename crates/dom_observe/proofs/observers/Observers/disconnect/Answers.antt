@@ -1,6 +1,6 @@
 -- The observer's registrations go from every node, and its queue is emptied.
 use Rattle.std.proofs.Common.{◌≡◌, ◌<◌, length, filter, ap, sym, ◌∙◌, subst, arith, List, ℕ}
-use Rattle.dom_model.specs.Commands.Reply.{Record}
+use Rattle.dom_model.specs.MutationObservers.Record.{Record}
 use Rattle.dom_model.specs.MutationObservers.Records.{disconnected}
 use Rattle.dom_observe.specs.declared.registration.Ended.TheVariants.{Of}
 use Rattle.dom_observe.specs.Watchers.{Watchers, Watches, on}

@@ -4,7 +4,7 @@ use Rattle.std.specs.Prelude.{slice_index_or, is_none}
 use Rattle.std.specs.List.{AllByRecursion}
 use Rattle.dom_model.specs.PlainLists.Lists.{among}
 use Rattle.dom_model.specs.Worlds.World.{Registration}
-use Rattle.dom_model.specs.Commands.Reply.{Record}
+use Rattle.dom_model.specs.MutationObservers.Record.{Record}
 use Rattle.dom_model.specs.MutationObservers.Records.{has_records, told_in}
 use Rattle.dom_observe.specs.Watchers.{Watchers, Watches}
 use Rattle.dom_observe.specs.Registrations.{at, listed}

@@ -3,7 +3,7 @@ use Rattle.std.proofs.Common.{◌≡◌, ℕ, ◌||◌, ◌+◌, ap, sym, ◌∙
 use Rattle.std.specs.List.{list_any, IsDistinct}
 use Rattle.dom_model.specs.PlainLists.Lists.{among}
 use Rattle.dom_model.specs.Forests.Forest.{inclusive_descendants}
-use Rattle.dom_model.specs.Commands.Reply.{Record}
+use Rattle.dom_model.specs.MutationObservers.Record.{Record}
 use Rattle.dom_model.specs.Worlds.World.{Registration}
 use Rattle.dom_model.specs.MutationObservers.Records.{queue_of}
 use Rattle.dom_model.specs.MutationAlgorithms.Discarding.{nodes_of_registration, nodes_of_record, queued_records}

@@ -1,6 +1,6 @@
 -- One queue is emptied.
 use Rattle.std.proofs.Common.{◌<◌, length, sym, ◌∙◌, subst, arith, List}
-use Rattle.dom_model.specs.Commands.Reply.{Record}
+use Rattle.dom_model.specs.MutationObservers.Record.{Record}
 use Rattle.dom_model.specs.MutationObservers.Records.{records_taken}
 use Rattle.dom_observe.specs.Watchers.{Watchers, Watches}
 use Rattle.dom_observe.specs.Kept.{nodes_of, queues_of, IsKept}

@@ -5,7 +5,7 @@ use Rattle.dom_model.specs.Forests.Forest.{Node, Forest}
 use Rattle.dom_model.specs.Forests.EachNode.{EachNode}
 use Rattle.dom_model.specs.Forests.Documents.{HasOneDocument}
 use Rattle.dom_model.specs.Worlds.World.{Content}
-use Rattle.dom_model.specs.MutationAlgorithms.Checks.{is_of_kind}
+use Rattle.dom_model.specs.Forests.Nodes.{is_of_kind}
 
 -- the node document is a Document of the forest
 abbrev pub IsOwned : Forest Content → Node Content → Type 0

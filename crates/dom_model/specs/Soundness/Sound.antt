@@ -7,8 +7,8 @@ use Rattle.dom_model.specs.PlainLists.Lists.{hits}
 use Rattle.dom_model.specs.Forests.Forest.{Forest, HasNode, root_of, inclusive_descendants, IsForest}
 use Rattle.dom_model.specs.Worlds.World.{Content, Point, Range, Iterator, Walker, Registration, World}
 use Rattle.dom_model.specs.BoundaryPoints.Points.{order_of}
-use Rattle.dom_model.specs.MutationAlgorithms.Checks.{is_of_kind}
-use Rattle.dom_model.specs.Forests.Lengths.{unit_count, node_length}
+use Rattle.dom_model.specs.Forests.Nodes.{is_of_kind}
+use Rattle.dom_model.specs.Worlds.Lengths.{unit_count, node_length}
 
 -- a boundary point: a node of the forest that is no doctype, and an offset within its length
 pub record IsBoundary (f : Forest Content) (p : Point) : Type 0 where
