@@ -39,4 +39,3 @@ abbrev pub parts_tokens : World → Range → List Token
 parts_tokens w range =
     tail_tokens w range.start.offset (start_path w range)
     ++ (nodes_tokens w.forest (contained_children w range) ++ head_tokens w range.end.offset (end_path w range))
-
