@@ -10,6 +10,8 @@ observer of the root and all below it, whose records are taken after each 1,000 
 tree. What makes the scene is not counted: its time alone is taken off. A scene of commands that are not served is said to be so.
 The program reads the stream from a file and writes its replies to a file. Python's json reads each line and prints a
 value of the reply's shape, with no tree at all. The ratio is the program's commands per second over Python's.
+Where node and jsdom are there (Debian's node-jsdom), jsdom answers the same lines (bench/jsdom.js), less what it takes to start: its replies must be
+the program's, byte for byte, and a second ratio is the program's commands per second over jsdom's (none where jsdom gives up).
 """
 
 import json
@@ -21,7 +23,11 @@ import tempfile
 import time
 
 sys.path.insert(0, os.path.join(os.path.dirname(os.path.dirname(os.path.abspath(__file__))), "tools"))
-from running import words_of
+from running import ROOT, words_of
+
+JSDOM = os.path.join(ROOT, "bench/jsdom.js")
+# Where Debian's node-jsdom stands.
+MODULES = "/usr/share/nodejs"
 
 
 def front_to_back(count):
@@ -182,37 +188,70 @@ def read_and_printed(path, replies):
         return time.perf_counter() - start
 
 
-def timed(program, commands):
-    """The seconds of the program and of json alone for the commands."""
+def by_jsdom(path):
+    """The seconds of jsdom for a file of commands, and its replies."""
+    environment = {**os.environ, "NODE_PATH": os.pathsep.join(it for it in (os.environ.get("NODE_PATH"), MODULES) if it)}
+    with open(path, "rb") as lines, tempfile.TemporaryFile() as replies:
+        start = time.perf_counter()
+        done = subprocess.run(["node", JSDOM], stdin=lines, stdout=replies, stderr=subprocess.DEVNULL, env=environment, check=False)
+        seconds = time.perf_counter() - start
+        replies.seek(0)
+        return seconds, replies.read().splitlines() if done.returncode == 0 else None
+
+
+def has_jsdom():
+    """Whether jsdom answers where there is nothing to be answered."""
+    try:
+        return by_jsdom(os.devnull)[1] == []
+    except OSError:
+        return False
+
+
+def timed(program, commands, beside_jsdom):
+    """The seconds of the program and of json alone for the commands, and of jsdom where it is there."""
     with tempfile.NamedTemporaryFile("w", suffix=".lines") as file:
         file.writelines(json.dumps(command, separators=(",", ":")) + "\n" for command in commands)
         file.flush()
         seconds, replies = served(program, file.name)
-        return seconds, read_and_printed(file.name, replies)
+        found = [seconds, read_and_printed(file.name, replies)]
+        if beside_jsdom:
+            taken, others = by_jsdom(file.name)
+            if others not in (None, replies):
+                raise Refused("jsdom answers otherwise")
+            found += [taken] if others is not None else []
+        return found
 
 
-def show(name, size, count, seconds, alone):
-    print(f"{name:>18} {size:>8} {count:>9} {count / seconds:>12,.0f} {count / alone:>12,.0f} {alone / seconds:>6.2f}", flush=True)
+def show(name, size, count, seconds, alone, jsdom=None):
+    beside = [f"{count / jsdom:>12,.0f} {jsdom / seconds:>6.2f}"] if jsdom else []
+    print(f"{name:>18} {size:>8} {count:>9} {count / seconds:>12,.0f} {count / alone:>12,.0f} {alone / seconds:>6.2f}", *beside, flush=True)
 
 
-def show_stream(program, name, stream, size):
+def show_stream(program, name, stream, size, beside_jsdom):
+    """The commands of a stream, less the start of each."""
     commands = list(stream(size))
     try:
-        show(name, size, len(commands), *timed(program, commands))
+        before, after = timed(program, [], beside_jsdom), timed(program, commands, beside_jsdom)
+        show(name, size, len(commands), *less(after, before))
     except Refused as refused:
         sys.exit(str(refused))
 
 
-def show_scene(program, name, scene, size):
+def show_scene(program, name, scene, size, beside_jsdom):
     """The commands of a scene, less what makes it."""
     making, commands = scene(size)
     try:
-        before = timed(program, making)
-        after = timed(program, making + commands)
+        before, after = timed(program, making, beside_jsdom), timed(program, making + commands, beside_jsdom)
+        show(name, size, len(commands), *less(after, before))
     except Refused as refused:
         print(f"{name:>18} {size:>8} {refused}")
-        return
-    show(name, size, len(commands), *(max(late - early, 1e-9) for late, early in zip(after, before)))
+
+
+def less(after, before):
+    """The seconds that the later run took more, by each."""
+    if any(late <= early for late, early in zip(after, before)):
+        raise Refused("took no longer than what makes it: give more nodes")
+    return [late - early for late, early in zip(after, before)]
 
 
 def takes_sizes(parser):
@@ -222,12 +261,14 @@ def takes_sizes(parser):
 
 def main():
     given = words_of(__doc__, takes_sizes)
-    print(f"{'stream':>18} {'nodes':>8} {'commands':>9} {'program/s':>12} {'json/s':>12} {'ratio':>6}")
+    beside_jsdom = has_jsdom()
+    beside = [f"{'jsdom/s':>12} {'ratio':>6}"] if beside_jsdom else []
+    print(f"{'stream':>18} {'nodes':>8} {'commands':>9} {'program/s':>12} {'json/s':>12} {'ratio':>6}", *beside)
     for name, stream in STREAMS:
         for size in given.sizes:
-            show_stream(given.program, name, stream, size)
+            show_stream(given.program, name, stream, size, beside_jsdom)
     for name, scene in SCENES:
-        show_scene(given.program, name, scene, given.nodes)
+        show_scene(given.program, name, scene, given.nodes, beside_jsdom)
 
 
 if __name__ == "__main__":
