@@ -9,23 +9,28 @@ at random places where no range and no observer is; with 1,000 live ranges in an
 observer of the root and all below it, whose records are taken after each 1,000 commands. An iterator and a walker go over the
 tree. What makes the scene is not counted: its time alone is taken off. A scene of commands that are not served is said to be so.
 The program reads the stream from a file and writes its replies to a file. Python's json reads each line and prints a
-value of the reply's shape, with no tree at all. The ratio is the program's commands per second over Python's.
-Where node and jsdom are there (Debian's node-jsdom), jsdom answers the same lines (bench/jsdom.js), less what it takes to start: its replies must be
-the program's, byte for byte, and a second ratio is the program's commands per second over jsdom's (none where jsdom gives up).
+value of the reply's shape, with no tree at all.
+Where they are there, jsdom (by node; Debian's node-jsdom) and Chromium (Debian's chromium-headless-shell) answer the same lines by their own DOM
+(bench/answers.js), jsdom from a file to a file, Chromium within a page. Their replies must be the program's, byte for byte. Each ratio is the program's
+commands per second over theirs; "-" where one gives up.
 """
 
+import html
 import json
 import os
 import random
+import re
 import subprocess
 import sys
 import tempfile
 import time
 
 sys.path.insert(0, os.path.join(os.path.dirname(os.path.dirname(os.path.abspath(__file__))), "tools"))
-from running import ROOT, words_of
+from running import ROOT, content, words_of
 
+ANSWERS = os.path.join(ROOT, "bench/answers.js")
 JSDOM = os.path.join(ROOT, "bench/jsdom.js")
+PAGE = os.path.join(ROOT, "bench/chromium.html")
 # Where Debian's node-jsdom stands.
 MODULES = "/usr/share/nodejs"
 
@@ -189,7 +194,7 @@ def read_and_printed(path, replies):
 
 
 def by_jsdom(path):
-    """The seconds of jsdom for a file of commands, and its replies."""
+    """The seconds of jsdom for a file of commands, and its replies; none where it gives up."""
     environment = {**os.environ, "NODE_PATH": os.pathsep.join(it for it in (os.environ.get("NODE_PATH"), MODULES) if it)}
     with open(path, "rb") as lines, tempfile.TemporaryFile() as replies:
         start = time.perf_counter()
@@ -199,59 +204,63 @@ def by_jsdom(path):
         return seconds, replies.read().splitlines() if done.returncode == 0 else None
 
 
-def has_jsdom():
-    """Whether jsdom answers where there is nothing to be answered."""
+def by_chromium(path):
+    """The seconds of Chromium's own DOM for a file of commands, within a page and without its start, and its replies."""
+    with tempfile.NamedTemporaryFile("w", suffix=".html", encoding="utf-8") as page, open(path, encoding="utf-8") as lines:
+        text = content(PAGE).decode().replace("ANSWERS", content(ANSWERS).decode())
+        page.write(text.replace("LINES", lines.read()))
+        page.flush()
+        words = ["chromium-headless-shell", "--no-sandbox", "--disable-gpu", "--timeout=600000", "--dump-dom", f"file://{page.name}"]
+        done = subprocess.run(words, stdout=subprocess.PIPE, stderr=subprocess.DEVNULL, check=False)
+    found = re.search(rb"<body>(\{.*\})</body>|<body>(\{.*\})\s", done.stdout, re.S)
+    if not found:
+        return 0, None
+    told = json.loads(html.unescape((found[1] or found[2]).decode()))
+    return told["seconds"], told["replies"].encode().splitlines()
+
+
+def is_there(by):
+    """Whether it answers where there is nothing to be answered."""
     try:
-        return by_jsdom(os.devnull)[1] == []
+        return by(os.devnull)[1] == []
     except OSError:
         return False
 
 
-def timed(program, commands, beside_jsdom):
-    """The seconds of the program and of json alone for the commands, and of jsdom where it is there."""
+def timed(program, commands, others):
+    """The seconds of the program and of json alone for the commands, and of each of the others; none of one that gave up."""
     with tempfile.NamedTemporaryFile("w", suffix=".lines") as file:
         file.writelines(json.dumps(command, separators=(",", ":")) + "\n" for command in commands)
         file.flush()
         seconds, replies = served(program, file.name)
         found = [seconds, read_and_printed(file.name, replies)]
-        if beside_jsdom:
-            taken, others = by_jsdom(file.name)
-            if others not in (None, replies):
-                raise Refused("jsdom answers otherwise")
-            found += [taken] if others is not None else []
+        for by in others:
+            taken, told = by(file.name)
+            if told not in (None, replies):
+                raise Refused(f"{by.__name__}: other replies")
+            found.append(None if told is None else taken)
         return found
 
 
-def show(name, size, count, seconds, alone, jsdom=None):
-    beside = [f"{count / jsdom:>12,.0f} {jsdom / seconds:>6.2f}"] if jsdom else []
-    print(f"{name:>18} {size:>8} {count:>9} {count / seconds:>12,.0f} {count / alone:>12,.0f} {alone / seconds:>6.2f}", *beside, flush=True)
-
-
-def show_stream(program, name, stream, size, beside_jsdom):
-    """The commands of a stream, less the start of each."""
-    commands = list(stream(size))
-    try:
-        before, after = timed(program, [], beside_jsdom), timed(program, commands, beside_jsdom)
-        show(name, size, len(commands), *less(after, before))
-    except Refused as refused:
-        sys.exit(str(refused))
-
-
-def show_scene(program, name, scene, size, beside_jsdom):
-    """The commands of a scene, less what makes it."""
-    making, commands = scene(size)
-    try:
-        before, after = timed(program, making, beside_jsdom), timed(program, making + commands, beside_jsdom)
-        show(name, size, len(commands), *less(after, before))
-    except Refused as refused:
-        print(f"{name:>18} {size:>8} {refused}")
+def show(name, size, count, seconds, *others):
+    beside = [f"{count / it:>12,.0f} {it / seconds:>7.2f}" if it else f"{'-':>12} {'-':>7}" for it in others]
+    print(f"{name:>18} {size:>8} {count:>9} {count / seconds:>12,.0f}", *beside, flush=True)
 
 
 def less(after, before):
     """The seconds that the later run took more, by each."""
-    if any(late <= early for late, early in zip(after, before)):
+    if any(late is not None and late <= early for late, early in zip(after, before)):
         raise Refused("took no longer than what makes it: give more nodes")
-    return [late - early for late, early in zip(after, before)]
+    return [None if late is None else late - early for late, early in zip(after, before)]
+
+
+def show_less(name, size, making, commands, program, others):
+    """The commands, less what makes their scene and the start of each."""
+    try:
+        before, after = timed(program, making, others), timed(program, making + commands, others)
+        show(name, size, len(commands), *less(after, before))
+    except Refused as refused:
+        print(f"{name:>18} {size:>8} {refused}")
 
 
 def takes_sizes(parser):
@@ -261,14 +270,14 @@ def takes_sizes(parser):
 
 def main():
     given = words_of(__doc__, takes_sizes)
-    beside_jsdom = has_jsdom()
-    beside = [f"{'jsdom/s':>12} {'ratio':>6}"] if beside_jsdom else []
-    print(f"{'stream':>18} {'nodes':>8} {'commands':>9} {'program/s':>12} {'json/s':>12} {'ratio':>6}", *beside)
+    others = [it for it in (by_jsdom, by_chromium) if is_there(it)]
+    beside = [f"{it + '/s':>12} {'ratio':>7}" for it in ("json", *(by.__name__[len("by_") :] for by in others))]
+    print(f"{'stream':>18} {'nodes':>8} {'commands':>9} {'program/s':>12}", *beside)
     for name, stream in STREAMS:
         for size in given.sizes:
-            show_stream(given.program, name, stream, size, beside_jsdom)
+            show_less(name, size, [], list(stream(size)), given.program, others)
     for name, scene in SCENES:
-        show_scene(given.program, name, scene, given.nodes, beside_jsdom)
+        show_less(name, given.nodes, *scene(given.nodes), given.program, others)
 
 
 if __name__ == "__main__":
