@@ -15,7 +15,7 @@ import sys
 
 ROOT = os.path.dirname(os.path.dirname(os.path.realpath(__file__)))
 MODEL = f"{ROOT}/crates/dom_model/specs"
-USE = re.compile(r"^(?:ghost )?(pub )?use (Rattle\.\w+\.(?:specs|proofs)\.[\w.+]+?)(?:\.\{[^}]*\}| as \w+)?;?$", re.M)
+USE = re.compile(r"^\s*(?:ghost )?(pub )?use (Rattle\.\w+\.(?:specs|proofs)\.[\w.+]+?)(?:\.\{[^}]*\}| as \w+)?;?$", re.M)
 
 
 def text_of(file):

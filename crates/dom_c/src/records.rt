@@ -1,7 +1,7 @@
 //! What is read of records of mutations, the answers of `hp_notify` and `hp_take_records`.
 
 ghost use Rattle.std.specs.Prelude.{◌≡◌, List, ℕ, Option, slice_get, option_map, option_and_then};
-ghost use Rattle.dom_model.specs.Commands.Reply.{Record as PlainRecord};
+ghost use Rattle.dom_model.specs.MutationObservers.Record.{Record as PlainRecord};
 ghost use Rattle.dom_wire.specs.Sessions.{answer_view};
 ghost use Rattle.dom_c.specs.Told.{last_of};
 ghost use Rattle.dom_c.specs.Reading.{look_up_status, looked_up, or_before};

@@ -21,7 +21,7 @@ pub struct RawOptions {
 }
 
 impl Model for RawOptions {
-    ghost use Rattle.dom_model.specs.Commands.Command.{GivenOptions};
+    ghost use Rattle.dom_model.specs.MutationObservers.GivenOptions.{GivenOptions};
     ghost use Rattle.dom_observe.specs.Names.{names_of};
 
     ghost Value = { GivenOptions };

@@ -25,7 +25,7 @@ pub struct Record {
 }
 
 impl Model for Record {
-    ghost use Rattle.dom_model.specs.Commands.Reply.{Record as PlainRecord};
+    ghost use Rattle.dom_model.specs.MutationObservers.Record.{Record as PlainRecord};
     ghost use Rattle.dom_observe.specs.Names.{name_of};
 
     ghost Value = { PlainRecord };

@@ -5,8 +5,8 @@ ghost use Rattle.std.specs.Option.{ForSome};
 ghost use Rattle.dom_model.specs.declared.Kind.TheVariants.{DocumentType};
 ghost use Rattle.dom_model.specs.Forests.Forest.{HasNode, parent_of, root_of};
 ghost use Rattle.dom_model.specs.Worlds.World.{Range};
-ghost use Rattle.dom_model.specs.Forests.Nodes.{is_of_kind};
-ghost use Rattle.dom_model.specs.RangesAndContents.Ranges.{same_root as has_same_root, is_before as comes_before, start_set, end_set, check_point, check_parent, check_contents, around, contents_of, collapsed};
+ghost use Rattle.dom_model.specs.Forests.Nodes.{is_of_kind, same_root as has_same_root};
+ghost use Rattle.dom_model.specs.RangesAndContents.Ranges.{is_before as comes_before, start_set, end_set, check_point, check_parent, check_contents, around, contents_of, collapsed};
 ghost use Rattle.dom_ranges.specs.Tables.{IsCovered, range_in, StandsIn, refused};
 
 use crate::numbers::RangeId;

@@ -3,10 +3,10 @@
 ghost use Rattle.std.specs.Prelude.{◌≡◌, ◌≤◌, true, IfOk};
 ghost use Rattle.dom_model.specs.Forests.Forest.{HasNode, root_of};
 ghost use Rattle.dom_model.specs.declared.Kind.TheVariants.{DocumentType};
-ghost use Rattle.dom_model.specs.Forests.Nodes.{is_of_kind};
+ghost use Rattle.dom_model.specs.Forests.Nodes.{is_of_kind, same_root as has_same_root};
 ghost use Rattle.dom_model.specs.Worlds.Lengths.{unit_count};
 ghost use Rattle.dom_model.specs.Worlds.World.{Range};
-ghost use Rattle.dom_model.specs.RangesAndContents.Ranges.{same_root as has_same_root, is_before as comes_before, check_point, place_against, is_point_in, intersects};
+ghost use Rattle.dom_model.specs.RangesAndContents.Ranges.{is_before as comes_before, check_point, place_against, is_point_in, intersects};
 ghost use Rattle.dom_model.specs.Commands.Command.{CompareBoundaryPoints, ComparePoint, IsPointInRange, IntersectsNode, CommonAncestor};
 ghost use Rattle.dom_model.specs.Commands.Guards.{Bounds};
 ghost use Rattle.dom_model.specs.Commands.Reply.{is_refusal};

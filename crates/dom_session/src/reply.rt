@@ -53,7 +53,7 @@ pub struct Told {
 }
 
 impl Model for Told {
-    ghost use Rattle.dom_model.specs.Commands.Reply.{Told};
+    ghost use Rattle.dom_model.specs.MutationObservers.Record.{Told};
 
     ghost Value = { Told };
 

@@ -1,9 +1,9 @@
 -- What comes past a node's whole tree is the first that follows the node and does not stand inside it.
 use Rattle.std.proofs.Common.{◌≡◌, ℕ, nat_lt, ◌<◌, Bool, true, false, not, List, [], ◌∷◌, ◌++◌, filter, Option, None, refl, ap, sym, ◌∙◌, arith, append_assoc, append-nil}
 use Rattle.std.proofs.lemmas.Bool.{lt-ltb, le-ltb}
-use Rattle.dom_model.specs.PlainLists.Lists.{hits, among, head_of, or_else}
+use Rattle.dom_model.specs.PlainLists.Lists.{hits, among, head_of, or_else, past as rest_past}
 use Rattle.dom_model.specs.Forests.Forest.{Forest, empty, node, occurs, tops, numbers, tree_at, inclusive_descendants}
-use Rattle.dom_model.specs.MutationAlgorithms.PreRemoval.{past as rest_past, following_outside}
+use Rattle.dom_model.specs.MutationAlgorithms.PreRemoval.{following_outside}
 use Rattle.dom_model.proofs.PlainLists.Numbers.{same_or, same, apart}
 use Rattle.dom_model.proofs.Forests.Totals.{IsOnce}
 use Rattle.dom_model.proofs.Forests.TreeOrder.Flattened.{hits-numbers}
