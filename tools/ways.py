@@ -15,8 +15,8 @@ import sys
 
 ROOT = os.path.dirname(os.path.dirname(os.path.realpath(__file__)))
 BOUND, BOUND_OF_ENDS = 200, 400
-# What no crate lists and no program is: the tests, and the library for C.
-ENDS = ("dom_cases", "dom_c")
+# What no crate lists and no program is: the tests, the library for C, and the callers.
+ENDS = ("dom_cases", "dom_c", "uses")
 
 
 def graph():

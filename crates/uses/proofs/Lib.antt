@@ -1,0 +1,2 @@
+pub mod NewChildren
+pub mod SetAttributes

@@ -1,0 +1,16 @@
+use Rattle.std.proofs.Common.{◌∷◌, [], length, arith, length-append}
+use Rattle.dom_model.specs.MutationObservers.Records.{with_observer}
+use Rattle.uses.proofs.observe.watch_children.Goals as goal
+
+pub observe-requires : goal.observe-requires
+observe-requires c =
+    let w = c.requires.watching in
+    let x = w.stands_for in
+    let made = (c.in_ok-observer.ensures.ok x w.watches).made in
+    let more = length-append x.places (length x.mutations ∷ []) in
+    let old = w.watches.made in
+    let number = c.in_ok-observer.ensures.number in
+    omega arith
+
+pub returns : goal.returns
+returns c = record { observes = λ x w. c.in_ok-observe.ensures.ok (with_observer x) (c.in_ok-observer.ensures.ok x w) }

@@ -1,0 +1,10 @@
+//! Callers of the crates that others use, one module for each. The pages `CALLING.md` quote them.
+#![tactic(auto)]
+
+pub mod attrs;
+pub mod observe;
+pub mod pages;
+pub mod ranges;
+pub mod session;
+pub mod tree;
+pub mod units;

@@ -1,0 +1,39 @@
+//! Calls of `dom_pages`.
+
+ghost use Rattle.std.specs.Prelude.{◌≡◌, ◌≢◌, ℕ, Some, None, IfOk, OnErr};
+ghost use Rattle.dom_pages.specs.Numbered.{item_at};
+
+use dom_pages::Pages;
+use std::alloc::AllocError;
+
+/// Gives out two numbers, or none where memory is wanting.
+pub fn number_two(
+    table: &mut Pages<u32>,
+    first: u32,
+    second: u32,
+) -> Result<(usize, usize), AllocError>
+    ensures first { IfOk result (λ numbers. item_at table.new.items numbers.0 ≡ Some first) }
+    ensures second { IfOk result (λ numbers. item_at table.new.items numbers.1 ≡ Some second) }
+    ensures differ { IfOk result (λ numbers. numbers.0 ≢ numbers.1) }
+    ensures err { OnErr result (table.new.items ≡ table.old.items) }
+{
+    table.reserve(2)?;
+    let first_number = table.len();
+    table.push_reserved(first);
+    let second_number = table.len();
+    table.push_reserved(second);
+    Ok((first_number, second_number))
+}
+
+/// Takes a number back. It answers what stood under it.
+pub fn take(table: &mut Pages<u32>, number: usize) -> Option<u32>
+    ensures value { result ≡ item_at table.old.items number }
+    ensures gone { item_at table.new.items number ≡ None }
+    ensures others { (n : ℕ) → n ≢ number → item_at table.new.items n ≡ item_at table.old.items n }
+{
+    let found = table.get(number);
+    if found.is_some() {
+        table.clear(number);
+    }
+    found
+}

@@ -1,0 +1,40 @@
+//! Calls of `dom_session`.
+
+ghost use Rattle.std.specs.Prelude.{◌≡◌, IfOk};
+ghost use Rattle.dom_model.specs.Commands.Command.{SetData, GetData};
+ghost use Rattle.dom_model.specs.Commands.Reply as model;
+ghost use Rattle.dom_model.specs.Worlds.World.{World};
+ghost use Rattle.dom_session.specs.Stands.{StandsFor};
+ghost use Rattle.dom_session.specs.Views.{reply_view};
+ghost use Rattle.uses.specs.Turns.{AreAnswered};
+
+use dom_session::{Command, Ended, Limits, NodeId, Reply, Session, Units};
+use std::alloc::Global;
+
+/// Sets the data of a node, and reads it. A node without data is refused, and so is a number that names no node.
+pub fn set_and_read(
+    session: &mut Session,
+    node: NodeId,
+    text: Units,
+) -> Result<(Reply, Reply), Ended>
+    ensures replies { IfOk result (λ replies. (w : World) → StandsFor session.old w → AreAnswered replies.0 replies.1 w session.old session.new (SetData node text) (GetData node)) }
+    ensures bounds { session.new.bounds ≡ session.old.bounds }
+{
+    let set = session.apply(Command::SetData(node, text))?;
+    let read = session.apply(Command::GetData(node))?;
+    Ok((set, read))
+}
+
+/// Makes a Document in a new session: it is node 1, beside the Document that is there from the start.
+pub fn second_document(alloc: Global) -> Result<Reply, Ended>
+    ensures { IfOk result (λ reply. reply_view reply ≡ model.Done (model.Number 1)) }
+{
+    let limits = Limits {
+        numbers: 1000,
+        line: 65536,
+    };
+    let Ok(mut session) = Session::new(alloc, limits) else {
+        return Err(Ended);
+    };
+    session.apply(Command::NewDocument)
+}
