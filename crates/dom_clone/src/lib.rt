@@ -17,8 +17,8 @@ pub mod of_attrs {
 /// What crates above name of `dom_data`.
 pub mod of_data {
     pub use dom_data::{
-        normalize, remove_attribute, replace_data, set_attribute, set_data, set_text_content,
-        split, substring, text_content, toggle_attribute,
+        normalize, remove_attribute, replace_data, replace_data_checked, set_attribute, set_data,
+        set_text_content, split, split_checked, substring, text_content, toggle_attribute,
     };
 }
 

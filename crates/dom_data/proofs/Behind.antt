@@ -9,14 +9,15 @@ use Rattle.dom_model.specs.Worlds.World.{Content, Point, Range}
 use Rattle.dom_model.specs.Soundness.Sound.{IsBoundary, IsRange}
 use Rattle.dom_model.specs.BoundaryPoints.Points.{after_split, map_ranges}
 use Rattle.dom_model.specs.Forests.Nodes.{is_of_kind}
-use Rattle.dom_model.specs.MutationAlgorithms.Editing.{document_in, pre_insert}
+use Rattle.dom_model.specs.MutationAlgorithms.Editing.{document_in, insert}
 use Rattle.dom_model.specs.Worlds.Making.{made_node, named, with_text}
 use Rattle.dom_model.specs.DataAndCopies.Data.{content_in, split_off}
 use Rattle.dom_model.proofs.Forests.Entries.{occurs-HasNode, HasNode-occurs}
 use Rattle.dom_model.proofs.Soundness.SoundSplitting.{new_text}
+use Rattle.dom_model.specs.MutationAlgorithms.Insertable.{IsInsertable}
 use Rattle.dom_model.proofs.Soundness.SoundEditing.{next_child}
 use Rattle.dom_model.proofs.Forests.Indices.{parent-there}
-use Rattle.dom_model.proofs.Worlds.Measured.{parent-beside}
+use Rattle.dom_model.proofs.Worlds.Measured.{entry-beside, parent-beside}
 use Rattle.dom_edit.specs.dom_ranges.Tables.{RangeTable, IsCovered, OffsetsFit, live_nodes}
 use Rattle.dom_edit.specs.declared.world.World.{World}
 use Rattle.dom_edit.specs.Whole.{IsWhole, Keeps, Follows, unwatched}
@@ -40,6 +41,13 @@ is-tail old v n offset d id tail h text within document number units f = record 
   number = number;
   keeps = subst (Keeps v) (λ i. made_node (document i) (named Text []) (with_text (units i)) (unwatched old)) (f.keeps (unwatched old) (keeps-unwatched old));
 }
+
+-- the offset is within the Text before that loses what is beyond
+pub within-tail : (v : World) (n offset id : ℕ) → IsTail v n offset id → offset ≤ length (content_in (entry_in v.tree.forest n)).text
+within-tail v n offset id t =
+    let there = occurs-HasNode t.before.forest n (text-held t.before.forest n t.text) in
+    let e = entry-beside t.before.forest (node (new_text n offset t.before) empty empty) n there in
+    subst (λ (xs : List ℕ). offset ≤ length xs) (ap (λ o. (content_in o).text) (sym e ∙ ap (λ (f : Forest Content). entry_in f n) t.keeps.forest)) t.within
 
 -- a node of a whole world is covered
 pub covered-there : (v : World) → IsWhole v → (n : ℕ) → 0 < occurs n v.tree.forest → IsCovered v.ranges n
@@ -84,6 +92,11 @@ module _ (v : World) (n offset id parent : ℕ) (t : IsTail v n offset id) (par 
   pub new-held : HasNode v.tree.forest id
   new-held = subst (HasNode v.tree.forest) (sym t.number) (there-v t.before.made (parting.there-new n parent offset t.before t.sound hn t.text par-before t.within))
 
+  pub insertable-new : IsInsertable v.tree.forest id parent (next_of v.tree.forest n)
+  insertable-new =
+      subst (λ m. IsInsertable v.tree.forest m parent (next_of v.tree.forest n)) (sym t.number)
+      (subst (λ (f : Forest Content). IsInsertable f t.before.made parent (next_of f n)) t.keeps.forest (parting.insertable n parent offset t.before t.sound hn t.text par-before t.within))
+
   pub next-held : (d : ℕ) → next_of v.tree.forest n ≡ Some d → HasNode v.tree.forest d
   next-held d e =
       let made = parting.made n parent offset t.before t.sound hn t.text par-before t.within in
@@ -92,12 +105,15 @@ module _ (v : World) (n offset id parent : ℕ) (t : IsTail v n offset id) (par 
       let next = next_child made.forest sm.forest.once parent n d (ap (λ f. parent_of f n) same_forest ∙ par) (ap (λ f. next_of f n) same_forest ∙ e) in
       there-v d (parent-there made.forest d parent next.child)
 
-  module _ (mid : World) (inserted : Follows v mid (pre_insert id parent (next_of v.tree.forest n))) where
-    inserted-new : Follows v mid (pre_insert t.before.made parent (next_of (parting.made n parent offset t.before t.sound hn t.text par-before t.within).forest n))
-    inserted-new = subst (Follows v mid) (λ i. pre_insert (t.number i) parent (next_of (sym t.keeps.forest i) n)) inserted
+  module _ (mid : World) (inserted : Follows v mid (insert false id parent (next_of v.tree.forest n))) where
+    inserted-new : Follows v mid (insert false t.before.made parent (next_of (parting.made n parent offset t.before t.sound hn t.text par-before t.within).forest n))
+    inserted-new = subst (Follows v mid) (λ i. insert false (t.number i) parent (next_of (sym t.keeps.forest i) n)) inserted
 
     pub kind-mid : is_of_kind Text mid.tree.forest n ≡ true
     kind-mid = parting.text-behind n parent offset t.before t.sound hn t.text par-before t.within v mid t.keeps inserted-new
+
+    pub within-mid : offset ≤ length (content_in (entry_in mid.tree.forest n)).text
+    within-mid = subst (λ l. offset ≤ l) (sym (parting.length-behind n parent offset t.before t.sound hn t.text par-before t.within v mid t.keeps inserted-new)) t.within
 
     pub room-mid : index_of mid.tree.forest n + 2 ≤ length (children_of mid.tree.forest parent)
     room-mid = parting.room-behind n parent offset t.before t.sound hn t.text par-before t.within v mid t.keeps inserted-new

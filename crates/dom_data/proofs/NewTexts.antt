@@ -1,5 +1,5 @@
 -- A new Text, a root behind all others.
-use Rattle.std.proofs.Common.{◌≡◌, Bool, ℕ, true, List, [], ◌∷◌, Option, Some, None, IsSome, refl, ap, sym, ◌∙◌, subst}
+use Rattle.std.proofs.Common.{◌≡◌, Bool, ℕ, true, false, List, [], ◌∷◌, Option, Some, None, IsSome, refl, ap, sym, ◌∙◌, subst}
 use Rattle.std.specs.Prelude.{IfSome}
 use Rattle.std.proofs.lemmas.Bool.{false≢true}
 use Rattle.dom_model.specs.declared.Kind.{Kind}
@@ -7,9 +7,11 @@ use Rattle.dom_model.specs.declared.Kind.TheVariants.{Document, Text}
 use Rattle.dom_model.specs.Forests.Arena.{Entry}
 use Rattle.dom_model.specs.Forests.Forest.{Node, Forest, empty, node, HasNode, entry_in, entry_under}
 use Rattle.dom_model.specs.PlainLists.Lists.{or_else}
+use Rattle.dom_model.specs.Forests.Kinds.{is_kind, may_be_parent}
 use Rattle.dom_model.specs.Forests.EachNode.{EachNode}
 use Rattle.dom_model.specs.Worlds.World as model
 use Rattle.dom_model.specs.Worlds.World.{Content}
+use Rattle.dom_model.specs.MutationAlgorithms.Checks.{check_insert}
 use Rattle.dom_model.specs.Forests.Nodes.{kind_passes, is_of_kind}
 use Rattle.dom_model.specs.MutationAlgorithms.Editing.{document_in, node_document, replace_all}
 use Rattle.dom_model.specs.Worlds.Making.{made_node, named, with_text}
@@ -18,10 +20,12 @@ use Rattle.dom_model.specs.Soundness.Owners.{HasOwners, IsOwned}
 use Rattle.dom_model.proofs.PlainLists.Numbers.{same_or, same, apart}
 use Rattle.dom_model.proofs.Forests.Entries.{occurs-HasNode, HasNode-occurs}
 use Rattle.dom_model.proofs.Worlds.Measured.{kind-beside}
-use Rattle.dom_model.proofs.Soundness.SoundTextContent.{made-there, made-old}
+use Rattle.dom_model.proofs.Soundness.SoundTextContent.{made-there, made-old, made-insertable}
+use Rattle.dom_model.specs.MutationAlgorithms.Insertable.{IsInsertable}
 use Rattle.dom_edit.specs.declared.world.World.{World}
 use Rattle.dom_edit.specs.Whole.{IsWhole, Follows, unwatched}
 use Rattle.dom_edit.proofs.Following.{follows-then, keeps-unwatched}
+use Rattle.dom_edit.proofs.Unrefused.{unrefused}
 use Rattle.dom_data.proofs.StaysWhole.{sound-unwatched, follows-alike}
 
 either : {X : Type 0} (P : Node X → Type 0) (a b : Option (Entry (Node X))) → IfSome a (λ e. P e.value) → IfSome b (λ e. P e.value) → IfSome (or_else a b) (λ e. P e.value)
@@ -58,6 +62,13 @@ module _ (old new : World) (h : IsWhole old) (document : ℕ) (text : List ℕ) 
 
   pub old-kind : (test : Kind → Bool) (n : ℕ) → HasNode old.tree.forest n → kind_passes test new.tree.forest n ≡ kind_passes test old.tree.forest n
   old-kind test n k = ap (λ g. kind_passes test g n) (sym made_is) ∙ kind-beside old.tree.forest (node (record { number = old.tree.made; document = document; label = named Text []; body = with_text text }) empty empty) n (occurs-HasNode old.tree.forest n k) test
+
+  -- no check refuses it under an element or a fragment
+  pub new-unrefused : (n : ℕ) → HasNode old.tree.forest n → kind_passes may_be_parent old.tree.forest n ≡ true → is_of_kind Document old.tree.forest n ≡ false → check_insert new.tree.forest n old.tree.made None ≡ None
+  new-unrefused n k parent plain =
+      unrefused new.tree.forest old.tree.made n None
+      (subst (λ g. IsInsertable g old.tree.made n None) made_is (made-insertable document (named Text []) (with_text text) (unwatched old) (sound-unwatched old h) n refl refl parent))
+      (old-kind (is_kind Document) n k ∙ plain)
 
 -- the text is not empty
 replaced-with : (text : List ℕ) (n d id : ℕ) (w : model.World) → (text ≡ [] → ⊥) → d ≡ node_document w n → id ≡ w.made

@@ -1,9 +1,9 @@
 -- The world is sound once a new Text stands behind the one that is split, before that loses what is beyond.
-use Rattle.std.proofs.Common.{◌≡◌, ℕ, ◌+◌, ◌-◌, ◌<◌, ◌≤◌, ◌==◌, Bool, true, false, if◌then◌else◌, [], ◌∷◌, length, Option, Some, None, is_some, refl, ap, sym, ◌∙◌, subst, arith, length-drop}
+use Rattle.std.proofs.Common.{◌≡◌, ℕ, ◌+◌, ◌-◌, ◌<◌, ◌≤◌, ◌==◌, Bool, true, false, not, ◌&&◌, [], ◌∷◌, length, Option, Some, None, IfSome, is_some, refl, ap, sym, ◌∙◌, subst, arith, length-drop}
 use Rattle.std.proofs.lemmas.Bool.{false≢true}
 use Rattle.dom_model.specs.declared.Kind.{Kind}
-use Rattle.dom_model.specs.declared.Kind.TheVariants.{Text, DocumentType, DocumentFragment}
-use Rattle.dom_model.specs.PlainLists.Lists.{or_else, is_number}
+use Rattle.dom_model.specs.declared.Kind.TheVariants.{Text, Document, DocumentType, DocumentFragment}
+use Rattle.dom_model.specs.PlainLists.Lists.{or_else}
 use Rattle.dom_model.specs.Forests.Arena.{parent_in, children_in}
 use Rattle.dom_model.specs.Forests.Kinds.{is_kind, is_character_data}
 use Rattle.dom_model.specs.Forests.Forest.{Node, Forest, empty, node, occurs, one_at, tree_at, put, entry_in, parent_of, children_of, next_of, index_of}
@@ -12,11 +12,9 @@ use Rattle.dom_model.specs.BoundaryPoints.Points.{after_gap, after_split, moved_
 use Rattle.dom_model.specs.Forests.Nodes.{entry_has, kind_passes, is_of_kind}
 use Rattle.dom_model.specs.Worlds.Lengths.{unit_count, length_in, node_length}
 use Rattle.dom_model.specs.Worlds.Making.{made_node, named, with_text}
-use Rattle.dom_model.specs.MutationAlgorithms.Editing.{tree_record, node_document, pre_insert, put_in, gap_before, previous_to, insert}
-use Rattle.dom_model.specs.DataAndCopies.Data.{data_of, tail_of, split_off}
+use Rattle.dom_model.specs.MutationAlgorithms.Editing.{tree_record, node_document, put_in, gap_before, previous_to, insert}
+use Rattle.dom_model.specs.DataAndCopies.Data.{content_in, data_of, tail_of, split_off}
 use Rattle.dom_model.specs.Soundness.Sound.{IsBoundary, IsRange, IsSound}
-use Rattle.dom_model.specs.DataAndCopies.Joinable.{Lives}
-use Rattle.dom_model.specs.MutationAlgorithms.Insertable.{IsPlaceable, IsChildOf}
 use Rattle.dom_model.proofs.PlainLists.Numbers.{same_or, same, apart}
 use Rattle.dom_model.proofs.Forests.Totals.{total-beside}
 use Rattle.dom_model.proofs.Forests.Climbing.{hits-ancestors}
@@ -32,7 +30,9 @@ use Rattle.dom_model.proofs.Worlds.Measured.{entry-joined, entry-beside, kind-be
 use Rattle.dom_model.proofs.RangesAndContents.RangesSplit.{IsWithin, boundary-split}
 use Rattle.dom_model.proofs.Worlds.Parts.{range-from_part}
 use Rattle.dom_model.proofs.Soundness.SoundWorlds.{each-moved}
+use Rattle.dom_model.specs.DataAndCopies.Joinable.{Lives}
 use Rattle.dom_model.proofs.Soundness.SoundPlacing.{gap_each, sound-put_one, after_put, after_adoption, renamed, range_placed, occurs_placed, parent_placed, kind_placed, placed-forest}
+use Rattle.dom_model.specs.MutationAlgorithms.Insertable.{IsPlaceable, IsChildOf, IsInsertable}
 use Rattle.dom_model.proofs.Soundness.SoundMaking.{sound-made_node}
 use Rattle.dom_model.proofs.Soundness.SoundData.{length-data}
 use Rattle.dom_model.proofs.Soundness.SoundEditing.{next_child}
@@ -250,27 +250,28 @@ module _ (n parent offset : ℕ) (w : World) (s : IsSound w) (hn : 0 < occurs n 
       omega arith
 
   -- what follows the old Text is not the new one
-  next-apart : is_number (next_of made.forest n) w.made ≡ false
-  next-apart = go (next_of made.forest n) before_child
-    where
-      go : (b : Option ℕ) → IsChildOf made.forest parent b → is_number b w.made ≡ false
-      go None h = refl
-      go (Some d) h =
-          elim (same_or d w.made) [
-            | same e t ↦ absurd (false≢true (ap is_some (sym root-new ∙ ap (parent_of made.forest) (sym e) ∙ h)))
-            | apart ne t ↦ t
-          ]
+  next-apart : (b : Option ℕ) → IsChildOf made.forest parent b → IfSome b (λ d. d ≡ w.made → ⊥)
+  next-apart None h = tt
+  next-apart (Some d) h = λ e. false≢true (ap is_some (sym root-new ∙ ap (parent_of made.forest) (sym e) ∙ h))
+
+  -- the new Text may be inserted behind the old one
+  pub insertable : IsInsertable made.forest w.made parent (next_of made.forest n)
+  insertable = record {
+    there = there-new;
+    parent_there = there-old parent hp;
+    outside = placeable.outside;
+    may_hold = parent-passes sm.forest n parent par-made (there-old n hn);
+    no_document = ap (entry_has (is_kind Document)) entry-new;
+    doctype_fits = ap (λ v. v && not (is_of_kind Document made.forest parent)) (ap (entry_has (is_kind DocumentType)) entry-new);
+    before_child = before_child;
+    before_other = next-apart (next_of made.forest n) before_child;
+  }
 
   pub placed_is : insert false w.made parent (next_of made.forest n) made ≡ tree_record parent (w.made ∷ []) [] (previous_to made.forest parent (next_of made.forest n)) (next_of made.forest n) placed
   placed_is = insert-root w.made parent (next_of made.forest n) made (ap (entry_has (is_kind DocumentFragment)) entry-new) root-new
 
-  pub before-new : (u : World) → u.forest ≡ made.forest → pre_insert w.made parent (next_of made.forest n) u ≡ insert false w.made parent (next_of u.forest n) u
-  before-new u e =
-      ap (λ b. insert false w.made parent (if b then next_of u.forest w.made else next_of made.forest n) u) next-apart
-      ∙ ap (λ f. insert false w.made parent (next_of f n) u) (sym e)
-
   -- The worlds of the code: one that keeps the new Text, and one that has it behind the old one.
-  module _ (v mid : code.World) (k : Keeps v made) (inserted : Follows v mid (pre_insert w.made parent (next_of made.forest n))) where
+  module _ (v mid : code.World) (k : Keeps v made) (inserted : Follows v mid (insert false w.made parent (next_of made.forest n))) where
     abbrev pub moved_ends : World → World
     moved_ends u = record u { ranges = map_ranges (after_split n offset w.made parent (index_of u.forest n)) u.ranges }
 
@@ -280,7 +281,7 @@ module _ (n parent offset : ℕ) (w : World) (s : IsSound w) (hn : 0 < occurs n 
     pub mid_is : mid.tree.forest ≡ parted
     mid_is =
         sym (inserted.keeps made k).forest
-        ∙ ap (λ (u : World). u.forest) (before-new made refl ∙ placed_is)
+        ∙ ap (λ (u : World). u.forest) placed_is
         ∙ forest_is
 
     follows-moved : Follows mid behind moved_ends
@@ -298,12 +299,12 @@ module _ (n parent offset : ℕ) (w : World) (s : IsSound w) (hn : 0 < occurs n 
 
     pub follows-behind : Follows v behind (λ u. split_off n offset w.made (parent_of u.forest n) u)
     follows-behind =
-        follows-alike v behind (λ u. moved_ends (pre_insert w.made parent (next_of made.forest n) u)) (λ u. split_off n offset w.made (parent_of u.forest n) u)
+        follows-alike v behind (λ u. moved_ends (insert false w.made parent (next_of made.forest n) u)) (λ u. split_off n offset w.made (parent_of u.forest n) u)
         (λ u q.
         let same_forest : u.forest ≡ made.forest = q.forest ∙ sym k.forest in
-        ap moved_ends (before-new u same_forest)
+        ap (λ f. moved_ends (insert false w.made parent (next_of f n) u)) (sym same_forest)
         ∙ ap (λ p. split_off n offset w.made p u) (sym (ap (λ f. parent_of f n) same_forest ∙ par-made)))
-        (follows-then v mid behind (pre_insert w.made parent (next_of made.forest n)) moved_ends inserted follows-moved)
+        (follows-then v mid behind (insert false w.made parent (next_of made.forest n)) moved_ends inserted follows-moved)
 
     keeps-behind : Keeps behind after_parting
     keeps-behind = subst (Keeps behind) (ap (λ p. split_off n offset w.made p made) par-made ∙ split_off_is) (follows-behind.keeps made k)
@@ -313,6 +314,11 @@ module _ (n parent offset : ℕ) (w : World) (s : IsSound w) (hn : 0 < occurs n 
 
     pub text-behind : is_of_kind Text mid.tree.forest n ≡ true
     text-behind = ap (λ f. is_of_kind Text f n) mid_is ∙ text-parted
+
+    pub length-behind : length (content_in (entry_in mid.tree.forest n)).text ≡ length (data_of w n)
+    length-behind =
+        ap (λ (g : Forest Content). length (content_in (entry_in g n)).text) mid_is
+        ∙ sym (length-data parted n (kind-parted is_character_data n ∙ text-made is_character_data ∙ has_data)) ∙ length-text
 
     pub room-behind : index_of mid.tree.forest n + 2 ≤ length (children_of mid.tree.forest parent)
     room-behind = subst (λ (g : Forest Content). index_of g n + 2 ≤ length (children_of g parent)) (sym mid_is) room-parted

@@ -1,12 +1,11 @@
 //! The text content of a node (DOM Standard, "Interface Node", textContent).
 
-ghost use Rattle.std.specs.Prelude.{◌≡◌, ◌<◌, true, ◌++◌, drop, IfOk, OnOk};
+ghost use Rattle.std.specs.Prelude.{◌≡◌, ◌<◌, true, false, ◌++◌, drop, IfOk, OnOk};
+ghost use Rattle.dom_model.specs.declared.Kind.TheVariants.{Document};
 ghost use Rattle.dom_model.specs.Forests.Forest.{HasNode, inclusive_descendants};
 ghost use Rattle.dom_model.specs.DataAndCopies.Data.{text_content, string_replace_all, set_text_content};
 ghost use Rattle.dom_model.specs.Forests.Kinds.{may_be_parent};
-ghost use Rattle.dom_model.specs.Forests.Nodes.{kind_passes};
-ghost use Rattle.std.specs.Option.{ForSome};
-ghost use Rattle.dom_model.specs.MutationAlgorithms.Editing.{replace_all};
+ghost use Rattle.dom_model.specs.Forests.Nodes.{kind_passes, is_of_kind};
 ghost use Rattle.dom_model.specs.TokenText.Edits.{set_text_content_edits};
 ghost use Rattle.dom_edit.specs.Whole.{IsWhole, Follows, unwatched};
 ghost use Rattle.dom_edit.specs.Markers.{StandByEdits};
@@ -67,27 +66,7 @@ pub fn text_content(world: &World, alloc: Global, node: NodeId) -> Result<Option
     }
 }
 
-// Puts a Text, or nothing, in place of all children. An element and a fragment take a Text, so that only memory can be wanting.
-fn replace_children(
-    world: &mut World,
-    alloc: Global,
-    parent: NodeId,
-    child: Option<NodeId>,
-) -> Result<(), AllocError>
-    requires whole { IsWhole world.old }
-    requires parent_held { HasNode world.old.tree.forest parent }
-    requires parent_kind { kind_passes may_be_parent world.old.tree.forest parent ≡ true }
-    requires child_held { ForSome child (λ n. HasNode world.old.tree.forest n) }
-    ensures replaced { OnOk result (Follows world.old world.new (replace_all child parent)) }
-    ensures whole { IsWhole world.new }
-{
-    match world.replace_children(alloc, parent, child) {
-        Ok(()) => Ok(()),
-        Err(_) => Err(AllocError),
-    }
-}
-
-// Puts a new Text, or nothing for the empty text, in place of all children ("string replace all").
+// Puts a new Text, or nothing for the empty text, in place of all children of an element or a fragment ("string replace all").
 fn string_replace_all(
     world: &mut World,
     alloc: Global,
@@ -97,16 +76,17 @@ fn string_replace_all(
     requires whole { IsWhole world.old }
     requires held { HasNode world.old.tree.forest parent }
     requires kind { kind_passes may_be_parent world.old.tree.forest parent ≡ true }
+    requires no_document { is_of_kind Document world.old.tree.forest parent ≡ false }
     requires room { world.old.tree.made < 4294967295 }
     ensures replaced { OnOk result (Follows world.old world.new (string_replace_all text parent)) }
     ensures whole { IsWhole world.new }
 {
     if text.is_empty() {
-        return replace_children(world, alloc, parent, None);
+        return world.replace_children_checked(alloc, parent, None);
     }
     let document = document_in(&world.tree, parent);
     let child = make_text(world, alloc, document, text)?;
-    replace_children(world, alloc, parent, Some(child))
+    world.replace_children_checked(alloc, parent, Some(child))
 }
 
 /// Makes a text the data of a node, or the one Text below it; nothing for a Document and a doctype ("set text content").

@@ -14,8 +14,8 @@ mod splitting;
 pub use attributes::{remove_attribute, set_attribute, toggle_attribute};
 pub use contents::{set_text_content, text_content};
 pub use normalizing::normalize;
-pub use replacing::{replace_data, set_data, substring};
-pub use splitting::split;
+pub use replacing::{replace_data, replace_data_checked, set_data, substring};
+pub use splitting::{split, split_checked};
 
 /// What crates above name of `dom_attrs`.
 pub mod of_attrs {

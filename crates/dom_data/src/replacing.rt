@@ -59,13 +59,32 @@ pub fn replace_data(
     ensures refused { IfErr result (λ e. IsRefused e (check_offset (unwatched world.old) node offset) world.old world.new) }
     ensures whole { IsWhole world.new }
 {
-    let length = data_in(&world.tree, node).len();
-    if offset > length {
+    if offset > data_in(&world.tree, node).len() {
         return Err(Refusal::Dom(DomError::IndexSizeError));
     }
-    let count = count.min(length - offset);
-    replace_units(world, alloc, node, offset, count, added)?;
+    replace_data_checked(world, alloc, node, offset, count, added)?;
     Ok(())
+}
+
+/// Puts `added` in place of `count` units from an offset on that is within the data, as [`replace_data`] does.
+pub fn replace_data_checked(
+    world: &mut World,
+    alloc: Global,
+    node: NodeId,
+    offset: usize,
+    count: usize,
+    added: &[u16],
+) -> Result<(), AllocError>
+    requires whole { IsWhole world.old }
+    requires kind { kind_passes is_character_data world.old.tree.forest node ≡ true }
+    requires within { offset ≤ length (data_of (unwatched world.old) node) }
+    ensures replaced { OnOk result (Follows world.old world.new (replace_data node offset count added.now)) }
+    ensures markers { OnOk result (StandByEdits world.old world.new (replace_data_edits node offset count added.now)) }
+    ensures whole { IsWhole world.new }
+{
+    let length = data_in(&world.tree, node).len();
+    let count = count.min(length - offset);
+    replace_units(world, alloc, node, offset, count, added)
 }
 
 /// Puts a text in place of all data of a node, with a record of the old data.

@@ -1,11 +1,11 @@
 //! A Text split in two (DOM Standard, "Interface Text").
 
-ghost use Rattle.std.specs.Prelude.{◌≡◌, ◌<◌, ◌^◌, true, Some, None, length, IfOk, OnOk};
+ghost use Rattle.std.specs.Prelude.{◌≡◌, ◌<◌, ◌≤◌, ◌^◌, true, Some, None, length, IfOk, OnOk};
 ghost use Rattle.std.specs.Result.{IfErr};
 ghost use Rattle.dom_model.specs.declared.Kind.TheVariants.{Text};
 ghost use Rattle.dom_model.specs.Forests.Forest.{HasNode, parent_of, children_of};
 ghost use Rattle.dom_model.specs.Forests.Nodes.{is_of_kind};
-ghost use Rattle.dom_model.specs.DataAndCopies.Data.{check_offset, split, split_off};
+ghost use Rattle.dom_model.specs.DataAndCopies.Data.{data_of, check_offset, split, split_off};
 ghost use Rattle.dom_model.specs.TokenText.Edits.{split_edits};
 ghost use Rattle.dom_edit.specs.Whole.{IsWhole, Follows, unwatched};
 ghost use Rattle.dom_edit.specs.Markers.{StandByEdits};
@@ -15,7 +15,7 @@ ghost use Rattle.dom_data.specs.Tails.{IsTail};
 use crate::bodies::data_in;
 use crate::making::{document_in, make_text};
 use crate::normalizing::index_if_asked;
-use crate::replacing::replace_data;
+use crate::replacing::replace_data_checked;
 use dom_edit::of_kinds::DomError;
 use dom_edit::of_tree::{NodeId, Tree};
 use dom_edit::of_units::Units;
@@ -45,19 +45,15 @@ fn put_behind(
     requires parent { parent_of world.old.tree.forest node ≡ Some parent }
     ensures parted { OnOk result (Follows world.old world.new (λ w. split_off node offset new (parent_of w.forest node) w)) }
     ensures kind { OnOk result (is_of_kind Text world.new.tree.forest node ≡ true) }
+    ensures within { OnOk result (offset ≤ length (data_of (unwatched world.new) node)) }
     ensures whole { IsWhole world.new }
 {
     let next = world.tree.next(node);
-    match world.insert_before(alloc, parent, new, next) {
-        Ok(()) => {
-            counted(&world.tree, parent);
-            let index = index_if_asked(world, parent, node);
-            world.ranges.was_split(node, offset, new, parent, index);
-            Ok(())
-        }
-        // no check refuses a Text beside another, so that only memory can be wanting
-        Err(_) => Err(AllocError),
-    }
+    world.insert(alloc, parent, new, next)?;
+    counted(&world.tree, parent);
+    let index = index_if_asked(world, parent, node);
+    world.ranges.was_split(node, offset, new, parent, index);
+    Ok(())
 }
 
 // The same where the Text that is split has a parent; nothing where it has none.
@@ -73,6 +69,7 @@ fn part(
     requires tail { IsTail world.old node offset new }
     ensures parted { OnOk result (Follows world.old world.new (λ w. split_off node offset new (parent_of w.forest node) w)) }
     ensures kind { OnOk result (is_of_kind Text world.new.tree.forest node ≡ true) }
+    ensures within { OnOk result (offset ≤ length (data_of (unwatched world.new) node)) }
     ensures whole { IsWhole world.new }
 {
     match world.tree.parent(node) {
@@ -100,19 +97,35 @@ pub fn split(
     ensures refused { IfErr result (λ e. IsRefused e (check_offset (unwatched world.old) node offset) world.old world.new) }
     ensures whole { IsWhole world.new }
 {
-    let data = data_in(&world.tree, node);
-    let length = data.len();
-    if offset > length {
+    if offset > data_in(&world.tree, node).len() {
         return Err(Refusal::Dom(DomError::IndexSizeError));
     }
-    let count = length - offset;
+    let new = split_checked(world, alloc, node, offset)?;
+    Ok(new)
+}
+
+/// Splits a Text at an offset that is within its data, as [`split`] does.
+pub fn split_checked(
+    world: &mut World,
+    alloc: Global,
+    node: NodeId,
+    offset: usize,
+) -> Result<NodeId, AllocError>
+    requires whole { IsWhole world.old }
+    requires kind { is_of_kind Text world.old.tree.forest node ≡ true }
+    requires within { offset ≤ length (data_of (unwatched world.old) node) }
+    requires room { world.old.tree.made < 4294967295 }
+    ensures number { IfOk result (λ id. id ≡ world.old.tree.made) }
+    ensures split { OnOk result (Follows world.old world.new (split node offset)) }
+    ensures markers { OnOk result (StandByEdits world.old world.new (split_edits node offset)) }
+    ensures whole { IsWhole world.new }
+{
+    let data = data_in(&world.tree, node);
+    let count = data.len() - offset;
     let tail = Units::from_units(alloc, data.slice(offset, count))?;
     let document = document_in(&world.tree, node);
     let new = make_text(world, alloc, document, tail)?;
     part(world, alloc, node, offset, new)?;
-    // the offset is within as before, so that only memory can be wanting
-    match replace_data(world, alloc, node, offset, count, &[]) {
-        Ok(()) => Ok(new),
-        Err(_) => Err(Refusal::Memory),
-    }
+    replace_data_checked(world, alloc, node, offset, count, &[])?;
+    Ok(new)
 }

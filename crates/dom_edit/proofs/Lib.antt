@@ -14,3 +14,4 @@ pub mod Naming
 pub mod InsertedNodes
 pub mod ReplacedNodes
 pub mod Marking
+pub mod Unrefused

@@ -10,7 +10,8 @@ ghost use Rattle.dom_model.specs.Forests.Kinds.{may_be_parent};
 ghost use Rattle.dom_model.specs.Forests.Forest.{HasNode};
 ghost use Rattle.dom_model.specs.MutationAlgorithms.Checks.{check_insert, check_replace};
 ghost use Rattle.dom_model.specs.Forests.Nodes.{is_of_kind, kind_passes};
-ghost use Rattle.dom_model.specs.MutationAlgorithms.Editing.{remove, pre_insert, append, replace, replace_all, adopt};
+ghost use Rattle.dom_model.specs.MutationAlgorithms.Editing.{remove, insert, pre_insert, append, replace, replace_all, adopt};
+ghost use Rattle.dom_model.specs.MutationAlgorithms.Insertable.{IsInsertable};
 ghost use Rattle.dom_model.specs.TokenText.Edits.{pre_insert_edits, append_edits, replace_edits, remove_edits, replace_all_edits, adopt_edits};
 ghost use Rattle.dom_edit.specs.Whole.{IsWhole, Follows};
 ghost use Rattle.dom_edit.specs.Markers.{StandByEdits};
@@ -50,10 +51,46 @@ impl World {
         if let Err(error) = check_insert(&self.tree, parent, node, given) {
             return Err(Refusal::Dom(error));
         }
-        let reference = reference_child(&self.tree, node, child);
-        let nodes = entering(&self.tree, alloc, node)?;
-        self.insert(alloc, false, node, parent, reference, nodes.as_slice())?;
+        self.insert_checked(alloc, parent, node, child)?;
         Ok(())
+    }
+
+    /// Puts a node, or the children of a fragment, in as [`World::insert_before`] does, where nothing refuses it.
+    pub fn insert_checked(
+        &mut self,
+        alloc: Global,
+        parent: NodeId,
+        node: NodeId,
+        child: Option<NodeId>,
+    ) -> Result<(), AllocError>
+        requires whole { IsWhole self.old }
+        requires node_held { HasNode self.old.tree.forest node }
+        requires allowed { check_insert self.old.tree.forest parent node child ≡ None }
+        ensures inserted { OnOk result (Follows self.old self.new (pre_insert node parent child)) }
+        ensures markers { OnOk result (StandByEdits self.old self.new (pre_insert_edits node parent child)) }
+        ensures whole { IsWhole self.new }
+    {
+        let reference = reference_child(&self.tree, node, child);
+        self.insert(alloc, parent, node, reference)
+    }
+
+    /// Inserts a node, or the children of a fragment, under a parent, before another child of it or last (insert).
+    ///
+    /// It asks nothing. The parent may have children and is no part of the node's tree, and the node is of a kind that may stand under it.
+    pub fn insert(
+        &mut self,
+        alloc: Global,
+        parent: NodeId,
+        node: NodeId,
+        child: Option<NodeId>,
+    ) -> Result<(), AllocError>
+        requires whole { IsWhole self.old }
+        requires allowed { IsInsertable self.old.tree.forest node parent child }
+        ensures inserted { OnOk result (Follows self.old self.new (insert false node parent child)) }
+        ensures whole { IsWhole self.new }
+    {
+        let nodes = entering(&self.tree, alloc, node)?;
+        self.enter(alloc, false, node, parent, child, nodes.as_slice())
     }
 
     /// Puts a node, or the children of a fragment, in as the last of a parent's children (append).
@@ -99,7 +136,7 @@ impl World {
         let nodes = entering(&self.tree, alloc, node)?;
         self.remove_node(alloc, child, true)?;
         let before = reference;
-        self.insert(alloc, true, node, parent, before, nodes.as_slice())?;
+        self.enter(alloc, true, node, parent, before, nodes.as_slice())?;
         self.queue_tree_record(
             alloc,
             parent,
@@ -168,13 +205,32 @@ impl World {
         if let Err(error) = check_only_child(&self.tree, parent, asked) {
             return Err(Refusal::Dom(error));
         }
+        self.replace_children_checked(alloc, parent, node)?;
+        Ok(())
+    }
+
+    /// Makes a node, the children of a fragment, or nothing, all that stands under a parent as [`World::replace_children`] does, where
+    /// nothing refuses it.
+    pub fn replace_children_checked(
+        &mut self,
+        alloc: Global,
+        parent: NodeId,
+        node: Option<NodeId>,
+    ) -> Result<(), AllocError>
+        requires whole { IsWhole self.old }
+        requires parent_held { HasNode self.old.tree.forest parent }
+        requires node_held { ForSome node (λ n. HasNode self.old.tree.forest n) }
+        requires allowed { check_only_child self.old.tree.forest parent node ≡ None }
+        ensures replaced { OnOk result (Follows self.old self.new (replace_all node parent)) }
+        ensures markers { OnOk result (StandByEdits self.old self.new (replace_all_edits node parent)) }
+        ensures whole { IsWhole self.new }
+    {
         let entered = node;
         let added = entering_if_any(&self.tree, alloc, entered)?;
         let removed = children(&self.tree, alloc, parent)?;
         self.remove_all(alloc, removed.as_slice())?;
         self.insert_if_any(alloc, node, parent, added.as_slice())?;
-        self.queue_replaced(alloc, parent, added.as_slice(), removed.as_slice())?;
-        Ok(())
+        self.queue_replaced(alloc, parent, added.as_slice(), removed.as_slice())
     }
 
     /// Takes a node out of its parent, and gives it and all that stands under it a node document (adopt).

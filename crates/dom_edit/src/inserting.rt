@@ -133,7 +133,7 @@ impl World {
     }
 
     /// Inserts a node, of which the list is what comes in with it, under a parent, before a child of it or last.
-    pub(crate) fn insert(
+    pub(crate) fn enter(
         &mut self,
         alloc: Global,
         suppressed: bool,

@@ -84,7 +84,7 @@ impl World {
         ensures whole { IsWhole self.new }
     {
         match node {
-            Some(node) => self.insert(alloc, true, node, parent, None, nodes),
+            Some(node) => self.enter(alloc, true, node, parent, None, nodes),
             None => Ok(()),
         }
     }

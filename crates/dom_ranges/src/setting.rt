@@ -1,12 +1,12 @@
 //! Live ranges set anew (DOM Standard, "Interface Range").
 
-ghost use Rattle.std.specs.Prelude.{◌≡◌, slice_set, Some, IsSome, IfSome, OnOk, OnErr};
+ghost use Rattle.std.specs.Prelude.{◌≡◌, slice_set, Some, None, IsSome, IfSome, OnOk, OnErr};
 ghost use Rattle.std.specs.Option.{ForSome};
 ghost use Rattle.dom_model.specs.declared.Kind.TheVariants.{DocumentType};
 ghost use Rattle.dom_model.specs.Forests.Forest.{HasNode, parent_of, root_of};
 ghost use Rattle.dom_model.specs.Worlds.World.{Range};
 ghost use Rattle.dom_model.specs.Forests.Nodes.{is_of_kind, same_root as has_same_root};
-ghost use Rattle.dom_model.specs.RangesAndContents.Ranges.{is_before as comes_before, start_set, end_set, check_point, check_parent, check_contents, around, contents_of, collapsed};
+ghost use Rattle.dom_model.specs.RangesAndContents.Ranges.{is_before as comes_before, start_set, end_set, check_point, check_parent, check_contents, around, contents_of, collapsed, collapsed_at};
 ghost use Rattle.dom_ranges.specs.Tables.{IsCovered, range_in, StandsIn, refused};
 
 use crate::numbers::RangeId;
@@ -137,10 +137,23 @@ impl Ranges {
         ensures set { OnOk result (IfSome (around tree.now.forest node) (λ range. self.new ≡ record self.old { ranges = slice_set self.old.ranges r (Some range) })) }
         ensures unchanged { OnErr result (self.new ≡ self.old) }
     {
-        tree.sound();
-        let Some(parent) = tree.parent(node) else {
+        if tree.parent(node).is_none() {
             return Err(DomError::InvalidNodeTypeError);
-        };
+        }
+        self.select_checked(tree, r, node);
+        Ok(())
+    }
+
+    /// Sets the range around a node that has a parent, as [`Ranges::select`] does.
+    pub fn select_checked<X>(&mut self, tree: &Tree<X>, r: RangeId, node: NodeId)
+        requires held { IsSome (range_in self.old r) }
+        requires node { HasNode tree.now.forest node }
+        requires allowed { check_parent tree.now.forest node ≡ None }
+        requires covered { ForSome (parent_of tree.now.forest node) (IsCovered self.old) }
+        ensures { IfSome (around tree.now.forest node) (λ range. self.new ≡ record self.old { ranges = slice_set self.old.ranges r (Some range) }) }
+    {
+        tree.sound();
+        let parent = tree.parent(node).unwrap();
         // an index is below the count, so the offset behind the node is a number of the machine too
         let _ = tree.count(parent);
         let index = tree.index(node);
@@ -155,7 +168,6 @@ impl Ranges {
                 offset: index + 1,
             },
         );
-        Ok(())
     }
 
     /// Sets the range to all that a node contains. A doctype is refused.
@@ -178,6 +190,15 @@ impl Ranges {
         let offset = tree.length(node);
         self.write(r, Point { node, offset: 0 }, Point { node, offset });
         Ok(())
+    }
+
+    /// Sets both ends to one point.
+    pub fn collapse_at(&mut self, r: RangeId, p: Point)
+        requires held { IsSome (range_in self.old r) }
+        requires covered { IsCovered self.old p.node }
+        ensures { self.new ≡ record self.old { ranges = slice_set self.old.ranges r (Some (collapsed_at p)) } }
+    {
+        self.write(r, p, p);
     }
 
     /// Both ends become the start, or the end.

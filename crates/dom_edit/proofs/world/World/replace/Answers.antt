@@ -3,14 +3,14 @@ use Rattle.dom_edit.proofs.Marking.{stand-by_replace}
 use Rattle.dom_edit.proofs.ReplacedNodes.{reference_in, insertable-instead, entering-instead, follows-replace}
 use Rattle.dom_edit.proofs.world.World.replace.Goals as goal
 
-pub insert-requires-clause-allowed : goal.insert-requires-clause-allowed
-insert-requires-clause-allowed c =
+pub enter-requires-clause-allowed : goal.enter-requires-clause-allowed
+enter-requires-clause-allowed c =
     let v = c.args.self.now in
     let r = c.reference_child-reference.ensures ∙ ap (reference_in v.tree.forest c.args.node) c.next-following.ensures in
     insertable-instead v c.remove_node.new.self c.requires.whole c.args.child c.args.node c.args.parent c.reference_child-reference.result c.requires.node_held c.in_default.ensures r c.in_ok-remove_node.ensures.removed
 
-pub insert-requires-clause-nodes : goal.insert-requires-clause-nodes
-insert-requires-clause-nodes c =
+pub enter-requires-clause-nodes : goal.enter-requires-clause-nodes
+enter-requires-clause-nodes c =
     let v = c.args.self.now in
     let r = c.reference_child-reference.ensures ∙ ap (reference_in v.tree.forest c.args.node) c.next-following.ensures in
     c.as_slice.ensures ∙ c.in_ok-nodes.ensures
@@ -20,13 +20,13 @@ pub returns-clause-replaced : goal.returns-clause-replaced
 returns-clause-replaced c =
     let v = c.args.self.now in
     let r = c.reference_child-reference.ensures ∙ ap (reference_in v.tree.forest c.args.node) c.next-following.ensures in
-    follows-replace v c.remove_node.new.self c.insert.new.self c.queue_tree_record.new.self c.args.child c.args.node c.args.parent c.prev-previous.result c.reference_child-reference.result c.as_slice-2.result.now
-    c.prev-previous.ensures r (c.as_slice-2.ensures ∙ c.in_ok-nodes.ensures) c.in_ok-remove_node.ensures.removed c.in_ok-insert.ensures.inserted c.in_ok-queue_tree_record.ensures.queued
+    follows-replace v c.remove_node.new.self c.enter.new.self c.queue_tree_record.new.self c.args.child c.args.node c.args.parent c.prev-previous.result c.reference_child-reference.result c.as_slice-2.result.now
+    c.prev-previous.ensures r (c.as_slice-2.ensures ∙ c.in_ok-nodes.ensures) c.in_ok-remove_node.ensures.removed c.in_ok-enter.ensures.inserted c.in_ok-queue_tree_record.ensures.queued
 
 pub returns-clause-markers : goal.returns-clause-markers
 returns-clause-markers c =
     let v = c.args.self.now in
     let r = c.reference_child-reference.ensures ∙ ap (reference_in v.tree.forest c.args.node) c.next-following.ensures in
     stand-by_replace v c.queue_tree_record.new.self c.requires.whole c.queue_tree_record.ensures.whole c.args.child c.args.node c.args.parent c.requires.node_held c.in_default.ensures
-    (follows-replace v c.remove_node.new.self c.insert.new.self c.queue_tree_record.new.self c.args.child c.args.node c.args.parent c.prev-previous.result c.reference_child-reference.result c.as_slice-2.result.now
-    c.prev-previous.ensures r (c.as_slice-2.ensures ∙ c.in_ok-nodes.ensures) c.in_ok-remove_node.ensures.removed c.in_ok-insert.ensures.inserted c.in_ok-queue_tree_record.ensures.queued)
+    (follows-replace v c.remove_node.new.self c.enter.new.self c.queue_tree_record.new.self c.args.child c.args.node c.args.parent c.prev-previous.result c.reference_child-reference.result c.as_slice-2.result.now
+    c.prev-previous.ensures r (c.as_slice-2.ensures ∙ c.in_ok-nodes.ensures) c.in_ok-remove_node.ensures.removed c.in_ok-enter.ensures.inserted c.in_ok-queue_tree_record.ensures.queued)

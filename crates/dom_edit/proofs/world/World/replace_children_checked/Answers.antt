@@ -1,9 +1,10 @@
 use Rattle.std.proofs.Common.{sym, ◌∙◌, subst}
+use Rattle.std.proofs.lemmas.Result.{on_ok_weaker}
 use Rattle.dom_model.specs.MutationAlgorithms.Editing.{remove_all}
 use Rattle.dom_edit.specs.Whole.{Follows}
 use Rattle.dom_edit.proofs.Marking.{stand-by_replace_all}
 use Rattle.dom_edit.proofs.ReplacedNodes.{children-held, parent-emptied, insertable-only, entering-only, follows-replace_all}
-use Rattle.dom_edit.proofs.world.World.replace_children.Goals as goal
+use Rattle.dom_edit.proofs.world.World.replace_children_checked.Goals as goal
 
 pub remove_all-requires-clause-held : goal.remove_all-requires-clause-held
 remove_all-requires-clause-held c = children-held c.args.self.now c.requires.whole c.args.parent c.as_slice.result.now (c.as_slice.ensures.value ∙ c.in_ok-removed.ensures)
@@ -14,23 +15,23 @@ insert_if_any-requires-clause-parent_held c =
 
 pub insert_if_any-requires-clause-allowed : goal.insert_if_any-requires-clause-allowed
 insert_if_any-requires-clause-allowed c =
-    insertable-only c.args.self.now c.remove_all.new.self c.requires.whole c.args.parent c.as_slice.result.now (c.as_slice.ensures.value ∙ c.in_ok-removed.ensures) c.in_ok-remove_all.ensures.removed c.args.node c.requires.node_held c.in_default.ensures
+    insertable-only c.args.self.now c.remove_all.new.self c.requires.whole c.args.parent c.as_slice.result.now (c.as_slice.ensures.value ∙ c.in_ok-removed.ensures) c.in_ok-remove_all.ensures.removed c.args.node c.requires.node_held c.requires.allowed
 
 pub insert_if_any-requires-clause-nodes : goal.insert_if_any-requires-clause-nodes
 insert_if_any-requires-clause-nodes c =
     c.as_slice-2.ensures ∙ c.in_ok-added.ensures
-    ∙ sym (entering-only c.args.self.now c.remove_all.new.self c.requires.whole c.args.parent c.as_slice.result.now (c.as_slice.ensures.value ∙ c.in_ok-removed.ensures) c.in_ok-remove_all.ensures.removed c.requires.parent_held c.args.node c.requires.node_held c.in_default.ensures)
+    ∙ sym (entering-only c.args.self.now c.remove_all.new.self c.requires.whole c.args.parent c.as_slice.result.now (c.as_slice.ensures.value ∙ c.in_ok-removed.ensures) c.in_ok-remove_all.ensures.removed c.requires.parent_held c.args.node c.requires.node_held c.requires.allowed)
 
 pub returns-clause-replaced : goal.returns-clause-replaced
 returns-clause-replaced c =
+    on_ok_weaker c.queue_replaced.result
+    (λ queued.
     follows-replace_all c.args.self.now c.remove_all.new.self c.insert_if_any.new.self c.queue_replaced.new.self c.args.node c.args.parent c.as_slice-3.result.now c.as_slice-4.result.now
     (c.as_slice-3.ensures ∙ c.in_ok-added.ensures) (c.as_slice-4.ensures.value ∙ c.in_ok-removed.ensures)
-    (subst (λ ns. Follows c.args.self.now c.remove_all.new.self (remove_all ns)) (c.as_slice.ensures.value ∙ sym c.as_slice-4.ensures.value) c.in_ok-remove_all.ensures.removed) c.in_ok-insert_if_any.ensures.inserted c.in_ok-queue_replaced.ensures.queued
+    (subst (λ ns. Follows c.args.self.now c.remove_all.new.self (remove_all ns)) (c.as_slice.ensures.value ∙ sym c.as_slice-4.ensures.value) c.in_ok-remove_all.ensures.removed) c.in_ok-insert_if_any.ensures.inserted queued)
+    c.queue_replaced.ensures.queued
 
 pub returns-clause-markers : goal.returns-clause-markers
 returns-clause-markers c =
-    let v = c.args.self.now in
-    stand-by_replace_all v c.queue_replaced.new.self c.requires.whole c.queue_replaced.ensures.whole c.args.node c.args.parent c.requires.node_held c.in_default.ensures
-    (follows-replace_all v c.remove_all.new.self c.insert_if_any.new.self c.queue_replaced.new.self c.args.node c.args.parent c.as_slice-3.result.now c.as_slice-4.result.now
-    (c.as_slice-3.ensures ∙ c.in_ok-added.ensures) (c.as_slice-4.ensures.value ∙ c.in_ok-removed.ensures)
-    (subst (λ ns. Follows v c.remove_all.new.self (remove_all ns)) (c.as_slice.ensures.value ∙ sym c.as_slice-4.ensures.value) c.in_ok-remove_all.ensures.removed) c.in_ok-insert_if_any.ensures.inserted c.in_ok-queue_replaced.ensures.queued)
+    on_ok_weaker c.queue_replaced.result
+    (stand-by_replace_all c.args.self.now c.queue_replaced.new.self c.requires.whole c.queue_replaced.ensures.whole c.args.node c.args.parent c.requires.node_held c.requires.allowed) (returns-clause-replaced c)

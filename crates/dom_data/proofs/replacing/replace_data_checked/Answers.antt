@@ -1,0 +1,22 @@
+-- A count that is cut at the end.
+use Rattle.std.proofs.Common.{◌≤◌, ℕ, List, length, sym, ap, ◌∙◌, subst}
+use Rattle.std.proofs.lemmas.Result.{on_ok_weaker}
+use Rattle.dom_model.specs.DataAndCopies.Data.{cut_count}
+use Rattle.dom_data.proofs.Marking.{stand-by_replace_data}
+use Rattle.dom_data.proofs.StaysWhole.{count-cut, follows-cut}
+use Rattle.dom_data.proofs.replacing.replace_data_checked.Goals as goal
+
+pub returns-clause-replaced : goal.returns-clause-replaced
+returns-clause-replaced c =
+    let whole = c.len-length.ensures ∙ ap (λ (units : List ℕ). length units) c.data_in.ensures in
+    let within : c.args.offset ≤ c.len-length.result = subst (λ l. c.args.offset ≤ l) (sym whole) c.requires.within in
+    on_ok_weaker c.replace_units.result
+    (follows-cut c.args.world.now c.replace_units.new.world c.args.node c.args.offset c.args.count c.min-count.result c.args.added.now
+    (c.min-count.ensures ∙ count-cut c.len-length.result c.args.offset c.args.count within ∙ ap (λ l. cut_count l c.args.offset c.args.count) whole))
+    c.replace_units.ensures.replaced
+
+pub returns-clause-markers : goal.returns-clause-markers
+returns-clause-markers c =
+    on_ok_weaker c.replace_units.result
+    (stand-by_replace_data c.args.world.now c.replace_units.new.world c.requires.whole c.replace_units.ensures.whole c.args.node c.args.offset c.args.count c.args.added.now c.requires.kind
+    c.requires.within) (returns-clause-replaced c)
