@@ -1,7 +1,33 @@
 -- The commands and replies of a session as those of the definitions.
 use Rattle.std.specs.Prelude.{map, string_bytes}
 use Rattle.dom_session.specs.declared.command.Command.{Command}
-use Rattle.dom_session.specs.declared.command.Command.TheVariants.{NewDocument, CreateElement, CreateText, CreateComment, CreatePI, CreateDoctype, CreateFragment, InsertBefore, AppendChild, AdoptNode, ReplaceChild, RemoveChild, Remove, ReplaceChildren, ImportNode, CloneNode, Normalize, DescribeNode, Children, Index, Length, Root, IsContaining, IsEqual, ComparePosition, TextContent, SetTextContent, Tree, GetData, SetData, AppendData, InsertData, DeleteData, ReplaceData, SubstringData, SplitText, SetAttribute, GetAttribute, HasAttribute, RemoveAttribute, ToggleAttribute, AttributeNames, CreateRange, CloneRange, DescribeRange, SetStart, SetEnd, SetStartBefore, SetStartAfter, SetEndBefore, SetEndAfter, Collapse, SelectNode, SelectNodeContents, CompareBoundaryPoints, ComparePoint, IsPointInRange, IntersectsNode, CommonAncestor, RangeText, DeleteContents, ExtractContents, CloneContents, InsertNode, SurroundContents, ReleaseRange, CreateIterator, CreateWalker, DescribeIterator, NextNode, PreviousNode, DescribeWalker, SetCurrent, Walk, CreateObserver, Observe, Disconnect, TakeRecords, Notify, Pending, Discard, CreateStaticRange, DescribeStaticRange}
+use Rattle.dom_session.specs.declared.command.Command.TheVariants as group
+use Rattle.dom_session.specs.declared.command.Making.{Making}
+use Rattle.dom_session.specs.declared.command.Making.TheVariants.{NewDocument, CreateElement, CreateText, CreateComment, CreatePI, CreateDoctype, CreateFragment}
+use Rattle.dom_session.specs.declared.command.Editing.{Editing}
+use Rattle.dom_session.specs.declared.command.Editing.TheVariants.{InsertBefore, AppendChild, AdoptNode, ReplaceChild, RemoveChild, Remove, ReplaceChildren, Discard}
+use Rattle.dom_session.specs.declared.command.Asking.{Asking}
+use Rattle.dom_session.specs.declared.command.Asking.TheVariants.{DescribeNode, Children, Index, Length, Root, Tree}
+use Rattle.dom_session.specs.declared.command.Ranging.{Ranging}
+use Rattle.dom_session.specs.declared.command.Ranging.TheVariants.{CreateRange, CloneRange, DescribeRange, ReleaseRange}
+use Rattle.dom_session.specs.declared.command.Setting.{Setting}
+use Rattle.dom_session.specs.declared.command.Setting.TheVariants.{SetStart, SetEnd, SetStartBefore, SetStartAfter, SetEndBefore, SetEndAfter, Collapse, SelectNode, SelectNodeContents}
+use Rattle.dom_session.specs.declared.command.Comparing.{Comparing}
+use Rattle.dom_session.specs.declared.command.Comparing.TheVariants.{CompareBoundaryPoints, ComparePoint, IsPointInRange, IntersectsNode, CommonAncestor}
+use Rattle.dom_session.specs.declared.command.StaticRanging.{StaticRanging}
+use Rattle.dom_session.specs.declared.command.StaticRanging.TheVariants.{CreateStaticRange, DescribeStaticRange}
+use Rattle.dom_session.specs.declared.command.Traversing.{Traversing}
+use Rattle.dom_session.specs.declared.command.Traversing.TheVariants.{CreateIterator, CreateWalker, DescribeIterator, NextNode, PreviousNode, DescribeWalker, SetCurrent, Walk}
+use Rattle.dom_session.specs.declared.command.Observing.{Observing}
+use Rattle.dom_session.specs.declared.command.Observing.TheVariants.{CreateObserver, Observe, Disconnect, TakeRecords, Notify, Pending}
+use Rattle.dom_session.specs.declared.command.Texts.{Texts}
+use Rattle.dom_session.specs.declared.command.Texts.TheVariants.{Normalize, TextContent, SetTextContent, GetData, SetData, AppendData, InsertData, DeleteData, ReplaceData, SubstringData, SplitText}
+use Rattle.dom_session.specs.declared.command.Attributes.{Attributes}
+use Rattle.dom_session.specs.declared.command.Attributes.TheVariants.{SetAttribute, GetAttribute, HasAttribute, RemoveAttribute, ToggleAttribute, AttributeNames}
+use Rattle.dom_session.specs.declared.command.Copying.{Copying}
+use Rattle.dom_session.specs.declared.command.Copying.TheVariants.{ImportNode, CloneNode, IsContaining, IsEqual, ComparePosition}
+use Rattle.dom_session.specs.declared.command.Contents.{Contents}
+use Rattle.dom_session.specs.declared.command.Contents.TheVariants.{RangeText, DeleteContents, ExtractContents, CloneContents, InsertNode, SurroundContents}
 use Rattle.dom_session.specs.declared.reply.Answer.{Answer}
 use Rattle.dom_session.specs.declared.reply.Answer.TheVariants.{Nothing, Number, MaybeNumber, Count, Numbers, Flag, Order, Units, MaybeUnits, Names, NodeAt, Rows, Ends, StaticEnds, IteratorAt, WalkerAt, Records, Notified}
 use Rattle.dom_session.specs.declared.reply.Reply.{Reply}
@@ -9,90 +35,129 @@ use Rattle.dom_session.specs.declared.reply.Reply.TheVariants.{Done, Dom, Own}
 use Rattle.dom_model.specs.Commands.Command as model_command
 use Rattle.dom_model.specs.Commands.Reply as model_reply
 
+abbrev pub making_view : Making → model_command.Command
+making_view NewDocument = model_command.NewDocument
+making_view (CreateElement document name) = model_command.CreateElement document (string_bytes name)
+making_view (CreateText document text) = model_command.CreateText document text
+making_view (CreateComment document text) = model_command.CreateComment document text
+making_view (CreatePI document target text) = model_command.CreatePI document (string_bytes target) text
+making_view (CreateDoctype document name public_id system_id) = model_command.CreateDoctype document (string_bytes name) (string_bytes public_id) (string_bytes system_id)
+making_view (CreateFragment document) = model_command.CreateFragment document
+
+abbrev pub editing_view : Editing → model_command.Command
+editing_view (InsertBefore parent node child) = model_command.InsertBefore parent node child
+editing_view (AppendChild parent node) = model_command.AppendChild parent node
+editing_view (AdoptNode document node) = model_command.AdoptNode document node
+editing_view (ReplaceChild parent node child) = model_command.ReplaceChild parent node child
+editing_view (RemoveChild parent child) = model_command.RemoveChild parent child
+editing_view (Remove node) = model_command.Remove node
+editing_view (ReplaceChildren parent node) = model_command.ReplaceChildren parent node
+editing_view (Discard node) = model_command.Discard node
+
+abbrev pub asking_view : Asking → model_command.Command
+asking_view (DescribeNode node) = model_command.DescribeNode node
+asking_view (Children node) = model_command.Children node
+asking_view (Index node) = model_command.Index node
+asking_view (Length node) = model_command.Length node
+asking_view (Root node) = model_command.Root node
+asking_view (Tree top) = model_command.Tree top
+
+abbrev pub ranging_view : Ranging → model_command.Command
+ranging_view (CreateRange document) = model_command.CreateRange document
+ranging_view (CloneRange range) = model_command.CloneRange range
+ranging_view (DescribeRange range) = model_command.DescribeRange range
+ranging_view (ReleaseRange range) = model_command.ReleaseRange range
+
+abbrev pub setting_view : Setting → model_command.Command
+setting_view (SetStart range node offset) = model_command.SetStart range node offset
+setting_view (SetEnd range node offset) = model_command.SetEnd range node offset
+setting_view (SetStartBefore range node) = model_command.SetStartBefore range node
+setting_view (SetStartAfter range node) = model_command.SetStartAfter range node
+setting_view (SetEndBefore range node) = model_command.SetEndBefore range node
+setting_view (SetEndAfter range node) = model_command.SetEndAfter range node
+setting_view (Collapse range to_start) = model_command.Collapse range to_start
+setting_view (SelectNode range node) = model_command.SelectNode range node
+setting_view (SelectNodeContents range node) = model_command.SelectNodeContents range node
+
+abbrev pub comparing_view : Comparing → model_command.Command
+comparing_view (CompareBoundaryPoints range how source) = model_command.CompareBoundaryPoints range how source
+comparing_view (ComparePoint range node offset) = model_command.ComparePoint range node offset
+comparing_view (IsPointInRange range node offset) = model_command.IsPointInRange range node offset
+comparing_view (IntersectsNode range node) = model_command.IntersectsNode range node
+comparing_view (CommonAncestor range) = model_command.CommonAncestor range
+
+abbrev pub static_ranging_view : StaticRanging → model_command.Command
+static_ranging_view (CreateStaticRange start end) = model_command.CreateStaticRange start end
+static_ranging_view (DescribeStaticRange range) = model_command.DescribeStaticRange range
+
+abbrev pub traversing_view : Traversing → model_command.Command
+traversing_view (CreateIterator root filter) = model_command.CreateIterator root filter
+traversing_view (CreateWalker root filter) = model_command.CreateWalker root filter
+traversing_view (DescribeIterator iterator) = model_command.DescribeIterator iterator
+traversing_view (NextNode iterator) = model_command.NextNode iterator
+traversing_view (PreviousNode iterator) = model_command.PreviousNode iterator
+traversing_view (DescribeWalker walker) = model_command.DescribeWalker walker
+traversing_view (SetCurrent walker node) = model_command.SetCurrent walker node
+traversing_view (Walk walker move) = model_command.Walk walker move
+
+abbrev pub observing_view : Observing → model_command.Command
+observing_view CreateObserver = model_command.CreateObserver
+observing_view (Observe observer node options) = model_command.Observe observer node options
+observing_view (Disconnect observer) = model_command.Disconnect observer
+observing_view (TakeRecords observer) = model_command.TakeRecords observer
+observing_view Notify = model_command.Notify
+observing_view Pending = model_command.Pending
+
+abbrev pub texts_view : Texts → model_command.Command
+texts_view (Normalize node) = model_command.Normalize node
+texts_view (TextContent node) = model_command.TextContent node
+texts_view (SetTextContent node text) = model_command.SetTextContent node text
+texts_view (GetData node) = model_command.GetData node
+texts_view (SetData node text) = model_command.SetData node text
+texts_view (AppendData node text) = model_command.AppendData node text
+texts_view (InsertData node offset text) = model_command.InsertData node offset text
+texts_view (DeleteData node offset count) = model_command.DeleteData node offset count
+texts_view (ReplaceData node offset count text) = model_command.ReplaceData node offset count text
+texts_view (SubstringData node offset count) = model_command.SubstringData node offset count
+texts_view (SplitText text offset) = model_command.SplitText text offset
+
+abbrev pub attributes_view : Attributes → model_command.Command
+attributes_view (SetAttribute element name value) = model_command.SetAttribute element (string_bytes name) value
+attributes_view (GetAttribute element name) = model_command.GetAttribute element (string_bytes name)
+attributes_view (HasAttribute element name) = model_command.HasAttribute element (string_bytes name)
+attributes_view (RemoveAttribute element name) = model_command.RemoveAttribute element (string_bytes name)
+attributes_view (ToggleAttribute element name force) = model_command.ToggleAttribute element (string_bytes name) force
+attributes_view (AttributeNames element) = model_command.AttributeNames element
+
+abbrev pub copying_view : Copying → model_command.Command
+copying_view (ImportNode document node deep) = model_command.ImportNode document node deep
+copying_view (CloneNode node deep) = model_command.CloneNode node deep
+copying_view (IsContaining node other) = model_command.IsContaining node other
+copying_view (IsEqual node other) = model_command.IsEqual node other
+copying_view (ComparePosition node other) = model_command.ComparePosition node other
+
+abbrev pub contents_view : Contents → model_command.Command
+contents_view (RangeText range) = model_command.RangeText range
+contents_view (DeleteContents range) = model_command.DeleteContents range
+contents_view (ExtractContents range) = model_command.ExtractContents range
+contents_view (CloneContents range) = model_command.CloneContents range
+contents_view (InsertNode range node) = model_command.InsertNode range node
+contents_view (SurroundContents range parent) = model_command.SurroundContents range parent
+
 abbrev pub command_view : Command → model_command.Command
-command_view NewDocument = model_command.NewDocument
-command_view (CreateElement document name) = model_command.CreateElement document (string_bytes name)
-command_view (CreateText document text) = model_command.CreateText document text
-command_view (CreateComment document text) = model_command.CreateComment document text
-command_view (CreatePI document target text) = model_command.CreatePI document (string_bytes target) text
-command_view (CreateDoctype document name public_id system_id) = model_command.CreateDoctype document (string_bytes name) (string_bytes public_id) (string_bytes system_id)
-command_view (CreateFragment document) = model_command.CreateFragment document
-command_view (InsertBefore parent node child) = model_command.InsertBefore parent node child
-command_view (AppendChild parent node) = model_command.AppendChild parent node
-command_view (AdoptNode document node) = model_command.AdoptNode document node
-command_view (ReplaceChild parent node child) = model_command.ReplaceChild parent node child
-command_view (RemoveChild parent child) = model_command.RemoveChild parent child
-command_view (Remove node) = model_command.Remove node
-command_view (ReplaceChildren parent node) = model_command.ReplaceChildren parent node
-command_view (ImportNode document node deep) = model_command.ImportNode document node deep
-command_view (CloneNode node deep) = model_command.CloneNode node deep
-command_view (Normalize node) = model_command.Normalize node
-command_view (DescribeNode node) = model_command.DescribeNode node
-command_view (Children node) = model_command.Children node
-command_view (Index node) = model_command.Index node
-command_view (Length node) = model_command.Length node
-command_view (Root node) = model_command.Root node
-command_view (IsContaining node other) = model_command.IsContaining node other
-command_view (IsEqual node other) = model_command.IsEqual node other
-command_view (ComparePosition node other) = model_command.ComparePosition node other
-command_view (TextContent node) = model_command.TextContent node
-command_view (SetTextContent node text) = model_command.SetTextContent node text
-command_view (Tree top) = model_command.Tree top
-command_view (GetData node) = model_command.GetData node
-command_view (SetData node text) = model_command.SetData node text
-command_view (AppendData node text) = model_command.AppendData node text
-command_view (InsertData node offset text) = model_command.InsertData node offset text
-command_view (DeleteData node offset count) = model_command.DeleteData node offset count
-command_view (ReplaceData node offset count text) = model_command.ReplaceData node offset count text
-command_view (SubstringData node offset count) = model_command.SubstringData node offset count
-command_view (SplitText text offset) = model_command.SplitText text offset
-command_view (SetAttribute element name value) = model_command.SetAttribute element (string_bytes name) value
-command_view (GetAttribute element name) = model_command.GetAttribute element (string_bytes name)
-command_view (HasAttribute element name) = model_command.HasAttribute element (string_bytes name)
-command_view (RemoveAttribute element name) = model_command.RemoveAttribute element (string_bytes name)
-command_view (ToggleAttribute element name force) = model_command.ToggleAttribute element (string_bytes name) force
-command_view (AttributeNames element) = model_command.AttributeNames element
-command_view (CreateRange document) = model_command.CreateRange document
-command_view (CloneRange range) = model_command.CloneRange range
-command_view (DescribeRange range) = model_command.DescribeRange range
-command_view (SetStart range node offset) = model_command.SetStart range node offset
-command_view (SetEnd range node offset) = model_command.SetEnd range node offset
-command_view (SetStartBefore range node) = model_command.SetStartBefore range node
-command_view (SetStartAfter range node) = model_command.SetStartAfter range node
-command_view (SetEndBefore range node) = model_command.SetEndBefore range node
-command_view (SetEndAfter range node) = model_command.SetEndAfter range node
-command_view (Collapse range to_start) = model_command.Collapse range to_start
-command_view (SelectNode range node) = model_command.SelectNode range node
-command_view (SelectNodeContents range node) = model_command.SelectNodeContents range node
-command_view (CompareBoundaryPoints range how source) = model_command.CompareBoundaryPoints range how source
-command_view (ComparePoint range node offset) = model_command.ComparePoint range node offset
-command_view (IsPointInRange range node offset) = model_command.IsPointInRange range node offset
-command_view (IntersectsNode range node) = model_command.IntersectsNode range node
-command_view (CommonAncestor range) = model_command.CommonAncestor range
-command_view (RangeText range) = model_command.RangeText range
-command_view (DeleteContents range) = model_command.DeleteContents range
-command_view (ExtractContents range) = model_command.ExtractContents range
-command_view (CloneContents range) = model_command.CloneContents range
-command_view (InsertNode range node) = model_command.InsertNode range node
-command_view (SurroundContents range parent) = model_command.SurroundContents range parent
-command_view (ReleaseRange range) = model_command.ReleaseRange range
-command_view (CreateIterator root filter) = model_command.CreateIterator root filter
-command_view (CreateWalker root filter) = model_command.CreateWalker root filter
-command_view (DescribeIterator iterator) = model_command.DescribeIterator iterator
-command_view (NextNode iterator) = model_command.NextNode iterator
-command_view (PreviousNode iterator) = model_command.PreviousNode iterator
-command_view (DescribeWalker walker) = model_command.DescribeWalker walker
-command_view (SetCurrent walker node) = model_command.SetCurrent walker node
-command_view (Walk walker move) = model_command.Walk walker move
-command_view CreateObserver = model_command.CreateObserver
-command_view (Observe observer node options) = model_command.Observe observer node options
-command_view (Disconnect observer) = model_command.Disconnect observer
-command_view (TakeRecords observer) = model_command.TakeRecords observer
-command_view Notify = model_command.Notify
-command_view Pending = model_command.Pending
-command_view (Discard node) = model_command.Discard node
-command_view (CreateStaticRange start end) = model_command.CreateStaticRange start end
-command_view (DescribeStaticRange range) = model_command.DescribeStaticRange range
+command_view (group.Making command) = making_view command
+command_view (group.Editing command) = editing_view command
+command_view (group.Asking command) = asking_view command
+command_view (group.Ranging command) = ranging_view command
+command_view (group.Setting command) = setting_view command
+command_view (group.Comparing command) = comparing_view command
+command_view (group.StaticRanging command) = static_ranging_view command
+command_view (group.Traversing command) = traversing_view command
+command_view (group.Observing command) = observing_view command
+command_view (group.Texts command) = texts_view command
+command_view (group.Attributes command) = attributes_view command
+command_view (group.Copying command) = copying_view command
+command_view (group.Contents command) = contents_view command
 
 -- a count is a number too, as large as memory allows
 abbrev pub answer_view : Answer → model_reply.Answer

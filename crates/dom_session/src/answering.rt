@@ -7,13 +7,25 @@ ghost use Rattle.dom_session.specs.Views.{command_view, reply_view};
 ghost use Rattle.dom_session.specs.Stands.{IsStep};
 ghost use Rattle.dom_session.specs.Limiting.{numbered};
 
+use crate::attributes::change_attributes;
 use crate::command::Command;
+use crate::comparing::compare;
+use crate::contents::change_contents;
+use crate::copies::copy_nodes;
+use crate::editing::edit_tree;
 use crate::making::make_nodes;
+use crate::observing::watch;
+use crate::questions::ask_tree;
+use crate::ranging::act_on_ranges;
 use crate::reply::Reply;
+use crate::setting::set_ranges;
+use crate::statics::act_on_statics;
+use crate::texts::change_texts;
+use crate::traversing::traverse;
 use dom_wrap::of_edit::World;
 use std::alloc::{AllocError, Global};
 
-/// Answers a command, where memory is there. Each group of commands hands the others on to the next.
+/// Answers a command, where memory is there: each group of commands by the function for it.
 pub fn answered(
     world: &mut World,
     numbers: u64,
@@ -25,5 +37,19 @@ pub fn answered(
     ensures step { IfOk result (IsStep world.old world.new (numbered numbers) (command_view command)) }
     ensures refused { IfOk result (λ reply. is_refusal (reply_view reply) ≡ true → world.new ≡ world.old) }
 {
-    make_nodes(world, numbers, alloc, command)
+    match command {
+        Command::Making(command) => make_nodes(world, numbers, alloc, command),
+        Command::Editing(command) => edit_tree(world, alloc, command),
+        Command::Asking(command) => ask_tree(world, alloc, command),
+        Command::Ranging(command) => act_on_ranges(world, numbers, command),
+        Command::Setting(command) => Ok(set_ranges(world, command)),
+        Command::Comparing(command) => Ok(compare(world, command)),
+        Command::StaticRanging(command) => act_on_statics(world, numbers, command),
+        Command::Traversing(command) => traverse(world, numbers, command),
+        Command::Observing(command) => watch(world, numbers, alloc, command),
+        Command::Texts(command) => change_texts(world, numbers, alloc, command),
+        Command::Attributes(command) => change_attributes(world, alloc, command),
+        Command::Copying(command) => copy_nodes(world, numbers, alloc, command),
+        Command::Contents(command) => change_contents(world, numbers, alloc, command),
+    }
 }

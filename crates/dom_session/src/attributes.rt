@@ -1,6 +1,6 @@
 //! The commands on attributes (DOM Standard, "Interface Element").
 
-ghost use Rattle.std.specs.Prelude.{◌≡◌, ◌<◌, ◌≤◌, true, Some, is_some, length, map, option_map, slice_get, string_bytes, IfOk};
+ghost use Rattle.std.specs.Prelude.{◌≡◌, ◌<◌, true, Some, is_some, length, map, option_map, slice_get, string_bytes, IfOk};
 ghost use Rattle.dom_wrap.specs.dom_attrs.Entries.{attribute_at};
 ghost use Rattle.dom_model.specs.declared.Kind.TheVariants.{Element};
 ghost use Rattle.dom_model.specs.Forests.Attributes.{attribute_value, attribute_names};
@@ -11,13 +11,11 @@ ghost use Rattle.dom_model.specs.Commands.Command.{SetAttribute, GetAttribute, H
 ghost use Rattle.dom_model.specs.Commands.Guards.{Bounds};
 ghost use Rattle.dom_model.specs.Commands.Reply.{is_refusal};
 ghost use Rattle.dom_wrap.specs.dom_edit.Whole.{IsShown};
-ghost use Rattle.dom_session.specs.Views.{command_view, reply_view};
+ghost use Rattle.dom_session.specs.Views.{attributes_view, reply_view};
 ghost use Rattle.dom_session.specs.Stands.{IsStep};
-ghost use Rattle.dom_session.specs.Limiting.{numbered};
 ghost use Rattle.dom_session.specs.Refusing.{kind_refusal};
 
-use crate::command::Command;
-use crate::copies::copy_nodes;
+use crate::command::Attributes;
 use crate::reply::{Answer, Reply};
 use dom_model::OwnError;
 use dom_wrap::of_attrs::Attrs;
@@ -198,31 +196,33 @@ pub fn attribute_names(world: &World, alloc: Global, element: NodeId) -> Result<
 /// Answers the commands on attributes.
 pub fn change_attributes(
     world: &mut World,
-    numbers: u64,
     alloc: Global,
-    command: Command,
+    command: Attributes,
 ) -> Result<Reply, AllocError>
-    requires numbers { numbers ≤ 4294967295 }
     requires shown { IsShown world.old }
-    ensures step { IfOk result (IsStep world.old world.new (numbered numbers) (command_view command)) }
+    ensures step { IfOk result (λ reply. (b : Bounds) → IsStep world.old world.new b (attributes_view command) reply) }
     ensures refused { IfOk result (λ reply. is_refusal (reply_view reply) ≡ true → world.new ≡ world.old) }
 {
     match command {
-        Command::SetAttribute(element, name, value) => set_attribute(
+        Attributes::SetAttribute(element, name, value) => set_attribute(
             world, alloc, element, name, value,
         ),
-        Command::GetAttribute(element, name) => get_attribute(world, alloc, element, name.as_str()),
-        Command::HasAttribute(element, name) => Ok(has_attribute(world, element, name.as_str())),
-        Command::RemoveAttribute(element, name) => remove_attribute(
+        Attributes::GetAttribute(element, name) => get_attribute(
             world,
             alloc,
             element,
             name.as_str(),
         ),
-        Command::ToggleAttribute(element, name, force) => toggle_attribute(
+        Attributes::HasAttribute(element, name) => Ok(has_attribute(world, element, name.as_str())),
+        Attributes::RemoveAttribute(element, name) => remove_attribute(
+            world,
+            alloc,
+            element,
+            name.as_str(),
+        ),
+        Attributes::ToggleAttribute(element, name, force) => toggle_attribute(
             world, alloc, element, name, force,
         ),
-        Command::AttributeNames(element) => attribute_names(world, alloc, element),
-        other => copy_nodes(world, numbers, alloc, other),
+        Attributes::AttributeNames(element) => attribute_names(world, alloc, element),
     }
 }

@@ -1,4 +1,4 @@
-//! The commands that a session takes, one for each name of the table.
+//! The commands that a session takes, one for each name of the table, in groups.
 
 use dom_model::Move;
 use dom_wrap::of_observe::{ObserverId, RawOptions};
@@ -8,9 +8,9 @@ use dom_wrap::of_traverse::{Filter, IterId, WalkerId};
 use dom_wrap::of_tree::NodeId;
 use dom_wrap::of_units::Units;
 
-/// A command, with its arguments read.
+/// A command that makes a node.
 #[derive(Drop)]
-pub enum Command {
+pub enum Making {
     /// Makes a Document.
     NewDocument,
     /// Makes an Element of that name.
@@ -25,6 +25,11 @@ pub enum Command {
     CreateDoctype(NodeId, String, String, String),
     /// Makes a DocumentFragment.
     CreateFragment(NodeId),
+}
+
+/// A command that changes where nodes stand.
+#[derive(Drop)]
+pub enum Editing {
     /// Inserts the second node into the first, before a child or last.
     InsertBefore(NodeId, NodeId, Option<NodeId>),
     /// Appends the second node to the children of the first.
@@ -39,12 +44,13 @@ pub enum Command {
     Remove(NodeId),
     /// Puts a node, or none, in place of all children.
     ReplaceChildren(NodeId, Option<NodeId>),
-    /// A copy of a node for another document, with or without all below it.
-    ImportNode(NodeId, NodeId, bool),
-    /// A copy of a node, with or without all below it.
-    CloneNode(NodeId, bool),
-    /// Joins Text nodes below a node that stand side by side, and drops empty ones.
-    Normalize(NodeId),
+    /// Lets a node and all below it go.
+    Discard(NodeId),
+}
+
+/// A question about a node.
+#[derive(Drop)]
+pub enum Asking {
     /// Tells where a node stands, and what it is.
     DescribeNode(NodeId),
     /// The children of a node.
@@ -55,52 +61,26 @@ pub enum Command {
     Length(NodeId),
     /// The root of a node.
     Root(NodeId),
-    /// Whether the second is an inclusive descendant of the first.
-    IsContaining(NodeId, Option<NodeId>),
-    /// Whether both nodes are equal.
-    IsEqual(NodeId, Option<NodeId>),
-    /// Where the second stands, seen from the first.
-    ComparePosition(NodeId, NodeId),
-    /// The text in a node.
-    TextContent(NodeId),
-    /// Puts a text in place of what a node has.
-    SetTextContent(NodeId, Units),
     /// Prints a node and all below it.
     Tree(NodeId),
-    /// The data of a node.
-    GetData(NodeId),
-    /// Sets the data of a node.
-    SetData(NodeId, Units),
-    /// Appends to the data of a node.
-    AppendData(NodeId, Units),
-    /// Inserts at an offset.
-    InsertData(NodeId, u32, Units),
-    /// Deletes so many units from an offset on.
-    DeleteData(NodeId, u32, u32),
-    /// Puts a text in place of so many units from an offset on.
-    ReplaceData(NodeId, u32, u32, Units),
-    /// So many units from an offset on.
-    SubstringData(NodeId, u32, u32),
-    /// Splits a Text at an offset.
-    SplitText(NodeId, u32),
-    /// Sets an attribute.
-    SetAttribute(NodeId, String, Units),
-    /// The value of an attribute.
-    GetAttribute(NodeId, String),
-    /// Whether there is an attribute of that name.
-    HasAttribute(NodeId, String),
-    /// Removes an attribute.
-    RemoveAttribute(NodeId, String),
-    /// Adds or removes an attribute; where it is told which, only that.
-    ToggleAttribute(NodeId, String, Option<bool>),
-    /// The names of the attributes, in order.
-    AttributeNames(NodeId),
+}
+
+/// A command that makes, tells or releases a live range.
+#[derive(Drop)]
+pub enum Ranging {
     /// Makes a live range at the start of a document.
     CreateRange(NodeId),
     /// Makes a live range with the ends of another.
     CloneRange(RangeId),
     /// The ends of a live range.
     DescribeRange(RangeId),
+    /// Lets a live range go.
+    ReleaseRange(RangeId),
+}
+
+/// A command that sets the ends of a live range.
+#[derive(Drop)]
+pub enum Setting {
     /// Sets the start.
     SetStart(RangeId, NodeId, u32),
     /// Sets the end.
@@ -119,6 +99,11 @@ pub enum Command {
     SelectNode(RangeId, NodeId),
     /// Sets the ends around what a node has.
     SelectNodeContents(RangeId, NodeId),
+}
+
+/// A question about a live range.
+#[derive(Drop)]
+pub enum Comparing {
     /// Compares an end of the first range with one of the second; `how` is 0 to 3.
     CompareBoundaryPoints(RangeId, u32, RangeId),
     /// Whether a point is before, in or after a range.
@@ -129,20 +114,20 @@ pub enum Command {
     IntersectsNode(RangeId, NodeId),
     /// The deepest node that has both ends in it.
     CommonAncestor(RangeId),
-    /// The text in a range.
-    RangeText(RangeId),
-    /// Deletes what is in a range.
-    DeleteContents(RangeId),
-    /// Takes what is in a range into a fragment.
-    ExtractContents(RangeId),
-    /// Copies what is in a range into a fragment.
-    CloneContents(RangeId),
-    /// Inserts a node at the start of a range.
-    InsertNode(RangeId, NodeId),
-    /// Puts what is in a range into a node, and that node in its place.
-    SurroundContents(RangeId, NodeId),
-    /// Lets a live range go.
-    ReleaseRange(RangeId),
+}
+
+/// A command on a static range.
+#[derive(Drop)]
+pub enum StaticRanging {
+    /// Makes a static range.
+    CreateStaticRange(Point, Point),
+    /// The ends of a static range, and whether it is valid.
+    DescribeStaticRange(StaticId),
+}
+
+/// A command on an iterator or a walker.
+#[derive(Drop)]
+pub enum Traversing {
     /// Makes a node iterator.
     CreateIterator(NodeId, Filter),
     /// Makes a tree walker.
@@ -159,6 +144,11 @@ pub enum Command {
     SetCurrent(WalkerId, NodeId),
     /// Moves a walker.
     Walk(WalkerId, Move),
+}
+
+/// A command on an observer.
+#[derive(Drop)]
+pub enum Observing {
     /// Makes a mutation observer.
     CreateObserver,
     /// Lets an observer watch a node.
@@ -171,10 +161,111 @@ pub enum Command {
     Notify,
     /// The observers that wait to be told.
     Pending,
-    /// Lets a node and all below it go.
-    Discard(NodeId),
-    /// Makes a static range.
-    CreateStaticRange(Point, Point),
-    /// The ends of a static range, and whether it is valid.
-    DescribeStaticRange(StaticId),
+}
+
+/// A command on data or text.
+#[derive(Drop)]
+pub enum Texts {
+    /// Joins Text nodes below a node that stand side by side, and drops empty ones.
+    Normalize(NodeId),
+    /// The text in a node.
+    TextContent(NodeId),
+    /// Puts a text in place of what a node has.
+    SetTextContent(NodeId, Units),
+    /// The data of a node.
+    GetData(NodeId),
+    /// Sets the data of a node.
+    SetData(NodeId, Units),
+    /// Appends to the data of a node.
+    AppendData(NodeId, Units),
+    /// Inserts at an offset.
+    InsertData(NodeId, u32, Units),
+    /// Deletes so many units from an offset on.
+    DeleteData(NodeId, u32, u32),
+    /// Puts a text in place of so many units from an offset on.
+    ReplaceData(NodeId, u32, u32, Units),
+    /// So many units from an offset on.
+    SubstringData(NodeId, u32, u32),
+    /// Splits a Text at an offset.
+    SplitText(NodeId, u32),
+}
+
+/// A command on an attribute.
+#[derive(Drop)]
+pub enum Attributes {
+    /// Sets an attribute.
+    SetAttribute(NodeId, String, Units),
+    /// The value of an attribute.
+    GetAttribute(NodeId, String),
+    /// Whether there is an attribute of that name.
+    HasAttribute(NodeId, String),
+    /// Removes an attribute.
+    RemoveAttribute(NodeId, String),
+    /// Adds or removes an attribute; where it is told which, only that.
+    ToggleAttribute(NodeId, String, Option<bool>),
+    /// The names of the attributes, in order.
+    AttributeNames(NodeId),
+}
+
+/// A command that copies or compares nodes.
+#[derive(Drop)]
+pub enum Copying {
+    /// A copy of a node for another document, with or without all below it.
+    ImportNode(NodeId, NodeId, bool),
+    /// A copy of a node, with or without all below it.
+    CloneNode(NodeId, bool),
+    /// Whether the second is an inclusive descendant of the first.
+    IsContaining(NodeId, Option<NodeId>),
+    /// Whether both nodes are equal.
+    IsEqual(NodeId, Option<NodeId>),
+    /// Where the second stands, seen from the first.
+    ComparePosition(NodeId, NodeId),
+}
+
+/// A command on the contents of a live range.
+#[derive(Drop)]
+pub enum Contents {
+    /// The text in a range.
+    RangeText(RangeId),
+    /// Deletes what is in a range.
+    DeleteContents(RangeId),
+    /// Takes what is in a range into a fragment.
+    ExtractContents(RangeId),
+    /// Copies what is in a range into a fragment.
+    CloneContents(RangeId),
+    /// Inserts a node at the start of a range.
+    InsertNode(RangeId, NodeId),
+    /// Puts what is in a range into a node, and that node in its place.
+    SurroundContents(RangeId, NodeId),
+}
+
+/// A command, with its arguments read: each group of commands is a type of its own.
+#[derive(Drop)]
+pub enum Command {
+    /// Makes a node.
+    Making(Making),
+    /// Changes where nodes stand.
+    Editing(Editing),
+    /// Asks about a node.
+    Asking(Asking),
+    /// Makes, tells or releases a live range.
+    Ranging(Ranging),
+    /// Sets the ends of a live range.
+    Setting(Setting),
+    /// Asks about a live range.
+    Comparing(Comparing),
+    /// Makes or tells a static range.
+    StaticRanging(StaticRanging),
+    /// Makes, tells or moves an iterator or a walker.
+    Traversing(Traversing),
+    /// Acts on observers.
+    Observing(Observing),
+    /// Reads or changes data or text.
+    Texts(Texts),
+    /// Reads or changes attributes.
+    Attributes(Attributes),
+    /// Copies or compares nodes.
+    Copying(Copying),
+    /// Acts on the contents of a live range.
+    Contents(Contents),
 }

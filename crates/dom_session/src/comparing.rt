@@ -1,6 +1,6 @@
 //! The questions about live ranges: how points and nodes stand to them (DOM Standard, "Interface Range").
 
-ghost use Rattle.std.specs.Prelude.{◌≡◌, ◌≤◌, true, IfOk};
+ghost use Rattle.std.specs.Prelude.{◌≡◌, true};
 ghost use Rattle.dom_model.specs.Forests.Forest.{HasNode, root_of};
 ghost use Rattle.dom_model.specs.declared.Kind.TheVariants.{DocumentType};
 ghost use Rattle.dom_model.specs.Forests.Nodes.{is_of_kind, same_root as has_same_root};
@@ -12,20 +12,17 @@ ghost use Rattle.dom_model.specs.Commands.Guards.{Bounds};
 ghost use Rattle.dom_model.specs.Commands.Reply.{is_refusal};
 ghost use Rattle.dom_wrap.specs.dom_ranges.Tables.{StandsIn, refused};
 ghost use Rattle.dom_wrap.specs.dom_edit.Whole.{IsShown};
-ghost use Rattle.dom_session.specs.Views.{command_view, reply_view};
+ghost use Rattle.dom_session.specs.Views.{comparing_view, reply_view};
 ghost use Rattle.dom_session.specs.Stands.{IsStep};
-ghost use Rattle.dom_session.specs.Limiting.{numbered};
 
-use crate::command::Command;
+use crate::command::Comparing;
 use crate::reply::{Answer, Reply};
-use crate::statics::act_on_statics;
 use dom_model::OwnError;
 use dom_wrap::of_edit::{Content, World};
 use dom_wrap::of_kinds::{DomError, Kind};
 use dom_wrap::of_point::{Point, common, order};
 use dom_wrap::of_ranges::RangeId;
 use dom_wrap::of_tree::{NodeId, Tree};
-use std::alloc::{AllocError, Global};
 use std::cmp::Ordering;
 
 // Whether two nodes have one root.
@@ -217,27 +214,20 @@ pub fn common_ancestor(world: &World, range: RangeId) -> Reply
 }
 
 /// Answers the questions about live ranges.
-pub fn compare(
-    world: &mut World,
-    numbers: u64,
-    alloc: Global,
-    command: Command,
-) -> Result<Reply, AllocError>
-    requires numbers { numbers ≤ 4294967295 }
+pub fn compare(world: &mut World, command: Comparing) -> Reply
     requires shown { IsShown world.old }
-    ensures step { IfOk result (IsStep world.old world.new (numbered numbers) (command_view command)) }
-    ensures refused { IfOk result (λ reply. is_refusal (reply_view reply) ≡ true → world.new ≡ world.old) }
+    ensures step { (b : Bounds) → IsStep world.old world.new b (comparing_view command) result }
+    ensures refused { is_refusal (reply_view result) ≡ true → world.new ≡ world.old }
 {
     match command {
-        Command::CompareBoundaryPoints(range, how, source) => Ok(compare_boundary_points(
+        Comparing::CompareBoundaryPoints(range, how, source) => compare_boundary_points(
             world, range, how, source,
-        )),
-        Command::ComparePoint(range, node, offset) => Ok(compare_point(world, range, node, offset)),
-        Command::IsPointInRange(range, node, offset) => Ok(is_point_in_range(
+        ),
+        Comparing::ComparePoint(range, node, offset) => compare_point(world, range, node, offset),
+        Comparing::IsPointInRange(range, node, offset) => is_point_in_range(
             world, range, node, offset,
-        )),
-        Command::IntersectsNode(range, node) => Ok(intersects_node(world, range, node)),
-        Command::CommonAncestor(range) => Ok(common_ancestor(world, range)),
-        other => act_on_statics(world, numbers, alloc, other),
+        ),
+        Comparing::IntersectsNode(range, node) => intersects_node(world, range, node),
+        Comparing::CommonAncestor(range) => common_ancestor(world, range),
     }
 }

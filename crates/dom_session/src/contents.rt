@@ -5,11 +5,11 @@ ghost use Rattle.dom_model.specs.Commands.Command.{RangeText, DeleteContents, Ex
 ghost use Rattle.dom_model.specs.Commands.Guards.{Bounds};
 ghost use Rattle.dom_model.specs.Commands.Reply.{is_refusal};
 ghost use Rattle.dom_wrap.specs.dom_edit.Whole.{IsShown};
-ghost use Rattle.dom_session.specs.Views.{command_view, reply_view};
+ghost use Rattle.dom_session.specs.Views.{contents_view, reply_view};
 ghost use Rattle.dom_session.specs.Stands.{IsStep};
 ghost use Rattle.dom_session.specs.Limiting.{numbered};
 
-use crate::command::Command;
+use crate::command::Contents;
 use crate::copies::lacks_numbers;
 use crate::reply::{Answer, Reply};
 use dom_model::OwnError;
@@ -154,23 +154,21 @@ pub fn change_contents(
     world: &mut World,
     numbers: u64,
     alloc: Global,
-    command: Command,
+    command: Contents,
 ) -> Result<Reply, AllocError>
     requires numbers { numbers ≤ 4294967295 }
     requires shown { IsShown world.old }
-    ensures step { IfOk result (IsStep world.old world.new (numbered numbers) (command_view command)) }
+    ensures step { IfOk result (IsStep world.old world.new (numbered numbers) (contents_view command)) }
     ensures refused { IfOk result (λ reply. is_refusal (reply_view reply) ≡ true → world.new ≡ world.old) }
 {
     match command {
-        Command::RangeText(range) => range_text(world, alloc, range),
-        Command::DeleteContents(range) => delete_contents(world, alloc, range),
-        Command::ExtractContents(range) => extract_contents(world, numbers, alloc, range),
-        Command::CloneContents(range) => clone_contents(world, numbers, alloc, range),
-        Command::InsertNode(range, node) => insert_node(world, numbers, alloc, range, node),
-        Command::SurroundContents(range, node) => surround_contents(
+        Contents::RangeText(range) => range_text(world, alloc, range),
+        Contents::DeleteContents(range) => delete_contents(world, alloc, range),
+        Contents::ExtractContents(range) => extract_contents(world, numbers, alloc, range),
+        Contents::CloneContents(range) => clone_contents(world, numbers, alloc, range),
+        Contents::InsertNode(range, node) => insert_node(world, numbers, alloc, range, node),
+        Contents::SurroundContents(range, node) => surround_contents(
             world, numbers, alloc, range, node,
         ),
-        // each other command is answered by a group before this one
-        _ => Err(AllocError),
     }
 }

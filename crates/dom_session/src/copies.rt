@@ -9,12 +9,11 @@ ghost use Rattle.dom_model.specs.Commands.Command.{ImportNode, CloneNode, IsEqua
 ghost use Rattle.dom_model.specs.Commands.Guards.{Bounds};
 ghost use Rattle.dom_model.specs.Commands.Reply.{is_refusal};
 ghost use Rattle.dom_wrap.specs.dom_edit.Whole.{IsShown};
-ghost use Rattle.dom_session.specs.Views.{command_view, reply_view};
+ghost use Rattle.dom_session.specs.Views.{copying_view, reply_view};
 ghost use Rattle.dom_session.specs.Stands.{IsStep};
 ghost use Rattle.dom_session.specs.Limiting.{numbered};
 
-use crate::command::Command;
-use crate::contents::change_contents;
+use crate::command::Copying;
 use crate::reply::{Answer, Reply};
 use dom_model::OwnError;
 use dom_wrap::of_edit::{Refusal, World};
@@ -144,21 +143,20 @@ pub fn copy_nodes(
     world: &mut World,
     numbers: u64,
     alloc: Global,
-    command: Command,
+    command: Copying,
 ) -> Result<Reply, AllocError>
     requires numbers { numbers ≤ 4294967295 }
     requires shown { IsShown world.old }
-    ensures step { IfOk result (IsStep world.old world.new (numbered numbers) (command_view command)) }
+    ensures step { IfOk result (IsStep world.old world.new (numbered numbers) (copying_view command)) }
     ensures refused { IfOk result (λ reply. is_refusal (reply_view reply) ≡ true → world.new ≡ world.old) }
 {
     match command {
-        Command::ImportNode(document, node, deep) => import_node(
+        Copying::ImportNode(document, node, deep) => import_node(
             world, numbers, alloc, document, node, deep,
         ),
-        Command::CloneNode(node, deep) => clone_node(world, numbers, alloc, node, deep),
-        Command::IsEqual(node, other) => Ok(is_equal(world, node, other)),
-        Command::IsContaining(node, other) => Ok(contains(world, node, other)),
-        Command::ComparePosition(node, other) => Ok(compare_position(world, node, other)),
-        other => change_contents(world, numbers, alloc, other),
+        Copying::CloneNode(node, deep) => clone_node(world, numbers, alloc, node, deep),
+        Copying::IsEqual(node, other) => Ok(is_equal(world, node, other)),
+        Copying::IsContaining(node, other) => Ok(contains(world, node, other)),
+        Copying::ComparePosition(node, other) => Ok(compare_position(world, node, other)),
     }
 }

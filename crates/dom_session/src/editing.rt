@@ -1,6 +1,6 @@
 //! The commands that change where nodes stand (DOM Standard, "Interface Node", "Mutation algorithms").
 
-ghost use Rattle.std.specs.Prelude.{◌≡◌, ◌≤◌, true, not, IfOk};
+ghost use Rattle.std.specs.Prelude.{◌≡◌, true, not, IfOk};
 ghost use Rattle.dom_model.specs.declared.Kind.TheVariants.{Document};
 ghost use Rattle.dom_model.specs.Forests.Kinds.{may_be_parent};
 ghost use Rattle.dom_model.specs.Forests.Forest.{HasNode};
@@ -10,13 +10,11 @@ ghost use Rattle.dom_model.specs.Commands.Command.{InsertBefore, AppendChild, Ad
 ghost use Rattle.dom_model.specs.Commands.Guards.{Bounds};
 ghost use Rattle.dom_model.specs.Commands.Reply.{is_refusal};
 ghost use Rattle.dom_wrap.specs.dom_edit.Whole.{IsShown};
-ghost use Rattle.dom_session.specs.Views.{command_view, reply_view};
+ghost use Rattle.dom_session.specs.Views.{editing_view, reply_view};
 ghost use Rattle.dom_session.specs.Stands.{IsStep};
-ghost use Rattle.dom_session.specs.Limiting.{numbered};
 ghost use Rattle.dom_session.specs.Refusing.{lacks_given};
 
-use crate::command::Command;
-use crate::questions::ask_tree;
+use crate::command::Editing;
 use crate::reply::{Answer, Reply};
 use dom_model::OwnError;
 use dom_wrap::of_edit::{Refusal, World};
@@ -226,30 +224,23 @@ pub fn discard(world: &mut World, top: NodeId) -> Reply
 }
 
 /// Answers the commands that change where nodes stand.
-pub fn edit_tree(
-    world: &mut World,
-    numbers: u64,
-    alloc: Global,
-    command: Command,
-) -> Result<Reply, AllocError>
-    requires numbers { numbers ≤ 4294967295 }
+pub fn edit_tree(world: &mut World, alloc: Global, command: Editing) -> Result<Reply, AllocError>
     requires shown { IsShown world.old }
-    ensures step { IfOk result (IsStep world.old world.new (numbered numbers) (command_view command)) }
+    ensures step { IfOk result (λ reply. (b : Bounds) → IsStep world.old world.new b (editing_view command) reply) }
     ensures refused { IfOk result (λ reply. is_refusal (reply_view reply) ≡ true → world.new ≡ world.old) }
 {
     match command {
-        Command::InsertBefore(parent, node, child) => insert_before(
+        Editing::InsertBefore(parent, node, child) => insert_before(
             world, alloc, parent, node, child,
         ),
-        Command::AppendChild(parent, node) => append_child(world, alloc, parent, node),
-        Command::AdoptNode(document, node) => adopt_node(world, alloc, document, node),
-        Command::ReplaceChild(parent, node, child) => replace_child(
+        Editing::AppendChild(parent, node) => append_child(world, alloc, parent, node),
+        Editing::AdoptNode(document, node) => adopt_node(world, alloc, document, node),
+        Editing::ReplaceChild(parent, node, child) => replace_child(
             world, alloc, parent, node, child,
         ),
-        Command::RemoveChild(parent, child) => remove_child(world, alloc, parent, child),
-        Command::Remove(node) => remove(world, alloc, node),
-        Command::ReplaceChildren(parent, node) => replace_children(world, alloc, parent, node),
-        Command::Discard(top) => Ok(discard(world, top)),
-        other => ask_tree(world, numbers, alloc, other),
+        Editing::RemoveChild(parent, child) => remove_child(world, alloc, parent, child),
+        Editing::Remove(node) => remove(world, alloc, node),
+        Editing::ReplaceChildren(parent, node) => replace_children(world, alloc, parent, node),
+        Editing::Discard(top) => Ok(discard(world, top)),
     }
 }

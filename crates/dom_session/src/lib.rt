@@ -21,7 +21,10 @@ mod statics;
 mod texts;
 mod traversing;
 
-pub use command::Command;
+pub use command::{
+    Asking, Attributes, Command, Comparing, Contents, Copying, Editing, Making, Observing, Ranging,
+    Setting, StaticRanging, Texts, Traversing,
+};
 pub use dom_model::{Move, OwnError, RecordType, Verdict};
 pub use dom_wrap::of_attrs::Attrs;
 pub use dom_wrap::of_edit::Content;

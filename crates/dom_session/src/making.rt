@@ -6,14 +6,13 @@ ghost use Rattle.dom_model.specs.Commands.Answer.{named};
 ghost use Rattle.dom_model.specs.Commands.AnswerMaking.{doctype_label, closes_instruction};
 ghost use Rattle.dom_model.specs.Commands.Command.{NewDocument, CreateElement, CreateText, CreateComment, CreatePI, CreateDoctype, CreateFragment};
 ghost use Rattle.dom_model.specs.Commands.Reply.{is_refusal};
-ghost use Rattle.dom_session.specs.Views.{command_view, reply_view};
+ghost use Rattle.dom_session.specs.Views.{making_view, reply_view};
 ghost use Rattle.dom_wrap.specs.dom_edit.Whole.{IsShown};
 ghost use Rattle.dom_session.specs.Stands.{IsStep};
 ghost use Rattle.dom_session.specs.Refusing.{making_refusal};
 ghost use Rattle.dom_session.specs.Limiting.{numbered};
 
-use crate::command::Command;
-use crate::editing::edit_tree;
+use crate::command::Making;
 use crate::reply::{Answer, Reply};
 use dom_model::OwnError;
 use dom_wrap::of_edit::{Content, World};
@@ -243,29 +242,28 @@ pub fn make_nodes(
     world: &mut World,
     numbers: u64,
     alloc: Global,
-    command: Command,
+    command: Making,
 ) -> Result<Reply, AllocError>
     requires numbers { numbers ≤ 4294967295 }
     requires shown { IsShown world.old }
-    ensures step { IfOk result (IsStep world.old world.new (numbered numbers) (command_view command)) }
+    ensures step { IfOk result (IsStep world.old world.new (numbered numbers) (making_view command)) }
     ensures refused { IfOk result (λ reply. is_refusal (reply_view reply) ≡ true → world.new ≡ world.old) }
 {
     match command {
-        Command::NewDocument => new_document(world, numbers, alloc),
-        Command::CreateElement(document, name) => create_element(
+        Making::NewDocument => new_document(world, numbers, alloc),
+        Making::CreateElement(document, name) => create_element(
             world, numbers, alloc, document, name,
         ),
-        Command::CreateText(document, text) => create_text(world, numbers, alloc, document, text),
-        Command::CreateComment(document, text) => create_comment(
+        Making::CreateText(document, text) => create_text(world, numbers, alloc, document, text),
+        Making::CreateComment(document, text) => create_comment(
             world, numbers, alloc, document, text,
         ),
-        Command::CreatePI(document, target, text) => create_instruction(
+        Making::CreatePI(document, target, text) => create_instruction(
             world, numbers, alloc, document, target, text,
         ),
-        Command::CreateDoctype(document, name, public_id, system_id) => create_doctype(
+        Making::CreateDoctype(document, name, public_id, system_id) => create_doctype(
             world, numbers, alloc, document, name, public_id, system_id,
         ),
-        Command::CreateFragment(document) => create_fragment(world, numbers, alloc, document),
-        other => edit_tree(world, numbers, alloc, other),
+        Making::CreateFragment(document) => create_fragment(world, numbers, alloc, document),
     }
 }

@@ -6,13 +6,12 @@ ghost use Rattle.dom_model.specs.Commands.Guards.{Bounds};
 ghost use Rattle.dom_model.specs.Commands.Reply.{is_refusal};
 ghost use Rattle.dom_wrap.specs.dom_observe.Notifying.{told_of};
 ghost use Rattle.dom_wrap.specs.dom_edit.Whole.{IsShown};
-ghost use Rattle.dom_session.specs.Views.{command_view, reply_view};
+ghost use Rattle.dom_session.specs.Views.{observing_view, reply_view};
 ghost use Rattle.dom_session.specs.Stands.{IsStep};
 ghost use Rattle.dom_session.specs.Limiting.{numbered};
 
-use crate::command::Command;
+use crate::command::Observing;
 use crate::reply::{Answer, Reply, Told};
-use crate::texts::change_texts;
 use dom_model::OwnError;
 use dom_wrap::of_edit::World;
 use dom_wrap::of_observe::{ObserverId, Observers, RawOptions, Record, settle};
@@ -126,20 +125,19 @@ pub fn watch(
     world: &mut World,
     numbers: u64,
     alloc: Global,
-    command: Command,
+    command: Observing,
 ) -> Result<Reply, AllocError>
     requires numbers { numbers ≤ 4294967295 }
     requires shown { IsShown world.old }
-    ensures step { IfOk result (IsStep world.old world.new (numbered numbers) (command_view command)) }
+    ensures step { IfOk result (IsStep world.old world.new (numbered numbers) (observing_view command)) }
     ensures refused { IfOk result (λ reply. is_refusal (reply_view reply) ≡ true → world.new ≡ world.old) }
 {
     match command {
-        Command::CreateObserver => create_observer(world, numbers),
-        Command::Observe(observer, node, options) => observe(world, observer, node, options),
-        Command::Disconnect(observer) => Ok(disconnect(world, observer)),
-        Command::TakeRecords(observer) => Ok(take_records(world, observer)),
-        Command::Notify => notify(world, alloc),
-        Command::Pending => pending(world, alloc),
-        other => change_texts(world, numbers, alloc, other),
+        Observing::CreateObserver => create_observer(world, numbers),
+        Observing::Observe(observer, node, options) => observe(world, observer, node, options),
+        Observing::Disconnect(observer) => Ok(disconnect(world, observer)),
+        Observing::TakeRecords(observer) => Ok(take_records(world, observer)),
+        Observing::Notify => notify(world, alloc),
+        Observing::Pending => pending(world, alloc),
     }
 }

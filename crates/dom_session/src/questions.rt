@@ -1,18 +1,16 @@
 //! Questions about nodes (DOM Standard, "Interface Node").
 
-ghost use Rattle.std.specs.Prelude.{◌≡◌, ◌≤◌, true, IfOk};
+ghost use Rattle.std.specs.Prelude.{◌≡◌, true, IfOk};
 ghost use Rattle.dom_model.specs.Forests.Forest.{HasNode, children_of};
 ghost use Rattle.dom_model.specs.Commands.Command.{DescribeNode, Children, Index, Length, Root};
 ghost use Rattle.dom_model.specs.Commands.Guards.{Bounds};
 ghost use Rattle.dom_model.specs.Commands.Reply.{is_refusal};
 ghost use Rattle.dom_wrap.specs.dom_edit.Whole.{IsShown};
-ghost use Rattle.dom_session.specs.Views.{command_view, reply_view};
+ghost use Rattle.dom_session.specs.Views.{asking_view, reply_view};
 ghost use Rattle.dom_session.specs.Stands.{IsStep};
-ghost use Rattle.dom_session.specs.Limiting.{numbered};
 
-use crate::command::Command;
+use crate::command::Asking;
 use crate::printing::print_tree;
-use crate::ranging::act_on_ranges;
 use crate::reply::{Answer, Description, Reply};
 use dom_model::OwnError;
 use dom_wrap::of_edit::{Content, World};
@@ -108,24 +106,17 @@ pub fn root(world: &World, node: NodeId) -> Reply
 }
 
 /// Answers the questions about nodes.
-pub fn ask_tree(
-    world: &mut World,
-    numbers: u64,
-    alloc: Global,
-    command: Command,
-) -> Result<Reply, AllocError>
-    requires numbers { numbers ≤ 4294967295 }
+pub fn ask_tree(world: &mut World, alloc: Global, command: Asking) -> Result<Reply, AllocError>
     requires shown { IsShown world.old }
-    ensures step { IfOk result (IsStep world.old world.new (numbered numbers) (command_view command)) }
+    ensures step { IfOk result (λ reply. (b : Bounds) → IsStep world.old world.new b (asking_view command) reply) }
     ensures refused { IfOk result (λ reply. is_refusal (reply_view reply) ≡ true → world.new ≡ world.old) }
 {
     match command {
-        Command::DescribeNode(node) => describe_node(world, alloc, node),
-        Command::Children(node) => children(world, alloc, node),
-        Command::Index(node) => Ok(index(world, node)),
-        Command::Length(node) => Ok(length(world, node)),
-        Command::Root(node) => Ok(root(world, node)),
-        Command::Tree(top) => print_tree(world, alloc, top),
-        other => act_on_ranges(world, numbers, alloc, other),
+        Asking::DescribeNode(node) => describe_node(world, alloc, node),
+        Asking::Children(node) => children(world, alloc, node),
+        Asking::Index(node) => Ok(index(world, node)),
+        Asking::Length(node) => Ok(length(world, node)),
+        Asking::Root(node) => Ok(root(world, node)),
+        Asking::Tree(top) => print_tree(world, alloc, top),
     }
 }

@@ -5,20 +5,19 @@ ghost use Rattle.dom_model.specs.Commands.Command.{CreateRange, CloneRange, Desc
 ghost use Rattle.dom_model.specs.Commands.Guards.{Bounds};
 ghost use Rattle.dom_model.specs.Commands.Reply.{is_refusal};
 ghost use Rattle.dom_wrap.specs.dom_edit.Whole.{IsShown};
-ghost use Rattle.dom_session.specs.Views.{command_view, reply_view};
+ghost use Rattle.dom_session.specs.Views.{ranging_view, reply_view};
 ghost use Rattle.dom_session.specs.Stands.{IsStep};
 ghost use Rattle.dom_session.specs.Limiting.{numbered};
 
-use crate::command::Command;
+use crate::command::Ranging;
 use crate::reply::{Answer, Reply};
-use crate::setting::set_ranges;
 use dom_model::OwnError;
 use dom_wrap::of_edit::World;
 use dom_wrap::of_kinds::{DomError, Kind};
 use dom_wrap::of_point::Point;
 use dom_wrap::of_ranges::RangeId;
 use dom_wrap::of_tree::NodeId;
-use std::alloc::{AllocError, Global};
+use std::alloc::AllocError;
 
 /// Makes a live range whose ends both stand at the start of a document.
 pub fn create_range(world: &mut World, numbers: u64, document: NodeId) -> Result<Reply, AllocError>
@@ -87,22 +86,16 @@ pub fn release_range(world: &mut World, range: RangeId) -> Reply
 }
 
 /// Answers the commands that make, tell and release live ranges.
-pub fn act_on_ranges(
-    world: &mut World,
-    numbers: u64,
-    alloc: Global,
-    command: Command,
-) -> Result<Reply, AllocError>
+pub fn act_on_ranges(world: &mut World, numbers: u64, command: Ranging) -> Result<Reply, AllocError>
     requires numbers { numbers ≤ 4294967295 }
     requires shown { IsShown world.old }
-    ensures step { IfOk result (IsStep world.old world.new (numbered numbers) (command_view command)) }
+    ensures step { IfOk result (IsStep world.old world.new (numbered numbers) (ranging_view command)) }
     ensures refused { IfOk result (λ reply. is_refusal (reply_view reply) ≡ true → world.new ≡ world.old) }
 {
     match command {
-        Command::CreateRange(document) => create_range(world, numbers, document),
-        Command::CloneRange(range) => clone_range(world, numbers, range),
-        Command::DescribeRange(range) => Ok(describe_range(world, range)),
-        Command::ReleaseRange(range) => Ok(release_range(world, range)),
-        other => set_ranges(world, numbers, alloc, other),
+        Ranging::CreateRange(document) => create_range(world, numbers, document),
+        Ranging::CloneRange(range) => clone_range(world, numbers, range),
+        Ranging::DescribeRange(range) => Ok(describe_range(world, range)),
+        Ranging::ReleaseRange(range) => Ok(release_range(world, range)),
     }
 }

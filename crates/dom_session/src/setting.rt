@@ -1,6 +1,6 @@
 //! The commands that set the ends of live ranges (DOM Standard, "Interface Range").
 
-ghost use Rattle.std.specs.Prelude.{◌≡◌, ℕ, ◌≤◌, true, IfOk, IfSome};
+ghost use Rattle.std.specs.Prelude.{◌≡◌, ℕ, true, IfSome};
 ghost use Rattle.dom_model.specs.Forests.Forest.{HasNode};
 ghost use Rattle.dom_model.specs.Worlds.World.{World as PlainWorld};
 ghost use Rattle.dom_model.specs.Soundness.Sound.{IsBoundary};
@@ -11,12 +11,10 @@ ghost use Rattle.dom_model.specs.Commands.Answer.{answer};
 ghost use Rattle.dom_model.specs.Commands.AnswerRanges.{sets_start, sets_end};
 ghost use Rattle.dom_model.specs.Commands.Reply.{is_refusal};
 ghost use Rattle.dom_wrap.specs.dom_edit.Whole.{IsShown, Shows};
-ghost use Rattle.dom_session.specs.Views.{command_view, reply_view};
+ghost use Rattle.dom_session.specs.Views.{setting_view, reply_view};
 ghost use Rattle.dom_session.specs.Stands.{IsStep};
-ghost use Rattle.dom_session.specs.Limiting.{numbered};
 
-use crate::command::Command;
-use crate::comparing::compare;
+use crate::command::Setting;
 use crate::reply::{Answer, Reply};
 use dom_model::OwnError;
 use dom_wrap::of_edit::{Content, World};
@@ -24,7 +22,6 @@ use dom_wrap::of_kinds::DomError;
 use dom_wrap::of_point::Point;
 use dom_wrap::of_ranges::RangeId;
 use dom_wrap::of_tree::{NodeId, Tree};
-use std::alloc::{AllocError, Global};
 
 // The point ahead of a node in its parent; none without a parent.
 fn point_before(tree: &Tree<Content>, node: NodeId) -> Option<Point>
@@ -225,27 +222,20 @@ pub fn select_node_contents(world: &mut World, range: RangeId, node: NodeId) -> 
 }
 
 /// Answers the commands that set the ends of live ranges.
-pub fn set_ranges(
-    world: &mut World,
-    numbers: u64,
-    alloc: Global,
-    command: Command,
-) -> Result<Reply, AllocError>
-    requires numbers { numbers ≤ 4294967295 }
+pub fn set_ranges(world: &mut World, command: Setting) -> Reply
     requires shown { IsShown world.old }
-    ensures step { IfOk result (IsStep world.old world.new (numbered numbers) (command_view command)) }
-    ensures refused { IfOk result (λ reply. is_refusal (reply_view reply) ≡ true → world.new ≡ world.old) }
+    ensures step { (b : Bounds) → IsStep world.old world.new b (setting_view command) result }
+    ensures refused { is_refusal (reply_view result) ≡ true → world.new ≡ world.old }
 {
     match command {
-        Command::SetStart(range, node, offset) => Ok(set_start(world, range, node, offset)),
-        Command::SetEnd(range, node, offset) => Ok(set_end(world, range, node, offset)),
-        Command::SetStartBefore(range, node) => Ok(set_start_before(world, range, node)),
-        Command::SetStartAfter(range, node) => Ok(set_start_after(world, range, node)),
-        Command::SetEndBefore(range, node) => Ok(set_end_before(world, range, node)),
-        Command::SetEndAfter(range, node) => Ok(set_end_after(world, range, node)),
-        Command::Collapse(range, to_start) => Ok(collapse(world, range, to_start)),
-        Command::SelectNode(range, node) => Ok(select_node(world, range, node)),
-        Command::SelectNodeContents(range, node) => Ok(select_node_contents(world, range, node)),
-        other => compare(world, numbers, alloc, other),
+        Setting::SetStart(range, node, offset) => set_start(world, range, node, offset),
+        Setting::SetEnd(range, node, offset) => set_end(world, range, node, offset),
+        Setting::SetStartBefore(range, node) => set_start_before(world, range, node),
+        Setting::SetStartAfter(range, node) => set_start_after(world, range, node),
+        Setting::SetEndBefore(range, node) => set_end_before(world, range, node),
+        Setting::SetEndAfter(range, node) => set_end_after(world, range, node),
+        Setting::Collapse(range, to_start) => collapse(world, range, to_start),
+        Setting::SelectNode(range, node) => select_node(world, range, node),
+        Setting::SelectNodeContents(range, node) => select_node_contents(world, range, node),
     }
 }

@@ -5,18 +5,17 @@ ghost use Rattle.dom_model.specs.Commands.Command.{CreateStaticRange, DescribeSt
 ghost use Rattle.dom_model.specs.Commands.Guards.{Bounds};
 ghost use Rattle.dom_model.specs.Commands.Reply.{is_refusal};
 ghost use Rattle.dom_wrap.specs.dom_edit.Whole.{IsShown};
-ghost use Rattle.dom_session.specs.Views.{command_view, reply_view};
+ghost use Rattle.dom_session.specs.Views.{static_ranging_view, reply_view};
 ghost use Rattle.dom_session.specs.Stands.{IsStep};
 ghost use Rattle.dom_session.specs.Limiting.{numbered};
 
-use crate::command::Command;
+use crate::command::StaticRanging;
 use crate::reply::{Answer, Reply};
-use crate::traversing::traverse;
 use dom_model::OwnError;
 use dom_wrap::of_edit::World;
 use dom_wrap::of_point::Point;
 use dom_wrap::of_ranges::{StaticId, Statics};
-use std::alloc::{AllocError, Global};
+use std::alloc::AllocError;
 
 /// Makes a static range. Its offsets may lie past the lengths of its nodes.
 pub fn create_static_range(
@@ -62,17 +61,17 @@ pub fn describe_static_range(world: &World, range: StaticId) -> Reply
 pub fn act_on_statics(
     world: &mut World,
     numbers: u64,
-    alloc: Global,
-    command: Command,
+    command: StaticRanging,
 ) -> Result<Reply, AllocError>
     requires numbers { numbers ≤ 4294967295 }
     requires shown { IsShown world.old }
-    ensures step { IfOk result (IsStep world.old world.new (numbered numbers) (command_view command)) }
+    ensures step { IfOk result (IsStep world.old world.new (numbered numbers) (static_ranging_view command)) }
     ensures refused { IfOk result (λ reply. is_refusal (reply_view reply) ≡ true → world.new ≡ world.old) }
 {
     match command {
-        Command::CreateStaticRange(start, end) => create_static_range(world, numbers, start, end),
-        Command::DescribeStaticRange(range) => Ok(describe_static_range(world, range)),
-        other => traverse(world, numbers, alloc, other),
+        StaticRanging::CreateStaticRange(start, end) => create_static_range(
+            world, numbers, start, end,
+        ),
+        StaticRanging::DescribeStaticRange(range) => Ok(describe_static_range(world, range)),
     }
 }

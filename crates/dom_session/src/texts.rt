@@ -10,13 +10,12 @@ ghost use Rattle.dom_model.specs.Commands.Command.{GetData, SetData, AppendData,
 ghost use Rattle.dom_model.specs.Commands.Guards.{Bounds};
 ghost use Rattle.dom_model.specs.Commands.Reply.{is_refusal};
 ghost use Rattle.dom_wrap.specs.dom_edit.Whole.{IsShown};
-ghost use Rattle.dom_session.specs.Views.{command_view, reply_view};
+ghost use Rattle.dom_session.specs.Views.{texts_view, reply_view};
 ghost use Rattle.dom_session.specs.Stands.{IsStep};
 ghost use Rattle.dom_session.specs.Limiting.{numbered};
 ghost use Rattle.dom_session.specs.Refusing.{kind_refusal};
 
-use crate::attributes::change_attributes;
-use crate::command::Command;
+use crate::command::Texts;
 use crate::reply::{Answer, Reply};
 use dom_model::OwnError;
 use dom_wrap::of_edit::{Content, Refusal, World};
@@ -278,17 +277,17 @@ pub fn change_texts(
     world: &mut World,
     numbers: u64,
     alloc: Global,
-    command: Command,
+    command: Texts,
 ) -> Result<Reply, AllocError>
     requires numbers { numbers ≤ 4294967295 }
     requires shown { IsShown world.old }
-    ensures step { IfOk result (IsStep world.old world.new (numbered numbers) (command_view command)) }
+    ensures step { IfOk result (IsStep world.old world.new (numbered numbers) (texts_view command)) }
     ensures refused { IfOk result (λ reply. is_refusal (reply_view reply) ≡ true → world.new ≡ world.old) }
 {
     match command {
-        Command::GetData(node) => data(world, alloc, node),
-        Command::SetData(node, text) => set_data(world, alloc, node, text.units()),
-        Command::ReplaceData(node, offset, count, text) => replace_data(
+        Texts::GetData(node) => data(world, alloc, node),
+        Texts::SetData(node, text) => set_data(world, alloc, node, text.units()),
+        Texts::ReplaceData(node, offset, count, text) => replace_data(
             world,
             alloc,
             node,
@@ -296,38 +295,31 @@ pub fn change_texts(
             count as usize,
             text.units(),
         ),
-        Command::SubstringData(node, offset, count) => substring_data(
+        Texts::SubstringData(node, offset, count) => substring_data(
             world,
             alloc,
             node,
             offset as usize,
             count as usize,
         ),
-        Command::AppendData(node, text) => append_data(world, alloc, node, text.units()),
-        Command::InsertData(node, offset, text) => insert_data(
+        Texts::AppendData(node, text) => append_data(world, alloc, node, text.units()),
+        Texts::InsertData(node, offset, text) => insert_data(
             world,
             alloc,
             node,
             offset as usize,
             text.units(),
         ),
-        Command::DeleteData(node, offset, count) => delete_data(
+        Texts::DeleteData(node, offset, count) => delete_data(
             world,
             alloc,
             node,
             offset as usize,
             count as usize,
         ),
-        Command::SetTextContent(node, text) => set_text_content(world, numbers, alloc, node, text),
-        Command::SplitText(text, offset) => split_text(
-            world,
-            numbers,
-            alloc,
-            text,
-            offset as usize,
-        ),
-        Command::TextContent(node) => text_content(world, alloc, node),
-        Command::Normalize(node) => normalize(world, alloc, node),
-        other => change_attributes(world, numbers, alloc, other),
+        Texts::SetTextContent(node, text) => set_text_content(world, numbers, alloc, node, text),
+        Texts::SplitText(text, offset) => split_text(world, numbers, alloc, text, offset as usize),
+        Texts::TextContent(node) => text_content(world, alloc, node),
+        Texts::Normalize(node) => normalize(world, alloc, node),
     }
 }

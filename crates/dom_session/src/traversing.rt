@@ -5,18 +5,17 @@ ghost use Rattle.dom_model.specs.Commands.Command.{CreateIterator, CreateWalker,
 ghost use Rattle.dom_model.specs.Commands.Guards.{Bounds};
 ghost use Rattle.dom_model.specs.Commands.Reply.{is_refusal, Done, MaybeNumber};
 ghost use Rattle.dom_wrap.specs.dom_edit.Whole.{IsShown};
-ghost use Rattle.dom_session.specs.Views.{command_view, reply_view};
+ghost use Rattle.dom_session.specs.Views.{traversing_view, reply_view};
 ghost use Rattle.dom_session.specs.Stands.{IsStep};
 ghost use Rattle.dom_session.specs.Limiting.{numbered};
 
-use crate::command::Command;
-use crate::observing::watch;
+use crate::command::Traversing;
 use crate::reply::{Answer, Reply};
 use dom_model::{Move, OwnError};
 use dom_wrap::of_edit::World;
 use dom_wrap::of_traverse::{Filter, IterId, WalkerId};
 use dom_wrap::of_tree::NodeId;
-use std::alloc::{AllocError, Global};
+use std::alloc::AllocError;
 
 // The number of a node, where one is found.
 fn reply_found(found: Option<NodeId>) -> Reply
@@ -147,26 +146,20 @@ pub fn walk(world: &mut World, walker: WalkerId, direction: Move) -> Reply
 }
 
 /// Answers the commands on iterators and walkers.
-pub fn traverse(
-    world: &mut World,
-    numbers: u64,
-    alloc: Global,
-    command: Command,
-) -> Result<Reply, AllocError>
+pub fn traverse(world: &mut World, numbers: u64, command: Traversing) -> Result<Reply, AllocError>
     requires numbers { numbers ≤ 4294967295 }
     requires shown { IsShown world.old }
-    ensures step { IfOk result (IsStep world.old world.new (numbered numbers) (command_view command)) }
+    ensures step { IfOk result (IsStep world.old world.new (numbered numbers) (traversing_view command)) }
     ensures refused { IfOk result (λ reply. is_refusal (reply_view reply) ≡ true → world.new ≡ world.old) }
 {
     match command {
-        Command::CreateIterator(root, filter) => create_iterator(world, numbers, root, filter),
-        Command::CreateWalker(root, filter) => create_walker(world, numbers, root, filter),
-        Command::DescribeIterator(iterator) => Ok(describe_iterator(world, iterator)),
-        Command::NextNode(iterator) => Ok(next_node(world, iterator)),
-        Command::PreviousNode(iterator) => Ok(previous_node(world, iterator)),
-        Command::DescribeWalker(walker) => Ok(describe_walker(world, walker)),
-        Command::SetCurrent(walker, node) => Ok(set_current(world, walker, node)),
-        Command::Walk(walker, direction) => Ok(walk(world, walker, direction)),
-        other => watch(world, numbers, alloc, other),
+        Traversing::CreateIterator(root, filter) => create_iterator(world, numbers, root, filter),
+        Traversing::CreateWalker(root, filter) => create_walker(world, numbers, root, filter),
+        Traversing::DescribeIterator(iterator) => Ok(describe_iterator(world, iterator)),
+        Traversing::NextNode(iterator) => Ok(next_node(world, iterator)),
+        Traversing::PreviousNode(iterator) => Ok(previous_node(world, iterator)),
+        Traversing::DescribeWalker(walker) => Ok(describe_walker(world, walker)),
+        Traversing::SetCurrent(walker, node) => Ok(set_current(world, walker, node)),
+        Traversing::Walk(walker, direction) => Ok(walk(world, walker, direction)),
     }
 }
