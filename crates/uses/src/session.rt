@@ -8,7 +8,7 @@ ghost use Rattle.dom_session.specs.Stands.{StandsFor};
 ghost use Rattle.dom_session.specs.Views.{reply_view};
 ghost use Rattle.uses.specs.Turns.{AreAnswered};
 
-use dom_session::{Command, Ended, Limits, NodeId, Reply, Session, Units};
+use dom_session::{Command, Ended, Limits, Making, NodeId, Reply, Session, Texts, Units};
 use std::alloc::Global;
 
 /// Sets the data of a node, and reads it. A node without data is refused, and so is a number that names no node.
@@ -20,8 +20,8 @@ pub fn set_and_read(
     ensures replies { IfOk result (λ replies. (w : World) → StandsFor session.old w → AreAnswered replies.0 replies.1 w session.old session.new (SetData node text) (GetData node)) }
     ensures bounds { session.new.bounds ≡ session.old.bounds }
 {
-    let set = session.apply(Command::SetData(node, text))?;
-    let read = session.apply(Command::GetData(node))?;
+    let set = session.apply(Command::Texts(Texts::SetData(node, text)))?;
+    let read = session.apply(Command::Texts(Texts::GetData(node)))?;
     Ok((set, read))
 }
 
@@ -36,5 +36,5 @@ pub fn second_document(alloc: Global) -> Result<Reply, Ended>
     let Ok(mut session) = Session::new(alloc, limits) else {
         return Err(Ended);
     };
-    session.apply(Command::NewDocument)
+    session.apply(Command::Making(Making::NewDocument))
 }
