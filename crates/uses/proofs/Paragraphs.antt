@@ -1,19 +1,14 @@
 -- A world that is made step by step: what it keeps after each.
-use Rattle.std.proofs.Common.{◌≡◌, ℕ, List, [], ◌∷◌, length, Option, Some, None, refl, ap, sym, ◌∙◌, subst}
+use Rattle.std.proofs.Common.{◌≡◌, ℕ, List, [], subst}
 use Rattle.std.specs.Prelude.{codes}
-use Rattle.dom_model.specs.declared.Kind.TheVariants.{Element, Text, Document}
-use Rattle.dom_model.specs.declared.DomError.{DomError}
+use Rattle.dom_model.specs.declared.Kind.TheVariants.{Element, Text}
 use Rattle.dom_model.specs.Forests.Kinds.{Label}
-use Rattle.dom_model.specs.Forests.Forest.{Forest, HasNode}
+use Rattle.dom_model.specs.Forests.Forest.{Forest}
 use Rattle.dom_model.specs.Worlds.World.{Content, first_world}
 use Rattle.dom_model.specs.Worlds.World as model
 use Rattle.dom_model.specs.Commands.Making.{made_node, named, with_text}
-use Rattle.dom_model.specs.MutationAlgorithms.Checks.{check_insert, is_of_kind}
 use Rattle.dom_model.specs.MutationAlgorithms.Editing.{append}
 use Rattle.dom_edit.specs.declared.world.World.{World}
-use Rattle.dom_edit.specs.declared.refusal.Refusal.{Refusal}
-use Rattle.dom_edit.specs.declared.refusal.Refusal.TheVariants.{Dom, Memory}
-use Rattle.dom_edit.specs.Refusals.{IsRefused}
 use Rattle.dom_edit.specs.Whole.{Keeps, Follows}
 use Rattle.uses.specs.Paragraph.{paragraph}
 

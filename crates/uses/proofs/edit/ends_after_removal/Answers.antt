@@ -1,7 +1,7 @@
-use Rattle.std.proofs.Common.{◌≡◌, ◌∙◌, ap, sym, subst, refl, length, Some}
+use Rattle.std.proofs.Common.{◌∙◌, ap, sym, subst, refl, length}
 use Rattle.std.specs.Prelude.{IsSome}
 use Rattle.dom_model.specs.Forests.Texts.{units_of}
-use Rattle.uses.proofs.Removals.{data_to, data-length, data-range_in, ranged-whole, removed-ends, start-there, end-there}
+use Rattle.uses.proofs.Removals.{data-length, data-range_in, ranged-whole, removed-ends, start-there, end-there}
 use Rattle.uses.proofs.edit.ends_after_removal.Goals as goal
 
 pub make-requires-clause-in_order : goal.make-requires-clause-in_order

@@ -1,4 +1,4 @@
-use Rattle.std.proofs.Common.{◌≡◌, ◌<◌, ◌+◌, ◌∙◌, ℕ, true, [], None, Some, ap, sym, subst, refl, rules, arith}
+use Rattle.std.proofs.Common.{◌≡◌, ◌∙◌, true, None, Some, ap, sym, refl, rules, arith}
 use Rattle.std.specs.Option.{ForSome}
 use Rattle.dom_model.specs.declared.Kind.TheVariants.{Document}
 use Rattle.dom_model.specs.Forests.Forest.{HasNode}
@@ -6,8 +6,7 @@ use Rattle.dom_model.specs.Forests.Texts.{units_of}
 use Rattle.dom_model.specs.Commands.Making.{with_text}
 use Rattle.dom_model.specs.Worlds.World.{first_world}
 use Rattle.dom_model.specs.MutationAlgorithms.Checks.{check_insert, is_of_kind}
-use Rattle.dom_edit.specs.Whole.{Keeps}
-use Rattle.uses.proofs.Paragraphs.{of_kept, with_element, element_placed, with_both, both_placed, keeps-made, keeps-appended, keeps-paragraph}
+use Rattle.uses.proofs.Paragraphs.{of_kept, with_element, element_placed, with_both, keeps-made, keeps-appended, keeps-paragraph}
 use Rattle.uses.proofs.edit.paragraph.Goals as goal
 
 pub append_allowed-requires-clause-parent_held : goal.append_allowed-requires-clause-parent_held
