@@ -2,6 +2,7 @@
 #![tactic(auto)]
 
 pub mod attrs;
+pub mod edit;
 pub mod observe;
 pub mod pages;
 pub mod ranges;
