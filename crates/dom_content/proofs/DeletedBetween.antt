@@ -16,7 +16,7 @@ use Rattle.dom_model.specs.DataAndCopies.Data.{data_of, replace_data, remove_eac
 use Rattle.dom_model.proofs.Forests.Changes.{seen, nothing, just}
 use Rattle.dom_model.proofs.Forests.Entries.{occurs-HasNode, HasNode-occurs}
 use Rattle.dom_model.proofs.Forests.TreeOrder.Flattened.{hits-numbers}
-use Rattle.dom_model.proofs.Soundness.SoundDeleting.{one, three}
+use Rattle.dom_model.proofs.Soundness.SoundDeleting.{one, three, place_left}
 use Rattle.dom_model.proofs.Soundness.SoundNormalizing.{each_kinds, filter-passed}
 use Rattle.dom_model.proofs.RangesAndContents.LiveRangesKept.{KeepsLive, remove_each-live, replace_data-live}
 use Rattle.dom_clone.specs.dom_edit.declared.world.World.{World}
@@ -118,6 +118,14 @@ module _ (v0 : World) (h : IsWhole v0) (r : ℕ) (range : Range) (is : IsRange v
 
         pub still-there : (n : ℕ) → HasNode v0.tree.forest n → HasNode v3.tree.forest n
         still-there n j = subst (λ (g : Forest Content). HasNode g n) kept-third.forest (third-there n j)
+
+        -- the place is within its node
+        pub place-left : (place : model.Point) → place ≡ new_place v0.tree.forest range → IsRange v3.tree.forest (collapsed_at place)
+        place-left place at =
+            let left =
+            subst (λ ms. IsRange (cut_up_to range.end.node range.end.offset (remove_each ms first)).forest (collapsed_at (new_place v0.tree.forest range))) (sym e)
+            (place_left r range w sound is two) in
+            subst (λ (g : Forest Content). IsRange g (collapsed_at place)) kept-third.forest (subst (λ q. IsRange third.forest (collapsed_at q)) (sym at) left)
 
         pub live-still : is_some (range_in v0.ranges r) ≡ true → is_some (range_in v3.ranges r) ≡ true
         live-still live =

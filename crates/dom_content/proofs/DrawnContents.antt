@@ -19,8 +19,10 @@ use Rattle.dom_model.specs.MutationAlgorithms.Checks.{has_kind}
 use Rattle.dom_model.specs.Forests.Nodes.{kind_passes, is_of_kind}
 use Rattle.dom_model.specs.MutationAlgorithms.Editing.{document_in, node_document}
 use Rattle.dom_model.specs.RangesAndContents.Ranges.{is_collapsed, collapsed_at, is_contained, is_less, common_ancestor, range_at, with_range}
-use Rattle.dom_model.specs.RangesAndContents.Contents.{for_range, is_in_one_data, new_place, new_fragment, children_into, tail_into, head_into, path_below, contents_drawn, check_draw, extracted, extract, clone_contents}
+use Rattle.dom_model.specs.RangesAndContents.Contents.{for_range, is_in_one_data, new_place, new_fragment, children_into, tail_into, head_into, path_below, parts_into, contents_drawn, check_draw, extracted, extract, clone_contents}
 use Rattle.dom_model.proofs.PlainLists.Numbers.{same_or, same, apart}
+use Rattle.dom_model.proofs.MutationAlgorithms.ChecksKept.{or_first, or_second}
+use Rattle.dom_model.proofs.Soundness.SoundContents.{place_after}
 use Rattle.dom_model.proofs.Forests.Climbing.{hits-reverse}
 use Rattle.dom_model.proofs.Forests.Entries.{occurs-HasNode, HasNode-occurs}
 use Rattle.dom_model.proofs.Forests.Indices.{child-there}
@@ -259,6 +261,19 @@ module _ (v : World) (n : ℕ) (r : Range) (stays : Bool) (is : stays ≡ (is_co
       ap (λ b. if b then contents_drawn true r w else with_range n (collapsed_at (new_place w.forest r)) (contents_drawn true r w)) (stays-is w k ∙ e)
       ∙ ap (λ p. with_range n (collapsed_at p) (contents_drawn true r w)) (ap (λ (h : Forest Content). new_place h r) k.forest ∙ sym d))
       (follows-then v x y (contents_drawn true r) (with_range n (collapsed_at place)) f g)
+
+-- the place is within its node
+pub place-drawn : (v : World) (h : IsWhole v) (r : Range) (is : IsRange v.tree.forest r) (allowed : check_draw (unwatched v) r ≡ None) (stays : Bool) → stays ≡ (is_collapsed r || in_one_data v.tree.forest r) → stays ≡ false
+    → (x : World) → Follows v x (contents_drawn true r) → (q : Point) → q ≡ new_place v.tree.forest r → IsRange x.tree.forest (collapsed_at q)
+place-drawn v h r is allowed stays told ahead x f q at =
+    let w = unwatched v in
+    let off : (is_collapsed r || in_one_data v.tree.forest r) ≡ false = sym told ∙ ahead in
+    let collapsed : is_collapsed r ≡ false = or_first (is_collapsed r) (in_one_data v.tree.forest r) off in
+    let two : is_in_one_data w r ≡ false = or_second (is_collapsed r) (in_one_data v.tree.forest r) off in
+    let drawn : contents_drawn true r w ≡ parts_into true w.made r (new_fragment (node_document w r.start.node) w) = rw (collapsed, two) refl in
+    let same_forest = ap (λ (u : model.World). u.forest) (sym drawn) ∙ (f.keeps w (keeps-unwatched v)).forest in
+    subst (λ (p : Point). IsRange x.tree.forest (collapsed_at p)) (sym at)
+    (subst (λ (g : Forest Content). IsRange g (collapsed_at (new_place v.tree.forest r))) same_forest (place_after true r w (sound-unwatched v h) is allowed two))
 
 -- the range is still live
 pub live-drawn : (v : World) (h : IsWhole v) (r : Range) (is : IsRange v.tree.forest r) → check_draw (unwatched v) r ≡ None → (moves : Bool) (n : ℕ) (x : World) → Follows v x (contents_drawn moves r) → IsSome (range_in v.ranges n) → IsSome (range_in x.ranges n)

@@ -17,14 +17,14 @@ ghost use Rattle.dom_content.specs.Left.{IsLeftOf};
 
 use crate::contained::contained_tops;
 use crate::data::{has_data, is_in_one_data};
-use dom_clone::of_data::replace_data;
+use dom_clone::of_data::replace_data_checked;
 use dom_clone::of_edit::{Content, World};
 use dom_clone::of_point::{Point, common};
 use dom_clone::of_ranges::RangeId;
 use dom_clone::of_tree::{NodeId, Tree};
 use std::alloc::{AllocError, Global};
 
-// Takes units of a node's data out. An offset within the data is not refused, so that only memory can be wanting.
+// Takes units of a node's data out, from an offset on that is within the data.
 fn cut_units(
     world: &mut World,
     alloc: Global,
@@ -34,13 +34,11 @@ fn cut_units(
 ) -> Result<(), AllocError>
     requires whole { IsWhole world.old }
     requires kind { kind_passes is_character_data world.old.tree.forest node ≡ true }
+    requires within { offset ≤ length (data_of (unwatched world.old) node) }
     ensures cut { OnOk result (Follows world.old world.new (replace_data node offset count [])) }
     ensures whole { IsWhole world.new }
 {
-    match replace_data(world, alloc, node, offset, count, &[]) {
-        Ok(()) => Ok(()),
-        Err(_) => Err(AllocError),
-    }
+    replace_data_checked(world, alloc, node, offset, count, &[])
 }
 
 // The child of a node on the way up to it from a node below it.
@@ -81,21 +79,15 @@ pub(crate) fn new_place(tree: &Tree<Content>, start: Point, end: Point) -> Point
     }
 }
 
-// Sets both ends of a range to one point. A point past the end of its node would be refused, as want of memory; no caller gives one.
-pub(crate) fn stand_at(world: &mut World, range: RangeId, place: Point) -> Result<(), AllocError>
+// Sets both ends of a range to one point.
+pub(crate) fn stand_at(world: &mut World, range: RangeId, place: Point)
     requires whole { IsWhole world.old }
     requires live { IsSome (range_in world.old.ranges range) }
-    requires held { HasNode world.old.tree.forest place.node }
-    ensures stands { OnOk result (Follows world.old world.new (with_range range (collapsed_at place))) }
+    requires within { IsRange world.old.tree.forest (collapsed_at place) }
+    ensures stands { Follows world.old world.new (with_range range (collapsed_at place)) }
     ensures whole { IsWhole world.new }
 {
-    match world.ranges.set_start(&world.tree, range, place) {
-        Ok(()) => {
-            world.ranges.collapse(range, true);
-            Ok(())
-        }
-        Err(_) => Err(AllocError),
-    }
+    world.ranges.collapse_at(range, place);
 }
 
 // Takes the units of a node's data from a point on out, where the node has data.
@@ -160,7 +152,8 @@ fn delete_between(
     cut_from(world, alloc, start)?;
     remove_each(world, alloc, &tops)?;
     cut_up_to(world, alloc, end)?;
-    stand_at(world, range, place)
+    stand_at(world, range, place);
+    Ok(())
 }
 
 // Deletes what lies in a live range.

@@ -195,7 +195,7 @@ fn extract_parts(
     if stays {
         return Ok(fragment);
     }
-    stand_at(world, range, place)?;
+    stand_at(world, range, place);
     Ok(fragment)
 }
 
@@ -223,6 +223,25 @@ pub fn extract(world: &mut World, alloc: Global, range: RangeId) -> Result<NodeI
     }
     let fragment = extract_parts(world, alloc, range, start, end, &parts)?;
     Ok(fragment)
+}
+
+/// Takes what lies in a live range into a new fragment as [`extract`] does, where no doctype lies in it.
+pub fn extract_checked(
+    world: &mut World,
+    alloc: Global,
+    range: RangeId,
+) -> Result<NodeId, AllocError>
+    requires whole { IsWhole world.old }
+    requires held { IsSome (range_in world.old.ranges range) }
+    requires allowed { check_extract range (unwatched world.old) ≡ None }
+    requires room { (extract range (unwatched world.old)).made ≤ 4294967295 }
+    ensures number { IfOk result (λ id. id ≡ world.old.tree.made) }
+    ensures extracted { OnOk result (Follows world.old world.new (extract range)) }
+    ensures whole { IsWhole world.new }
+{
+    let (start, end) = world.ranges.ends(range);
+    let parts = parts_of(&world.tree, alloc, start, end)?;
+    extract_parts(world, alloc, range, start, end, &parts)
 }
 
 /// Copies what lies in a live range into a new fragment, which it answers.

@@ -12,7 +12,7 @@ mod pieces;
 mod texts;
 
 pub use deleting::delete_contents;
-pub use drawing::{clone_contents, extract};
+pub use drawing::{clone_contents, extract, extract_checked};
 pub use texts::range_text;
 
 /// What crates above name of `dom_attrs`.
@@ -29,7 +29,7 @@ pub mod of_clone {
 pub mod of_data {
     pub use dom_clone::of_data::{
         normalize, remove_attribute, replace_data, set_attribute, set_data, set_text_content,
-        split, substring, text_content, toggle_attribute,
+        split, split_checked, substring, text_content, toggle_attribute,
     };
 }
 

@@ -25,7 +25,7 @@ use Rattle.dom_model.proofs.Forests.Entries.{HasNode-occurs, occurs-HasNode}
 use Rattle.dom_model.proofs.Forests.Indices.{child-there, child-once, child-parent}
 use Rattle.dom_model.proofs.BoundaryPoints.PointOrder.{nat_cmp-same, nat_cmp-greater}
 use Rattle.dom_model.proofs.RangesAndContents.StartsAhead.{got_place}
-use Rattle.dom_model.proofs.RangesAndContents.InsertAllowed.{insert-allowed}
+use Rattle.dom_model.proofs.RangesAndContents.InsertAllowed.{insert-allowed, insert-done}
 use Rattle.dom_model.proofs.Soundness.SoundPlacedNode.{Gives}
 use Rattle.dom_model.proofs.Soundness.SoundInsertedNode.{insert-next}
 use Rattle.dom_model.specs.DataAndCopies.Data.{data_of, split}
@@ -46,7 +46,7 @@ use Rattle.dom_content.specs.dom_edit.Whole.{AreCovered, IsWhole, Keeps, Follows
 use Rattle.dom_content.specs.dom_edit.Following.{keeps-unwatched, follows-then, whole-sound}
 use Rattle.dom_content.specs.dom_edit.PlacedWorlds.{sound-unwatched}
 use Rattle.dom_content.specs.dom_edit.InsertedNodes.{follows-as, forest-after}
-use Rattle.dom_wrap.specs.Outcomes.{left_by, LeavesSound, IsPlaceable, MayEndAt}
+use Rattle.dom_wrap.specs.Outcomes.{left_by, LeavesSound, IsPlaceable, MayEndAt, MayTake}
 
 pub if_so : {A : Type 0} (t : Bool) (x y : A) → t ≡ true → (if t then x else y) ≡ x
 if_so t x y e = rw e refl
@@ -203,6 +203,10 @@ pub unless-none : (c : Option DomError) (w : model.World) (step : model.World �
 unless-none None w step i = refl
 unless-none (Some d) w step i = absurd (cc i)
 
+pub unless-allows : (c : Option DomError) (w : model.World) (step : model.World → Outcome) → refusal_in (and_then (unless c w) step) ≡ None → (c ≡ None) × (refusal_in (step w) ≡ None)
+unless-allows None w step i = (refl, i)
+unless-allows (Some d) w step i = absurd (cc i)
+
 pub left-alike : (o : Outcome) → refusal_in o ≡ None → (a b : model.World) → left_by o a ≡ left_by o b
 left-alike (Ok w) i a b = refl
 left-alike (Err d) i a b = absurd (cc i)
@@ -214,6 +218,10 @@ placed-is r n parent reference w i =
     let out = remove false n w in
     let point : Point = record { node = parent; offset = offset_past out parent reference n } in
     ap (λ (o : Outcome). and_then o (λ v. Ok (end_if_collapsed r point v))) (unless-none (check_insert out.forest parent n reference) out (λ v. Ok (pre_insert n parent reference v)) i)
+
+-- a node that may be placed passes once it is taken out
+pub passes-out : (a out : World) (r n parent : ℕ) (reference : Option ℕ) → Follows a out (remove false n) → IsPlaceable a r n parent reference → check_insert out.tree.forest parent n reference ≡ None
+passes-out a out r n parent reference f m = sym (ap (λ (g : Forest Content). check_insert g parent n reference) (f.keeps m.stands_for m.keeps).forest) ∙ m.passes
 
 -- an old world, that without the node, and that in which the node has come in
 module _ (a out placed : World) (r n parent : ℕ) (reference : Option ℕ) (offset : ℕ)
@@ -283,6 +291,34 @@ module _ (a : World) (p : Point) (w : model.World) (k : Keeps a w) where
 
   child-alike : (n : ℕ) (b : Option ℕ) → reference_child w n b ≡ reference_child (unwatched a) n b
   child-alike n b = ap (λ (g : Forest Content). reference_child (with_forest g) n b) k.forest
+
+-- an insertion at the start of a range that is not refused passes both checks
+pub checks-passed : (a : World) (r n : ℕ) (range : Range) → range_in a.ranges r ≡ Some range → MayTake a (insert_node r n) →
+    (check_start (unwatched a) range.start n ≡ None) × (check_insert a.tree.forest (parent_at (unwatched a) range.start) n (reference_at (unwatched a) range.start) ≡ None)
+checks-passed a r n range e m =
+    let w = m.stands_for in
+    let k = m.keeps in
+    let p = range.start in
+    let at : range_at w r ≡ Some range = ap (λ (rs : List (Option Range)). slice_index_or rs r None) k.ranges ∙ e in
+    let j : refusal_in (inserted_at r n p w) ≡ None = sym (ap (λ (o : Option Range). refusal_in (for_range o (Ok w) (λ (x : Range). inserted_at r n x.start w))) at) ∙ m.passes in
+    let x = unless-allows (check_start w p n) w _ j in
+    let y = unless-allows (check_insert w.forest (parent_at w p) n (reference_at w p)) w _ x.1 in
+    let alike : check_insert w.forest (parent_at w p) n (reference_at w p) ≡ check_insert a.tree.forest (parent_at (unwatched a) p) n (reference_at (unwatched a) p) =
+    ap (λ (g : Forest Content). check_insert g (parent_at w p) n (reference_at w p)) k.forest
+    ∙ ap (λ (q : ℕ). check_insert a.tree.forest q n (reference_at w p)) (parent-alike a p w k)
+    ∙ ap (check_insert a.tree.forest (parent_at (unwatched a) p) n) (reference-alike a p w k) in
+    (sym (start-alike a p w k n) ∙ x.0, sym alike ∙ y.0)
+
+-- and one that passes both is not refused
+pub may-insert : (a : World) → IsWhole a → (r n : ℕ) (range : Range) → range_in a.ranges r ≡ Some range → HasNode a.tree.forest n → check_start (unwatched a) range.start n ≡ None →
+    check_insert a.tree.forest (parent_at (unwatched a) range.start) n (reference_at (unwatched a) range.start) ≡ None → MayTake a (insert_node r n)
+may-insert a h r n range e held start passes =
+    let u = unwatched a in
+    record {
+      stands_for = u;
+      keeps = keeps-unwatched a;
+      passes = ap (λ (o : Option Range). refusal_in (for_range o (Ok u) (λ (x : Range). inserted_at r n x.start u))) e ∙ ap refusal_in (insert-done u h.forest n held range.start start passes r).1;
+    }
 
 -- a node comes in at the start of a range
 module _ (a mid : World) (h : IsWhole a) (r n : ℕ) (p : Point) (range : Range) (e : range_in a.ranges r ≡ Some range) (at : p ≡ range.start) (held : HasNode a.tree.forest n)

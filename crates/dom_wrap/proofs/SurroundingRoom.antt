@@ -18,8 +18,7 @@ use Rattle.dom_model.proofs.RangesAndContents.LiveRangesKept.{live-there}
 use Rattle.dom_content.specs.dom_edit.declared.world.World.{World}
 use Rattle.dom_content.specs.dom_edit.Whole.{Keeps, unwatched}
 use Rattle.dom_wrap.specs.Outcomes.{left_by, HasRoom, put_around}
-use Rattle.dom_wrap.proofs.InsertedNode.{if_so, unless-none}
-use Rattle.dom_wrap.proofs.SurroundingSteps.{unless-allows}
+use Rattle.dom_wrap.proofs.InsertedNode.{if_so, unless-none, unless-allows}
 
 -- Steps that make so many nodes or more, where they are not refused.
 

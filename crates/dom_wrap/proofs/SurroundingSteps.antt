@@ -1,42 +1,38 @@
 -- The steps that surround the contents of a live range, and what is there between them. DOM Standard, "Interface Range" (surroundContents).
-use Rattle.std.proofs.Common.{◌≡◌, ℕ, ◌+◌, ◌<◌, ◌≤◌, Bool, true, false, ◌||◌, if◌then◌else◌, List, [], ◌∷◌, Option, Some, None, IfSome, option_map, slice_index_or, slice_set, is_some, is_none, Ok, Err, refl, ap, sym, ◌∙◌, subst}
+use Rattle.std.proofs.Common.{◌≡◌, ℕ, ◌+◌, ◌<◌, Bool, true, false, ◌||◌, if◌then◌else◌, List, [], ◌∷◌, Option, Some, None, IfSome, option_map, slice_index_or, slice_set, is_some, is_none, Ok, Err, refl, ap, sym, ◌∙◌, subst}
 use Rattle.std.specs.Prelude.{IsSome, Result, OnOk}
 use Rattle.dom_model.specs.declared.DomError.{DomError}
 use Rattle.dom_model.specs.declared.DomError.TheVariants.{InvalidNodeTypeError}
-use Rattle.dom_model.specs.PlainLists.Lists.{head_of, hits, first_refusal}
-use Rattle.dom_model.specs.Forests.Kinds.{may_be_parent}
+use Rattle.dom_model.specs.PlainLists.Lists.{head_of, first_refusal}
 use Rattle.dom_model.specs.Forests.Forest.{Forest, HasNode, occurs, parent_of, children_of, index_of, IsForest}
 use Rattle.dom_model.specs.Worlds.World as model
 use Rattle.dom_model.specs.Worlds.World.{Content, Range}
 use Rattle.dom_model.specs.Soundness.Sound.{IsRange, IsSound}
 use Rattle.dom_model.specs.MutationAlgorithms.Checks.{check_insert}
-use Rattle.dom_model.specs.Forests.Nodes.{kind_passes}
 use Rattle.dom_model.specs.MutationAlgorithms.Editing.{pre_insert, append, remove_all, replaced_record, replace_all}
 use Rattle.dom_model.specs.RangesAndContents.Ranges.{is_collapsed, collapsed_at, around, check_parent, range_at, with_range}
 use Rattle.dom_model.specs.RangesAndContents.Contents.{for_range, is_in_one_data, new_place, contents_drawn, check_extract, extracted, extract}
 use Rattle.dom_model.specs.RangesAndContents.Wrapping.{Outcome, and_then, unless, try_pre_insert, check_start, parent_at, reference_at, inserted_at, insert_node, check_surround, try_extract, selected, try_select, surrounded, surround, refusal_in, check_whole_surround}
 use Rattle.dom_model.proofs.Forests.Changes.{seen, nothing, just}
-use Rattle.dom_model.proofs.Forests.Climbing.{hits-first}
 use Rattle.dom_model.proofs.Forests.Entries.{HasNode-occurs, occurs-HasNode}
-use Rattle.dom_model.proofs.Forests.Indices.{child-there, child-parent}
+use Rattle.dom_model.proofs.Forests.Indices.{child-there}
 use Rattle.dom_model.proofs.MutationAlgorithms.Loosened.{loosened-remove_all}
 use Rattle.dom_model.proofs.MutationAlgorithms.Extending.{put_by_insert}
 use Rattle.dom_model.proofs.RangesAndContents.InsertAllowed.{insert-done}
 use Rattle.dom_model.proofs.RangesAndContents.LiveRangesKept.{is_live, live-there, append-live, replace_all-live, with_range-live}
 use Rattle.dom_model.proofs.RangesAndContents.RangesSet.{range_selected}
-use Rattle.dom_model.proofs.Soundness.SoundForests.{parent-passes}
 use Rattle.dom_model.proofs.Soundness.SoundEditing.{checks_insert, insertable}
 use Rattle.dom_model.proofs.Soundness.SoundRangeSteps.{sound-with_range}
 use Rattle.dom_model.proofs.TokenText.EditsMade.EditsOfDrawnContents.{sound-range, check-range, there-contents_drawn, fragment-contents_drawn, live-contents_drawn}
 use Rattle.dom_model.proofs.TokenText.EditsMade.EditsOfInsertedNodes.{kept-insert_node}
-use Rattle.dom_content.specs.dom_ranges.Tables.{RangeTable, range_in, refused}
+use Rattle.dom_content.specs.dom_ranges.Tables.{RangeTable, range_in}
 use Rattle.dom_content.specs.dom_edit.declared.world.World.{World}
 use Rattle.dom_content.specs.dom_edit.Whole.{AreCovered, IsWhole, Keeps, Follows, unwatched}
 use Rattle.dom_content.specs.dom_edit.Following.{keeps-unwatched, follows-none, follows-then, whole-sound}
 use Rattle.dom_content.specs.dom_edit.Leaving.{sound-unwatched, it_is}
 use Rattle.dom_content.specs.dom_edit.InsertedNodes.{follows-as}
-use Rattle.dom_wrap.specs.Outcomes.{left_by, Passes, put_around}
-use Rattle.dom_wrap.proofs.InsertedNode.{unless-none, left-alike, start-alike, parent-alike, reference-alike}
+use Rattle.dom_wrap.specs.Outcomes.{left_by, Passes, MayTake, put_around}
+use Rattle.dom_wrap.proofs.InsertedNode.{unless-none, unless-allows, left-alike, start-alike, parent-alike, reference-alike}
 
 -- Steps that are not refused.
 
@@ -51,10 +47,6 @@ on-ok_both (Err e) f p q = tt
 pub ok-left : (o : Outcome) → refusal_in o ≡ None → (w : model.World) → o ≡ Ok (left_by o w)
 ok-left (Ok v) i w = refl
 ok-left (Err d) i w = absurd (cc i)
-
-pub unless-allows : (c : Option DomError) (w : model.World) (step : model.World → Outcome) → refusal_in (and_then (unless c w) step) ≡ None → (c ≡ None) × (refusal_in (step w) ≡ None)
-unless-allows None w step i = (refl, i)
-unless-allows (Some d) w step i = absurd (cc i)
 
 pub passes-as : (a b : World) (s t : model.World → Outcome) → ((w : model.World) → Keeps a w → t w ≡ s w) → Passes a b s → Passes a b t
 passes-as a b s t e p = record {
@@ -87,6 +79,51 @@ module _ (a b c : World) (first second : model.World → Outcome) (p : Passes a 
         (λ w k. ap (λ (o : Outcome). left_by o w) (joined w k) ∙ left-alike (second (left w)) (q.allowed (left w) (p.follows.keeps w k)) w (left w))
         (follows-then a b c left (λ w. left_by (second w) w) p.follows q.follows);
   }
+
+-- Steps that are not refused, one after another.
+
+first-taken : (o : Outcome) (step : model.World → Outcome) → refusal_in (and_then o step) ≡ None → refusal_in o ≡ None
+first-taken (Ok w) step i = refl
+first-taken (Err d) step i = i
+
+next-taken : (o : Outcome) (step : model.World → Outcome) (w : model.World) → refusal_in (and_then o step) ≡ None → refusal_in (step (left_by o w)) ≡ None
+next-taken (Ok v) step w i = i
+next-taken (Err d) step w i = absurd (cc i)
+
+pub take-first : (a : World) (first second : model.World → Outcome) → MayTake a (λ w. and_then (first w) second) → MayTake a first
+take-first a first second m = record { stands_for = m.stands_for; keeps = m.keeps; passes = first-taken (first m.stands_for) second m.passes }
+
+pub take-next : (a b : World) (first second : model.World → Outcome) → MayTake a (λ w. and_then (first w) second) → Follows a b (λ w. left_by (first w) w) → MayTake b second
+take-next a b first second m f = record {
+  stands_for = left_by (first m.stands_for) m.stands_for;
+  keeps = f.keeps m.stands_for m.keeps;
+  passes = next-taken (first m.stands_for) second m.stands_for m.passes;
+}
+
+-- a step that is never refused
+pub take-step : (a b : World) (step : model.World → model.World) (next : model.World → Outcome) → MayTake a (λ w. next (step w)) → Follows a b step → MayTake b next
+take-step a b step next m f = record { stands_for = step m.stands_for; keeps = f.keeps m.stands_for m.keeps; passes = m.passes }
+
+pub insert-passes : (b : World) (n fragment : ℕ) → MayTake b (try_pre_insert fragment n None) → check_insert b.tree.forest n fragment None ≡ None
+insert-passes b n fragment m =
+    let w = m.stands_for in
+    ap (λ (g : Forest Content). check_insert g n fragment None) (sym m.keeps.forest) ∙ (unless-allows (check_insert w.forest n fragment None) w (λ v. Ok (pre_insert fragment n None v)) m.passes).0
+
+pub parent-passes-there : (d : World) (r n : ℕ) → MayTake d (try_select r n) → check_parent d.tree.forest n ≡ None
+parent-passes-there d r n m = ap (λ (g : Forest Content). check_parent g n) (sym m.keeps.forest) ∙ go (parent_of w.forest n) m.passes
+  where
+    w : model.World
+    w = m.stands_for
+
+    ends_in : ℕ → Range
+    ends_in parent = record {
+      start = record { node = parent; offset = index_of w.forest n };
+      end = record { node = parent; offset = index_of w.forest n + 1 };
+    }
+
+    go : (o : Option ℕ) → refusal_in (selected r (option_map ends_in o) w) ≡ None → first_refusal ((is_none o, InvalidNodeTypeError) ∷ []) ≡ None
+    go None i = absurd (cc i)
+    go (Some p) i = refl
 
 -- What stays.
 
@@ -163,16 +200,6 @@ none-emptied v n e =
     no_head : (ns : List ℕ) → head_of ns ≡ None → ns ≡ []
     no_head [] i = refl
     no_head (m ∷ ms) i = absurd (cc i)
-
-pub first-passes : (v : World) → IsWhole v → (n c : ℕ) → head_of (children_of v.tree.forest n) ≡ Some c → kind_passes may_be_parent v.tree.forest n ≡ true
-first-passes v h n c e =
-    let f = v.tree.forest in
-    let listed = head_listed (children_of f n) e in
-    parent-passes h.forest c n (child-parent f h.forest.once c n listed) (child-there f h.forest.once c n listed)
-  where
-    head_listed : (ns : List ℕ) → head_of ns ≡ Some c → 0 < hits c ns
-    head_listed [] i = absurd (cc i)
-    head_listed (m ∷ ms) i = let same : m ≡ c = cc i in subst (λ x. 0 < hits x (m ∷ ms)) same (hits-first m ms)
 
 pub stays-emptied : (a b : World) → IsWhole a → (r n : ℕ) → Follows a b (replace_all None n) → Stays a b r
 stays-emptied a b h r n f =
@@ -252,10 +279,6 @@ module _ (a b : World) (h : IsWhole a) (r n fragment : ℕ) (held : HasNode a.tr
 
 -- The range goes around the node.
 
-passed : (o : Option DomError) (u : Unit {0}) → Ok u ≡ refused o → o ≡ None
-passed None u h = refl
-passed (Some e) u h = absurd (cc h)
-
 around-there : (f : Forest Content) (n : ℕ) → check_parent f n ≡ None → (ends : Range) × (around f n ≡ Some ends)
 around-there f n h =
     elim (seen (parent_of f n)) [
@@ -300,10 +323,10 @@ module _ (v : World) (h : IsWhole v) (r n : ℕ) (t : RangeTable) (ends : Range)
       let covers : AreCovered v.tree t.covered = subst (AreCovered v.tree) (sym (ap (λ (x : RangeTable). x.covered) is)) h.covered in
       whole-sound around_it (with_range r ends u) (follows-ends.keeps u (keeps-unwatched v)) (sound-with_range r ends u s i) h.documents h.owners covers h.statics
 
-module _ (v : World) (h : IsWhole v) (r n : ℕ) (t : RangeTable) (unit : Unit {0}) (allowed : Ok unit ≡ refused (check_parent v.tree.forest n))
+module _ (v : World) (h : IsWhole v) (r n : ℕ) (t : RangeTable) (allowed : check_parent v.tree.forest n ≡ None)
     (set : IfSome (around v.tree.forest n) (λ range. t ≡ record v.ranges { ranges = slice_set v.ranges.ranges r (Some range) })) where
   there : (ends : Range) × (around v.tree.forest n ≡ Some ends)
-  there = around-there v.tree.forest n (passed (check_parent v.tree.forest n) unit allowed)
+  there = around-there v.tree.forest n allowed
 
   table : t ≡ record v.ranges { ranges = slice_set v.ranges.ranges r (Some there.0) }
   table = it_is (λ (range : Range). t ≡ record v.ranges { ranges = slice_set v.ranges.ranges r (Some range) }) (around v.tree.forest n) there.0 there.1 set
@@ -315,6 +338,24 @@ module _ (v : World) (h : IsWhole v) (r n : ℕ) (t : RangeTable) (unit : Unit {
   whole-selected = ends-whole v h r n t there.0 there.1 table
 
 -- All of it.
+
+-- where surrounding is not refused, none of its steps is
+pub take-whole : (a : World) (r n : ℕ) → IsSome (range_in a.ranges r) → check_whole_surround r n (unwatched a) ≡ None → MayTake a (λ w. and_then (try_extract r w) (λ v. put_around r n a.tree.made (replace_all None n v)))
+take-whole a r n held i =
+    let u = unwatched a in
+    let there = live-there r u held in
+    record {
+      stands_for = u;
+      keeps = keeps-unwatched a;
+      passes = (unless-allows (check_surround u there.0 n) u _ (sym (ap (λ (x : Option Range). refusal_in (for_range x (Ok u) (λ range. surrounded r n range u))) there.1) ∙ i)).1;
+    }
+
+pub extract-passes : (a : World) (r n : ℕ) → IsSome (range_in a.ranges r) → check_whole_surround r n (unwatched a) ≡ None → check_extract r (unwatched a) ≡ None
+extract-passes a r n held i =
+    let u = unwatched a in
+    let there = live-there r u held in
+    let drawn = (unless-allows (check_surround u there.0 n) u _ (sym (ap (λ (x : Option Range). refusal_in (for_range x (Ok u) (λ range. surrounded r n range u))) there.1) ∙ i)).1 in
+    (unless-allows (check_extract r u) u (λ v. Ok (extract r v)) (first-taken (try_extract r u) (λ v. put_around r n a.tree.made (replace_all None n v)) drawn)).0
 
 pub passes-put : (a b c d : World) (r n fragment : ℕ) → Passes a b (insert_node r n) → Passes b c (try_pre_insert fragment n None) → Passes c d (try_select r n) → Passes a d (put_around r n fragment)
 passes-put a b c d r n fragment p q o =

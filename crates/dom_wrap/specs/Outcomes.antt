@@ -34,6 +34,12 @@ pub record MayEndAt (v : World) (r : ℕ) (p : Point) : Type 0 where
   pub keeps : Keeps v stands_for
   pub sound : IsSound (end_if_collapsed r p stands_for)
 
+-- steps that are not refused in a world that this one stands for
+pub record MayTake (v : World) (steps : model.World → Outcome) : Type 0 where
+  pub stands_for : model.World
+  pub keeps : Keeps v stands_for
+  pub passes : refusal_in (steps stands_for) ≡ None
+
 -- where a range starts in a Text, one more node may be made
 abbrev pub HasRoom : World → ℕ → Type 0
 HasRoom v r = ForSome (range_in v.ranges r) (λ (range : Range). is_text (unwatched v) range.start.node ≡ true → v.tree.made < 4294967295)

@@ -1,6 +1,6 @@
 //! A node that is inserted at the start of a live range (DOM Standard, "Interface Range", insertNode).
 
-ghost use Rattle.std.specs.Prelude.{◌≡◌, ◌<◌, ℕ, true, None, Some, OnOk, IfOk, IsSome, MatchResult};
+ghost use Rattle.std.specs.Prelude.{◌≡◌, ◌<◌, ◌≤◌, ℕ, length, true, None, Some, OnOk, IfOk, IsSome, MatchResult};
 ghost use Rattle.std.specs.Option.{ForSome};
 ghost use Rattle.std.specs.Result.{IfErr};
 ghost use Rattle.dom_model.specs.Forests.Forest.{HasNode};
@@ -8,15 +8,16 @@ ghost use Rattle.dom_model.specs.Worlds.World.{World as PlainWorld};
 ghost use Rattle.dom_model.specs.MutationAlgorithms.Checks.{check_insert as insert_refusal};
 ghost use Rattle.dom_model.specs.Forests.Nodes.{is_of_kind};
 ghost use Rattle.dom_model.specs.MutationAlgorithms.Editing.{reference_child};
+ghost use Rattle.dom_model.specs.DataAndCopies.Data.{data_of};
 ghost use Rattle.dom_model.specs.RangesAndContents.Wrapping.{insert_node, is_text, inserted_at, placed_at, refusal_in, check_start, reference_at, parent_at, reference_after, split_at, offset_past, end_if_collapsed};
 ghost use Rattle.dom_model.specs.TokenText.Edits.{insert_node_edits};
 ghost use Rattle.dom_content.specs.dom_ranges.Tables.{range_in};
 ghost use Rattle.dom_content.specs.dom_edit.Whole.{IsWhole, Keeps, Follows, unwatched};
 ghost use Rattle.dom_content.specs.dom_edit.Markers.{StandByEdits};
 ghost use Rattle.dom_content.specs.dom_edit.Refusals.{IsRefused};
-ghost use Rattle.dom_wrap.specs.Outcomes.{left_by, HasRoom, IsPlaceable, MayEndAt};
+ghost use Rattle.dom_wrap.specs.Outcomes.{left_by, HasRoom, IsPlaceable, MayEndAt, MayTake};
 
-use dom_content::of_data::split;
+use dom_content::of_data::split_checked;
 use dom_content::of_edit::{Content, Refusal, World, check_insert};
 use dom_content::of_kinds::{DomError, Kind};
 use dom_content::of_point::Point;
@@ -102,6 +103,7 @@ fn reference_after(
 ) -> Result<Option<NodeId>, AllocError>
     requires whole { IsWhole world.old }
     requires held { HasNode world.old.tree.forest start.node }
+    requires within { is_text (unwatched world.old) start.node ≡ true → start.offset ≤ length (data_of (unwatched world.old) start.node) }
     requires room { is_text (unwatched world.old) start.node ≡ true → world.old.tree.made < 4294967295 }
     ensures reference { IfOk result (λ reference. reference ≡ reference_after (unwatched world.old) start) }
     ensures split { OnOk result (Follows world.old world.new (split_at start)) }
@@ -111,11 +113,8 @@ fn reference_after(
     if !is_of_kind(&world.tree, node, Kind::Text) {
         return Ok(world.tree.child_at(node, offset));
     }
-    // a start is within its Text, so that only memory can be wanting
-    match split(world, alloc, node, offset) {
-        Ok(new) => Ok(Some(new)),
-        Err(_) => Err(AllocError),
-    }
+    let new = split_checked(world, alloc, node, offset)?;
+    Ok(Some(new))
 }
 
 // The child that a node comes in before, or what follows the node where it is that child.
@@ -192,10 +191,7 @@ fn place(
     let (before, behind) = (reference, reference);
     world.remove(alloc, node)?;
     let offset = offset_past(world, parent, behind, node)?;
-    // it was asked ahead of the first change whether the node may come in, so that only memory can be wanting
-    if let Err(_) = world.insert_before(alloc, parent, node, before) {
-        return Err(AllocError);
-    }
+    world.insert_checked(alloc, parent, node, before)?;
     end_if_collapsed(
         world,
         range,
@@ -207,29 +203,26 @@ fn place(
     Ok(())
 }
 
-// Inserts a node, or the children of a fragment, at the start of a live range. Only a Text in which that start stands takes a number.
+// Inserts a node, or the children of a fragment, at the start of a live range, where that is not refused. Only a Text in which that start stands takes a number.
 pub(crate) fn insert_at_start(
     world: &mut World,
     alloc: Global,
     range: RangeId,
     node: NodeId,
-) -> Result<(), Refusal>
+) -> Result<(), AllocError>
     requires whole { IsWhole world.old }
     requires held { IsSome (range_in world.old.ranges range) }
     requires node_held { HasNode world.old.tree.forest node }
+    requires allowed { MayTake world.old (insert_node range node) }
     requires room { HasRoom world.old range }
     ensures allowed { OnOk result (refusal_in (insert_node range node (unwatched world.old)) ≡ None) }
     ensures inserted { OnOk result (Follows world.old world.new (λ w. left_by (insert_node range node w) w)) }
-    ensures refused { IfErr result (λ e. IsRefused e (refusal_in (insert_node range node (unwatched world.old))) world.old world.new) }
     ensures whole { IsWhole world.new }
 {
     let (start, _) = world.ranges.ends(range);
-    let (first, second, third) = (start, start, start);
-    if let Err(error) = check(world, first, node) {
-        return Err(Refusal::Dom(error));
-    }
-    let parent = parent_at(world, second);
-    let after = reference_after(world, alloc, third)?;
+    let (first, second) = (start, start);
+    let parent = parent_at(world, first);
+    let after = reference_after(world, alloc, second)?;
     let reference = reference_child(world, node, after);
     place(world, alloc, range, node, parent, reference)?;
     Ok(())
@@ -252,5 +245,10 @@ pub fn insert_node(
     ensures refused { IfErr result (λ e. IsRefused e (refusal_in (insert_node range node (unwatched world.old))) world.old world.new) }
     ensures whole { IsWhole world.new }
 {
-    insert_at_start(world, alloc, range, node)
+    let (start, _) = world.ranges.ends(range);
+    if let Err(error) = check(world, start, node) {
+        return Err(Refusal::Dom(error));
+    }
+    insert_at_start(world, alloc, range, node)?;
+    Ok(())
 }

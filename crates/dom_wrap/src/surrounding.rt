@@ -4,17 +4,18 @@ ghost use Rattle.std.specs.Prelude.{◌≡◌, ◌≤◌, None, OnOk, IsSome};
 ghost use Rattle.std.specs.Result.{IfErr};
 ghost use Rattle.dom_model.specs.Forests.Forest.{HasNode};
 ghost use Rattle.dom_model.specs.MutationAlgorithms.Editing.{replace_all};
+ghost use Rattle.dom_model.specs.RangesAndContents.Ranges.{check_parent};
 ghost use Rattle.dom_model.specs.RangesAndContents.Wrapping.{surround, try_select, check_whole_surround};
 ghost use Rattle.dom_model.specs.TokenText.Edits.{surround_edits};
 ghost use Rattle.dom_content.specs.dom_ranges.Tables.{range_in};
 ghost use Rattle.dom_content.specs.dom_edit.Whole.{IsWhole, Follows, unwatched};
 ghost use Rattle.dom_content.specs.dom_edit.Markers.{StandByEdits};
 ghost use Rattle.dom_content.specs.dom_edit.Refusals.{IsRefused};
-ghost use Rattle.dom_wrap.specs.Outcomes.{left_by, put_around, HasRoom, Passes};
+ghost use Rattle.dom_wrap.specs.Outcomes.{left_by, put_around, HasRoom, Passes, MayTake};
 
 use crate::allowing::can_surround;
 use crate::inserting::insert_at_start;
-use dom_content::extract;
+use dom_content::extract_checked;
 use dom_content::of_edit::{Refusal, World};
 use dom_content::of_ranges::RangeId;
 use dom_content::of_tree::NodeId;
@@ -30,26 +31,19 @@ fn remove_children(world: &mut World, alloc: Global, parent: NodeId) -> Result<(
     let Some(_) = world.tree.first(parent) else {
         return Ok(());
     };
-    // nothing comes in, so that only memory can be wanting
-    match world.replace_children(alloc, parent, None) {
-        Ok(()) => Ok(()),
-        Err(_) => Err(AllocError),
-    }
+    world.replace_children_checked(alloc, parent, None)
 }
 
-// Sets a live range around a node.
-fn select(world: &mut World, range: RangeId, node: NodeId) -> Result<(), AllocError>
+// Sets a live range around a node that has a parent.
+fn select(world: &mut World, range: RangeId, node: NodeId)
     requires whole { IsWhole world.old }
     requires held { IsSome (range_in world.old.ranges range) }
     requires node_held { HasNode world.old.tree.forest node }
-    ensures selected { OnOk result (Passes world.old world.new (try_select range node)) }
+    requires allowed { check_parent world.old.tree.forest node ≡ None }
+    ensures selected { Passes world.old world.new (try_select range node) }
     ensures whole { IsWhole world.new }
 {
-    // a node that has come in has a parent, so that it is not refused
-    match world.ranges.select(&world.tree, range, node) {
-        Ok(()) => Ok(()),
-        Err(_) => Err(AllocError),
-    }
+    world.ranges.select_checked(&world.tree, range, node);
 }
 
 // Puts a node in at the start of a live range, what a fragment has into the node, and the range around it.
@@ -64,18 +58,15 @@ fn put_around(
     requires held { IsSome (range_in world.old.ranges range) }
     requires node_held { HasNode world.old.tree.forest node }
     requires fragment_held { HasNode world.old.tree.forest fragment }
+    requires allowed { MayTake world.old (put_around range node fragment) }
     requires room { HasRoom world.old range }
     ensures put { OnOk result (Passes world.old world.new (put_around range node fragment)) }
     ensures whole { IsWhole world.new }
 {
-    // each step was asked ahead of the first change, so that only memory can be wanting
-    if let Err(_) = insert_at_start(world, alloc, range, node) {
-        return Err(AllocError);
-    }
-    if let Err(_) = world.append(alloc, node, fragment) {
-        return Err(AllocError);
-    }
-    select(world, range, node)
+    insert_at_start(world, alloc, range, node)?;
+    world.insert_checked(alloc, node, fragment, None)?;
+    select(world, range, node);
+    Ok(())
 }
 
 // Surrounds the contents of a live range with a node, where no step of it is refused.
@@ -93,10 +84,7 @@ fn surround_allowed(
     ensures surrounded { OnOk result (Follows world.old world.new (λ w. left_by (surround range node w) w)) }
     ensures whole { IsWhole world.new }
 {
-    // no doctype lies in the range, so that only memory can be wanting
-    let Ok(fragment) = extract(world, alloc, range) else {
-        return Err(AllocError);
-    };
+    let fragment = extract_checked(world, alloc, range)?;
     remove_children(world, alloc, node)?;
     put_around(world, alloc, range, node, fragment)
 }

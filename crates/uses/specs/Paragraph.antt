@@ -3,7 +3,7 @@ use Rattle.std.specs.Prelude.{ℕ, List, [], codes}
 use Rattle.dom_model.specs.declared.Kind.TheVariants.{Element, Text}
 use Rattle.dom_model.specs.Forests.Forest.{empty, node}
 use Rattle.dom_model.specs.Worlds.World.{World, document_label, no_content, first_world}
-use Rattle.dom_model.specs.Commands.Making.{named, with_text}
+use Rattle.dom_model.specs.Worlds.Making.{named, with_text}
 
 -- the Document is numbered 0, the element 1 and the Text 2; there is no live range
 abbrev pub paragraph : List ℕ → World

@@ -1,7 +1,7 @@
 //! Calls of `dom_edit`.
 
 ghost use Rattle.std.specs.Prelude.{◌≡◌, None, IfOk, OnOk};
-ghost use Rattle.dom_model.specs.Commands.Making.{named};
+ghost use Rattle.dom_model.specs.Worlds.Making.{named};
 ghost use Rattle.dom_model.specs.Forests.Forest.{HasNode};
 ghost use Rattle.dom_model.specs.Forests.Texts.{units_of};
 ghost use Rattle.dom_model.specs.MutationAlgorithms.Checks.{check_insert};

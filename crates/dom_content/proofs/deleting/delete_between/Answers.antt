@@ -1,10 +1,9 @@
 -- The steps of the definition, one after another.
 use Rattle.std.proofs.Common.{ap, ◌∙◌, is_some}
 use Rattle.std.specs.Prelude.{Option}
-use Rattle.std.proofs.lemmas.Result.{on_ok_weaker}
 use Rattle.dom_model.specs.Worlds.World.{Point, Range}
 use Rattle.dom_content.proofs.RangeTexts.{range-held}
-use Rattle.dom_content.proofs.DeletedBetween.{tops-there, end-there, still-there, live-still, follows-deleted_between}
+use Rattle.dom_content.proofs.DeletedBetween.{tops-there, end-there, place-left, live-still, follows-deleted_between}
 use Rattle.dom_content.proofs.deleting.delete_between.Goals as goal
 
 pub remove_each-requires-clause-held : goal.remove_each-requires-clause-held
@@ -30,13 +29,13 @@ stand_at-requires-clause-live c =
     live-still v c.requires.whole c.args.range range is c.requires.apart c.cut_from.new.world c.in_ok-cut_from.ensures.cut c.deref.result.now (c.deref.ensures.value ∙ c.in_ok-tops.ensures) c.remove_each.new.world
     c.in_ok-remove_each.ensures.removed c.cut_up_to.new.world c.in_ok-cut_up_to.ensures.cut (ap (λ (o : Option Range). is_some o) c.requires.ends)
 
-pub stand_at-requires-clause-held : goal.stand_at-requires-clause-held
-stand_at-requires-clause-held c =
+pub stand_at-requires-clause-within : goal.stand_at-requires-clause-within
+stand_at-requires-clause-within c =
     let v = c.args.world.now in
     let range : Range = record { start = c.args.start; end = c.args.end } in
     let is = range-held v c.requires.whole c.args.range range c.requires.ends in
-    still-there v c.requires.whole c.args.range range is c.requires.apart c.cut_from.new.world c.in_ok-cut_from.ensures.cut c.deref.result.now (c.deref.ensures.value ∙ c.in_ok-tops.ensures) c.remove_each.new.world
-    c.in_ok-remove_each.ensures.removed c.cut_up_to.new.world c.in_ok-cut_up_to.ensures.cut c.new_place-place.result.node c.new_place-place.ensures.held
+    place-left v c.requires.whole c.args.range range is c.requires.apart c.cut_from.new.world c.in_ok-cut_from.ensures.cut c.deref.result.now (c.deref.ensures.value ∙ c.in_ok-tops.ensures) c.remove_each.new.world
+    c.in_ok-remove_each.ensures.removed c.cut_up_to.new.world c.in_ok-cut_up_to.ensures.cut c.new_place-place.result c.new_place-place.ensures.place
 
 pub returns-clause-deleted : goal.returns-clause-deleted
 returns-clause-deleted c =
@@ -44,7 +43,5 @@ returns-clause-deleted c =
     let range : Range = record { start = c.args.start; end = c.args.end } in
     let is = range-held v c.requires.whole c.args.range range c.requires.ends in
     let place : Point = record { node = c.new_place-place.result.node; offset = c.new_place-place.result.offset } in
-    on_ok_weaker c.stand_at.result
-    (follows-deleted_between v c.requires.whole c.args.range range is c.requires.apart c.cut_from.new.world c.in_ok-cut_from.ensures.cut c.deref.result.now (c.deref.ensures.value ∙ c.in_ok-tops.ensures) c.remove_each.new.world
-    c.in_ok-remove_each.ensures.removed c.cut_up_to.new.world c.in_ok-cut_up_to.ensures.cut c.stand_at.new.world place c.new_place-place.ensures.place)
-    c.stand_at.ensures.stands
+    follows-deleted_between v c.requires.whole c.args.range range is c.requires.apart c.cut_from.new.world c.in_ok-cut_from.ensures.cut c.deref.result.now (c.deref.ensures.value ∙ c.in_ok-tops.ensures) c.remove_each.new.world
+    c.in_ok-remove_each.ensures.removed c.cut_up_to.new.world c.in_ok-cut_up_to.ensures.cut c.stand_at.new.world place c.new_place-place.ensures.place c.stand_at.ensures.stands

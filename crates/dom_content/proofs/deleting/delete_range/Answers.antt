@@ -1,9 +1,12 @@
 -- Nothing of a collapsed range, units of one node, or what lies between two nodes.
-use Rattle.std.proofs.Common.{◌≤◌, ◌==◌, refl, ap, sym, arith}
+use Rattle.std.proofs.Common.{◌≤◌, ◌==◌, length, refl, ap, sym, subst, arith}
 use Rattle.std.proofs.lemmas.Result.{on_ok_weaker}
 use Rattle.dom_model.specs.Forests.Kinds.{is_character_data}
 use Rattle.dom_model.specs.Worlds.World.{Point, Range}
 use Rattle.dom_model.specs.Forests.Nodes.{kind_passes}
+use Rattle.dom_model.specs.DataAndCopies.Data.{data_of}
+use Rattle.dom_model.proofs.Soundness.SoundDeleting.{offset_of_start}
+use Rattle.dom_clone.specs.dom_edit.Whole.{unwatched}
 use Rattle.dom_content.proofs.PartsBetween.{and-both}
 use Rattle.dom_content.proofs.RangeTexts.{range-held, ahead-of}
 use Rattle.dom_content.proofs.DeletedBetween.{follows-between}
@@ -19,6 +22,14 @@ overflow_sub-count c =
     let i = ap (λ (p : Point). p.offset) c.start.view_is in
     let j = ap (λ (p : Point). p.offset) c.end.view_is in
     omega arith
+
+pub cut_units-requires-clause-within : goal.cut_units-requires-clause-within
+cut_units-requires-clause-within c =
+    let v = c.args.world.now in
+    let range : Range = record { start = c.ends-start.result.0; end = c.ends-start.result.1 } in
+    let is = range-held v c.requires.whole c.args.range range c.ends-start.ensures.ends in
+    let kind = (and-both (range.start.node == range.end.node) (kind_passes is_character_data v.tree.forest range.start.node) (sym c.if-is_in_one_data.ensures)).1 in
+    subst (λ (p : Point). p.offset ≤ length (data_of (unwatched v) p.node)) (sym c.start.view_is) (offset_of_start (unwatched v) range is kind)
 
 pub returns-clause-deleted : goal.returns-clause-deleted
 returns-clause-deleted c =

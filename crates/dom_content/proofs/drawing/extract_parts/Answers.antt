@@ -1,7 +1,6 @@
 -- The ends stay, or go to the new place.
 use Rattle.std.proofs.Common.{true}
-use Rattle.dom_content.proofs.PieceSteps.{held-still}
-use Rattle.dom_content.proofs.DrawnContents.{extracted-here, extracted-moved, live-drawn}
+use Rattle.dom_content.proofs.DrawnContents.{extracted-here, extracted-moved, place-drawn, live-drawn}
 use Rattle.dom_content.proofs.drawing.extract_parts.Goals as goal
 
 pub returns-then-stays-clause-extracted : goal.returns-then-stays-clause-extracted
@@ -12,10 +11,12 @@ pub stand_at-requires-clause-live : goal.stand_at-requires-clause-live
 stand_at-requires-clause-live c =
     live-drawn c.args.world.now c.requires.whole (record { start = c.args.start; end = c.args.end }) c.requires.range c.requires.allowed true c.args.range c.draw.new.world c.in_ok-fragment.ensures.drawn c.requires.live
 
-pub stand_at-requires-clause-held : goal.stand_at-requires-clause-held
-stand_at-requires-clause-held c = held-still c.args.world.now c.draw.new.world c.in_ok-fragment.ensures.still_held c.new_place-place.result.node c.new_place-place.ensures.held
+pub stand_at-requires-clause-within : goal.stand_at-requires-clause-within
+stand_at-requires-clause-within c =
+    place-drawn c.args.world.now c.requires.whole (record { start = c.args.start; end = c.args.end }) c.requires.range c.requires.allowed c.follows_cut-stays.result c.follows_cut-stays.ensures c.if-stays.false
+    c.draw.new.world c.in_ok-fragment.ensures.drawn c.new_place-place.result c.new_place-place.ensures.place
 
 pub returns-clause-extracted : goal.returns-clause-extracted
 returns-clause-extracted c =
     extracted-moved c.args.world.now c.args.range (record { start = c.args.start; end = c.args.end }) c.follows_cut-stays.result c.follows_cut-stays.ensures c.draw.new.world c.stand_at.new.world c.new_place-place.result
-    c.if-stays.false c.new_place-place.ensures.place c.in_ok-fragment.ensures.drawn c.in_ok-stand_at.ensures.stands
+    c.if-stays.false c.new_place-place.ensures.place c.in_ok-fragment.ensures.drawn c.stand_at.ensures.stands

@@ -1,9 +1,14 @@
+use Rattle.dom_model.specs.Worlds.World.{Range}
+use Rattle.dom_wrap.proofs.InsertedNode.{may-insert}
 use Rattle.dom_wrap.proofs.Marking.{stand-by_insert_node}
-use Rattle.dom_wrap.proofs.SurroundingSteps.{on-ok_both}
 use Rattle.dom_wrap.proofs.inserting.insert_node.Goals as goal
+
+pub insert_at_start-requires-clause-allowed : goal.insert_at_start-requires-clause-allowed
+insert_at_start-requires-clause-allowed c =
+    let range : Range = record { start = c.ends-start.result.0; end = c.ends-start.result.1 } in
+    may-insert c.args.world.now c.requires.whole c.args.range c.args.node range c.ends-start.ensures.ends c.requires.node_held c.in_default.ensures.start c.in_default.ensures.insert
 
 pub returns-clause-markers : goal.returns-clause-markers
 returns-clause-markers c =
-    on-ok_both c.insert_at_start.result
-    (stand-by_insert_node c.args.world.now c.insert_at_start.new.world c.requires.whole c.insert_at_start.ensures.whole c.args.range c.args.node c.requires.node_held)
-    c.insert_at_start.ensures.allowed c.insert_at_start.ensures.inserted
+    stand-by_insert_node c.args.world.now c.insert_at_start.new.world c.requires.whole c.insert_at_start.ensures.whole c.args.range c.args.node c.requires.node_held
+    c.in_ok-insert_at_start.ensures.allowed c.in_ok-insert_at_start.ensures.inserted

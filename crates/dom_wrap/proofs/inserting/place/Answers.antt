@@ -1,6 +1,7 @@
 use Rattle.std.proofs.Common.{false}
 use Rattle.dom_model.proofs.Forests.Entries.{HasNode-occurs, occurs-HasNode}
 use Rattle.dom_content.specs.dom_edit.InsertedNodes.{there-removed}
+use Rattle.dom_wrap.proofs.InsertedNode.{passes-out, placed-allowed, may-end, follows-placed}
 use Rattle.dom_wrap.proofs.inserting.place.Goals as goal
 
 pub offset_past-requires-clause-node_held : goal.offset_past-requires-clause-node_held
@@ -10,9 +11,29 @@ offset_past-requires-clause-node_held c =
     let there = occurs-HasNode v.tree.forest n c.requires.held in
     HasNode-occurs c.remove.new.self.tree.forest n (there-removed v c.remove.new.self n false c.requires.whole there c.in_ok-remove.ensures.removed n there)
 
-pub insert_before-requires-clause-node_held : goal.insert_before-requires-clause-node_held
-insert_before-requires-clause-node_held c =
+pub insert_checked-requires-clause-node_held : goal.insert_checked-requires-clause-node_held
+insert_checked-requires-clause-node_held c =
     let v = c.args.world.now in
     let n = c.args.node in
     let there = occurs-HasNode v.tree.forest n c.requires.held in
     HasNode-occurs c.remove.new.self.tree.forest n (there-removed v c.remove.new.self n false c.requires.whole there c.in_ok-remove.ensures.removed n there)
+
+pub insert_checked-requires-clause-allowed : goal.insert_checked-requires-clause-allowed
+insert_checked-requires-clause-allowed c = passes-out c.args.world.now c.remove.new.self c.args.range c.args.node c.args.parent c.args.reference c.in_ok-remove.ensures.removed c.requires.placeable
+
+pub end_if_collapsed-requires-clause-sound : goal.end_if_collapsed-requires-clause-sound
+end_if_collapsed-requires-clause-sound c =
+    let passes = passes-out c.args.world.now c.remove.new.self c.args.range c.args.node c.args.parent c.args.reference c.in_ok-remove.ensures.removed c.requires.placeable in
+    may-end c.args.world.now c.remove.new.self c.insert_checked.new.self c.args.range c.args.node c.args.parent c.args.reference c.in_ok-offset.offset c.in_ok-remove.ensures.removed c.in_ok-offset.ensures passes
+    c.in_ok-insert_checked.ensures.inserted c.requires.placeable
+
+pub returns-clause-allowed : goal.returns-clause-allowed
+returns-clause-allowed c =
+    let passes = passes-out c.args.world.now c.remove.new.self c.args.range c.args.node c.args.parent c.args.reference c.in_ok-remove.ensures.removed c.requires.placeable in
+    placed-allowed c.args.world.now c.remove.new.self c.insert_checked.new.self c.args.range c.args.node c.args.parent c.args.reference c.in_ok-offset.offset c.in_ok-remove.ensures.removed c.in_ok-offset.ensures passes
+
+pub returns-clause-placed : goal.returns-clause-placed
+returns-clause-placed c =
+    let passes = passes-out c.args.world.now c.remove.new.self c.args.range c.args.node c.args.parent c.args.reference c.in_ok-remove.ensures.removed c.requires.placeable in
+    follows-placed c.args.world.now c.remove.new.self c.insert_checked.new.self c.args.range c.args.node c.args.parent c.args.reference c.in_ok-offset.offset c.in_ok-remove.ensures.removed c.in_ok-offset.ensures passes
+    c.in_ok-insert_checked.ensures.inserted c.end_if_collapsed.new.world c.end_if_collapsed.ensures.ended

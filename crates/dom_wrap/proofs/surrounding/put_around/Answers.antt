@@ -1,42 +1,70 @@
-use Rattle.dom_wrap.proofs.SurroundingSteps.{Stays, stays-inserted, passes-inserted, stays-appended, passes-appended, passes-put, on-ok}
+use Rattle.std.proofs.Common.{None}
+use Rattle.dom_model.specs.RangesAndContents.Wrapping.{and_then, try_pre_insert, insert_node, try_select}
+use Rattle.dom_wrap.specs.Outcomes.{MayTake}
+use Rattle.dom_wrap.proofs.SurroundingSteps.{Stays, take-first, take-next, insert-passes, parent-passes-there, stays-inserted, passes-inserted, stays-appended, passes-appended, passes-put}
 use Rattle.dom_wrap.proofs.surrounding.put_around.Goals as goal
 
-pub append-requires-clause-parent_held : goal.append-requires-clause-parent_held
-append-requires-clause-parent_held c =
-    let b = c.insert_at_start.new.world in
-    let k : Stays c.args.world.now b c.args.range = stays-inserted c.args.world.now b c.requires.whole c.args.range c.args.node c.requires.node_held c.in_default.ensures.allowed c.in_default.ensures.inserted in
-    k.nodes c.args.node c.requires.node_held
+pub insert_at_start-requires-clause-allowed : goal.insert_at_start-requires-clause-allowed
+insert_at_start-requires-clause-allowed c =
+    take-first c.args.world.now (insert_node c.args.range c.args.node) (λ v. and_then (try_pre_insert c.args.fragment c.args.node None v) (λ v. try_select c.args.range c.args.node v)) c.requires.allowed
 
-pub append-requires-clause-node_held : goal.append-requires-clause-node_held
-append-requires-clause-node_held c =
+pub insert_checked-requires-clause-node_held : goal.insert_checked-requires-clause-node_held
+insert_checked-requires-clause-node_held c =
     let b = c.insert_at_start.new.world in
-    let k : Stays c.args.world.now b c.args.range = stays-inserted c.args.world.now b c.requires.whole c.args.range c.args.node c.requires.node_held c.in_default.ensures.allowed c.in_default.ensures.inserted in
+    let k : Stays c.args.world.now b c.args.range = stays-inserted c.args.world.now b c.requires.whole c.args.range c.args.node c.requires.node_held c.in_ok-insert_at_start.ensures.allowed c.in_ok-insert_at_start.ensures.inserted in
     k.nodes c.args.fragment c.requires.fragment_held
+
+pub insert_checked-requires-clause-allowed : goal.insert_checked-requires-clause-allowed
+insert_checked-requires-clause-allowed c =
+    let b = c.insert_at_start.new.world in
+    let more : MayTake b (λ w. and_then (try_pre_insert c.args.fragment c.args.node None w) (λ v. try_select c.args.range c.args.node v)) =
+    take-next c.args.world.now b (insert_node c.args.range c.args.node) (λ v. and_then (try_pre_insert c.args.fragment c.args.node None v) (λ v. try_select c.args.range c.args.node v)) c.requires.allowed c.in_ok-insert_at_start.ensures.inserted in
+    let passes = insert-passes b c.args.node c.args.fragment (take-first b (try_pre_insert c.args.fragment c.args.node None) (λ v. try_select c.args.range c.args.node v) more) in
+    passes
 
 pub select-requires-clause-held : goal.select-requires-clause-held
 select-requires-clause-held c =
     let b = c.insert_at_start.new.world in
-    let d = c.append.new.self in
-    let k : Stays c.args.world.now b c.args.range = stays-inserted c.args.world.now b c.requires.whole c.args.range c.args.node c.requires.node_held c.in_default.ensures.allowed c.in_default.ensures.inserted in
-    let l : Stays b d c.args.range = stays-appended b d c.in_default.ensures.whole c.args.range c.args.node c.args.fragment (k.nodes c.args.fragment c.requires.fragment_held) c.in_default-append.ensures.allowed c.in_default-append.ensures.appended in
+    let d = c.insert_checked.new.self in
+    let k : Stays c.args.world.now b c.args.range = stays-inserted c.args.world.now b c.requires.whole c.args.range c.args.node c.requires.node_held c.in_ok-insert_at_start.ensures.allowed c.in_ok-insert_at_start.ensures.inserted in
+    let more : MayTake b (λ w. and_then (try_pre_insert c.args.fragment c.args.node None w) (λ v. try_select c.args.range c.args.node v)) =
+    take-next c.args.world.now b (insert_node c.args.range c.args.node) (λ v. and_then (try_pre_insert c.args.fragment c.args.node None v) (λ v. try_select c.args.range c.args.node v)) c.requires.allowed c.in_ok-insert_at_start.ensures.inserted in
+    let passes = insert-passes b c.args.node c.args.fragment (take-first b (try_pre_insert c.args.fragment c.args.node None) (λ v. try_select c.args.range c.args.node v) more) in
+    let l : Stays b d c.args.range = stays-appended b d c.insert_at_start.ensures.whole c.args.range c.args.node c.args.fragment (k.nodes c.args.fragment c.requires.fragment_held) passes c.in_ok-insert_checked.ensures.inserted in
     l.live (k.live c.requires.held)
 
 pub select-requires-clause-node_held : goal.select-requires-clause-node_held
 select-requires-clause-node_held c =
     let b = c.insert_at_start.new.world in
-    let d = c.append.new.self in
-    let k : Stays c.args.world.now b c.args.range = stays-inserted c.args.world.now b c.requires.whole c.args.range c.args.node c.requires.node_held c.in_default.ensures.allowed c.in_default.ensures.inserted in
-    let l : Stays b d c.args.range = stays-appended b d c.in_default.ensures.whole c.args.range c.args.node c.args.fragment (k.nodes c.args.fragment c.requires.fragment_held) c.in_default-append.ensures.allowed c.in_default-append.ensures.appended in
+    let d = c.insert_checked.new.self in
+    let k : Stays c.args.world.now b c.args.range = stays-inserted c.args.world.now b c.requires.whole c.args.range c.args.node c.requires.node_held c.in_ok-insert_at_start.ensures.allowed c.in_ok-insert_at_start.ensures.inserted in
+    let more : MayTake b (λ w. and_then (try_pre_insert c.args.fragment c.args.node None w) (λ v. try_select c.args.range c.args.node v)) =
+    take-next c.args.world.now b (insert_node c.args.range c.args.node) (λ v. and_then (try_pre_insert c.args.fragment c.args.node None v) (λ v. try_select c.args.range c.args.node v)) c.requires.allowed c.in_ok-insert_at_start.ensures.inserted in
+    let passes = insert-passes b c.args.node c.args.fragment (take-first b (try_pre_insert c.args.fragment c.args.node None) (λ v. try_select c.args.range c.args.node v) more) in
+    let l : Stays b d c.args.range = stays-appended b d c.insert_at_start.ensures.whole c.args.range c.args.node c.args.fragment (k.nodes c.args.fragment c.requires.fragment_held) passes c.in_ok-insert_checked.ensures.inserted in
     l.nodes c.args.node (k.nodes c.args.node c.requires.node_held)
+
+pub select-requires-clause-allowed : goal.select-requires-clause-allowed
+select-requires-clause-allowed c =
+    let b = c.insert_at_start.new.world in
+    let d = c.insert_checked.new.self in
+    let k : Stays c.args.world.now b c.args.range = stays-inserted c.args.world.now b c.requires.whole c.args.range c.args.node c.requires.node_held c.in_ok-insert_at_start.ensures.allowed c.in_ok-insert_at_start.ensures.inserted in
+    let more : MayTake b (λ w. and_then (try_pre_insert c.args.fragment c.args.node None w) (λ v. try_select c.args.range c.args.node v)) =
+    take-next c.args.world.now b (insert_node c.args.range c.args.node) (λ v. and_then (try_pre_insert c.args.fragment c.args.node None v) (λ v. try_select c.args.range c.args.node v)) c.requires.allowed c.in_ok-insert_at_start.ensures.inserted in
+    let passes = insert-passes b c.args.node c.args.fragment (take-first b (try_pre_insert c.args.fragment c.args.node None) (λ v. try_select c.args.range c.args.node v) more) in
+    let appended = passes-appended b d c.insert_at_start.ensures.whole c.args.range c.args.node c.args.fragment (k.nodes c.args.fragment c.requires.fragment_held) passes c.in_ok-insert_checked.ensures.inserted in
+    parent-passes-there d c.args.range c.args.node (take-next b d (try_pre_insert c.args.fragment c.args.node None) (λ v. try_select c.args.range c.args.node v) more appended.follows)
 
 pub returns-clause-put : goal.returns-clause-put
 returns-clause-put c =
     let a = c.args.world.now in
     let b = c.insert_at_start.new.world in
-    let d = c.append.new.self in
-    let k : Stays a b c.args.range = stays-inserted a b c.requires.whole c.args.range c.args.node c.requires.node_held c.in_default.ensures.allowed c.in_default.ensures.inserted in
-    on-ok c.select.result
-    (λ last. passes-put a b d c.select.new.world c.args.range c.args.node c.args.fragment
-    (passes-inserted a b c.requires.whole c.args.range c.args.node c.requires.node_held c.in_default.ensures.allowed c.in_default.ensures.inserted)
-    (passes-appended b d c.in_default.ensures.whole c.args.range c.args.node c.args.fragment (k.nodes c.args.fragment c.requires.fragment_held) c.in_default-append.ensures.allowed c.in_default-append.ensures.appended) last)
+    let d = c.insert_checked.new.self in
+    let k : Stays c.args.world.now b c.args.range = stays-inserted c.args.world.now b c.requires.whole c.args.range c.args.node c.requires.node_held c.in_ok-insert_at_start.ensures.allowed c.in_ok-insert_at_start.ensures.inserted in
+    let more : MayTake b (λ w. and_then (try_pre_insert c.args.fragment c.args.node None w) (λ v. try_select c.args.range c.args.node v)) =
+    take-next c.args.world.now b (insert_node c.args.range c.args.node) (λ v. and_then (try_pre_insert c.args.fragment c.args.node None v) (λ v. try_select c.args.range c.args.node v)) c.requires.allowed c.in_ok-insert_at_start.ensures.inserted in
+    let passes = insert-passes b c.args.node c.args.fragment (take-first b (try_pre_insert c.args.fragment c.args.node None) (λ v. try_select c.args.range c.args.node v) more) in
+    passes-put a b d c.select.new.world c.args.range c.args.node c.args.fragment
+    (passes-inserted a b c.requires.whole c.args.range c.args.node c.requires.node_held c.in_ok-insert_at_start.ensures.allowed c.in_ok-insert_at_start.ensures.inserted)
+    (passes-appended b d c.insert_at_start.ensures.whole c.args.range c.args.node c.args.fragment (k.nodes c.args.fragment c.requires.fragment_held) passes c.in_ok-insert_checked.ensures.inserted)
     c.select.ensures.selected

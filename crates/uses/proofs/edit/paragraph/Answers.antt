@@ -3,9 +3,10 @@ use Rattle.std.specs.Option.{ForSome}
 use Rattle.dom_model.specs.declared.Kind.TheVariants.{Document}
 use Rattle.dom_model.specs.Forests.Forest.{HasNode}
 use Rattle.dom_model.specs.Forests.Texts.{units_of}
-use Rattle.dom_model.specs.Commands.Making.{with_text}
+use Rattle.dom_model.specs.Worlds.Making.{with_text}
 use Rattle.dom_model.specs.Worlds.World.{first_world}
-use Rattle.dom_model.specs.MutationAlgorithms.Checks.{check_insert, is_of_kind}
+use Rattle.dom_model.specs.MutationAlgorithms.Checks.{check_insert}
+use Rattle.dom_model.specs.Forests.Nodes.{is_of_kind}
 use Rattle.uses.proofs.Paragraphs.{of_kept, with_element, element_placed, with_both, keeps-made, keeps-appended, keeps-paragraph}
 use Rattle.uses.proofs.edit.paragraph.Goals as goal
 
