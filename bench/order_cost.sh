@@ -1,18 +1,18 @@
 #!/usr/bin/env bash
 # Instructions of `order` in a tree of 1,000 nodes and in one of 100,000 of the same depth.
-# usage, at the top of the repository, after `rt test` in crates/dom_point: bench/order_cost.sh
+# usage, at the top of the repository, after `rt test` in crates/layer_cases: bench/order_cost.sh
 # - near: points of leaves three apart, of neighbouring groups, and of the root, eight calls;
 # - far: points of leaves half a group apart, and of their group, four calls. Both counts must be equal but for a tenth.
 set -euo pipefail
 . "$(dirname "$0")/../tools/words.sh"
 takes 0 "$@"
-tests=$PWD/crates/dom_point/out/dom_point_tests
+tests=$PWD/crates/layer_cases/out/layer_cases_tests
 work=$(mktemp -d)
 trap 'rm -rf "$work"' EXIT
 
 # counted WHICH TEST: the instructions within `order`, all that it calls with it
 counted() {
-    valgrind -q --tool=callgrind --callgrind-out-file="$work/out" --toggle-collect="dom_point::tests::$1_points_stand*" "$tests" "tests::$2" >"$work/said" 2>&1 || {
+    valgrind -q --tool=callgrind --callgrind-out-file="$work/out" --toggle-collect="layer_cases::points::$1_points_stand*" "$tests" "points::$2" >"$work/said" 2>&1 || {
         echo "$2: failed" >&2
         cat "$work/said" >&2
         exit 1

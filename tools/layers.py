@@ -38,6 +38,7 @@ SAYS = {
     "dom_kinds": "kinds, labels, names, exceptions",
     "dom_c": "the core as a C library",
     "dom_cases": "tests that cross crates",
+    "layer_cases": "tests of single low crates",
     "uses": "callers, one module for each crate",
     MODEL: "the definitions that the others speak of, and their laws",
 }

@@ -1,6 +1,6 @@
 #!/usr/bin/env bash
-# Runs each test of a single crate with its nth growth refused, for n = 1, 2, .. until a run meets no refusal: those in the crates up to
-# ranges, and those under `layers` of dom_cases for the crates from observers to lines and streams.
+# Runs each test of a single crate with its nth growth refused, for n = 1, 2, .. until a run meets no refusal: those of layer_cases for the
+# crates from texts to traversal, and those under `layers` of dom_cases for the crates from observers to lines and streams.
 # usage, at the top of the repository: tools/refused_tests.sh [LAST]
 # It builds the tests by `rt test` first. A run may end in three ways:
 # - the test passes;
@@ -16,8 +16,8 @@ top=$PWD
 work=$(mktemp -d)
 trap 'rm -rf "$work"' EXIT
 cc -shared -fPIC -O2 -Wall -o "$work/refused.so" tools/refused_growths/refused_growths.c -ldl
-crates="dom_units dom_kinds dom_attrs dom_links dom_pages dom_tree dom_point dom_traverse dom_ranges dom_cases"
-stands="dom_links:tests::a_refused_add_hands_the_value_back dom_ranges:tests::refused_room dom_cases:layers::observing::a_hundred_nodes"
+crates="layer_cases dom_cases"
+stands="layer_cases:links::a_refused_add_hands_the_value_back layer_cases:ranges::refused_room dom_cases:layers::observing::a_hundred_nodes"
 runs=0
 cut=0
 
@@ -46,6 +46,13 @@ wants_memory() {
     esac
 }
 
+# tests_of CRATE: the tests of single crates that it has
+tests_of() {
+    local kept=.
+    [ "$1" != dom_cases ] || kept='^layers::'
+    "crates/$1/out/${1}_tests" --list | sed -n 's/: test$//p' | grep -E "$kept"
+}
+
 # in_turn CRATE TEST: refuses each growth in turn
 in_turn() {
     local n
@@ -64,14 +71,16 @@ in_turn() {
 
 for crate in $crates; do
     (cd "crates/$crate" && rt test >"$work/built" 2>&1) || { cat "$work/built" >&2; exit 1; }
-    for test in $("crates/$crate/out/${crate}_tests" --list | sed -n 's/: test$//p' | grep -E '^(tests|layers)::'); do
+    for test in $(tests_of "$crate"); do
         in_turn "$crate" "$test"
     done
 done
 
-run REFUSE_AFTER=7777 dom_ranges tests::adjusted_without_a_growth
-[ "$status $refused" = "0 1" ] || fail "each adjusting call with every growth refused"
-run REFUSE_AT=1 dom_ranges tests::refused_room
+for test in $(tests_of layer_cases | grep -E '^ranges::.*_without_a_growth$'); do
+    run REFUSE_AFTER=7777 layer_cases "$test"
+    [ "$status $refused" = "0 1" ] || fail "$test with every growth refused"
+done
+run REFUSE_AT=1 layer_cases ranges::refused_room
 [ "$status $growths $refused" = "0 3 1" ] || fail "room whose first growth is refused is not refused"
 for n in $(seq 1 100); do
     run REFUSE_AT="$n" dom_cases layers::observing::a_hundred_nodes

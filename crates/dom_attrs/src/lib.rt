@@ -12,8 +12,6 @@ use std::alloc::{AllocError, Global};
 use std::marker::Model;
 
 mod entries;
-#[cfg(test)]
-mod tests;
 
 /// The attributes of an element (DOM Standard, "Interface Element").
 ///

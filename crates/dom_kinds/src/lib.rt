@@ -11,6 +11,3 @@ pub use error::Exception;
 pub use kind::NodeType;
 pub use label::Label;
 pub use names::{is_attribute_name, is_doctype_name, is_element_name};
-
-#[cfg(test)]
-mod tests;

@@ -5,8 +5,6 @@
 mod links;
 mod pool;
 mod steps;
-#[cfg(test)]
-mod tests;
 
 #[doc(hidden)]
 pub use links::Node;

@@ -6,7 +6,5 @@
 
 mod page;
 mod pages;
-#[cfg(test)]
-mod tests;
 
 pub use pages::Pages;

@@ -91,9 +91,10 @@ impl<T: Copy> Page<T> {
         self.count = 0;
     }
 
-    /// Whether the page has its memory.
-    #[cfg(test)]
-    pub(crate) fn is_present(&self) -> bool {
+    /// Whether the page has its memory: it has where it has a cell.
+    pub(crate) fn is_present(&self) -> bool
+        ensures { 0 < length self.now → IsTrue result }
+    {
         self.cells.capacity() != 0
     }
 }

@@ -1,6 +1,6 @@
 //! A table in pages.
 
-ghost use Rattle.std.specs.Prelude.{◌≡◌, ◌+◌, ◌<◌, ◌≤◌, ◌∷◌, ◌++◌, [], length, Some, None, IsSome, OnOk, slice_set};
+ghost use Rattle.std.specs.Prelude.{◌≡◌, ◌+◌, ◌<◌, ◌≤◌, ◌∷◌, ◌++◌, [], length, Some, None, IsSome, IsTrue, OnOk, slice_set};
 ghost use Rattle.dom_pages.specs.Numbered.{item_at};
 ghost use Rattle.dom_pages.specs.Paged.{page_size};
 
@@ -139,10 +139,11 @@ impl<T: Copy> Pages<T> {
         }
     }
 
-    // Whether a page has its memory.
-    #[cfg(test)]
-    pub(crate) fn is_present(&self, at: usize) -> bool {
-        match self.pages.get(at) {
+    /// Whether the page of a number has its memory: it has where something stands under the number.
+    pub fn is_present(&self, number: usize) -> bool
+        ensures { IsSome (item_at self.now.items number) → IsTrue result }
+    {
+        match self.pages.get(number / PAGE) {
             Some(page) => page.is_present(),
             None => false,
         }

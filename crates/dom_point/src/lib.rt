@@ -5,8 +5,6 @@ mod ancestors;
 mod laws;
 mod ordering;
 mod point;
-#[cfg(test)]
-mod tests;
 
 pub use ancestors::common;
 pub use laws::{one_gap_each, points_as_gaps};

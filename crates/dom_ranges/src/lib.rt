@@ -15,9 +15,6 @@ pub use numbers::RangeId;
 pub use ranges::Ranges;
 pub use statics::{StaticId, Statics};
 
-#[cfg(test)]
-mod tests;
-
 /// What crates above name of `dom_kinds`.
 pub mod of_kinds {
     pub use dom_point::of_kinds::{

@@ -168,6 +168,13 @@ impl Ranges {
         self.slots.len() as u64
     }
 
+    /// How many slots there are: those of the live ranges, and the vacant ones, which the next ranges take first.
+    pub fn slots(&self) -> usize
+        ensures { result ≤ length self.now.ranges }
+    {
+        self.chains.count() / 2
+    }
+
     /// Whether there is such a range, and it was not released.
     pub fn holds(&self, r: RangeId) -> bool
         ensures { result ≡ is_some (range_in self.now r) }

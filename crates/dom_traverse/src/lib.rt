@@ -14,6 +14,3 @@ pub use dom_model::{Move, Verdict};
 pub use filter::{Filter, Rule};
 pub use iterators::{IterId, Iters};
 pub use walkers::{WalkerId, Walkers};
-
-#[cfg(test)]
-mod tests;

@@ -7,8 +7,6 @@ mod indices;
 mod item;
 mod node_id;
 mod slot_number;
-#[cfg(test)]
-mod tests;
 mod tree;
 mod upkeep;
 mod walks;

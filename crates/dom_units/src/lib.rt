@@ -9,8 +9,6 @@ use std::marker::Model;
 
 mod scan;
 mod shift;
-#[cfg(test)]
-mod tests;
 
 /// A text as its UTF-16 units; lone surrogates may stand in it (Infra, "Strings").
 ///

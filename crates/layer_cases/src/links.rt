@@ -1,4 +1,5 @@
-use super::{Links, Pool, Slot};
+//! Slots that are linked, cut, taken and taken again, and the memory under them.
+use dom_links::{Links, NodePtr, Pool, Slot};
 use std::alloc::Global;
 use std::cell::Cell;
 use std::process::Abort;
@@ -213,7 +214,7 @@ fn each_value_is_dropped_once(rt: HostRuntime) -> Result<(), Fail> {
 #[derive(Drop)]
 struct Item {
     value: u32,
-    next: Option<*mut Item>,
+    next: Option<NodePtr<Item>>,
 }
 
 /// Two items, the first with a pointer to the second: the first is read, the second is changed, and both are taken out.
@@ -233,7 +234,7 @@ fn through_a_pointer(alloc: Global) -> Option<(u32, u32, u32)> {
                 first_room,
                 Item {
                     value: 1,
-                    next: Some(second.ptr),
+                    next: Some(second),
                 },
             );
             let mut seen = 0;

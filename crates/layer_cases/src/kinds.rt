@@ -1,5 +1,5 @@
 //! Examples of names at the edges of the rules, of numbers, names and codes, and of a copied label.
-use super::{
+use dom_kinds::{
     DomError, Exception, Kind, Label, NodeType, is_attribute_name, is_doctype_name, is_element_name,
 };
 use std::test::Fail;

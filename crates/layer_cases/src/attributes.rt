@@ -1,17 +1,35 @@
 //! Examples of attributes: set in place or last, taken out, compared as sets, copied, and twenty thousand of them.
-use super::Attrs;
+use dom_attrs::Attrs;
 use dom_units::Units;
 use std::alloc::{AllocError, Global};
 use std::process::Abort;
 use std::test::Fail;
 
+// Sets an attribute of that name and text.
+fn set(
+    alloc: Global,
+    attrs: &mut Attrs,
+    name: &str,
+    value: &str,
+) -> Result<Option<Units>, AllocError> {
+    let name = String::from_str(alloc, name)?;
+    let value = Units::from_str(alloc, value)?;
+    attrs.set(name, value)
+}
+
+// Takes the attribute of that name out, whose value is one unit.
+fn take_out(rt: &impl Abort, attrs: &mut Attrs, name: &str, unit: u16) {
+    match attrs.remove(name) {
+        None => assert!(rt; false, "no attribute {name}"),
+        Some(gone) => assert!(rt; gone.units() == [unit].as_slice(), "{name}"),
+    }
+}
+
 // Attributes of these names and texts, set in this order.
 fn made(alloc: Global, pairs: &[(&str, &str)]) -> Result<Attrs, AllocError> {
     let mut attrs = Attrs::new(alloc);
     for (name, value) in pairs {
-        let name = String::from_str(alloc, name)?;
-        let value = Units::from_str(alloc, value)?;
-        let _ = attrs.set(name, value)?;
+        let _ = set(alloc, &mut attrs, name, value)?;
     }
     Ok(attrs)
 }
@@ -63,11 +81,7 @@ fn set_in_place_or_last(rt: HostRuntime) -> Result<(), Fail> {
             [("k", "2"), ("a", "1"), ("", "3")].as_slice(),
         ),
     ] {
-        let old = attrs.set(
-            String::from_str(alloc, name)?,
-            Units::from_str(alloc, value)?,
-        )?;
-        match old {
+        match set(alloc, &mut attrs, name, value)? {
             None => assert!(rt; !is_there, "{name}"),
             Some(old) => assert!(rt; is_there && old.is_empty(), "{name}"),
         }
@@ -80,8 +94,7 @@ fn set_in_place_or_last(rt: HostRuntime) -> Result<(), Fail> {
 #[test]
 fn taken_out(rt: HostRuntime) -> Result<(), Fail> {
     let mut attrs = made(rt.alloc(), &[("k", "2"), ("a", "1"), ("", "3")])?;
-    let gone = attrs.remove("k").ok_or("k")?;
-    assert!(rt; gone.units() == [50].as_slice());
+    take_out(&rt, &mut attrs, "k", 50);
     expect(&rt, &attrs, &[("a", "1"), ("", "3")]);
     assert!(rt; attrs.get("k").is_none());
     assert!(rt; attrs.get("").ok_or("empty name")?.units() == [51].as_slice());
@@ -95,23 +108,20 @@ fn the_order_stays(rt: HostRuntime) -> Result<(), Fail> {
         alloc,
         &[("b", "1"), ("a", "2"), ("d", "3"), ("c", "4"), ("é", "5")],
     )?;
-    let gone = attrs.remove("a").ok_or("a")?;
-    assert!(rt; gone.units() == [50].as_slice());
+    take_out(&rt, &mut attrs, "a", 50);
     expect(
         &rt,
         &attrs,
         &[("b", "1"), ("d", "3"), ("c", "4"), ("é", "5")],
     );
-    let none = attrs.set(String::from_str(alloc, "a")?, gone)?;
-    assert!(rt; none.is_none());
+    assert!(rt; set(alloc, &mut attrs, "a", "2")?.is_none());
     expect(
         &rt,
         &attrs,
         &[("b", "1"), ("d", "3"), ("c", "4"), ("é", "5"), ("a", "2")],
     );
     let copy = attrs.try_clone(alloc)?;
-    let gone = attrs.remove("b").ok_or("b")?;
-    assert!(rt; gone.units() == [49].as_slice());
+    take_out(&rt, &mut attrs, "b", 49);
     expect(
         &rt,
         &attrs,
@@ -166,20 +176,37 @@ fn refused_growth(rt: HostRuntime) -> Result<(), Fail> {
     Ok(())
 }
 
+// Sets an attribute whose name and value tell its number; there was none of that name.
+fn set_numbered(
+    rt: &impl Abort,
+    alloc: Global,
+    attrs: &mut Attrs,
+    number: u16,
+) -> Result<(), Fail> {
+    let name = format!(in alloc; "data-{number}")?;
+    let value = Units::from_units(alloc, &[number])?;
+    assert!(rt; attrs.set(name, value)?.is_none());
+    Ok(())
+}
+
+// That the attribute of that number is there.
+fn expect_numbered(rt: &impl Abort, alloc: Global, attrs: &Attrs, number: u16) -> Result<(), Fail> {
+    let name = format!(in alloc; "data-{number}")?;
+    let value = attrs.get(name.as_str()).ok_or("lost")?;
+    assert!(rt; value.units() == [number].as_slice());
+    Ok(())
+}
+
 #[test]
 fn twenty_thousand(rt: HostRuntime) -> Result<(), Fail> {
     let alloc = rt.alloc();
     let mut attrs = Attrs::new(alloc);
     for number in 0..20_000u16 {
-        let name = format!(in alloc; "data-{number}")?;
-        let value = Units::from_units(alloc, &[number])?;
-        assert!(rt; attrs.set(name, value)?.is_none());
+        set_numbered(&rt, alloc, &mut attrs, number)?;
     }
     assert!(rt; attrs.len() == 20_000);
     for number in 0..20_000u16 {
-        let name = format!(in alloc; "data-{number}")?;
-        let value = attrs.get(name.as_str()).ok_or("lost")?;
-        assert!(rt; value.units() == [number].as_slice());
+        expect_numbered(&rt, alloc, &attrs, number)?;
     }
     let copy = attrs.try_clone(alloc)?;
     assert!(rt; copy.same(&attrs));

@@ -1,7 +1,7 @@
 use Rattle.std.proofs.Common.{◌≡◌, length, arith}
 use Rattle.dom_model.specs.Forests.Arena.{entry_at, children_in}
 use Rattle.dom_links.proofs.Leaves.{leaf_alone}
-use Rattle.dom_links.proofs.tests.put.Goals as goal
+use Rattle.layer_cases.proofs.links.put.Goals as goal
 
 pub link-requires-clause-no_cycle : goal.link-requires-clause-no_cycle
 link-requires-clause-no_cycle g c = λ s.

@@ -4,10 +4,10 @@ use Rattle.dom_model.specs.PlainLists.Lists.{among}
 use Rattle.dom_model.specs.Forests.Forest.{HasNode, ancestors}
 use Rattle.dom_model.specs.Worlds.World.{Iterator}
 use Rattle.dom_traverse.proofs.Stances.{read-inside}
-use Rattle.dom_traverse.proofs.tests.next.Goals as goal
+use Rattle.layer_cases.proofs.traversal.stands.Goals as goal
 
-pub next-requires-clause-inside : goal.next-requires-clause-inside
-next-requires-clause-inside g c x e =
+pub returns-clause-inside : goal.returns-clause-inside
+returns-clause-inside g c x e =
     let f = c.args.tree.now.forest in
     let root : HasNode f c.state-state.result.0 = search rules in
     let under : among c.state-state.result.0 (ancestors c.state-state.result.1 f) ≡ true = search rules in

@@ -1,5 +1,5 @@
 //! Examples of texts: pairs, lone surrogates and the empty text, and parts replaced.
-use super::Units;
+use dom_units::Units;
 use std::test::Fail;
 
 #[test]

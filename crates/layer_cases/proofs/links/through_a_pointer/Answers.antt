@@ -2,7 +2,7 @@ use Rattle.std.proofs.Common.{◌≡◌, false, List, [], ◌∷◌, ap, ◌∙�
 use denote.RawPtr.{Ptr}
 use Rattle.dom_links.specs.Cells.{same_ptr, look, put, without}
 use Rattle.dom_links.proofs.Cells.{held, look_newest, look_older, look_put, look_past_put, look_past_without, unlike, put_head, put_tail, without_head, without_tail}
-use Rattle.dom_links.proofs.tests.through_a_pointer.Goals as goal
+use Rattle.layer_cases.proofs.links.through_a_pointer.Goals as goal
 
 pub get-requires : goal.get-requires
 get-requires c = held (look_newest _ _ _ _ c.put-first.ensures.cells)

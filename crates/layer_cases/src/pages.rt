@@ -1,5 +1,5 @@
 //! Examples of tables: numbers over three pages, pages that give their memory back, and more numbers than there can be.
-use super::Pages;
+use dom_pages::Pages;
 use std::alloc::AllocError;
 use std::process::Abort;
 use std::test::Fail;
@@ -36,10 +36,10 @@ fn expect(rt: &impl Abort, pages: &Pages<usize>, items: &[(usize, Option<usize>)
 
 // That of the first pages these have their memory.
 fn expect_present(rt: &impl Abort, pages: &Pages<usize>, present: &[bool]) {
-    let mut at = 0;
+    let mut number = 0;
     for is_present in present {
-        assert!(rt; pages.is_present(at) == *is_present, "page {at}");
-        at = at.saturating_add(1);
+        assert!(rt; pages.is_present(number) == *is_present, "page of {number}");
+        number = number.saturating_add(1024);
     }
 }
 

@@ -1,38 +1,19 @@
 //! Points of small trees, by the rules; and points of wide trees, whose cost bench/order_cost.sh counts.
 
-ghost use Rattle.std.specs.Prelude.{◌≡◌, ◌<◌, ◌^◌};
-ghost use Rattle.dom_model.specs.declared.Kind.TheVariants.{Element};
-ghost use Rattle.dom_model.specs.Forests.Forest.{HasNode};
-ghost use Rattle.dom_model.specs.Forests.Nodes.{is_of_kind};
+ghost use Rattle.std.specs.Prelude.{◌<◌, ◌^◌};
 
-use crate::{Point, common, order};
-use dom_tree::of_kinds::{Kind, Label};
+use super::nodes::{made, nameless, put};
+use dom_kinds::Kind;
+use dom_point::{Point, common, order};
 use dom_tree::{NodeId, Tree};
 use std::alloc::{AllocError, Global};
 use std::cmp::Ordering;
 use std::process::Abort;
 use std::test::Fail;
 
-fn element(alloc: Global) -> Label {
-    Label {
-        kind: Kind::Element,
-        name: String::new(alloc),
-        public_id: String::new(alloc),
-        system_id: String::new(alloc),
-    }
-}
-
-fn is_element(tree: &Tree<()>, id: NodeId) -> bool
-    requires { HasNode tree.now.forest id }
-    ensures { result ≡ is_of_kind Element tree.now.forest id }
-{
-    matches!(tree.label(id).kind, Kind::Element)
-}
-
 // A new element, which is a root.
-fn made(rt: &impl Abort, alloc: Global, tree: &mut Tree<()>) -> Result<NodeId, AllocError> {
-    assert!(rt; tree.made() < 1_000_000);
-    tree.make(element(alloc), (), None)
+fn element(rt: &impl Abort, alloc: Global, tree: &mut Tree<()>) -> Result<NodeId, AllocError> {
+    made(rt, tree, nameless(alloc, Kind::Element), (), None)
 }
 
 // A new element, the last child of another.
@@ -42,14 +23,8 @@ fn child(
     tree: &mut Tree<()>,
     parent: NodeId,
 ) -> Result<NodeId, AllocError> {
-    let id = made(rt, alloc, tree)?;
-    assert!(rt; tree.holds(id));
-    assert!(rt; tree.holds(parent));
-    assert!(rt; tree.parent(id).is_none());
-    assert!(rt; !tree.is_ancestor(id, parent));
-    assert!(rt; is_element(tree, id));
-    assert!(rt; is_element(tree, parent));
-    tree.put(parent, id, None);
+    let id = element(rt, alloc, tree)?;
+    put(rt, tree, parent, id, None);
     Ok(id)
 }
 
@@ -74,69 +49,96 @@ fn meet(rt: &impl Abort, tree: &Tree<()>, a: NodeId, b: NodeId, due: NodeId) {
     assert_eq!(rt; common(tree, a, b), due);
 }
 
+// A root, and then elements, each the last child of the one of that number.
+fn grown(rt: &impl Abort, alloc: Global, parents: &[u32]) -> Result<Tree<()>, AllocError> {
+    let mut tree = Tree::new(alloc);
+    let _ = element(rt, alloc, &mut tree)?;
+    for parent in parents {
+        let _ = child(rt, alloc, &mut tree, NodeId::new(*parent))?;
+    }
+    Ok(tree)
+}
+
+// That points, each a node and an offset, stand so.
+fn stand_all(rt: &impl Abort, tree: &Tree<()>, rows: &[((u32, usize), (u32, usize), Ordering)]) {
+    for ((a, i), (b, j), due) in rows {
+        let (a, b) = (NodeId::new(*a), NodeId::new(*b));
+        stand(rt, tree, at(a, *i), at(b, *j), *due);
+    }
+}
+
+// That the deepest node above the first two is the third.
+fn meet_all(rt: &impl Abort, tree: &Tree<()>, rows: &[(u32, u32, u32)]) {
+    for (a, b, due) in rows {
+        meet(
+            rt,
+            tree,
+            NodeId::new(*a),
+            NodeId::new(*b),
+            NodeId::new(*due),
+        );
+    }
+}
+
 #[test]
 fn points_of_one_node(rt: HostRuntime) -> Result<(), Fail> {
-    let mut tree = Tree::new(rt.alloc());
-    let root = made(&rt, rt.alloc(), &mut tree)?;
-    let _ = child(&rt, rt.alloc(), &mut tree, root)?;
-    stand(&rt, &tree, at(root, 0), at(root, 1), Ordering::Less);
-    stand(&rt, &tree, at(root, 1), at(root, 1), Ordering::Equal);
+    let tree = grown(&rt, rt.alloc(), &[0])?;
+    stand_all(
+        &rt,
+        &tree,
+        &[
+            ((0, 0), (0, 1), Ordering::Less),
+            ((0, 1), (0, 1), Ordering::Equal),
+        ],
+    );
     Ok(())
 }
 
-// root [ a [ c ] b [ d [ e ] ] ]
+// 0 [ 1 [ 3 ] 2 [ 4 [ 5 ] ] ]
 #[test]
 fn points_of_a_small_tree(rt: HostRuntime) -> Result<(), Fail> {
-    let mut tree = Tree::new(rt.alloc());
-    let root = made(&rt, rt.alloc(), &mut tree)?;
-    let a = child(&rt, rt.alloc(), &mut tree, root)?;
-    let b = child(&rt, rt.alloc(), &mut tree, root)?;
-    let c = child(&rt, rt.alloc(), &mut tree, a)?;
-    let d = child(&rt, rt.alloc(), &mut tree, b)?;
-    let e = child(&rt, rt.alloc(), &mut tree, d)?;
-    // a point above stands ahead up to the child on the way, and behind past it
-    stand(&rt, &tree, at(root, 0), at(e, 0), Ordering::Less);
-    stand(&rt, &tree, at(root, 1), at(e, 0), Ordering::Less);
-    stand(&rt, &tree, at(root, 2), at(e, 0), Ordering::Greater);
-    stand(&rt, &tree, at(b, 0), at(e, 0), Ordering::Less);
-    stand(&rt, &tree, at(b, 1), at(e, 0), Ordering::Greater);
-    // else by tree order
-    stand(&rt, &tree, at(a, 1), at(b, 0), Ordering::Less);
-    stand(&rt, &tree, at(c, 0), at(e, 0), Ordering::Less);
-    meet(&rt, &tree, c, e, root);
-    meet(&rt, &tree, e, b, b);
-    meet(&rt, &tree, b, e, b);
-    meet(&rt, &tree, d, d, d);
+    let tree = grown(&rt, rt.alloc(), &[0, 0, 1, 2, 4])?;
+    // a point above stands ahead up to the child on the way, and behind past it; else by tree order
+    stand_all(
+        &rt,
+        &tree,
+        &[
+            ((0, 0), (5, 0), Ordering::Less),
+            ((0, 1), (5, 0), Ordering::Less),
+            ((0, 2), (5, 0), Ordering::Greater),
+            ((2, 0), (5, 0), Ordering::Less),
+            ((2, 1), (5, 0), Ordering::Greater),
+            ((1, 1), (2, 0), Ordering::Less),
+            ((3, 0), (5, 0), Ordering::Less),
+        ],
+    );
+    meet_all(&rt, &tree, &[(3, 5, 0), (5, 2, 2), (2, 5, 2), (4, 4, 4)]);
     Ok(())
 }
 
+// 0 with 51 children, of which the last has one
 #[test]
 fn points_of_siblings_far_apart(rt: HostRuntime) -> Result<(), Fail> {
-    let mut tree = Tree::new(rt.alloc());
-    let root = made(&rt, rt.alloc(), &mut tree)?;
-    let first = child(&rt, rt.alloc(), &mut tree, root)?;
-    let mut last = first;
-    for _ in 0..50 {
-        last = child(&rt, rt.alloc(), &mut tree, root)?;
-    }
-    let below = child(&rt, rt.alloc(), &mut tree, last)?;
-    stand(&rt, &tree, at(first, 0), at(last, 1), Ordering::Less);
-    stand(&rt, &tree, at(below, 0), at(first, 0), Ordering::Greater);
-    meet(&rt, &tree, below, first, root);
+    let mut tree = grown(&rt, rt.alloc(), &[0; 51])?;
+    let _ = child(&rt, rt.alloc(), &mut tree, NodeId::new(51))?;
+    stand_all(
+        &rt,
+        &tree,
+        &[
+            ((1, 0), (51, 1), Ordering::Less),
+            ((52, 0), (1, 0), Ordering::Greater),
+        ],
+    );
+    meet_all(&rt, &tree, &[(52, 1, 0)]);
     Ok(())
 }
 
 // A root with two groups of so many leaves each: the leaves of the first are numbered from 3 on, then those of the second.
 fn wide_tree(rt: &impl Abort, alloc: Global, leaves: u32) -> Result<Tree<()>, AllocError> {
-    let mut tree = Tree::new(alloc);
-    let root = made(rt, alloc, &mut tree)?;
-    let groups = [
-        child(rt, alloc, &mut tree, root)?,
-        child(rt, alloc, &mut tree, root)?,
-    ];
-    for group in groups {
+    let mut tree = grown(rt, alloc, &[0, 0])?;
+    for group in 1..3 {
         for _ in 0..leaves {
-            let _ = child(rt, alloc, &mut tree, group)?;
+            let _ = child(rt, alloc, &mut tree, NodeId::new(group))?;
         }
     }
     Ok(tree)

@@ -1,0 +1,303 @@
+//! Worked examples on small trees of elements.
+
+ghost use Rattle.std.specs.Prelude.{◌<◌, length, slice_get};
+ghost use Rattle.std.specs.Option.{ForSome};
+ghost use Rattle.dom_traverse.specs.Standing.{StandsInside};
+
+use super::nodes::{made, named, put};
+use dom_kinds::Kind;
+use dom_traverse::{Filter, IterId, Iters, Move, Rule, Verdict, WalkerId, Walkers};
+use dom_tree::{NodeId, Tree};
+use std::alloc::{AllocError, Global};
+use std::process::Abort;
+use std::test::Fail;
+
+// A new element in the document 0.
+fn element(
+    rt: &impl Abort,
+    alloc: Global,
+    tree: &mut Tree<()>,
+    name: &str,
+) -> Result<NodeId, AllocError> {
+    let label = named(alloc, Kind::Element, name)?;
+    made(rt, tree, label, (), Some(NodeId::new(0)))
+}
+
+// A Document, numbered 0, and elements of these names, numbered from 1.
+fn elements(rt: &impl Abort, alloc: Global, names: &[&str]) -> Result<Tree<()>, AllocError> {
+    let mut tree = Tree::new(alloc);
+    let _ = made(rt, &mut tree, named(alloc, Kind::Document, "")?, (), None)?;
+    for name in names {
+        let _ = element(rt, alloc, &mut tree, name)?;
+    }
+    Ok(tree)
+}
+
+// Puts an element last under another.
+fn append(rt: &impl Abort, tree: &mut Tree<()>, parent: u32, child: u32) {
+    put(rt, tree, NodeId::new(parent), NodeId::new(child), None);
+}
+
+// Takes a node from its parent, after the pre-removing steps.
+fn remove(rt: &impl Abort, iters: &mut Iters, tree: &mut Tree<()>, node: u32) {
+    let node = NodeId::new(node);
+    assert!(rt; tree.holds(node));
+    assert!(rt; tree.parent(node).is_some());
+    iters.removing(tree, node);
+    tree.cut(node);
+}
+
+fn filter(alloc: Global, rules: &[(&str, Verdict)]) -> Result<Filter, AllocError> {
+    let mut all = Vec::new(alloc);
+    for (name, verdict) in rules {
+        all.push(Rule {
+            name: String::from_str(alloc, name)?,
+            verdict: *verdict,
+        })?;
+    }
+    Ok(Filter {
+        show: 4294967295,
+        rules: all,
+    })
+}
+
+fn new_iterator(iters: &mut Iters, root: u32, filter: Filter) -> Result<IterId, AllocError> {
+    if iters.made() >= 4294967295 {
+        return Err(AllocError);
+    }
+    iters.make(NodeId::new(root), filter)
+}
+
+fn new_walker(walkers: &mut Walkers, root: u32, filter: Filter) -> Result<WalkerId, AllocError> {
+    if walkers.made() >= 4294967295 {
+        return Err(AllocError);
+    }
+    walkers.make(NodeId::new(root), filter)
+}
+
+fn iterator(rt: &impl Abort, iters: &Iters, id: IterId) -> (u32, u32, bool) {
+    assert!(rt; iters.holds(id));
+    let (root, reference, before) = iters.state(id);
+    (root.number(), reference.number(), before)
+}
+
+// That an iterator is there, and stands in the tree.
+fn stands(rt: &impl Abort, iters: &Iters, tree: &Tree<()>, id: IterId)
+    ensures held { id < length iters.now }
+    ensures inside { ForSome (slice_get iters.now id) (StandsInside tree.now.forest) }
+{
+    assert!(rt; iters.holds(id));
+    let state = iters.state(id);
+    assert!(rt; tree.holds(state.0));
+    assert!(rt; tree.holds(state.1));
+    assert!(rt; tree.is_ancestor(state.0, state.1));
+    tree.sound();
+}
+
+fn next(rt: &impl Abort, iters: &mut Iters, tree: &Tree<()>, id: IterId) -> Option<u32> {
+    stands(rt, iters, tree, id);
+    let found = iters.next(tree, id)?;
+    Some(found.number())
+}
+
+fn previous(rt: &impl Abort, iters: &mut Iters, tree: &Tree<()>, id: IterId) -> Option<u32> {
+    stands(rt, iters, tree, id);
+    let found = iters.previous(tree, id)?;
+    Some(found.number())
+}
+
+fn walk(
+    rt: &impl Abort,
+    walkers: &mut Walkers,
+    tree: &Tree<()>,
+    id: WalkerId,
+    direction: Move,
+) -> Option<u32> {
+    assert!(rt; walkers.holds(id));
+    let state = walkers.state(id);
+    assert!(rt; tree.holds(state.0));
+    assert!(rt; tree.holds(state.1));
+    let found = walkers.step(tree, id, direction)?;
+    Some(found.number())
+}
+
+fn walker(rt: &impl Abort, walkers: &Walkers, id: WalkerId) -> (u32, u32) {
+    assert!(rt; walkers.holds(id));
+    let (root, current) = walkers.state(id);
+    (root.number(), current.number())
+}
+
+fn set_current(rt: &impl Abort, walkers: &mut Walkers, id: WalkerId, node: u32) {
+    assert!(rt; walkers.holds(id));
+    walkers.set_current(id, NodeId::new(node));
+}
+
+// Walkers that go by these moves, the first or the second of two, and what each comes to.
+fn walk_all(
+    rt: &impl Abort,
+    walkers: &mut Walkers,
+    tree: &Tree<()>,
+    steps: &[(WalkerId, Move, Option<u32>)],
+) {
+    for (id, direction, found) in steps {
+        assert_eq!(rt; walk(rt, walkers, tree, *id, *direction), *found);
+    }
+}
+
+// r [ a [ b ] c ], and two more elements, 5 and 6, which are roots
+fn small(rt: &impl Abort, alloc: Global) -> Result<Tree<()>, AllocError> {
+    let mut tree = elements(rt, alloc, &["r", "a", "b", "c", "s", "t"])?;
+    append(rt, &mut tree, 1, 2);
+    append(rt, &mut tree, 2, 3);
+    append(rt, &mut tree, 1, 4);
+    Ok(tree)
+}
+
+// An iterator of the element 1 that shows all.
+fn iterates_all(rt: &impl Abort, alloc: Global) -> Result<Iters, AllocError> {
+    let mut iters = Iters::new(alloc);
+    let all = filter(alloc, &[])?;
+    let id = new_iterator(&mut iters, 1, all)?;
+    assert_eq!(rt; id.number(), 0);
+    Ok(iters)
+}
+
+#[test]
+fn an_iterator_steps_off_what_is_removed(rt: HostRuntime) -> Result<(), Fail> {
+    let mut tree = small(&rt, rt.alloc())?;
+    let mut iters = iterates_all(&rt, rt.alloc())?;
+    let id = IterId::new(0);
+    assert!(rt; iterator(&rt, &iters, id) == (1, 1, true));
+    for wanted in 1..4 {
+        assert_eq!(rt; next(&rt, &mut iters, &tree, id), Some(wanted));
+    }
+    assert_eq!(rt; previous(&rt, &mut iters, &tree, id), Some(3));
+    remove(&rt, &mut iters, &mut tree, 2);
+    assert!(rt; iterator(&rt, &iters, id) == (1, 4, true));
+    remove(&rt, &mut iters, &mut tree, 4);
+    assert!(rt; iterator(&rt, &iters, id) == (1, 1, false));
+    assert_eq!(rt; next(&rt, &mut iters, &tree, id), None);
+    append(&rt, &mut tree, 5, 1);
+    append(&rt, &mut tree, 6, 5);
+    remove(&rt, &mut iters, &mut tree, 5);
+    assert!(rt; iterator(&rt, &iters, id) == (1, 1, false));
+    Ok(())
+}
+
+// Two walkers of the element 1: the first skips what is named a, the second rejects it.
+fn two_walkers(rt: &impl Abort, alloc: Global) -> Result<Walkers, AllocError> {
+    let mut walkers = Walkers::new(alloc);
+    for (verdict, number) in [(Verdict::Skip, 0), (Verdict::Reject, 1)] {
+        let filter = filter(alloc, &[("a", verdict)])?;
+        let id = new_walker(&mut walkers, 1, filter)?;
+        assert_eq!(rt; id.number(), number);
+    }
+    Ok(walkers)
+}
+
+#[test]
+fn walkers_that_skip_and_reject(rt: HostRuntime) -> Result<(), Fail> {
+    let mut tree = small(&rt, rt.alloc())?;
+    let mut walkers = two_walkers(&rt, rt.alloc())?;
+    let (first, second) = (WalkerId::new(0), WalkerId::new(1));
+    walk_all(
+        &rt,
+        &mut walkers,
+        &tree,
+        &[
+            (first, Move::NextNode, Some(3)),
+            (second, Move::NextNode, Some(4)),
+            (second, Move::NextNode, None),
+            (first, Move::ParentNode, Some(1)),
+            (first, Move::FirstChild, Some(3)),
+            (first, Move::NextSibling, Some(4)),
+            (first, Move::PreviousSibling, Some(3)),
+        ],
+    );
+    append(&rt, &mut tree, 5, 1);
+    append(&rt, &mut tree, 5, 6);
+    set_current(&rt, &mut walkers, first, 6);
+    set_current(&rt, &mut walkers, second, 2);
+    walk_all(
+        &rt,
+        &mut walkers,
+        &tree,
+        &[
+            (first, Move::NextNode, None),
+            (first, Move::PreviousNode, Some(4)),
+            (second, Move::PreviousNode, Some(1)),
+            (second, Move::PreviousNode, None),
+        ],
+    );
+    Ok(())
+}
+
+// p [ a b c ]
+fn three_children(rt: &impl Abort, alloc: Global) -> Result<Tree<()>, AllocError> {
+    let mut tree = elements(rt, alloc, &["p", "a", "b", "c"])?;
+    for child in 2..5 {
+        append(rt, &mut tree, 1, child);
+    }
+    Ok(tree)
+}
+
+fn refers(rt: &impl Abort, walkers: &Walkers, tree: &Tree<()>, node: u32) -> bool {
+    let node = NodeId::new(node);
+    assert!(rt; tree.holds(node));
+    walkers.refers(tree, node)
+}
+
+#[test]
+fn a_walker_goes_back_past_its_root(rt: HostRuntime) -> Result<(), Fail> {
+    let tree = three_children(&rt, rt.alloc())?;
+    let mut walkers = Walkers::new(rt.alloc());
+    let skips = filter(rt.alloc(), &[("b", Verdict::Skip)])?;
+    let id = new_walker(&mut walkers, 3, skips)?;
+    set_current(&rt, &mut walkers, id, 4);
+    walk_all(
+        &rt,
+        &mut walkers,
+        &tree,
+        &[(id, Move::PreviousNode, Some(2))],
+    );
+    assert_eq!(rt; walker(&rt, &walkers, id), (3, 2));
+    assert!(rt; refers(&rt, &walkers, &tree, 1));
+    assert!(rt; !refers(&rt, &walkers, &tree, 4));
+    assert!(rt; tree.holds(NodeId::new(1)));
+    assert!(rt; !Iters::new(rt.alloc()).refers(&tree, NodeId::new(1)));
+    Ok(())
+}
+
+// An element with so many others under it, less two, which are numbered from 2 on.
+fn wide(rt: &impl Abort, alloc: Global, count: u32) -> Result<Tree<()>, AllocError> {
+    let mut tree = elements(rt, alloc, &["r"])?;
+    for number in 2..count {
+        let _ = element(rt, alloc, &mut tree, "a")?;
+        append(rt, &mut tree, 1, number);
+    }
+    Ok(tree)
+}
+
+// An iterator over so many elements, all under the first of them: each is found once.
+fn iterates(rt: &impl Abort, alloc: Global, count: u32) -> Result<(), AllocError> {
+    let tree = wide(rt, alloc, count)?;
+    let mut iters = iterates_all(rt, alloc)?;
+    let id = IterId::new(0);
+    for number in 1..count {
+        assert_eq!(rt; next(rt, &mut iters, &tree, id), Some(number));
+    }
+    assert_eq!(rt; next(rt, &mut iters, &tree, id), None);
+    Ok(())
+}
+
+#[test]
+fn an_iterator_over_1000(rt: HostRuntime) -> Result<(), Fail> {
+    iterates(&rt, rt.alloc(), 1000)?;
+    Ok(())
+}
+
+#[test]
+fn an_iterator_over_100000(rt: HostRuntime) -> Result<(), Fail> {
+    iterates(&rt, rt.alloc(), 100000)?;
+    Ok(())
+}

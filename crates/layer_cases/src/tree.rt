@@ -1,0 +1,162 @@
+//! Indices that are kept or found, and trees that are let go of.
+use super::nodes::{made, nameless, put};
+use dom_kinds::Kind;
+use dom_tree::{NodeId, Tree};
+use std::alloc::{AllocError, Global};
+use std::process::Abort;
+use std::test::Fail;
+
+fn kept(rt: &impl Abort, tree: &Tree<u32>, id: NodeId) -> Option<usize> {
+    assert!(rt; tree.holds(id));
+    tree.kept_index(id)
+}
+
+fn index(rt: &impl Abort, tree: &Tree<u32>, id: NodeId) -> usize {
+    assert!(rt; tree.holds(id));
+    tree.index(id)
+}
+
+fn within(rt: &impl Abort, tree: &Tree<u32>, id: NodeId, steps: usize) -> Option<usize> {
+    assert!(rt; tree.holds(id));
+    tree.index_within(id, steps)
+}
+
+fn refers(rt: &impl Abort, tree: &Tree<u32>, id: NodeId) -> bool {
+    assert!(rt; tree.holds(id));
+    tree.refers(id)
+}
+
+fn number_children(rt: &impl Abort, tree: &mut Tree<u32>, parent: NodeId) {
+    assert!(rt; tree.holds(parent));
+    tree.number_children(parent);
+}
+
+fn cut(rt: &impl Abort, tree: &mut Tree<u32>, child: NodeId) {
+    assert!(rt; tree.holds(child));
+    assert!(rt; tree.parent(child).is_some());
+    tree.cut(child);
+}
+
+fn free(rt: &impl Abort, tree: &mut Tree<u32>, top: NodeId) {
+    assert!(rt; tree.holds(top));
+    assert!(rt; !tree.refers(top));
+    tree.free(top);
+}
+
+/// A new element in the document 0.
+fn element(rt: &impl Abort, alloc: Global, tree: &mut Tree<u32>) -> Result<NodeId, AllocError> {
+    let label = nameless(alloc, Kind::Element);
+    made(rt, tree, label, 7, Some(NodeId::new(0)))
+}
+
+/// The document 0, and the element 1 with four others in it, in the order in which they were made.
+fn four_children(rt: &impl Abort, alloc: Global) -> Result<Tree<u32>, AllocError> {
+    let mut tree = Tree::new(alloc);
+    let _ = made(rt, &mut tree, nameless(alloc, Kind::Document), 7, None)?;
+    let parent = element(rt, alloc, &mut tree)?;
+    for _ in 0..4 {
+        let child = element(rt, alloc, &mut tree)?;
+        put(rt, &mut tree, parent, child, None);
+    }
+    Ok(tree)
+}
+
+/// The same, and the element 6 ahead of the four.
+fn five_children(rt: &impl Abort, alloc: Global) -> Result<Tree<u32>, AllocError> {
+    let mut tree = four_children(rt, alloc)?;
+    let first = element(rt, alloc, &mut tree)?;
+    put(rt, &mut tree, NodeId::new(1), first, Some(NodeId::new(2)));
+    Ok(tree)
+}
+
+#[test]
+fn appended_children_know_their_index(rt: HostRuntime) -> Result<(), Fail> {
+    let tree = four_children(&rt, rt.alloc())?;
+    for place in 0..4 {
+        let id = NodeId::new(2 + place);
+        assert_eq!(rt; kept(&rt, &tree, id), Some(place as usize));
+    }
+    Ok(())
+}
+
+#[test]
+fn a_child_in_front_moves_the_others_on(rt: HostRuntime) -> Result<(), Fail> {
+    let mut tree = five_children(&rt, rt.alloc())?;
+    let first = NodeId::new(6);
+    for place in 0..4 {
+        let id = NodeId::new(2 + place);
+        let moved = place as usize + 1;
+        let known = kept(&rt, &tree, id);
+        assert!(rt; known.is_none() || known == Some(moved));
+        assert_eq!(rt; index(&rt, &tree, id), moved);
+    }
+    assert_eq!(rt; index(&rt, &tree, first), 0);
+    number_children(&rt, &mut tree, NodeId::new(1));
+    assert_eq!(rt; kept(&rt, &tree, first), Some(0));
+    for place in 0..4 {
+        let id = NodeId::new(2 + place);
+        assert_eq!(rt; kept(&rt, &tree, id), Some(place as usize + 1));
+    }
+    Ok(())
+}
+
+#[test]
+fn an_index_is_found_within_steps(rt: HostRuntime) -> Result<(), Fail> {
+    let mut tree = five_children(&rt, rt.alloc())?;
+    assert_eq!(rt; kept(&rt, &tree, NodeId::new(3)), None);
+    assert_eq!(rt; kept(&rt, &tree, NodeId::new(5)), None);
+    // from both sides; and node 1 is a root
+    for (id, steps, found) in [
+        (3, 0, None),
+        (3, 1, None),
+        (3, 2, Some(2)),
+        (3, usize::MAX, Some(2)),
+        (6, 0, Some(0)),
+        (5, 0, Some(4)),
+        (4, 0, None),
+        (4, 1, Some(3)),
+        (1, 0, Some(0)),
+    ] {
+        assert_eq!(rt;
+            within(&rt, &tree, NodeId::new(id), steps),
+            found,
+            "{id} in {steps}"
+        );
+    }
+    number_children(&rt, &mut tree, NodeId::new(1));
+    assert_eq!(rt; within(&rt, &tree, NodeId::new(3), 0), Some(2));
+    Ok(())
+}
+
+#[test]
+fn a_cut_child_leaves_the_indices_before_it(rt: HostRuntime) -> Result<(), Fail> {
+    let mut tree = four_children(&rt, rt.alloc())?;
+    let third = NodeId::new(4);
+    cut(&rt, &mut tree, third);
+    assert_eq!(rt; kept(&rt, &tree, NodeId::new(2)), Some(0));
+    assert_eq!(rt; kept(&rt, &tree, NodeId::new(3)), Some(1));
+    assert_eq!(rt; kept(&rt, &tree, NodeId::new(5)), None);
+    assert_eq!(rt; index(&rt, &tree, NodeId::new(5)), 2);
+    put(&rt, &mut tree, NodeId::new(1), third, None);
+    assert_eq!(rt; index(&rt, &tree, third), 3);
+    Ok(())
+}
+
+#[test]
+fn a_tree_is_let_go_of_once_nothing_names_it(rt: HostRuntime) -> Result<(), Fail> {
+    let mut tree = four_children(&rt, rt.alloc())?;
+    let parent = NodeId::new(1);
+    assert!(rt;
+        refers(&rt, &tree, NodeId::new(0)),
+        "the element's node document"
+    );
+    assert!(rt; refers(&rt, &tree, NodeId::new(2)), "a child");
+    assert!(rt; !refers(&rt, &tree, parent), "a root with its own children");
+    free(&rt, &mut tree, parent);
+    assert_eq!(rt; (tree.live(), tree.made()), (1, 6));
+    assert!(rt; !tree.holds(parent) && !tree.holds(NodeId::new(5)));
+    let next = element(&rt, rt.alloc(), &mut tree)?;
+    assert_eq!(rt; (next.number(), tree.live()), (6, 2));
+    assert!(rt; !tree.holds(parent));
+    Ok(())
+}
