@@ -10,7 +10,7 @@ ghost use Rattle.dom_c.specs.Places.{place_told};
 use crate::handle::Handle;
 use crate::places::Place;
 use crate::reading::node_or_none;
-use dom_session::NodeId;
+use dom_session::{Asking, Copying, NodeId, Texts};
 use dom_wire::Command;
 
 /// Tells where a node stands, and of which kind it is; `hp_node_name` lends its names.
@@ -19,7 +19,10 @@ pub extern "C" fn hp_node(handle: &mut Handle, node: u32, place: &mut Place) -> 
     ensures answers { Answers handle.old handle.new (Ok (DescribeNode node)) result }
     ensures told { place.new ≡ place_told (told handle.new result) place.old }
 {
-    handle.take_place(Ok(Command::DescribeNode(NodeId::new(node))), place)
+    handle.take_place(
+        Ok(Command::Asking(Asking::DescribeNode(NodeId::new(node)))),
+        place,
+    )
 }
 
 /// The children of a node: `hp_count` and `hp_number_at` read the answer.
@@ -27,7 +30,7 @@ pub extern "C" fn hp_node(handle: &mut Handle, node: u32, place: &mut Place) -> 
 pub extern "C" fn hp_children(handle: &mut Handle, node: u32) -> u8
     ensures { Answers handle.old handle.new (Ok (Children node)) result }
 {
-    handle.take(Ok(Command::Children(NodeId::new(node))))
+    handle.take(Ok(Command::Asking(Asking::Children(NodeId::new(node)))))
 }
 
 /// How many siblings stand before a node.
@@ -36,7 +39,7 @@ pub extern "C" fn hp_index(handle: &mut Handle, node: u32, index: &mut usize) ->
     ensures answers { Answers handle.old handle.new (Ok (Index node)) result }
     ensures told { index.new ≡ count_told (told handle.new result) index.old }
 {
-    handle.take_count(Ok(Command::Index(NodeId::new(node))), index)
+    handle.take_count(Ok(Command::Asking(Asking::Index(NodeId::new(node)))), index)
 }
 
 /// The length of a node.
@@ -45,7 +48,10 @@ pub extern "C" fn hp_length(handle: &mut Handle, node: u32, length: &mut usize) 
     ensures answers { Answers handle.old handle.new (Ok (Length node)) result }
     ensures told { length.new ≡ count_told (told handle.new result) length.old }
 {
-    handle.take_count(Ok(Command::Length(NodeId::new(node))), length)
+    handle.take_count(
+        Ok(Command::Asking(Asking::Length(NodeId::new(node)))),
+        length,
+    )
 }
 
 /// The root of a node.
@@ -54,7 +60,7 @@ pub extern "C" fn hp_root(handle: &mut Handle, node: u32, root: &mut u32) -> u8
     ensures answers { Answers handle.old handle.new (Ok (Root node)) result }
     ensures told { root.new ≡ number_told (told handle.new result) root.old }
 {
-    handle.take_number(Ok(Command::Root(NodeId::new(node))), root)
+    handle.take_number(Ok(Command::Asking(Asking::Root(NodeId::new(node)))), root)
 }
 
 /// Whether another node is an inclusive descendant; `HP_NONE` is none.
@@ -64,7 +70,7 @@ pub extern "C" fn hp_contains(handle: &mut Handle, node: u32, other: u32, contai
     ensures told { contains.new ≡ flag_told (told handle.new result) contains.old }
 {
     handle.take_flag(
-        Ok(Command::IsContaining(NodeId::new(node), node_or_none(other))),
+        Ok(Command::Copying(Copying::IsContaining(NodeId::new(node), node_or_none(other)))),
         contains,
     )
 }
@@ -76,7 +82,7 @@ pub extern "C" fn hp_is_equal(handle: &mut Handle, node: u32, other: u32, is_equ
     ensures told { is_equal.new ≡ flag_told (told handle.new result) is_equal.old }
 {
     handle.take_flag(
-        Ok(Command::IsEqual(NodeId::new(node), node_or_none(other))),
+        Ok(Command::Copying(Copying::IsEqual(NodeId::new(node), node_or_none(other)))),
         is_equal,
     )
 }
@@ -93,7 +99,7 @@ pub extern "C" fn hp_compare_position(
     ensures told { position.new ≡ number_told (told handle.new result) position.old }
 {
     handle.take_number(
-        Ok(Command::ComparePosition(NodeId::new(node), NodeId::new(other))),
+        Ok(Command::Copying(Copying::ComparePosition(NodeId::new(node), NodeId::new(other)))),
         position,
     )
 }
@@ -103,7 +109,7 @@ pub extern "C" fn hp_compare_position(
 pub extern "C" fn hp_text_content(handle: &mut Handle, node: u32) -> u8
     ensures { Answers handle.old handle.new (Ok (TextContent node)) result }
 {
-    handle.take(Ok(Command::TextContent(NodeId::new(node))))
+    handle.take(Ok(Command::Texts(Texts::TextContent(NodeId::new(node)))))
 }
 
 /// A node and all below it, in tree order: `hp_count` counts the rows, `hp_row_at` and the calls of its kind read them.
@@ -111,5 +117,5 @@ pub extern "C" fn hp_text_content(handle: &mut Handle, node: u32) -> u8
 pub extern "C" fn hp_tree(handle: &mut Handle, node: u32) -> u8
     ensures { Answers handle.old handle.new (Ok (Tree node)) result }
 {
-    handle.take(Ok(Command::Tree(NodeId::new(node))))
+    handle.take(Ok(Command::Asking(Asking::Tree(NodeId::new(node)))))
 }

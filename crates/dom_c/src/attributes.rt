@@ -10,7 +10,7 @@ ghost use Rattle.dom_c.specs.Told.{told, flag_told};
 use crate::fault::Fault;
 use crate::handle::Handle;
 use crate::reading::{choice_of, name_of, units_of};
-use dom_session::NodeId;
+use dom_session::{Attributes, NodeId};
 use dom_wire::Command;
 use std::alloc::Global;
 
@@ -26,7 +26,7 @@ fn read_set_attribute(
 {
     let name = name_of(alloc, name)?;
     let value = units_of(alloc, value)?;
-    Ok(Command::SetAttribute(NodeId::new(element), name, value))
+    Ok(Command::Attributes(Attributes::SetAttribute(NodeId::new(element), name, value)))
 }
 
 /// Sets an attribute.
@@ -50,7 +50,7 @@ fn read_get_attribute(alloc: Global, element: u32, name: &[u8]) -> Result<Comman
         (then_make (name_in name.now) (λ name. Ok (GetAttribute element name))) }
 {
     let name = name_of(alloc, name)?;
-    Ok(Command::GetAttribute(NodeId::new(element), name))
+    Ok(Command::Attributes(Attributes::GetAttribute(NodeId::new(element), name)))
 }
 
 /// The value of an attribute: `hp_text` reads the answer, and there is none where it is null.
@@ -73,7 +73,7 @@ fn read_has_attribute(alloc: Global, element: u32, name: &[u8]) -> Result<Comman
         (then_make (name_in name.now) (λ name. Ok (HasAttribute element name))) }
 {
     let name = name_of(alloc, name)?;
-    Ok(Command::HasAttribute(NodeId::new(element), name))
+    Ok(Command::Attributes(Attributes::HasAttribute(NodeId::new(element), name)))
 }
 
 /// Whether there is an attribute of that name.
@@ -98,7 +98,7 @@ fn read_remove_attribute(alloc: Global, element: u32, name: &[u8]) -> Result<Com
         (then_make (name_in name.now) (λ name. Ok (RemoveAttribute element name))) }
 {
     let name = name_of(alloc, name)?;
-    Ok(Command::RemoveAttribute(NodeId::new(element), name))
+    Ok(Command::Attributes(Attributes::RemoveAttribute(NodeId::new(element), name)))
 }
 
 /// Removes an attribute.
@@ -127,7 +127,7 @@ fn read_toggle_attribute(
 {
     let name = name_of(alloc, name)?;
     let force = choice_of(force)?;
-    Ok(Command::ToggleAttribute(NodeId::new(element), name, force))
+    Ok(Command::Attributes(Attributes::ToggleAttribute(NodeId::new(element), name, force)))
 }
 
 /// Adds or removes an attribute. `force` is 0 to remove, 1 to add, and 2 for what turns it.
@@ -152,5 +152,5 @@ pub extern "C" fn hp_toggle_attribute(
 pub extern "C" fn hp_attribute_names(handle: &mut Handle, element: u32) -> u8
     ensures { Answers handle.old handle.new (Ok (AttributeNames element)) result }
 {
-    handle.take(Ok(Command::AttributeNames(NodeId::new(element))))
+    handle.take(Ok(Command::Attributes(Attributes::AttributeNames(NodeId::new(element)))))
 }

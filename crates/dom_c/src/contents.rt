@@ -6,7 +6,7 @@ ghost use Rattle.dom_c.specs.Answers.{Answers};
 ghost use Rattle.dom_c.specs.Told.{told, number_told};
 
 use crate::handle::Handle;
-use dom_session::{NodeId, RangeId};
+use dom_session::{Contents, NodeId, RangeId};
 use dom_wire::Command;
 
 /// The text in a range: `hp_text` reads the answer.
@@ -14,7 +14,7 @@ use dom_wire::Command;
 pub extern "C" fn hp_range_text(handle: &mut Handle, range: u32) -> u8
     ensures { Answers handle.old handle.new (Ok (RangeText range)) result }
 {
-    handle.take(Ok(Command::RangeText(RangeId::new(range))))
+    handle.take(Ok(Command::Contents(Contents::RangeText(RangeId::new(range)))))
 }
 
 /// Deletes what is in a range.
@@ -22,7 +22,7 @@ pub extern "C" fn hp_range_text(handle: &mut Handle, range: u32) -> u8
 pub extern "C" fn hp_delete_contents(handle: &mut Handle, range: u32) -> u8
     ensures { Answers handle.old handle.new (Ok (DeleteContents range)) result }
 {
-    handle.take(Ok(Command::DeleteContents(RangeId::new(range))))
+    handle.take(Ok(Command::Contents(Contents::DeleteContents(RangeId::new(range)))))
 }
 
 /// Takes what is in a range into a fragment.
@@ -31,7 +31,10 @@ pub extern "C" fn hp_extract_contents(handle: &mut Handle, range: u32, fragment:
     ensures answers { Answers handle.old handle.new (Ok (ExtractContents range)) result }
     ensures told { fragment.new ≡ number_told (told handle.new result) fragment.old }
 {
-    handle.take_number(Ok(Command::ExtractContents(RangeId::new(range))), fragment)
+    handle.take_number(
+        Ok(Command::Contents(Contents::ExtractContents(RangeId::new(range)))),
+        fragment,
+    )
 }
 
 /// Copies what is in a range into a fragment.
@@ -40,7 +43,10 @@ pub extern "C" fn hp_clone_contents(handle: &mut Handle, range: u32, fragment: &
     ensures answers { Answers handle.old handle.new (Ok (CloneContents range)) result }
     ensures told { fragment.new ≡ number_told (told handle.new result) fragment.old }
 {
-    handle.take_number(Ok(Command::CloneContents(RangeId::new(range))), fragment)
+    handle.take_number(
+        Ok(Command::Contents(Contents::CloneContents(RangeId::new(range)))),
+        fragment,
+    )
 }
 
 /// Inserts a node at the start of a range.
@@ -48,7 +54,7 @@ pub extern "C" fn hp_clone_contents(handle: &mut Handle, range: u32, fragment: &
 pub extern "C" fn hp_insert_node(handle: &mut Handle, range: u32, node: u32) -> u8
     ensures { Answers handle.old handle.new (Ok (InsertNode range node)) result }
 {
-    handle.take(Ok(Command::InsertNode(RangeId::new(range), NodeId::new(node))))
+    handle.take(Ok(Command::Contents(Contents::InsertNode(RangeId::new(range), NodeId::new(node)))))
 }
 
 /// Puts what is in a range into a node, and that node in its place.
@@ -56,5 +62,8 @@ pub extern "C" fn hp_insert_node(handle: &mut Handle, range: u32, node: u32) -> 
 pub extern "C" fn hp_surround_contents(handle: &mut Handle, range: u32, parent: u32) -> u8
     ensures { Answers handle.old handle.new (Ok (SurroundContents range parent)) result }
 {
-    handle.take(Ok(Command::SurroundContents(RangeId::new(range), NodeId::new(parent))))
+    handle.take(Ok(Command::Contents(Contents::SurroundContents(
+        RangeId::new(range),
+        NodeId::new(parent),
+    ))))
 }

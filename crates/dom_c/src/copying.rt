@@ -6,7 +6,7 @@ ghost use Rattle.dom_c.specs.Answers.{Answers};
 ghost use Rattle.dom_c.specs.Told.{told, number_told};
 
 use crate::handle::Handle;
-use dom_session::NodeId;
+use dom_session::{Copying, NodeId};
 use dom_wire::Command;
 
 /// A copy of a node for another document, with or without all below it.
@@ -22,7 +22,7 @@ pub extern "C" fn hp_import_node(
     ensures told { copy.new ≡ number_told (told handle.new result) copy.old }
 {
     handle.take_number(
-        Ok(Command::ImportNode(NodeId::new(document), NodeId::new(node), deep)),
+        Ok(Command::Copying(Copying::ImportNode(NodeId::new(document), NodeId::new(node), deep))),
         copy,
     )
 }
@@ -33,5 +33,8 @@ pub extern "C" fn hp_clone_node(handle: &mut Handle, node: u32, deep: bool, copy
     ensures answers { Answers handle.old handle.new (Ok (CloneNode node deep)) result }
     ensures told { copy.new ≡ number_told (told handle.new result) copy.old }
 {
-    handle.take_number(Ok(Command::CloneNode(NodeId::new(node), deep)), copy)
+    handle.take_number(
+        Ok(Command::Copying(Copying::CloneNode(NodeId::new(node), deep))),
+        copy,
+    )
 }

@@ -9,7 +9,7 @@ ghost use Rattle.dom_c.specs.Reads.{Reads, number_or_none};
 use crate::fault::Fault;
 use crate::handle::Handle;
 use crate::reading::{node_or_none, units_of};
-use dom_session::NodeId;
+use dom_session::{Editing, NodeId, Texts};
 use dom_wire::Command;
 use std::alloc::Global;
 
@@ -19,11 +19,11 @@ pub extern "C" fn hp_insert_before(handle: &mut Handle, parent: u32, node: u32, 
     ensures { Answers handle.old handle.new
         (Ok (InsertBefore parent node (number_or_none child))) result }
 {
-    handle.take(Ok(Command::InsertBefore(
+    handle.take(Ok(Command::Editing(Editing::InsertBefore(
         NodeId::new(parent),
         NodeId::new(node),
         node_or_none(child),
-    )))
+    ))))
 }
 
 /// Appends a node to the children of a parent.
@@ -31,7 +31,7 @@ pub extern "C" fn hp_insert_before(handle: &mut Handle, parent: u32, node: u32, 
 pub extern "C" fn hp_append_child(handle: &mut Handle, parent: u32, node: u32) -> u8
     ensures { Answers handle.old handle.new (Ok (AppendChild parent node)) result }
 {
-    handle.take(Ok(Command::AppendChild(NodeId::new(parent), NodeId::new(node))))
+    handle.take(Ok(Command::Editing(Editing::AppendChild(NodeId::new(parent), NodeId::new(node)))))
 }
 
 /// Adopts a node into a document.
@@ -39,7 +39,7 @@ pub extern "C" fn hp_append_child(handle: &mut Handle, parent: u32, node: u32) -
 pub extern "C" fn hp_adopt_node(handle: &mut Handle, document: u32, node: u32) -> u8
     ensures { Answers handle.old handle.new (Ok (AdoptNode document node)) result }
 {
-    handle.take(Ok(Command::AdoptNode(NodeId::new(document), NodeId::new(node))))
+    handle.take(Ok(Command::Editing(Editing::AdoptNode(NodeId::new(document), NodeId::new(node)))))
 }
 
 /// Puts a node in place of a child.
@@ -47,11 +47,11 @@ pub extern "C" fn hp_adopt_node(handle: &mut Handle, document: u32, node: u32) -
 pub extern "C" fn hp_replace_child(handle: &mut Handle, parent: u32, node: u32, child: u32) -> u8
     ensures { Answers handle.old handle.new (Ok (ReplaceChild parent node child)) result }
 {
-    handle.take(Ok(Command::ReplaceChild(
+    handle.take(Ok(Command::Editing(Editing::ReplaceChild(
         NodeId::new(parent),
         NodeId::new(node),
         NodeId::new(child),
-    )))
+    ))))
 }
 
 /// Removes a child.
@@ -59,7 +59,7 @@ pub extern "C" fn hp_replace_child(handle: &mut Handle, parent: u32, node: u32, 
 pub extern "C" fn hp_remove_child(handle: &mut Handle, parent: u32, child: u32) -> u8
     ensures { Answers handle.old handle.new (Ok (RemoveChild parent child)) result }
 {
-    handle.take(Ok(Command::RemoveChild(NodeId::new(parent), NodeId::new(child))))
+    handle.take(Ok(Command::Editing(Editing::RemoveChild(NodeId::new(parent), NodeId::new(child)))))
 }
 
 /// Removes a node from its parent, where it has one.
@@ -67,7 +67,7 @@ pub extern "C" fn hp_remove_child(handle: &mut Handle, parent: u32, child: u32) 
 pub extern "C" fn hp_remove(handle: &mut Handle, node: u32) -> u8
     ensures { Answers handle.old handle.new (Ok (Remove node)) result }
 {
-    handle.take(Ok(Command::Remove(NodeId::new(node))))
+    handle.take(Ok(Command::Editing(Editing::Remove(NodeId::new(node)))))
 }
 
 /// Puts a node, or with `HP_NONE` none, in place of all children.
@@ -76,7 +76,10 @@ pub extern "C" fn hp_replace_children(handle: &mut Handle, parent: u32, node: u3
     ensures { Answers handle.old handle.new
         (Ok (ReplaceChildren parent (number_or_none node))) result }
 {
-    handle.take(Ok(Command::ReplaceChildren(NodeId::new(parent), node_or_none(node))))
+    handle.take(Ok(Command::Editing(Editing::ReplaceChildren(
+        NodeId::new(parent),
+        node_or_none(node),
+    ))))
 }
 
 /// Joins Text nodes below a node that stand side by side, and drops empty ones.
@@ -84,7 +87,7 @@ pub extern "C" fn hp_replace_children(handle: &mut Handle, parent: u32, node: u3
 pub extern "C" fn hp_normalize(handle: &mut Handle, node: u32) -> u8
     ensures { Answers handle.old handle.new (Ok (Normalize node)) result }
 {
-    handle.take(Ok(Command::Normalize(NodeId::new(node))))
+    handle.take(Ok(Command::Texts(Texts::Normalize(NodeId::new(node)))))
 }
 
 // Reads the arguments of `hp_set_text_content`.
@@ -93,7 +96,7 @@ fn read_set_text_content(alloc: Global, node: u32, text: &[u16]) -> Result<Comma
         (Ok (SetTextContent node text.now)) }
 {
     let text = units_of(alloc, text)?;
-    Ok(Command::SetTextContent(NodeId::new(node), text))
+    Ok(Command::Texts(Texts::SetTextContent(NodeId::new(node), text)))
 }
 
 /// Puts a text in place of what a node has.
@@ -114,5 +117,5 @@ pub extern "C" fn hp_set_text_content(
 pub extern "C" fn hp_discard(handle: &mut Handle, node: u32) -> u8
     ensures { Answers handle.old handle.new (Ok (Discard node)) result }
 {
-    handle.take(Ok(Command::Discard(NodeId::new(node))))
+    handle.take(Ok(Command::Editing(Editing::Discard(NodeId::new(node)))))
 }

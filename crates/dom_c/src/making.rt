@@ -10,7 +10,7 @@ ghost use Rattle.dom_c.specs.Told.{told, number_told};
 use crate::fault::Fault;
 use crate::handle::Handle;
 use crate::reading::{name_of, units_of};
-use dom_session::NodeId;
+use dom_session::{Making, NodeId};
 use dom_wire::Command;
 use std::alloc::Global;
 
@@ -20,7 +20,7 @@ pub extern "C" fn hp_new_document(handle: &mut Handle, document: &mut u32) -> u8
     ensures answers { Answers handle.old handle.new (Ok NewDocument) result }
     ensures told { document.new ≡ number_told (told handle.new result) document.old }
 {
-    handle.take_number(Ok(Command::NewDocument), document)
+    handle.take_number(Ok(Command::Making(Making::NewDocument)), document)
 }
 
 // Reads the arguments of `hp_create_element`.
@@ -29,7 +29,7 @@ fn read_create_element(alloc: Global, document: u32, name: &[u8]) -> Result<Comm
         (then_make (name_in name.now) (λ name. Ok (CreateElement document name))) }
 {
     let name = name_of(alloc, name)?;
-    Ok(Command::CreateElement(NodeId::new(document), name))
+    Ok(Command::Making(Making::CreateElement(NodeId::new(document), name)))
 }
 
 /// Makes an Element of that name.
@@ -54,7 +54,7 @@ fn read_create_text(alloc: Global, document: u32, data: &[u16]) -> Result<Comman
         (Ok (CreateText document data.now)) }
 {
     let data = units_of(alloc, data)?;
-    Ok(Command::CreateText(NodeId::new(document), data))
+    Ok(Command::Making(Making::CreateText(NodeId::new(document), data)))
 }
 
 /// Makes a Text of that data.
@@ -78,7 +78,7 @@ fn read_create_comment(alloc: Global, document: u32, data: &[u16]) -> Result<Com
         (Ok (CreateComment document data.now)) }
 {
     let data = units_of(alloc, data)?;
-    Ok(Command::CreateComment(NodeId::new(document), data))
+    Ok(Command::Making(Making::CreateComment(NodeId::new(document), data)))
 }
 
 /// Makes a Comment of that data.
@@ -108,7 +108,7 @@ fn read_create_pi(
 {
     let target = name_of(alloc, target)?;
     let data = units_of(alloc, data)?;
-    Ok(Command::CreatePI(NodeId::new(document), target, data))
+    Ok(Command::Making(Making::CreatePI(NodeId::new(document), target, data)))
 }
 
 /// Makes a ProcessingInstruction of that target and data.
@@ -142,7 +142,7 @@ fn read_create_doctype(
     let name = name_of(alloc, name)?;
     let public_id = name_of(alloc, public_id)?;
     let system_id = name_of(alloc, system_id)?;
-    Ok(Command::CreateDoctype(NodeId::new(document), name, public_id, system_id))
+    Ok(Command::Making(Making::CreateDoctype(NodeId::new(document), name, public_id, system_id)))
 }
 
 /// Makes a DocumentType of that name, with its public and its system id.
@@ -172,5 +172,8 @@ pub extern "C" fn hp_create_fragment(handle: &mut Handle, document: u32, fragmen
     ensures answers { Answers handle.old handle.new (Ok (CreateFragment document)) result }
     ensures told { fragment.new ≡ number_told (told handle.new result) fragment.old }
 {
-    handle.take_number(Ok(Command::CreateFragment(NodeId::new(document))), fragment)
+    handle.take_number(
+        Ok(Command::Making(Making::CreateFragment(NodeId::new(document)))),
+        fragment,
+    )
 }

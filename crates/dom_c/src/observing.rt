@@ -11,7 +11,7 @@ ghost use Rattle.dom_c.specs.Told.{told, number_told};
 use crate::fault::Fault;
 use crate::handle::Handle;
 use crate::options::{Options, options_of};
-use dom_session::{NodeId, ObserverId};
+use dom_session::{NodeId, ObserverId, Observing};
 use dom_wire::Command;
 use std::alloc::Global;
 
@@ -21,7 +21,7 @@ pub extern "C" fn hp_create_observer(handle: &mut Handle, observer: &mut u32) ->
     ensures answers { Answers handle.old handle.new (Ok CreateObserver) result }
     ensures told { observer.new ≡ number_told (told handle.new result) observer.old }
 {
-    handle.take_number(Ok(Command::CreateObserver), observer)
+    handle.take_number(Ok(Command::Observing(Observing::CreateObserver)), observer)
 }
 
 // Reads the arguments of `hp_observe`.
@@ -37,7 +37,11 @@ fn read_observe(
         (then_make (options_in options.now names.now lengths.now) (λ options. Ok (Observe observer node options))) }
 {
     let options = options_of(alloc, options, names, lengths)?;
-    Ok(Command::Observe(ObserverId::new(observer), NodeId::new(node), options))
+    Ok(Command::Observing(Observing::Observe(
+        ObserverId::new(observer),
+        NodeId::new(node),
+        options,
+    )))
 }
 
 /// Lets an observer watch a node.
@@ -62,7 +66,7 @@ pub extern "C" fn hp_observe(
 pub extern "C" fn hp_disconnect(handle: &mut Handle, observer: u32) -> u8
     ensures { Answers handle.old handle.new (Ok (Disconnect observer)) result }
 {
-    handle.take(Ok(Command::Disconnect(ObserverId::new(observer))))
+    handle.take(Ok(Command::Observing(Observing::Disconnect(ObserverId::new(observer)))))
 }
 
 /// Takes the records of an observer: `hp_count` counts them, `hp_record_at` and the calls of its kind read them, as those of notice 0.
@@ -70,7 +74,7 @@ pub extern "C" fn hp_disconnect(handle: &mut Handle, observer: u32) -> u8
 pub extern "C" fn hp_take_records(handle: &mut Handle, observer: u32) -> u8
     ensures { Answers handle.old handle.new (Ok (TakeRecords observer)) result }
 {
-    handle.take(Ok(Command::TakeRecords(ObserverId::new(observer))))
+    handle.take(Ok(Command::Observing(Observing::TakeRecords(ObserverId::new(observer)))))
 }
 
 /// Hands its records to each observer that waits: `hp_count` counts the observers, `hp_notice_at` and `hp_record_at` read what each is told.
@@ -78,7 +82,7 @@ pub extern "C" fn hp_take_records(handle: &mut Handle, observer: u32) -> u8
 pub extern "C" fn hp_notify(handle: &mut Handle) -> u8
     ensures { Answers handle.old handle.new (Ok Notify) result }
 {
-    handle.take(Ok(Command::Notify))
+    handle.take(Ok(Command::Observing(Observing::Notify)))
 }
 
 /// The observers that wait to be told: `hp_count` and `hp_number_at` read the answer.
@@ -86,5 +90,5 @@ pub extern "C" fn hp_notify(handle: &mut Handle) -> u8
 pub extern "C" fn hp_pending(handle: &mut Handle) -> u8
     ensures { Answers handle.old handle.new (Ok Pending) result }
 {
-    handle.take(Ok(Command::Pending))
+    handle.take(Ok(Command::Observing(Observing::Pending)))
 }

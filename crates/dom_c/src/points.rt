@@ -6,7 +6,7 @@ ghost use Rattle.dom_c.specs.Answers.{Answers};
 ghost use Rattle.dom_c.specs.Told.{told, flag_told, number_told, order_told};
 
 use crate::handle::Handle;
-use dom_session::{NodeId, RangeId};
+use dom_session::{Comparing, NodeId, RangeId};
 use dom_wire::Command;
 
 /// Compares an end of the first range with one of the second; `how` is 0 to 3, as the standard numbers them.
@@ -22,7 +22,11 @@ pub extern "C" fn hp_compare_boundary_points(
     ensures told { order.new ≡ order_told (told handle.new result) order.old }
 {
     handle.take_order(
-        Ok(Command::CompareBoundaryPoints(RangeId::new(range), how, RangeId::new(source))),
+        Ok(Command::Comparing(Comparing::CompareBoundaryPoints(
+            RangeId::new(range),
+            how,
+            RangeId::new(source),
+        ))),
         order,
     )
 }
@@ -40,7 +44,11 @@ pub extern "C" fn hp_compare_point(
     ensures told { order.new ≡ order_told (told handle.new result) order.old }
 {
     handle.take_order(
-        Ok(Command::ComparePoint(RangeId::new(range), NodeId::new(node), offset)),
+        Ok(Command::Comparing(Comparing::ComparePoint(
+            RangeId::new(range),
+            NodeId::new(node),
+            offset,
+        ))),
         order,
     )
 }
@@ -58,7 +66,11 @@ pub extern "C" fn hp_is_point_in_range(
     ensures told { is_in.new ≡ flag_told (told handle.new result) is_in.old }
 {
     handle.take_flag(
-        Ok(Command::IsPointInRange(RangeId::new(range), NodeId::new(node), offset)),
+        Ok(Command::Comparing(Comparing::IsPointInRange(
+            RangeId::new(range),
+            NodeId::new(node),
+            offset,
+        ))),
         is_in,
     )
 }
@@ -75,7 +87,7 @@ pub extern "C" fn hp_intersects_node(
     ensures told { intersects.new ≡ flag_told (told handle.new result) intersects.old }
 {
     handle.take_flag(
-        Ok(Command::IntersectsNode(RangeId::new(range), NodeId::new(node))),
+        Ok(Command::Comparing(Comparing::IntersectsNode(RangeId::new(range), NodeId::new(node)))),
         intersects,
     )
 }
@@ -86,5 +98,8 @@ pub extern "C" fn hp_common_ancestor(handle: &mut Handle, range: u32, ancestor: 
     ensures answers { Answers handle.old handle.new (Ok (CommonAncestor range)) result }
     ensures told { ancestor.new ≡ number_told (told handle.new result) ancestor.old }
 {
-    handle.take_number(Ok(Command::CommonAncestor(RangeId::new(range))), ancestor)
+    handle.take_number(
+        Ok(Command::Comparing(Comparing::CommonAncestor(RangeId::new(range)))),
+        ancestor,
+    )
 }

@@ -8,7 +8,7 @@ ghost use Rattle.dom_c.specs.Places.{ends_told};
 
 use crate::handle::Handle;
 use crate::places::Ends;
-use dom_session::{NodeId, RangeId};
+use dom_session::{NodeId, RangeId, Ranging, Setting};
 use dom_wire::Command;
 
 /// Makes a live range at the start of a document.
@@ -17,7 +17,10 @@ pub extern "C" fn hp_create_range(handle: &mut Handle, document: u32, range: &mu
     ensures answers { Answers handle.old handle.new (Ok (CreateRange document)) result }
     ensures told { range.new ≡ number_told (told handle.new result) range.old }
 {
-    handle.take_number(Ok(Command::CreateRange(NodeId::new(document))), range)
+    handle.take_number(
+        Ok(Command::Ranging(Ranging::CreateRange(NodeId::new(document)))),
+        range,
+    )
 }
 
 /// Makes a live range with the ends of another.
@@ -26,7 +29,10 @@ pub extern "C" fn hp_clone_range(handle: &mut Handle, range: u32, copy: &mut u32
     ensures answers { Answers handle.old handle.new (Ok (CloneRange range)) result }
     ensures told { copy.new ≡ number_told (told handle.new result) copy.old }
 {
-    handle.take_number(Ok(Command::CloneRange(RangeId::new(range))), copy)
+    handle.take_number(
+        Ok(Command::Ranging(Ranging::CloneRange(RangeId::new(range)))),
+        copy,
+    )
 }
 
 /// The ends of a live range.
@@ -35,7 +41,10 @@ pub extern "C" fn hp_range(handle: &mut Handle, range: u32, ends: &mut Ends) -> 
     ensures answers { Answers handle.old handle.new (Ok (DescribeRange range)) result }
     ensures told { ends.new ≡ ends_told (told handle.new result) ends.old }
 {
-    handle.take_ends(Ok(Command::DescribeRange(RangeId::new(range))), ends)
+    handle.take_ends(
+        Ok(Command::Ranging(Ranging::DescribeRange(RangeId::new(range)))),
+        ends,
+    )
 }
 
 /// Sets the start.
@@ -43,7 +52,11 @@ pub extern "C" fn hp_range(handle: &mut Handle, range: u32, ends: &mut Ends) -> 
 pub extern "C" fn hp_set_start(handle: &mut Handle, range: u32, node: u32, offset: u32) -> u8
     ensures { Answers handle.old handle.new (Ok (SetStart range node offset)) result }
 {
-    handle.take(Ok(Command::SetStart(RangeId::new(range), NodeId::new(node), offset)))
+    handle.take(Ok(Command::Setting(Setting::SetStart(
+        RangeId::new(range),
+        NodeId::new(node),
+        offset,
+    ))))
 }
 
 /// Sets the end.
@@ -51,7 +64,11 @@ pub extern "C" fn hp_set_start(handle: &mut Handle, range: u32, node: u32, offse
 pub extern "C" fn hp_set_end(handle: &mut Handle, range: u32, node: u32, offset: u32) -> u8
     ensures { Answers handle.old handle.new (Ok (SetEnd range node offset)) result }
 {
-    handle.take(Ok(Command::SetEnd(RangeId::new(range), NodeId::new(node), offset)))
+    handle.take(Ok(Command::Setting(Setting::SetEnd(
+        RangeId::new(range),
+        NodeId::new(node),
+        offset,
+    ))))
 }
 
 /// Sets the start before a node.
@@ -59,7 +76,10 @@ pub extern "C" fn hp_set_end(handle: &mut Handle, range: u32, node: u32, offset:
 pub extern "C" fn hp_set_start_before(handle: &mut Handle, range: u32, node: u32) -> u8
     ensures { Answers handle.old handle.new (Ok (SetStartBefore range node)) result }
 {
-    handle.take(Ok(Command::SetStartBefore(RangeId::new(range), NodeId::new(node))))
+    handle.take(Ok(Command::Setting(Setting::SetStartBefore(
+        RangeId::new(range),
+        NodeId::new(node),
+    ))))
 }
 
 /// Sets the start after a node.
@@ -67,7 +87,10 @@ pub extern "C" fn hp_set_start_before(handle: &mut Handle, range: u32, node: u32
 pub extern "C" fn hp_set_start_after(handle: &mut Handle, range: u32, node: u32) -> u8
     ensures { Answers handle.old handle.new (Ok (SetStartAfter range node)) result }
 {
-    handle.take(Ok(Command::SetStartAfter(RangeId::new(range), NodeId::new(node))))
+    handle.take(Ok(Command::Setting(Setting::SetStartAfter(
+        RangeId::new(range),
+        NodeId::new(node),
+    ))))
 }
 
 /// Sets the end before a node.
@@ -75,7 +98,7 @@ pub extern "C" fn hp_set_start_after(handle: &mut Handle, range: u32, node: u32)
 pub extern "C" fn hp_set_end_before(handle: &mut Handle, range: u32, node: u32) -> u8
     ensures { Answers handle.old handle.new (Ok (SetEndBefore range node)) result }
 {
-    handle.take(Ok(Command::SetEndBefore(RangeId::new(range), NodeId::new(node))))
+    handle.take(Ok(Command::Setting(Setting::SetEndBefore(RangeId::new(range), NodeId::new(node)))))
 }
 
 /// Sets the end after a node.
@@ -83,7 +106,7 @@ pub extern "C" fn hp_set_end_before(handle: &mut Handle, range: u32, node: u32) 
 pub extern "C" fn hp_set_end_after(handle: &mut Handle, range: u32, node: u32) -> u8
     ensures { Answers handle.old handle.new (Ok (SetEndAfter range node)) result }
 {
-    handle.take(Ok(Command::SetEndAfter(RangeId::new(range), NodeId::new(node))))
+    handle.take(Ok(Command::Setting(Setting::SetEndAfter(RangeId::new(range), NodeId::new(node)))))
 }
 
 /// Moves one end to the other: the end to the start, or the start to the end.
@@ -91,7 +114,7 @@ pub extern "C" fn hp_set_end_after(handle: &mut Handle, range: u32, node: u32) -
 pub extern "C" fn hp_collapse(handle: &mut Handle, range: u32, to_start: bool) -> u8
     ensures { Answers handle.old handle.new (Ok (Collapse range to_start)) result }
 {
-    handle.take(Ok(Command::Collapse(RangeId::new(range), to_start)))
+    handle.take(Ok(Command::Setting(Setting::Collapse(RangeId::new(range), to_start))))
 }
 
 /// Sets the ends around a node.
@@ -99,7 +122,7 @@ pub extern "C" fn hp_collapse(handle: &mut Handle, range: u32, to_start: bool) -
 pub extern "C" fn hp_select_node(handle: &mut Handle, range: u32, node: u32) -> u8
     ensures { Answers handle.old handle.new (Ok (SelectNode range node)) result }
 {
-    handle.take(Ok(Command::SelectNode(RangeId::new(range), NodeId::new(node))))
+    handle.take(Ok(Command::Setting(Setting::SelectNode(RangeId::new(range), NodeId::new(node)))))
 }
 
 /// Sets the ends around what a node has.
@@ -107,7 +130,10 @@ pub extern "C" fn hp_select_node(handle: &mut Handle, range: u32, node: u32) -> 
 pub extern "C" fn hp_select_node_contents(handle: &mut Handle, range: u32, node: u32) -> u8
     ensures { Answers handle.old handle.new (Ok (SelectNodeContents range node)) result }
 {
-    handle.take(Ok(Command::SelectNodeContents(RangeId::new(range), NodeId::new(node))))
+    handle.take(Ok(Command::Setting(Setting::SelectNodeContents(
+        RangeId::new(range),
+        NodeId::new(node),
+    ))))
 }
 
 /// Lets a live range go.
@@ -115,5 +141,5 @@ pub extern "C" fn hp_select_node_contents(handle: &mut Handle, range: u32, node:
 pub extern "C" fn hp_release_range(handle: &mut Handle, range: u32) -> u8
     ensures { Answers handle.old handle.new (Ok (ReleaseRange range)) result }
 {
-    handle.take(Ok(Command::ReleaseRange(RangeId::new(range))))
+    handle.take(Ok(Command::Ranging(Ranging::ReleaseRange(RangeId::new(range)))))
 }

@@ -8,7 +8,7 @@ ghost use Rattle.dom_c.specs.Places.{static_ends_told};
 
 use crate::handle::Handle;
 use crate::places::StaticEnds;
-use dom_session::{NodeId, Point, StaticId};
+use dom_session::{NodeId, Point, StaticId, StaticRanging};
 use dom_wire::Command;
 
 /// Makes a static range.
@@ -26,7 +26,7 @@ pub extern "C" fn hp_create_static_range(
     ensures told { range.new ≡ number_told (told handle.new result) range.old }
 {
     handle.take_number(
-        Ok(Command::CreateStaticRange(
+        Ok(Command::StaticRanging(StaticRanging::CreateStaticRange(
             Point {
                 node: NodeId::new(start),
                 offset: start_offset as usize,
@@ -35,7 +35,7 @@ pub extern "C" fn hp_create_static_range(
                 node: NodeId::new(end),
                 offset: end_offset as usize,
             },
-        )),
+        ))),
         range,
     )
 }
@@ -46,5 +46,8 @@ pub extern "C" fn hp_static_range(handle: &mut Handle, range: u32, ends: &mut St
     ensures answers { Answers handle.old handle.new (Ok (DescribeStaticRange range)) result }
     ensures told { ends.new ≡ static_ends_told (told handle.new result) ends.old }
 {
-    handle.take_static_ends(Ok(Command::DescribeStaticRange(StaticId::new(range))), ends)
+    handle.take_static_ends(
+        Ok(Command::StaticRanging(StaticRanging::DescribeStaticRange(StaticId::new(range)))),
+        ends,
+    )
 }

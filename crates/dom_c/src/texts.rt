@@ -10,7 +10,7 @@ ghost use Rattle.dom_c.specs.Told.{told, number_told};
 use crate::fault::Fault;
 use crate::handle::Handle;
 use crate::reading::units_of;
-use dom_session::NodeId;
+use dom_session::{NodeId, Texts};
 use dom_wire::Command;
 use std::alloc::Global;
 
@@ -19,7 +19,7 @@ use std::alloc::Global;
 pub extern "C" fn hp_data(handle: &mut Handle, node: u32) -> u8
     ensures { Answers handle.old handle.new (Ok (GetData node)) result }
 {
-    handle.take(Ok(Command::GetData(NodeId::new(node))))
+    handle.take(Ok(Command::Texts(Texts::GetData(NodeId::new(node)))))
 }
 
 // Reads the arguments of `hp_set_data`.
@@ -28,7 +28,7 @@ fn read_set_data(alloc: Global, node: u32, data: &[u16]) -> Result<Command, Faul
         (Ok (SetData node data.now)) }
 {
     let data = units_of(alloc, data)?;
-    Ok(Command::SetData(NodeId::new(node), data))
+    Ok(Command::Texts(Texts::SetData(NodeId::new(node), data)))
 }
 
 /// Sets the data of a node.
@@ -45,7 +45,7 @@ fn read_append_data(alloc: Global, node: u32, data: &[u16]) -> Result<Command, F
         (Ok (AppendData node data.now)) }
 {
     let data = units_of(alloc, data)?;
-    Ok(Command::AppendData(NodeId::new(node), data))
+    Ok(Command::Texts(Texts::AppendData(NodeId::new(node), data)))
 }
 
 /// Appends to the data of a node.
@@ -62,7 +62,7 @@ fn read_insert_data(alloc: Global, node: u32, offset: u32, data: &[u16]) -> Resu
         (Ok (InsertData node offset data.now)) }
 {
     let data = units_of(alloc, data)?;
-    Ok(Command::InsertData(NodeId::new(node), offset, data))
+    Ok(Command::Texts(Texts::InsertData(NodeId::new(node), offset, data)))
 }
 
 /// Inserts at an offset.
@@ -84,7 +84,7 @@ pub extern "C" fn hp_insert_data(
 pub extern "C" fn hp_delete_data(handle: &mut Handle, node: u32, offset: u32, count: u32) -> u8
     ensures { Answers handle.old handle.new (Ok (DeleteData node offset count)) result }
 {
-    handle.take(Ok(Command::DeleteData(NodeId::new(node), offset, count)))
+    handle.take(Ok(Command::Texts(Texts::DeleteData(NodeId::new(node), offset, count))))
 }
 
 // Reads the arguments of `hp_replace_data`.
@@ -99,7 +99,7 @@ fn read_replace_data(
         (Ok (ReplaceData node offset count data.now)) }
 {
     let data = units_of(alloc, data)?;
-    Ok(Command::ReplaceData(NodeId::new(node), offset, count, data))
+    Ok(Command::Texts(Texts::ReplaceData(NodeId::new(node), offset, count, data)))
 }
 
 /// Puts a text in place of so many units from an offset on.
@@ -122,7 +122,7 @@ pub extern "C" fn hp_replace_data(
 pub extern "C" fn hp_substring_data(handle: &mut Handle, node: u32, offset: u32, count: u32) -> u8
     ensures { Answers handle.old handle.new (Ok (SubstringData node offset count)) result }
 {
-    handle.take(Ok(Command::SubstringData(NodeId::new(node), offset, count)))
+    handle.take(Ok(Command::Texts(Texts::SubstringData(NodeId::new(node), offset, count))))
 }
 
 /// Splits a Text at an offset, and tells the new one.
@@ -131,5 +131,8 @@ pub extern "C" fn hp_split_text(handle: &mut Handle, text: u32, offset: u32, res
     ensures answers { Answers handle.old handle.new (Ok (SplitText text offset)) result }
     ensures told { rest.new ≡ number_told (told handle.new result) rest.old }
 {
-    handle.take_number(Ok(Command::SplitText(NodeId::new(text), offset)), rest)
+    handle.take_number(
+        Ok(Command::Texts(Texts::SplitText(NodeId::new(text), offset))),
+        rest,
+    )
 }

@@ -14,7 +14,7 @@ use crate::filters::rules_of;
 use crate::handle::Handle;
 use crate::places::{IteratorAt, WalkerAt};
 use crate::reading::move_of;
-use dom_session::{Filter, IterId, NodeId, WalkerId};
+use dom_session::{Filter, IterId, NodeId, Traversing, WalkerId};
 use dom_wire::Command;
 use std::alloc::Global;
 
@@ -31,7 +31,7 @@ fn read_create_iterator(
         (then_make (rules_in names.now lengths.now verdicts.now) (λ rules. Ok (CreateIterator root (record { show = show; rules = rules })))) }
 {
     let rules = rules_of(alloc, names, lengths, verdicts)?;
-    Ok(Command::CreateIterator(NodeId::new(root), Filter { show, rules }))
+    Ok(Command::Traversing(Traversing::CreateIterator(NodeId::new(root), Filter { show, rules })))
 }
 
 /// Makes a node iterator.
@@ -69,7 +69,7 @@ fn read_create_walker(
         (then_make (rules_in names.now lengths.now verdicts.now) (λ rules. Ok (CreateWalker root (record { show = show; rules = rules })))) }
 {
     let rules = rules_of(alloc, names, lengths, verdicts)?;
-    Ok(Command::CreateWalker(NodeId::new(root), Filter { show, rules }))
+    Ok(Command::Traversing(Traversing::CreateWalker(NodeId::new(root), Filter { show, rules })))
 }
 
 /// Makes a tree walker.
@@ -100,7 +100,10 @@ pub extern "C" fn hp_iterator(handle: &mut Handle, iterator: u32, place: &mut It
     ensures answers { Answers handle.old handle.new (Ok (DescribeIterator iterator)) result }
     ensures told { place.new ≡ iterator_at_told (told handle.new result) place.old }
 {
-    handle.take_iterator_at(Ok(Command::DescribeIterator(IterId::new(iterator))), place)
+    handle.take_iterator_at(
+        Ok(Command::Traversing(Traversing::DescribeIterator(IterId::new(iterator)))),
+        place,
+    )
 }
 
 /// Moves an iterator on, and tells the node, or `HP_NONE`.
@@ -109,7 +112,10 @@ pub extern "C" fn hp_next_node(handle: &mut Handle, iterator: u32, node: &mut u3
     ensures answers { Answers handle.old handle.new (Ok (NextNode iterator)) result }
     ensures told { node.new ≡ maybe_number_told (told handle.new result) node.old }
 {
-    handle.take_maybe_number(Ok(Command::NextNode(IterId::new(iterator))), node)
+    handle.take_maybe_number(
+        Ok(Command::Traversing(Traversing::NextNode(IterId::new(iterator)))),
+        node,
+    )
 }
 
 /// Moves an iterator back, and tells the node, or `HP_NONE`.
@@ -118,7 +124,10 @@ pub extern "C" fn hp_previous_node(handle: &mut Handle, iterator: u32, node: &mu
     ensures answers { Answers handle.old handle.new (Ok (PreviousNode iterator)) result }
     ensures told { node.new ≡ maybe_number_told (told handle.new result) node.old }
 {
-    handle.take_maybe_number(Ok(Command::PreviousNode(IterId::new(iterator))), node)
+    handle.take_maybe_number(
+        Ok(Command::Traversing(Traversing::PreviousNode(IterId::new(iterator)))),
+        node,
+    )
 }
 
 /// Tells where a walker stands.
@@ -127,7 +136,10 @@ pub extern "C" fn hp_walker(handle: &mut Handle, walker: u32, place: &mut Walker
     ensures answers { Answers handle.old handle.new (Ok (DescribeWalker walker)) result }
     ensures told { place.new ≡ walker_at_told (told handle.new result) place.old }
 {
-    handle.take_walker_at(Ok(Command::DescribeWalker(WalkerId::new(walker))), place)
+    handle.take_walker_at(
+        Ok(Command::Traversing(Traversing::DescribeWalker(WalkerId::new(walker)))),
+        place,
+    )
 }
 
 /// Sets a walker on a node.
@@ -135,7 +147,10 @@ pub extern "C" fn hp_walker(handle: &mut Handle, walker: u32, place: &mut Walker
 pub extern "C" fn hp_set_current(handle: &mut Handle, walker: u32, node: u32) -> u8
     ensures { Answers handle.old handle.new (Ok (SetCurrent walker node)) result }
 {
-    handle.take(Ok(Command::SetCurrent(WalkerId::new(walker), NodeId::new(node))))
+    handle.take(Ok(Command::Traversing(Traversing::SetCurrent(
+        WalkerId::new(walker),
+        NodeId::new(node),
+    ))))
 }
 
 // Reads the arguments of `hp_walk`.
@@ -144,7 +159,7 @@ fn read_walk(walker: u32, course: u8) -> Result<Command, Fault>
         (then_make (move_in course) (λ course. Ok (Walk walker course))) }
 {
     let course = move_of(course)?;
-    Ok(Command::Walk(WalkerId::new(walker), course))
+    Ok(Command::Traversing(Traversing::Walk(WalkerId::new(walker), course)))
 }
 
 /// Moves a walker, and tells the node, or `HP_NONE`. The courses are numbered in the order of the standard: parentNode 0, firstChild 1, lastChild 2, previousSibling 3, nextSibling 4, previousNode 5, nextNode 6.

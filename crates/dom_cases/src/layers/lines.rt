@@ -2,8 +2,9 @@
 
 use dom_serve::{ReadError, read_line, write_reply};
 use dom_session::{
-    Answer, Command, Content, Description, DomError, Kind, Label, Move, NodeId, ObserverId,
-    OwnError, Point, RawOptions, Record, RecordType, Reply, Told, TreeRow, Units, Verdict,
+    Answer, Asking, Attributes, Command, Content, Copying, Description, DomError, Editing, Kind,
+    Label, Making, Move, NodeId, ObserverId, Observing, OwnError, Point, RawOptions, Record,
+    RecordType, Reply, Texts, Told, Traversing, TreeRow, Units, Verdict,
 };
 use std::alloc::{AllocError, Global};
 use std::cmp::Ordering;
@@ -84,23 +85,23 @@ fn told(alloc: Global, line: &[u8]) -> Result<Vec<u32>, AllocError> {
 fn numbers_of(alloc: Global, command: &Command) -> Result<Vec<u32>, AllocError> {
     let mut told = Vec::new(alloc);
     match command {
-        Command::NewDocument => told.push(0)?,
-        Command::CreateElement(document, name) => {
+        Command::Making(Making::NewDocument) => told.push(0)?,
+        Command::Making(Making::CreateElement(document, name)) => {
             told.extend_from_slice(&[1, document.number()])?;
             for byte in name.as_bytes() {
                 told.push(u32::from(*byte))?;
             }
         }
-        Command::CreateText(document, text) => {
+        Command::Making(Making::CreateText(document, text)) => {
             told.extend_from_slice(&[2, document.number()])?;
             for unit in text.units() {
                 told.push(u32::from(*unit))?;
             }
         }
-        Command::AppendChild(parent, child) => {
+        Command::Editing(Editing::AppendChild(parent, child)) => {
             told.extend_from_slice(&[3, parent.number(), child.number()])?;
         }
-        Command::Tree(top) => told.extend_from_slice(&[4, top.number()])?,
+        Command::Asking(Asking::Tree(top)) => told.extend_from_slice(&[4, top.number()])?,
         other => last_argument(&mut told, other)?,
     }
     Ok(told)
@@ -118,22 +119,26 @@ fn flag_number(flag: Option<bool>) -> u32 {
 fn last_argument(told: &mut Vec<u32>, command: &Command) -> Result<(), AllocError> {
     told.push(5)?;
     match command {
-        Command::InsertBefore(_, _, None) => {}
-        Command::InsertBefore(_, _, Some(child)) => told.push(child.number())?,
-        Command::SetTextContent(_, text) => {
+        Command::Editing(Editing::InsertBefore(_, _, None)) => {}
+        Command::Editing(Editing::InsertBefore(_, _, Some(child))) => told.push(child.number())?,
+        Command::Texts(Texts::SetTextContent(_, text)) => {
             for unit in text.units() {
                 told.push(u32::from(*unit))?;
             }
         }
-        Command::CloneNode(_, deep) => told.push(u32::from(*deep))?,
-        Command::ToggleAttribute(_, _, force) => told.push(flag_number(*force))?,
-        Command::Walk(_, course) => told.push(u32::from(*course == Move::PreviousSibling))?,
-        Command::CreateIterator(_, filter) => {
+        Command::Copying(Copying::CloneNode(_, deep)) => told.push(u32::from(*deep))?,
+        Command::Attributes(Attributes::ToggleAttribute(_, _, force)) => told.push(flag_number(
+            *force,
+        ))?,
+        Command::Traversing(Traversing::Walk(_, course)) => told.push(u32::from(
+            *course == Move::PreviousSibling,
+        ))?,
+        Command::Traversing(Traversing::CreateIterator(_, filter)) => {
             for rule in &filter.rules {
                 told.push(u32::from(rule.verdict == Verdict::Reject))?;
             }
         }
-        Command::Observe(_, _, options) => options_told(told, options)?,
+        Command::Observing(Observing::Observe(_, _, options)) => options_told(told, options)?,
         _ => told.push(6)?,
     }
     Ok(())

@@ -1,6 +1,9 @@
 //! A session at work, with ample memory.
 
-use dom_session::{Answer, Command, DomError, Limits, NodeId, OwnError, Reply, Session, Units};
+use dom_session::{
+    Answer, Asking, Command, DomError, Editing, Limits, Making, NodeId, OwnError, Reply, Session,
+    Units,
+};
 use std::alloc::{AllocError, Global};
 use std::process::Abort;
 use std::test::Fail;
@@ -57,13 +60,13 @@ fn has_own(session: &mut Session, command: Command, error: OwnError) -> Result<b
 // An element of that name.
 fn element(alloc: Global, name: &str) -> Result<Command, AllocError> {
     let name = String::from_str(alloc, name)?;
-    Ok(Command::CreateElement(NodeId::new(0), name))
+    Ok(Command::Making(Making::CreateElement(NodeId::new(0), name)))
 }
 
 // A Text of that data.
 fn text(alloc: Global, data: &str) -> Result<Command, AllocError> {
     let data = Units::from_str(alloc, data)?;
-    Ok(Command::CreateText(NodeId::new(0), data))
+    Ok(Command::Making(Making::CreateText(NodeId::new(0), data)))
 }
 
 // That a reply has two rows, the second a Text of two units below the first.
@@ -80,9 +83,9 @@ fn has_a_text_below(reply: &Reply) -> bool {
 fn make_and_print(rt: &impl Abort, alloc: Global, session: &mut Session) -> Result<(), AllocError> {
     assert!(rt; gives(session, element(alloc, "p")?, 1)?);
     assert!(rt; gives(session, text(alloc, "hi")?, 2)?);
-    let moved = Command::AppendChild(NodeId::new(1), NodeId::new(2));
+    let moved = Command::Editing(Editing::AppendChild(NodeId::new(1), NodeId::new(2)));
     assert!(rt; gives(session, moved, 2)?);
-    let printed = replied(session, Command::Tree(NodeId::new(1)))?;
+    let printed = replied(session, Command::Asking(Asking::Tree(NodeId::new(1))))?;
     assert!(rt; has_a_text_below(&printed));
     Ok(())
 }
@@ -107,12 +110,18 @@ fn spend_all_numbers(
 ) -> Result<(), AllocError> {
     let misnamed = element(alloc, "1a")?;
     assert!(rt; has_dom(session, misnamed, DomError::InvalidCharacterError)?);
-    let unknown = Command::Tree(NodeId::new(1));
+    let unknown = Command::Asking(Asking::Tree(NodeId::new(1)));
     assert!(rt; has_own(session, unknown, OwnError::NoSuchObject)?);
     for number in 1..4u32 {
-        assert!(rt; gives(session, Command::NewDocument, number)?);
+        assert!(rt; gives(session, Command::Making(Making::NewDocument), number)?);
     }
-    assert!(rt; has_own(session, Command::NewDocument, OwnError::Limit)?);
+    assert!(rt;
+        has_own(
+            session,
+            Command::Making(Making::NewDocument),
+            OwnError::Limit
+        )?
+    );
     Ok(())
 }
 
