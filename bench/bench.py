@@ -7,7 +7,7 @@ new one). Each tree is printed once at the end.
 Then come scenes in a tree of N nodes at random places (10,000 where --nodes does not say). Texts are removed and inserted
 at random places where no range and no observer is; with 1,000 live ranges in another part of the tree; and with one
 observer of the root and all below it, whose records are taken after each 1,000 commands. An iterator and a walker go over the
-tree. What makes the scene is not counted: its time alone is taken off. A scene of commands that are not served is said to be so.
+tree. What makes the scene is not counted: its time alone is taken off, of the quickest of --times runs each. A scene of commands that are not served is said to be so.
 The program reads the stream from a file and writes its replies to a file. Python's json reads each line and prints a
 value of the reply's shape, with no tree at all.
 Where they are there, jsdom (by node; Debian's node-jsdom) and Chromium (Debian's chromium-headless-shell) answer the same lines by their own DOM
@@ -227,6 +227,12 @@ def is_there(by):
         return False
 
 
+def quickest(program, commands, others, times):
+    """Of each the least seconds of some runs; none of one that gave up."""
+    found = [timed(program, commands, others) for _ in range(times)]
+    return [None if None in it else min(it) for it in zip(*found)]
+
+
 def timed(program, commands, others):
     """The seconds of the program and of json alone for the commands, and of each of the others; none of one that gave up."""
     with tempfile.NamedTemporaryFile("w", suffix=".lines") as file:
@@ -254,10 +260,10 @@ def less(after, before):
     return [None if late is None else late - early for late, early in zip(after, before)]
 
 
-def show_less(name, size, making, commands, program, others):
+def show_less(name, size, making, commands, given, others):
     """The commands, less what makes their scene and the start of each."""
     try:
-        before, after = timed(program, making, others), timed(program, making + commands, others)
+        before, after = (quickest(given.program, it, others, given.times) for it in (making, making + commands))
         show(name, size, len(commands), *less(after, before))
     except Refused as refused:
         print(f"{name:>18} {size:>8} {refused}")
@@ -266,6 +272,7 @@ def show_less(name, size, making, commands, program, others):
 def takes_sizes(parser):
     parser.add_argument("--sizes", type=int, nargs="+", default=[1000, 10000, 100000], metavar="N")
     parser.add_argument("--nodes", type=int, default=10000, metavar="N")
+    parser.add_argument("--times", type=int, default=3, metavar="N", help="how often each is run, of which the quickest counts (3)")
 
 
 def main():
@@ -275,9 +282,9 @@ def main():
     print(f"{'stream':>18} {'nodes':>8} {'commands':>9} {'program/s':>12}", *beside)
     for name, stream in STREAMS:
         for size in given.sizes:
-            show_less(name, size, [], list(stream(size)), given.program, others)
+            show_less(name, size, [], list(stream(size)), given, others)
     for name, scene in SCENES:
-        show_less(name, given.nodes, *scene(given.nodes), given.program, others)
+        show_less(name, given.nodes, *scene(given.nodes), given, others)
 
 
 if __name__ == "__main__":
