@@ -1,9 +1,7 @@
-//! The tests that cross crates: dialogues from bytes to bytes, cut anywhere, with faults, refused growths and large inputs; token texts
+//! The tests that cross crates: dialogues from bytes to bytes, cut anywhere, with faults, refused growths, large trees and long texts; token texts
 //! that are drawn; single layers by their public calls; and the reader and the writer of stated pieces that they use.
 #![tactic(auto)]
 
-#[cfg(test)]
-mod chains;
 #[cfg(test)]
 mod cuts;
 #[cfg(test)]
@@ -18,12 +16,16 @@ mod large;
 #[cfg(test)]
 mod layers;
 #[cfg(test)]
+mod long;
+#[cfg(test)]
 mod recovering;
 #[cfg(test)]
 mod refusals;
 #[cfg(test)]
 mod runs;
 mod taker;
+#[cfg(test)]
+mod written;
 
 pub use feeder::Feeder;
 pub use taker::Taker;
