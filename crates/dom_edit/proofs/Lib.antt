@@ -15,3 +15,4 @@ pub mod InsertedNodes
 pub mod ReplacedNodes
 pub mod Marking
 pub mod Unrefused
+pub mod CallerLemmas

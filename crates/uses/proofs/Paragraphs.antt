@@ -10,7 +10,7 @@ use Rattle.dom_model.specs.Worlds.Making.{made_node, named, with_text}
 use Rattle.dom_model.specs.MutationAlgorithms.Editing.{append}
 use Rattle.dom_edit.specs.declared.world.World.{World}
 use Rattle.dom_edit.specs.Whole.{Keeps, Follows}
-use Rattle.uses.specs.Paragraph.{paragraph}
+use Rattle.uses.specs.Paragraph.{empty_paragraph, paragraph}
 
 -- what holds of the forest of a world that is kept
 pub of_kept : (P : Forest Content → Type 0) (v : World) (w : model.World) → Keeps v w → P w.forest → P v.tree.forest
@@ -19,14 +19,8 @@ of_kept P v w k h = subst P k.forest h
 abbrev pub with_element : model.World
 with_element = made_node 0 (named Element (codes "p")) (with_text []) first_world
 
-abbrev pub element_placed : model.World
-element_placed = append 1 0 with_element
-
 abbrev pub with_both : List ℕ → model.World
-with_both text = made_node 0 (named Text []) (with_text text) element_placed
-
-abbrev pub both_placed : List ℕ → model.World
-both_placed text = append 2 1 (with_both text)
+with_both text = made_node 0 (named Text []) (with_text text) empty_paragraph
 
 pub keeps-made : (v new : World) (w : model.World) (d : ℕ) (label same_label : Label) (body same_body : Content) → d ≡ 0 → label ≡ same_label → body ≡ same_body
     → Keeps v w → Follows v new (made_node d label body) → Keeps new (made_node 0 same_label same_body w)
@@ -39,7 +33,17 @@ pub keeps-appended : (v new : World) (w : model.World) (node parent n p : ℕ) �
 keeps-appended v new w node parent n p is_node is_parent k f =
     subst (λ m. Keeps new (append m p w)) is_node (subst (λ m. Keeps new (append node m w)) is_parent (f.keeps w k))
 
-pub keeps-paragraph : (v : World) (text : List ℕ) → Keeps v (both_placed text) → Keeps v (paragraph text)
+pub keeps-element : (v : World) → Keeps v (append 1 0 with_element) → Keeps v empty_paragraph
+keeps-element v k = record {
+  forest = k.forest;
+  made = k.made;
+  ranges = k.ranges;
+  static_ranges = k.static_ranges;
+  iterators = k.iterators;
+  walkers = k.walkers;
+}
+
+pub keeps-paragraph : (v : World) (text : List ℕ) → Keeps v (append 2 1 (with_both text)) → Keeps v (paragraph text)
 keeps-paragraph v text k = record {
   forest = k.forest;
   made = k.made;

@@ -1,13 +1,14 @@
 //! Calls of `dom_edit`.
 
-ghost use Rattle.std.specs.Prelude.{◌≡◌, None, IfOk, OnOk};
+ghost use Rattle.std.specs.Prelude.{◌≡◌, ◌<◌, true, IfOk};
+ghost use Rattle.dom_model.specs.declared.Kind.TheVariants.{Document};
 ghost use Rattle.dom_model.specs.Worlds.Making.{named};
-ghost use Rattle.dom_model.specs.Forests.Forest.{HasNode};
+ghost use Rattle.dom_model.specs.Forests.Forest.{HasNode, entry_in};
+ghost use Rattle.dom_model.specs.Forests.Nodes.{is_of_kind};
 ghost use Rattle.dom_model.specs.Forests.Texts.{units_of};
-ghost use Rattle.dom_model.specs.MutationAlgorithms.Checks.{check_insert};
-ghost use Rattle.dom_model.specs.MutationAlgorithms.Editing.{append};
-ghost use Rattle.dom_edit.specs.Whole.{IsWhole, Keeps, Follows};
-ghost use Rattle.uses.specs.Paragraph.{paragraph};
+ghost use Rattle.dom_model.specs.DataAndCopies.Data.{content_in};
+ghost use Rattle.dom_edit.specs.Whole.{IsWhole, Keeps};
+ghost use Rattle.uses.specs.Paragraph.{empty_paragraph, paragraph};
 
 use dom_edit::of_kinds::{Kind, Label};
 use dom_edit::of_point::Point;
@@ -28,25 +29,18 @@ fn named(alloc: Global, kind: Kind, name: &str) -> Result<Label, AllocError>
     })
 }
 
-/// Puts a node in last under a parent where the check refuses nothing: only memory can be wanting.
-pub fn append_allowed(
-    alloc: Global,
-    world: &mut World,
-    parent: NodeId,
-    node: NodeId,
-) -> Result<(), AllocError>
-    requires whole { IsWhole world.old }
-    requires parent_held { HasNode world.old.tree.forest parent }
-    requires node_held { HasNode world.old.tree.forest node }
-    requires allowed { check_insert world.old.tree.forest parent node None ≡ None }
-    ensures appended { OnOk result (Follows world.old world.new (append node parent)) }
-    ensures whole { IsWhole world.new }
+/// A Document with an element in it.
+pub fn empty_paragraph(alloc: Global) -> Result<World, AllocError>
+    ensures keeps { IfOk result (λ world. Keeps world empty_paragraph) }
+    ensures whole { IfOk result IsWhole }
 {
-    match world.append(alloc, parent, node) {
-        Ok(()) => Ok(()),
-        Err(Refusal::Memory) => Err(AllocError),
-        Err(Refusal::Dom(_)) => unreachable!(),
-    }
+    let document = NodeId::new(0);
+    let label = named(alloc, Kind::Element, "p")?;
+    let no_data = Content::of_text(alloc, Units::new(alloc));
+    let mut world = World::new(alloc)?;
+    let element = world.make(alloc, label, no_data, Some(document))?;
+    world.insert_checked(alloc, document, element, None)?;
+    Ok(world)
 }
 
 /// A Document with an element in it, and a Text of that data in the element.
@@ -55,16 +49,36 @@ pub fn paragraph(alloc: Global, text: &str) -> Result<World, AllocError>
     ensures whole { IfOk result IsWhole }
 {
     let document = NodeId::new(0);
-    let mut world = World::new(alloc)?;
-    let element_label = named(alloc, Kind::Element, "p")?;
-    let no_data = Content::of_text(alloc, Units::new(alloc));
-    let element = world.make(alloc, element_label, no_data, Some(document))?;
-    append_allowed(alloc, &mut world, document, element)?;
-    let text_label = named(alloc, Kind::Text, "")?;
+    let element = NodeId::new(1);
+    let label = named(alloc, Kind::Text, "")?;
     let data = Content::of_text(alloc, Units::from_str(alloc, text)?);
-    let child = world.make(alloc, text_label, data, Some(document))?;
-    append_allowed(alloc, &mut world, element, child)?;
+    let mut world = empty_paragraph(alloc)?;
+    let child = world.make(alloc, label, data, Some(document))?;
+    world.insert_checked(alloc, element, child, None)?;
     Ok(world)
+}
+
+/// Puts a new Text with that data in last under a parent, and answers its number.
+pub fn append_text(
+    alloc: Global,
+    world: &mut World,
+    document: NodeId,
+    parent: NodeId,
+    text: &str,
+) -> Result<NodeId, Refusal>
+    requires whole { IsWhole world.old }
+    requires document_kind { is_of_kind Document world.old.tree.forest document ≡ true }
+    requires parent_held { HasNode world.old.tree.forest parent }
+    requires room { world.old.tree.made < 4294967295 }
+    ensures held { IfOk result (λ id. HasNode world.new.tree.forest id) }
+    ensures data { IfOk result (λ id. (content_in (entry_in world.new.tree.forest id)).text ≡ units_of text.now) }
+    ensures whole { IsWhole world.new }
+{
+    let label = named(alloc, Kind::Text, "")?;
+    let data = Content::of_text(alloc, Units::from_str(alloc, text)?);
+    let child = world.make(alloc, label, data, Some(document))?;
+    world.append(alloc, parent, child)?;
+    Ok(child)
 }
 
 /// Where the ends of a live range stand that had all the data of a Text, once the Text is removed: in its parent, where it stood.
