@@ -1,16 +1,16 @@
 //! The world of a session: its nodes, and all that refers to them.
 
-ghost use Rattle.std.specs.Prelude.{◌≡◌, ◌<◌, true, None, IfOk, OnOk, unwrap_or};
+ghost use Rattle.std.specs.Prelude.{◌≡◌, ◌<◌, [], true, None, IfOk, OnOk, unwrap_or};
 ghost use Rattle.std.specs.Option.{ForSome};
 ghost use Rattle.dom_model.specs.declared.Kind.TheVariants.{Document};
 ghost use Rattle.dom_model.specs.Forests.Kinds.{is_kind};
+ghost use Rattle.dom_model.specs.Forests.Forest.{empty};
 ghost use Rattle.dom_model.specs.Worlds.World.{first_world};
 ghost use Rattle.dom_model.specs.Worlds.Making.{made_node};
 ghost use Rattle.dom_model.specs.Forests.Nodes.{is_of_kind};
 ghost use Rattle.dom_edit.specs.Whole.{IsWhole, Shows, Follows};
 
 use crate::content::Content;
-use dom_attrs::Attrs;
 use dom_observe::Observers;
 use dom_observe::of_units::Units;
 use dom_ranges::of_kinds::{Kind, Label};
@@ -34,6 +34,25 @@ pub struct World {
 }
 
 impl World {
+    // A world without nodes.
+    fn empty(alloc: Global) -> World
+        ensures tree { result.tree ≡ record { forest = empty; made = 0 } }
+        ensures ranges { result.ranges ≡ record { ranges = []; covered = [] } }
+        ensures statics { result.statics ≡ [] }
+        ensures iters { result.iters ≡ [] }
+        ensures walkers { result.walkers ≡ [] }
+        ensures observers { result.observers ≡ record { nodes = []; queues = []; pending = [] } }
+    {
+        World {
+            tree: Tree::new(alloc),
+            ranges: Ranges::new(alloc),
+            statics: Statics::new(alloc),
+            iters: Iters::new(alloc),
+            walkers: Walkers::new(alloc),
+            observers: Observers::new(alloc),
+        }
+    }
+
     /// A world with one node, a Document that is numbered 0.
     pub fn new(alloc: Global) -> Result<World, AllocError>
         ensures { IfOk result (λ world. Shows world first_world) }
@@ -44,18 +63,8 @@ impl World {
             public_id: String::new(alloc),
             system_id: String::new(alloc),
         };
-        let content = Content {
-            text: Units::new(alloc),
-            attrs: Attrs::new(alloc),
-        };
-        let mut world = World {
-            tree: Tree::new(alloc),
-            ranges: Ranges::new(alloc),
-            statics: Statics::new(alloc),
-            iters: Iters::new(alloc),
-            walkers: Walkers::new(alloc),
-            observers: Observers::new(alloc),
-        };
+        let content = Content::of_text(alloc, Units::new(alloc));
+        let mut world = World::empty(alloc);
         let _ = world.make(alloc, label, content, None)?;
         Ok(world)
     }
