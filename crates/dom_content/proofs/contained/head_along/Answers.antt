@@ -1,6 +1,7 @@
 -- Each step takes the children ahead of one node of the path, down to the deepest.
 use Rattle.dom_model.specs.RangesAndContents.BesidePaths.{head_nodes}
 use Rattle.std.proofs.Common.{◌≡◌, ◌+◌, ◌-◌, ◌++◌, drop, length, refl, ap, sym, ◌∙◌, arith}
+use Rattle.std.proofs.lemmas.Grind.{common_steps}
 use Rattle.dom_clone.specs.dom_edit.Whole.{unwatched}
 use Rattle.dom_content.proofs.TopsOfPaths.{on-path, head-last, head-more}
 use Rattle.dom_content.proofs.contained.head_along.Goals as goal
@@ -34,3 +35,6 @@ returns c =
     ∙ sym (head-last w c.args.offset path (length path - 1) c.index-path-count.result c.index-path-count.is (omega arith))
     ∙ ap (λ k. head_nodes w c.args.offset (drop k path)) (sym last))
     ∙ c.loop-k.invariant
+
+pub returns-then-count-eq0 : goal.returns-then-count-eq0
+returns-then-count-eq0 c = grind (arith, common_steps)

@@ -1,6 +1,7 @@
 -- Each step takes the children behind one node of the path, from the deepest on.
 use Rattle.dom_model.specs.RangesAndContents.BesidePaths.{tail_nodes}
 use Rattle.std.proofs.Common.{◌≡◌, ◌-◌, ◌++◌, drop, length, ap, ◌∙◌, arith}
+use Rattle.std.proofs.lemmas.Grind.{common_steps}
 use Rattle.dom_clone.specs.dom_edit.Whole.{unwatched}
 use Rattle.dom_content.proofs.TopsOfPaths.{on-path, tail-last, tail-more}
 use Rattle.dom_content.proofs.contained.tail_along.Goals as goal
@@ -42,3 +43,6 @@ returns c =
     let some = c.loop-left.invariant.some in
     let none : c.loop-left.left - 1 ≡ 0 = omega arith in
     c.loop-left.invariant.listed ∙ ap (λ k. tail_nodes (unwatched c.args.world.now) c.args.offset (drop k c.args.path.now)) none
+
+pub returns-then-left-eq0 : goal.returns-then-left-eq0
+returns-then-left-eq0 c = grind (arith, common_steps)

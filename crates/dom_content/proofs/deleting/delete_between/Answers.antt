@@ -1,5 +1,6 @@
 -- The steps of the definition, one after another.
-use Rattle.std.proofs.Common.{ap, ◌∙◌, is_some}
+use Rattle.std.proofs.Common.{ap, ◌∙◌, is_some, arith}
+use Rattle.std.proofs.lemmas.Grind.{common_steps}
 use Rattle.std.specs.Prelude.{Option}
 use Rattle.dom_model.specs.Worlds.World.{Point, Range}
 use Rattle.dom_content.proofs.RangeTexts.{range-held}
@@ -45,3 +46,15 @@ returns-clause-deleted c =
     let place : Point = record { node = c.new_place-place.result.node; offset = c.new_place-place.result.offset } in
     follows-deleted_between v c.requires.whole c.args.range range is c.requires.apart c.cut_from.new.world c.in_ok-cut_from.ensures.cut c.deref.result.now (c.deref.ensures.value ∙ c.in_ok-tops.ensures) c.remove_each.new.world
     c.in_ok-remove_each.ensures.removed c.cut_up_to.new.world c.in_ok-cut_up_to.ensures.cut c.stand_at.new.world place c.new_place-place.ensures.place c.stand_at.ensures.stands
+
+pub new_place-place-requires : goal.new_place-place-requires
+new_place-place-requires c = grind (arith, common_steps)
+
+pub contained_tops-requires-clause-range : goal.contained_tops-requires-clause-range
+contained_tops-requires-clause-range c = grind (arith, common_steps)
+
+pub cut_from-requires-clause-held : goal.cut_from-requires-clause-held
+cut_from-requires-clause-held c = grind (arith, common_steps)
+
+pub cut_from-requires-clause-within : goal.cut_from-requires-clause-within
+cut_from-requires-clause-within c = grind (arith, common_steps)

@@ -1,5 +1,6 @@
 -- Nothing of a collapsed range, units of one node, or what lies between two nodes.
 use Rattle.std.proofs.Common.{◌≤◌, ◌==◌, length, refl, ap, sym, subst, arith}
+use Rattle.std.proofs.lemmas.Grind.{common_steps}
 use Rattle.std.proofs.lemmas.Result.{on_ok_weaker}
 use Rattle.dom_model.specs.Forests.Kinds.{is_character_data}
 use Rattle.dom_model.specs.Worlds.World.{Point, Range}
@@ -38,3 +39,6 @@ returns-clause-deleted c =
     on_ok_weaker c.delete_between.result
     (follows-between v c.args.range range c.ends-start.ensures.ends c.delete_between.new.world (sym c.if-eq.ensures) (sym c.if-is_in_one_data.ensures))
     c.delete_between.ensures.deleted
+
+pub is_in_one_data-requires : goal.is_in_one_data-requires
+is_in_one_data-requires c = grind (arith, common_steps)

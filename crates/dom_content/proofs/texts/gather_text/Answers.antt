@@ -1,5 +1,6 @@
 -- The pieces are in order, and make the text.
-use Rattle.std.proofs.Common.{◌≡◌, ◌-◌, ◌++◌, length, sym, ap, ◌∙◌, subst}
+use Rattle.std.proofs.Common.{◌≡◌, ◌-◌, ◌++◌, length, sym, ap, ◌∙◌, subst, arith}
+use Rattle.std.proofs.lemmas.Grind.{common_steps}
 use Rattle.std.specs.Prelude.{IfSome}
 use Rattle.dom_model.specs.RangesAndContents.Contents.{range_text}
 use Rattle.dom_model.specs.Forests.Forest.{entry_in}
@@ -36,3 +37,21 @@ returns c =
     ∙ ap (λ us. us ++ texts_within c.args.world.now.tree.forest (record { start = c.ends.result.0; end = c.ends.result.1 }))
     (c.in_ok-append_tail.ensures
     ∙ ap (λ us. us ++ part_of c.args.world.now.tree.forest c.ends.result.0.node c.ends.result.0.offset (length (content_in (entry_in c.args.world.now.tree.forest c.ends.result.0.node)).text - c.ends.result.0.offset)) c.new-text.ensures))))
+
+pub is_text-requires : goal.is_text-requires
+is_text-requires c = grind (arith, common_steps)
+
+pub append_part-requires-clause-within : goal.append_part-requires-clause-within
+append_part-requires-clause-within c = grind (arith, common_steps)
+
+pub append_tail-requires-clause-held : goal.append_tail-requires-clause-held
+append_tail-requires-clause-held c = grind (arith, common_steps)
+
+pub append_tail-requires-clause-within : goal.append_tail-requires-clause-within
+append_tail-requires-clause-within c = grind (arith, common_steps)
+
+pub append_part-requires-2-clause-held : goal.append_part-requires-2-clause-held
+append_part-requires-2-clause-held c = grind (arith, common_steps)
+
+pub append_part-requires-2-clause-within : goal.append_part-requires-2-clause-within
+append_part-requires-2-clause-within c = grind (arith, common_steps)

@@ -1,5 +1,5 @@
 -- The world is whole after an attribute is set, or is not.
-use Rattle.std.proofs.Common.{refl, sym, subst}
+use Rattle.std.proofs.Common.{refl, sym, subst, tests, rules}
 use Rattle.std.specs.Prelude.{string_bytes}
 use Rattle.dom_edit.specs.declared.world.World.{World}
 use Rattle.dom_edit.specs.Whole.{IsWhole}
@@ -15,3 +15,6 @@ returns-clause-whole c =
     either c.set_in.result c.set_in.ensures.ok c.set_in.ensures.err
     (whole-set_attribute old told new c.args.node (string_bytes c.args.name) c.requires.whole c.tell_attribute.ensures.kept refl refl refl refl c.args.value)
     (λ e. subst (λ t. IsWhole (record told { tree = t })) (sym e) (whole-observed old told c.tell_attribute.ensures.kept c.requires.whole))
+
+pub returns-clause-set : goal.returns-clause-set
+returns-clause-set c = search (tests, rules)

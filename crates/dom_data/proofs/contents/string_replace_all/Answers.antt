@@ -1,5 +1,5 @@
 -- All children give way to the new Text.
-use Rattle.std.proofs.Common.{◌≡◌, None, sym, ◌∙◌, subst}
+use Rattle.std.proofs.Common.{◌≡◌, None, sym, ◌∙◌, subst, tests, rules}
 use Rattle.std.proofs.lemmas.Bool.{false≢true}
 use Rattle.std.proofs.lemmas.Result.{on_ok_weaker}
 use Rattle.dom_model.specs.Forests.Forest.{HasNode}
@@ -28,3 +28,12 @@ returns-clause-replaced c =
     follows-replaced c.args.world.now c.make_text.new.world c.replace_children_checked-2.new.self c.args.text c.args.parent c.document_in-document.result c.in_ok-child.child
     (λ e. false≢true (sym c.if-is_empty.false ∙ c.is_empty.ensures.1 e)) c.document_in-document.ensures.document c.in_ok-child.ensures.number c.in_ok-child.ensures.made replaced)
     c.replace_children_checked-2.ensures.replaced
+
+pub returns-then-is_empty-clause-replaced : goal.returns-then-is_empty-clause-replaced
+returns-then-is_empty-clause-replaced c = search (tests, rules)
+
+pub returns-then-is_empty-clause-whole : goal.returns-then-is_empty-clause-whole
+returns-then-is_empty-clause-whole c = search (tests, rules)
+
+pub returns-clause-whole : goal.returns-clause-whole
+returns-clause-whole c = search (tests, rules)

@@ -1,5 +1,5 @@
 -- All data comes in at once, and then one Text after another leaves.
-use Rattle.std.proofs.Common.{ℕ, List, length, ap, sym, ◌∙◌}
+use Rattle.std.proofs.Common.{ℕ, List, length, ap, sym, ◌∙◌, tests, rules}
 use Rattle.std.proofs.lemmas.Result.{on_ok_weaker}
 use Rattle.dom_data.specs.Joining.{data_among}
 use Rattle.dom_data.proofs.FollowingTexts.{behind-held}
@@ -30,3 +30,6 @@ returns-clause-joined c =
     (c.len-base.ensures ∙ ap (λ (units : List ℕ). length units) c.data_in.ensures)
     c.in_ok-append_units.ensures.appended c.take_each_in.new.world)
     c.take_each_in.ensures.taken
+
+pub returns-clause-whole : goal.returns-clause-whole
+returns-clause-whole c = search (tests, rules)

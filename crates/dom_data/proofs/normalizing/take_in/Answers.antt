@@ -1,5 +1,6 @@
 -- The ends move, and the Text leaves.
-use Rattle.std.proofs.Common.{ℕ, ◌^◌, ◌<◌, List, length, subst, arith}
+use Rattle.std.proofs.Common.{ℕ, ◌^◌, ◌<◌, List, length, subst, arith, tests, rules}
+use Rattle.std.proofs.lemmas.Grind.{common_steps}
 use Rattle.dom_model.proofs.Forests.Entries.{occurs-HasNode}
 use Rattle.dom_data.proofs.Parting.{text-held}
 use Rattle.dom_data.proofs.Behind.{covered-there}
@@ -24,3 +25,12 @@ remove-requires-clause-whole c =
 pub returns-clause-taken : goal.returns-clause-taken
 returns-clause-taken c =
     follows-taken c.args.world.now c.requires.whole c.args.node c.args.parent c.args.base c.args.next c.requires.next.rest c.requires.next.joinable c.merged.new.self c.index_if_asked-index.result c.index_if_asked-index.ensures.asked c.merged.ensures c.remove.new.self c.in_ok-remove.ensures.removed
+
+pub overflow_add-result : goal.overflow_add-result
+overflow_add-result c = grind (arith, common_steps)
+
+pub returns-clause-further : goal.returns-clause-further
+returns-clause-further c = search (tests, rules)
+
+pub returns-clause-whole : goal.returns-clause-whole
+returns-clause-whole c = search (tests, rules)

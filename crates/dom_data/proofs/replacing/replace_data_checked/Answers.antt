@@ -1,5 +1,5 @@
 -- A count that is cut at the end.
-use Rattle.std.proofs.Common.{◌≤◌, ℕ, List, length, sym, ap, ◌∙◌, subst}
+use Rattle.std.proofs.Common.{◌≤◌, ℕ, List, length, sym, ap, ◌∙◌, subst, tests, rules}
 use Rattle.std.proofs.lemmas.Result.{on_ok_weaker}
 use Rattle.dom_model.specs.DataAndCopies.Data.{cut_count}
 use Rattle.dom_data.proofs.Marking.{stand-by_replace_data}
@@ -20,3 +20,6 @@ returns-clause-markers c =
     on_ok_weaker c.replace_units.result
     (stand-by_replace_data c.args.world.now c.replace_units.new.world c.requires.whole c.replace_units.ensures.whole c.args.node c.args.offset c.args.count c.args.added.now c.requires.kind
     c.requires.within) (returns-clause-replaced c)
+
+pub returns-clause-whole : goal.returns-clause-whole
+returns-clause-whole c = search (tests, rules)

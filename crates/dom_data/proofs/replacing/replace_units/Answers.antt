@@ -1,5 +1,5 @@
 -- Units replaced, with the ends behind them.
-use Rattle.std.proofs.Common.{◌≡◌, ◌+◌, ◌≤◌, true, length, refl, ap, sym, subst, arith}
+use Rattle.std.proofs.Common.{◌≡◌, ◌+◌, ◌≤◌, true, length, refl, ap, sym, subst, arith, tests, rules}
 use Rattle.dom_model.specs.Forests.Kinds.{is_character_data}
 use Rattle.dom_model.specs.Forests.Forest.{entry_in}
 use Rattle.dom_model.specs.Forests.Nodes.{kind_passes}
@@ -27,3 +27,6 @@ pub returns-clause-whole : goal.returns-clause-whole
 returns-clause-whole c =
     whole-replaced c.args.world.now c.tell_data.new.world _ c.args.node c.args.offset c.args.count c.args.added.now c.requires.whole c.tell_data.ensures.kept c.requires.kind c.requires.within
     c.in_ok-splice_data.ensures.ok c.spliced.ensures refl refl refl
+
+pub returns-clause-replaced : goal.returns-clause-replaced
+returns-clause-replaced c = search (tests, rules)

@@ -1,5 +1,5 @@
 -- All units, from the first on.
-use Rattle.std.proofs.Common.{ℕ, List, length, ap, ◌∙◌}
+use Rattle.std.proofs.Common.{ℕ, List, length, ap, ◌∙◌, tests, rules}
 use Rattle.std.proofs.lemmas.Result.{on_ok_weaker}
 use Rattle.dom_data.proofs.Marking.{stand-by_set_data}
 use Rattle.dom_data.proofs.StaysWhole.{follows-set}
@@ -12,3 +12,6 @@ returns-clause-set c =
 pub returns-clause-markers : goal.returns-clause-markers
 returns-clause-markers c =
     on_ok_weaker c.replace_units.result (stand-by_set_data c.args.world.now c.replace_units.new.world c.requires.whole c.replace_units.ensures.whole c.args.node c.args.text.now c.requires.kind) (returns-clause-set c)
+
+pub returns-clause-whole : goal.returns-clause-whole
+returns-clause-whole c = search (tests, rules)

@@ -1,5 +1,5 @@
 -- A new Text, its place behind the old one, and the old one without what is beyond.
-use Rattle.std.proofs.Common.{ℕ, ◌-◌, ◌≤◌, List, drop, length, ap, sym, ◌∙◌, subst}
+use Rattle.std.proofs.Common.{ℕ, ◌-◌, ◌≤◌, List, drop, length, ap, sym, ◌∙◌, subst, tests, rules}
 use Rattle.dom_model.specs.declared.Kind.TheVariants.{Text}
 use Rattle.dom_model.specs.Forests.Kinds.{is_kind}
 use Rattle.dom_data.proofs.NewTexts.{old-kind}
@@ -37,3 +37,9 @@ pub returns-clause-markers : goal.returns-clause-markers
 returns-clause-markers c =
     stand-by_split c.args.world.now c.replace_data_checked.new.world c.requires.whole c.replace_data_checked.ensures.whole c.args.node c.args.offset c.requires.kind
     c.requires.within (returns-clause-split c)
+
+pub returns-clause-number : goal.returns-clause-number
+returns-clause-number c = search (tests, rules)
+
+pub returns-clause-whole : goal.returns-clause-whole
+returns-clause-whole c = search (tests, rules)

@@ -1,5 +1,6 @@
 -- The next pending observer is told what waits for it.
-use Rattle.std.proofs.Common.{◌≡◌, ℕ, suc, ◌+◌, ◌==◌, ◌++◌, [], ◌∷◌, true, false, if◌then◌else◌, List, Some, None, length, filter, map, take, refl, ap, sym, ◌∙◌, arith, option_copied, nat_eq}
+use Rattle.std.proofs.Common.{◌≡◌, ℕ, suc, ◌+◌, ◌==◌, ◌++◌, [], ◌∷◌, true, false, if◌then◌else◌, List, Some, None, length, filter, map, take, refl, ap, sym, ◌∙◌, arith, option_copied, nat_eq, tests, rules}
+use Rattle.std.proofs.lemmas.Grind.{common_steps}
 use Rattle.std.specs.Prelude.{slice_index_or, slice_set, slice_get, Vec}
 use Rattle.std.specs.List.{IsDistinct}
 use Rattle.std.proofs.lemmas.List.{length-set}
@@ -62,3 +63,18 @@ loop-index-preserved c =
             left = λ p. inv.left p ∙ ap (λ ks. if among p ks then [] else slice_index_or qs0 p []) same_keys;
           })
     ]
+
+pub returns-in_err-push-clause-len : goal.returns-in_err-push-clause-len
+returns-in_err-push-clause-len c = grind (arith, common_steps)
+
+pub returns-clause-told : goal.returns-clause-told
+returns-clause-told c = grind (arith, common_steps)
+
+pub returns-clause-emptied : goal.returns-clause-emptied
+returns-clause-emptied c = grind (arith, common_steps)
+
+pub returns-clause-empty : goal.returns-clause-empty
+returns-clause-empty c = search (tests, rules)
+
+pub returns-clause-len : goal.returns-clause-len
+returns-clause-len c = search (tests, rules)

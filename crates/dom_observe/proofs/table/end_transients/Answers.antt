@@ -1,5 +1,5 @@
 -- Where there may be transient registrations they end, and otherwise there is none.
-use Rattle.std.proofs.Common.{false, subst}
+use Rattle.std.proofs.Common.{false, subst, tests, rules}
 use Rattle.std.specs.List.{AllByRecursion}
 use Rattle.dom_observe.specs.declared.registration.Ended.TheVariants.{Transient}
 use Rattle.dom_observe.specs.Watchers.{on}
@@ -21,3 +21,12 @@ pub returns-else-transient-clause-found : goal.returns-else-transient-clause-fou
 returns-else-transient-clause-found c = λ made all n.
     found-calm (at c.args.table.now) made n (on n (listed c.args.nodes.now.entries))
     (subst (λ t. AllByRecursion (StandsOn (at c.args.table.now) made t n) (on n (listed c.args.nodes.now.entries))) c.if-transient.false (all n))
+
+pub returns-then-transient-clause-unique : goal.returns-then-transient-clause-unique
+returns-then-transient-clause-unique c = search (tests, rules)
+
+pub returns-else-transient-clause-stand : goal.returns-else-transient-clause-stand
+returns-else-transient-clause-stand c = search (tests, rules)
+
+pub returns-else-transient-clause-unique : goal.returns-else-transient-clause-unique
+returns-else-transient-clause-unique c = search (tests, rules)

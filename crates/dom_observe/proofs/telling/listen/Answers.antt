@@ -1,5 +1,6 @@
 -- Each key gives one more listener, or none.
-use Rattle.std.proofs.Common.{◌≡◌, ℕ, ◌<◌, ◌==◌, ◌||◌, ◌++◌, Bool, true, false, if◌then◌else◌, Some, None, take, refl, nat_eq, ap, sym, ◌∙◌, subst, append-nil}
+use Rattle.std.proofs.Common.{◌≡◌, ℕ, ◌<◌, ◌==◌, ◌||◌, ◌++◌, Bool, true, false, if◌then◌else◌, Some, None, take, refl, nat_eq, ap, sym, ◌∙◌, subst, append-nil, arith}
+use Rattle.std.proofs.lemmas.Grind.{common_steps}
 use Rattle.std.specs.Prelude.{slice_index_or, unwrap_or, option_to_list}
 use Rattle.std.specs.List.{AllByRecursion}
 use Rattle.std.specs.Map.{keys_of, lookup}
@@ -82,3 +83,9 @@ loop-key-init c = record {
   known = λ made s. subst (λ es. AllByRecursion (λ o. o < made) (keys_of es)) (sym c.new-heard.ensures.empty) tt;
   unique = c.new-heard.ensures.unique;
 }
+
+pub returns-clause-heard : goal.returns-clause-heard
+returns-clause-heard c = grind (arith, common_steps)
+
+pub returns-clause-pending : goal.returns-clause-pending
+returns-clause-pending c = grind (arith, common_steps)

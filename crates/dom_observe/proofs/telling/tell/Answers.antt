@@ -1,5 +1,6 @@
 -- Each listener gets its record once.
-use Rattle.std.proofs.Common.{◌≡◌, ℕ, ◌<◌, ◌==◌, ◌++◌, [], ◌∷◌, Bool, true, false, if◌then◌else◌, List, Option, Some, None, length, take, nat_eq, refl, ap, sym, ◌∙◌, subst, append-nil, arith, suc, ◌+◌, option_map, Bor}
+use Rattle.std.proofs.Common.{◌≡◌, ℕ, ◌<◌, ◌==◌, ◌++◌, [], ◌∷◌, Bool, true, false, if◌then◌else◌, List, Option, Some, None, length, take, nat_eq, refl, ap, sym, ◌∙◌, subst, append-nil, arith, suc, ◌+◌, option_map, Bor, tests, rules}
+use Rattle.std.proofs.lemmas.Grind.{common_steps}
 use Rattle.std.specs.Prelude.{slice_index_or, slice_get}
 use Rattle.std.specs.Map.{lookup}
 use Rattle.dom_model.specs.Worlds.World.{Mutation}
@@ -62,3 +63,12 @@ loop-index-preserved c =
             told = λ p. inv.told p ∙ sym (ap (λ k. slice_index_or (queues_of c.args.queues.now.items) p [] ++ delivered m (lookup (nat_eq p) k)) (ap (λ k. take k es) next ∙ take-none es i none));
           })
     ]
+
+pub returns-clause-ok : goal.returns-clause-ok
+returns-clause-ok c = grind (arith, common_steps)
+
+pub returns-clause-others : goal.returns-clause-others
+returns-clause-others c = grind (arith, common_steps)
+
+pub returns-clause-len : goal.returns-clause-len
+returns-clause-len c = search (tests, rules)

@@ -1,4 +1,5 @@
-use Rattle.std.proofs.Common.{[], ◌∷◌, Some, length, refl, sym, ap, ◌∙◌, arith, length-append}
+use Rattle.std.proofs.Common.{[], ◌∷◌, Some, length, refl, sym, ap, ◌∙◌, arith, length-append, tests, rules}
+use Rattle.std.proofs.lemmas.Grind.{common_steps}
 use Rattle.std.proofs.lemmas.List.{append-nil}
 use Rattle.dom_ranges.specs.Chained.{points_of, covers, chained_first}
 use Rattle.dom_ranges.proofs.Steps.{has-after, same-length, points-length}
@@ -51,3 +52,39 @@ returns-in-Some-clause-few c =
 pub returns-clause-few : goal.returns-clause-few
 returns-clause-few c =
     omega (arith, ap length c.in_ok-add.ensures.added, length-append (points_of c.args.chains.now.table.items) (Some c.args.start ∷ Some c.args.end ∷ []), points-length c.args.chains.now.table.items, points-length c.add.new.self.table.items)
+
+pub returns-in_err-add-clause-err_kept : goal.returns-in_err-add-clause-err_kept
+returns-in_err-add-clause-err_kept c = grind (arith, common_steps)
+
+pub returns-in_err-add-clause-err_filled : goal.returns-in_err-add-clause-err_filled
+returns-in_err-add-clause-err_filled c = grind (arith, common_steps)
+
+pub returns-in-Some-clause-covered : goal.returns-in-Some-clause-covered
+returns-in-Some-clause-covered c = search (tests, rules)
+
+pub returns-in-Some-clause-err_points : goal.returns-in-Some-clause-err_points
+returns-in-Some-clause-err_points c = search (tests, rules)
+
+pub returns-in-Some-clause-err_kept : goal.returns-in-Some-clause-err_kept
+returns-in-Some-clause-err_kept c = search (tests, rules)
+
+pub returns-in-Some-clause-err_vacant : goal.returns-in-Some-clause-err_vacant
+returns-in-Some-clause-err_vacant c = search (tests, rules)
+
+pub returns-in-Some-clause-err_filled : goal.returns-in-Some-clause-err_filled
+returns-in-Some-clause-err_filled c = search (tests, rules)
+
+pub returns-clause-covered : goal.returns-clause-covered
+returns-clause-covered c = search (tests, rules)
+
+pub returns-clause-err_points : goal.returns-clause-err_points
+returns-clause-err_points c = search (tests, rules)
+
+pub returns-clause-err_kept : goal.returns-clause-err_kept
+returns-clause-err_kept c = search (tests, rules)
+
+pub returns-clause-err_vacant : goal.returns-clause-err_vacant
+returns-clause-err_vacant c = search (tests, rules)
+
+pub returns-clause-err_filled : goal.returns-clause-err_filled
+returns-clause-err_filled c = search (tests, rules)

@@ -1,4 +1,4 @@
-use Rattle.std.proofs.Common.{◌≡◌, false, length, arith, refl}
+use Rattle.std.proofs.Common.{◌≡◌, false, length, arith, refl, tests, rules}
 use Rattle.dom_serve.specs.Tells.{is_write, is_write_fault}
 use Rattle.dom_serve.proofs.Calls.{IsWritten-none, IsWritten-more, HasAnswered-none, HasAnswered-more, HasAnswered-passed, HasAnswered-asked}
 use Rattle.dom_serve.proofs.Told.{so_far-none, so_far-more, told-concluded, told-fed, some-read, most-read, lines-more}
@@ -75,3 +75,27 @@ loop-turn-preserved g c =
           so_far-more _ _ b c.loop-turn._turn _ _ _ c.loop-turn.server _ _ _ _ _ p c.in-Ok.ensures.gives c.in-Ok.ensures.bytes.0
           (some-read _ _ c.in-Ok.ensures.count c.in-Ok.n-test.1) (most-read c.in-Ok.n c.read_piece.new.buffer size) (c.in_default.ensures.fed b _ p.stands);
     }
+
+pub returns-in-Ok-eq0-clause-at_end : goal.returns-in-Ok-eq0-clause-at_end
+returns-in-Ok-eq0-clause-at_end g c = search (tests, rules)
+
+pub returns-in-Err-feed_all-clause-at_end : goal.returns-in-Err-feed_all-clause-at_end
+returns-in-Err-feed_all-clause-at_end g c = search (tests, rules)
+
+pub returns-in-Err-clause-told : goal.returns-in-Err-clause-told
+returns-in-Err-clause-told g c = search (tests, rules)
+
+pub returns-in-Err-clause-at_end : goal.returns-in-Err-clause-at_end
+returns-in-Err-clause-at_end g c = search (tests, rules)
+
+pub returns-in-Err-clause-writer : goal.returns-in-Err-clause-writer
+returns-in-Err-clause-writer g c = search (tests, rules)
+
+pub returns-clause-told : goal.returns-clause-told
+returns-clause-told g c = search (tests, rules)
+
+pub returns-clause-at_end : goal.returns-clause-at_end
+returns-clause-at_end g c = search (tests, rules)
+
+pub returns-clause-writer : goal.returns-clause-writer
+returns-clause-writer g c = search (tests, rules)

@@ -1,4 +1,5 @@
-use Rattle.std.proofs.Common.{true, false}
+use Rattle.std.proofs.Common.{true, false, tests, rules, arith}
+use Rattle.std.proofs.lemmas.Grind.{common_steps}
 use Rattle.dom_serve.proofs.Texts.{within, Appends-more, AppendsFront-kept}
 use Rattle.dom_serve.proofs.Calls.{IsWritten-one, IsWritten-failed, IsWritten-more}
 use Rattle.dom_serve.proofs.writing.write_whole.Goals as goal
@@ -18,3 +19,9 @@ pub returns-in-Err-clause-writer : goal.returns-in-Err-clause-writer
 returns-in-Err-clause-writer g c =
     IsWritten-more g.W.Sink.works g.W.Sink.fails true c.args.writer.now c.loop-at.writer c.write.new.self c.loop-at.invariant.writer
     (IsWritten-failed g.W.Sink.works g.W.Sink.fails c.loop-at.writer c.write.new.self c.in-Err.ensures.fails)
+
+pub returns-clause-written : goal.returns-clause-written
+returns-clause-written g c = grind (arith, common_steps)
+
+pub returns-clause-writer : goal.returns-clause-writer
+returns-clause-writer g c = search (tests, rules)

@@ -1,4 +1,5 @@
-use Rattle.std.proofs.Common.{◌≡◌, true, sym, ◌∙◌, subst}
+use Rattle.std.proofs.Common.{◌≡◌, true, sym, ◌∙◌, subst, arith}
+use Rattle.std.proofs.lemmas.Grind.{common_steps}
 use Rattle.std.specs.Prelude.{is_some}
 use Rattle.dom_model.specs.Forests.Forest.{entry_in}
 use Rattle.dom_model.specs.Worlds.Lengths.{unit_count}
@@ -47,3 +48,9 @@ returns-in-Err c =
       step = λ b. step-stays b (ComparePoint r n c.args.offset) (Dom c.in-Err.error) v
           (λ w shown. refusal-compare_point v b w shown r n live there c.args.offset range c.ends.ensures.ends root c.in-Err.error check);
     }
+
+pub same_root-requires-clause-b_held : goal.same_root-requires-clause-b_held
+same_root-requires-clause-b_held c = grind (arith, common_steps)
+
+pub place-requires-clause-stands : goal.place-requires-clause-stands
+place-requires-clause-stands c = grind (arith, common_steps)

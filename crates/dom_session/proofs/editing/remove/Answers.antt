@@ -1,4 +1,5 @@
-use Rattle.std.proofs.Common.{◌≡◌, true, false, ◌∙◌}
+use Rattle.std.proofs.Common.{◌≡◌, true, false, ◌∙◌, arith}
+use Rattle.std.proofs.lemmas.Grind.{common_steps}
 use Rattle.std.specs.Prelude.{is_some}
 use Rattle.dom_model.specs.Forests.Forest.{entry_in}
 use Rattle.dom_session.specs.declared.reply.Answer.TheVariants.{Nothing}
@@ -21,3 +22,6 @@ returns-clause-step c b =
     step-follows b (Remove n) (Done Nothing) old c.remove.new.self (remove false n)
     (λ w shown. answer-remove old b n w shown hn kind)
     c.in_ok-remove.ensures.removed c.remove.ensures.whole
+
+pub returns-then-not-is_child_node-clause-step : goal.returns-then-not-is_child_node-clause-step
+returns-then-not-is_child_node-clause-step c = grind (arith, common_steps)

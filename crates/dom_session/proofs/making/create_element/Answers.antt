@@ -1,4 +1,4 @@
-use Rattle.std.proofs.Common.{sym, true, ◌≡◌, string_bytes, ◌∙◌}
+use Rattle.std.proofs.Common.{sym, true, ◌≡◌, string_bytes, ◌∙◌, tests, rules}
 use Rattle.dom_model.specs.declared.Kind.TheVariants.{Element}
 use Rattle.dom_model.specs.Forests.Names.{is_element_name}
 use Rattle.dom_model.specs.Worlds.World.{no_content}
@@ -23,3 +23,9 @@ pub returns-in-Some-clause-step : goal.returns-in-Some-clause-step
 returns-in-Some-clause-step c =
     step-stays (numbered c.args.numbers) (CreateElement c.args.document (string_bytes c.args.name)) c.in-Some.reply c.args.world.now
     (λ w shown. refused-create_element c.args.world.now c.args.numbers c.args.document (string_bytes c.args.name) w (reply_view c.in-Some.reply) shown (sym c.in-Some.ensures))
+
+pub returns-in-Some-clause-refused : goal.returns-in-Some-clause-refused
+returns-in-Some-clause-refused c = search (tests, rules)
+
+pub returns-clause-refused : goal.returns-clause-refused
+returns-clause-refused c = search (tests, rules)

@@ -1,4 +1,4 @@
-use Rattle.std.proofs.Common.{refl, ◌∙◌}
+use Rattle.std.proofs.Common.{refl, ◌∙◌, tests, rules}
 use Rattle.dom_session.specs.declared.reply.Answer.TheVariants.{Notified}
 use Rattle.dom_session.specs.declared.reply.Reply.TheVariants.{Done}
 use Rattle.dom_session.proofs.ObserverSteps.{step-notify}
@@ -8,3 +8,6 @@ pub returns-clause-step : goal.returns-clause-step
 returns-clause-step c = λ b.
     step-notify c.args.world.now c.requires.shown.shows.whole b c.in_ok-all_told.field-0.items c.notify.new.self (Done (Notified c.in_ok-all_told.field-0)) refl
     (λ x h. c.in_ok-all_told.ensures ∙ c.in_ok-all.ensures.told x h) c.in_ok-all.ensures.after
+
+pub returns-clause-refused : goal.returns-clause-refused
+returns-clause-refused c = search (tests, rules)

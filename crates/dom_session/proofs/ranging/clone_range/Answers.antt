@@ -1,4 +1,5 @@
 use Rattle.std.proofs.Common.{◌≡◌, ◌+◌, nat_lt, false, length, [], ◌∷◌, ◌++◌, Some, arith, ◌∙◌}
+use Rattle.std.proofs.lemmas.Grind.{common_steps}
 use Rattle.std.proofs.lemmas.Bool.Decides.{nat_tests}
 use Rattle.dom_model.specs.Worlds.World.{Range}
 use Rattle.dom_model.specs.Commands.Command.{CloneRange}
@@ -19,3 +20,6 @@ returns-clause-step c =
     rw number
     (step-ranges (numbered c.args.numbers) (CloneRange c.args.range) (Done (Number n)) old c.make.new.self (old.ranges.ranges ++ Some range ∷ []) c.requires.shown c.in_ok-id.ensures.made
     (λ w shown. answer-clone_range old (numbered c.args.numbers) w shown c.args.range range c.ends-start.ensures.ends room))
+
+pub make-requires-clause-in_order : goal.make-requires-clause-in_order
+make-requires-clause-in_order c = grind (arith, common_steps)

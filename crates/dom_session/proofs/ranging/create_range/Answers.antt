@@ -1,4 +1,5 @@
 use Rattle.std.proofs.Common.{◌≡◌, ◌+◌, nat_lt, true, false, length, [], ◌∷◌, ◌++◌, Some, arith, ◌∙◌, rules}
+use Rattle.std.proofs.lemmas.Grind.{common_steps}
 use Rattle.std.proofs.lemmas.Bool.Decides.{nat_tests}
 use Rattle.std.specs.Prelude.{is_some}
 use Rattle.dom_model.specs.declared.Kind.TheVariants.{Document}
@@ -41,3 +42,6 @@ returns-clause-step c =
     rw number
     (step-ranges (numbered c.args.numbers) (CreateRange d) (Done (Number n)) old c.make.new.self (old.ranges.ranges ++ Some (collapsed_at (record { node = d; offset = 0 })) ∷ []) c.requires.shown c.in_ok-id.ensures.made
     (λ w shown. answer-create_range old (numbered c.args.numbers) w shown d there kind room))
+
+pub returns-then-ne-clause-step : goal.returns-then-ne-clause-step
+returns-then-ne-clause-step c = grind (arith, common_steps)

@@ -1,4 +1,5 @@
-use Rattle.std.proofs.Common.{◌≡◌, true, sym, ◌∙◌}
+use Rattle.std.proofs.Common.{◌≡◌, true, sym, ◌∙◌, arith}
+use Rattle.std.proofs.lemmas.Grind.{common_steps}
 use Rattle.std.specs.Prelude.{is_some}
 use Rattle.dom_model.specs.Forests.Forest.{entry_in}
 use Rattle.dom_model.specs.Worlds.Lengths.{unit_count}
@@ -39,3 +40,6 @@ returns-in-Err-clause-step c b =
     let check = told (check_point unit_count old.tree.forest p) c.in-Err.error (sym c.in-Err.is ∙ c.set_end.ensures.refusal) in
     step-refused b (SetEnd r n c.args.offset) (Dom c.in-Err.error) old c.set_end.new.self c.in-Err.ensures.unchanged
     (λ w shown. refusal-set_end old b w shown r n live there c.args.offset c.in-Err.error check)
+
+pub set_end-requires-clause-stands : goal.set_end-requires-clause-stands
+set_end-requires-clause-stands c = grind (arith, common_steps)

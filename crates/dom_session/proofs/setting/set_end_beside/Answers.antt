@@ -1,4 +1,5 @@
-use Rattle.std.proofs.Common.{◌≡◌, true, subst, ◌∙◌}
+use Rattle.std.proofs.Common.{◌≡◌, true, subst, ◌∙◌, arith}
+use Rattle.std.proofs.lemmas.Grind.{common_steps}
 use Rattle.std.specs.Prelude.{IfSome, is_some}
 use Rattle.dom_model.specs.Forests.Forest.{entry_in}
 use Rattle.dom_model.specs.Soundness.Sound.{IsBoundary}
@@ -26,3 +27,6 @@ returns-in-Ok-clause-step c b d e =
     let there : is_some (entry_in old.tree.forest n) ≡ true = cc in
     step-set b d (Done Nothing) old c.set_end.new.self r (range_in old.ranges r) (λ range. end_set old.tree.forest c.in-Some.point range) c.requires.shown live c.in-Ok.ensures.set
     (λ range held w shown. e w shown ∙ answer-sets_end old b w shown r n live there c.args.point c.in-Some.point range c.in-Some.is held)
+
+pub set_end-requires-clause-stands : goal.set_end-requires-clause-stands
+set_end-requires-clause-stands c = grind (arith, common_steps)

@@ -1,5 +1,5 @@
 -- Back to the end of a sibling, or up.
-use Rattle.std.proofs.Common.{rules, ◌≡◌, ◌*◌, Some, None, refl, sym, ◌∙◌}
+use Rattle.std.proofs.Common.{rules, ◌≡◌, ◌*◌, Some, None, refl, sym, ◌∙◌, tests}
 use Rattle.dom_model.specs.Forests.Forest.{size}
 use Rattle.dom_model.specs.Traversal.WalkSteps.{back_past_node, previous_step}
 use Rattle.dom_model.proofs.Forests.Entries.{occurs-HasNode}
@@ -87,3 +87,6 @@ loop-sibling-preserved g c =
           Walks-on c.loop-sibling.invariant.walks
           (back-up f c.args.filter.now c.args.root c.args.current (4 * size f) c.loop-sibling.here c.in_ok-here.here (sym c.prev.ensures ∙ c.in_default.is) (sym c.eq-in_default.ensures ∙ c.if-eq-2.false) (sym c.parent.ensures ∙ c.in_ok-here.was) (sym c.accepts-in_default.ensures ∙ c.if-accepts-2.false) (sym c.eq-in_default-2.ensures ∙ c.if-eq-3.false)).leads;
     }
+
+pub returns-then-eq : goal.returns-then-eq
+returns-then-eq g c = search (tests, rules)

@@ -1,4 +1,5 @@
-use Rattle.std.proofs.Common.{true, false, ap, sym, ◌∙◌}
+use Rattle.std.proofs.Common.{true, false, ap, sym, ◌∙◌, arith}
+use Rattle.std.proofs.lemmas.Grind.{common_steps}
 use Rattle.dom_model.specs.Worlds.World.{Point, Range}
 use Rattle.dom_content.proofs.RangeTexts.{range-held}
 use Rattle.dom_wrap.proofs.AllowCode.{near-as, told-deep, told-odd, told-unplaceable, told-allowed}
@@ -38,3 +39,21 @@ returns c =
     (near-as v.tree.forest range c.start.inside.node c.end.inside.node c.common-common.result (ap (λ (p : Point). p.node) c.start.view_is) (ap (λ (p : Point). p.node) c.end.view_is) c.common-common.ensures
     false (sym c.is_deep.ensures ∙ c.if-is_deep.false))
     (sym c.is_invalid_parent.ensures ∙ c.if-is_invalid_parent.false) (sym c.is_unplaceable.ensures ∙ c.if-is_unplaceable.false)
+
+pub common-common-requires-clause-a_held : goal.common-common-requires-clause-a_held
+common-common-requires-clause-a_held c = grind (arith, common_steps)
+
+pub common-common-requires-clause-b_held : goal.common-common-requires-clause-b_held
+common-common-requires-clause-b_held c = grind (arith, common_steps)
+
+pub common-common-requires-clause-one_root : goal.common-common-requires-clause-one_root
+common-common-requires-clause-one_root c = grind (arith, common_steps)
+
+pub is_deep-requires-clause-start_held : goal.is_deep-requires-clause-start_held
+is_deep-requires-clause-start_held c = grind (arith, common_steps)
+
+pub is_deep-requires-clause-end_held : goal.is_deep-requires-clause-end_held
+is_deep-requires-clause-end_held c = grind (arith, common_steps)
+
+pub is_unplaceable-requires-clause-range : goal.is_unplaceable-requires-clause-range
+is_unplaceable-requires-clause-range c = grind (arith, common_steps)

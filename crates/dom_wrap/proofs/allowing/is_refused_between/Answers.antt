@@ -1,4 +1,5 @@
-use Rattle.std.proofs.Common.{sym, ◌∙◌}
+use Rattle.std.proofs.Common.{sym, ◌∙◌, arith}
+use Rattle.std.proofs.lemmas.Grind.{common_steps}
 use Rattle.dom_model.specs.Worlds.World.{Range}
 use Rattle.dom_wrap.proofs.AllowCode.{behind-among, between-doctypes}
 use Rattle.dom_wrap.proofs.allowing.is_refused_between.Goals as goal
@@ -14,3 +15,6 @@ returns c =
     between-doctypes c.args.world.now c.requires.whole range c.requires.range c.args.common c.requires.common c.args.node
     (sym c.is_ancestor.ensures ∙ c.if-is_ancestor.false) (sym c.is_of_kind.ensures ∙ c.if-not-is_of_kind.false) (sym c.leaves_element.ensures ∙ c.if-leaves_element.false)
     c.first_behind-behind.result c.first_behind-behind.ensures c.has_doctype_from.result c.has_doctype_from.ensures
+
+pub returns-then-leaves_element : goal.returns-then-leaves_element
+returns-then-leaves_element c = grind (arith, common_steps)

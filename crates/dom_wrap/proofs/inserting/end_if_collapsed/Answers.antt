@@ -1,4 +1,5 @@
-use Rattle.std.proofs.Common.{sym}
+use Rattle.std.proofs.Common.{sym, tests, rules, arith}
+use Rattle.std.proofs.lemmas.Grind.{common_steps}
 use Rattle.dom_model.specs.Worlds.World.{Range}
 use Rattle.dom_content.specs.dom_edit.Leaving.{held-covered}
 use Rattle.dom_wrap.proofs.InsertedNode.{grown-range, set-done, follows-ended, whole-ended}
@@ -32,3 +33,18 @@ returns-then-eq-clause-whole c =
     let collapsed = sym c.if-eq.ensures in
     let is = set-done v c.requires.whole c.args.range c.args.end range e c.requires.sound collapsed c.set_end.new.self c.set_end.result c.set_end.ensures.refusal c.set_end.ensures.set in
     whole-ended v c.requires.whole c.args.range c.args.end range e c.set_end.new.self is c.requires.sound collapsed
+
+pub set_end-requires-clause-stands : goal.set_end-requires-clause-stands
+set_end-requires-clause-stands c = grind (arith, common_steps)
+
+pub returns-then-not-holds-clause-ended : goal.returns-then-not-holds-clause-ended
+returns-then-not-holds-clause-ended c = search (tests, rules)
+
+pub returns-then-not-holds-clause-whole : goal.returns-then-not-holds-clause-whole
+returns-then-not-holds-clause-whole c = search (tests, rules)
+
+pub returns-else-eq-clause-ended : goal.returns-else-eq-clause-ended
+returns-else-eq-clause-ended c = search (tests, rules)
+
+pub returns-else-eq-clause-whole : goal.returns-else-eq-clause-whole
+returns-else-eq-clause-whole c = search (tests, rules)

@@ -1,3 +1,5 @@
+use Rattle.std.proofs.Common.{arith}
+use Rattle.std.proofs.lemmas.Grind.{common_steps}
 use Rattle.dom_model.specs.Worlds.World.{Range}
 use Rattle.dom_wrap.proofs.InsertedNode.{may-insert}
 use Rattle.dom_wrap.proofs.Marking.{stand-by_insert_node}
@@ -12,3 +14,6 @@ pub returns-clause-markers : goal.returns-clause-markers
 returns-clause-markers c =
     stand-by_insert_node c.args.world.now c.insert_at_start.new.world c.requires.whole c.insert_at_start.ensures.whole c.args.range c.args.node c.requires.node_held
     c.in_ok-insert_at_start.ensures.allowed c.in_ok-insert_at_start.ensures.inserted
+
+pub check-requires-clause-start_held : goal.check-requires-clause-start_held
+check-requires-clause-start_held c = grind (arith, common_steps)

@@ -1,4 +1,4 @@
-use Rattle.std.proofs.Common.{false}
+use Rattle.std.proofs.Common.{false, tests, rules}
 use Rattle.dom_model.proofs.Forests.Entries.{HasNode-occurs, occurs-HasNode}
 use Rattle.dom_content.specs.dom_edit.InsertedNodes.{there-removed}
 use Rattle.dom_wrap.proofs.InsertedNode.{passes-out, placed-allowed, may-end, follows-placed}
@@ -37,3 +37,6 @@ returns-clause-placed c =
     let passes = passes-out c.args.world.now c.remove.new.self c.args.range c.args.node c.args.parent c.args.reference c.in_ok-remove.ensures.removed c.requires.placeable in
     follows-placed c.args.world.now c.remove.new.self c.insert_checked.new.self c.args.range c.args.node c.args.parent c.args.reference c.in_ok-offset.offset c.in_ok-remove.ensures.removed c.in_ok-offset.ensures passes
     c.in_ok-insert_checked.ensures.inserted c.end_if_collapsed.new.world c.end_if_collapsed.ensures.ended
+
+pub returns-clause-whole : goal.returns-clause-whole
+returns-clause-whole c = search (tests, rules)

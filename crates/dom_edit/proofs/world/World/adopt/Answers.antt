@@ -1,4 +1,4 @@
-use Rattle.std.proofs.Common.{◌≡◌, false, refl, ap, ◌∙◌, arith}
+use Rattle.std.proofs.Common.{◌≡◌, false, refl, ap, ◌∙◌, arith, tests, rules}
 use Rattle.std.proofs.lemmas.Bool.Decides.{nat_tests}
 use Rattle.dom_model.specs.Forests.Forest.{Grove}
 use Rattle.dom_model.specs.Worlds.World.{Content}
@@ -42,3 +42,36 @@ pub returns-else-ne-clause-markers : goal.returns-else-ne-clause-markers
 returns-else-ne-clause-markers c =
     let out = c.remove_node.new.self in
     stand-by_adopt c.args.self.now out c.requires.whole c.in_ok-remove_node.ensures.whole out c.args.node c.in_ok-remove_node.ensures.removed refl refl
+
+pub returns-then-eq-clause-allowed : goal.returns-then-eq-clause-allowed
+returns-then-eq-clause-allowed c = search (tests, rules)
+
+pub returns-then-eq-clause-adopted : goal.returns-then-eq-clause-adopted
+returns-then-eq-clause-adopted c = search (tests, rules)
+
+pub returns-then-eq-clause-markers : goal.returns-then-eq-clause-markers
+returns-then-eq-clause-markers c = search (tests, rules)
+
+pub returns-then-eq-clause-refused : goal.returns-then-eq-clause-refused
+returns-then-eq-clause-refused c = search (tests, rules)
+
+pub returns-then-eq-clause-whole : goal.returns-then-eq-clause-whole
+returns-then-eq-clause-whole c = search (tests, rules)
+
+pub returns-then-ne-clause-allowed : goal.returns-then-ne-clause-allowed
+returns-then-ne-clause-allowed c = search (tests, rules)
+
+pub returns-then-ne-clause-adopted : goal.returns-then-ne-clause-adopted
+returns-then-ne-clause-adopted c = search (tests, rules)
+
+pub returns-then-ne-clause-refused : goal.returns-then-ne-clause-refused
+returns-then-ne-clause-refused c = search (tests, rules)
+
+pub returns-else-ne-clause-allowed : goal.returns-else-ne-clause-allowed
+returns-else-ne-clause-allowed c = search (tests, rules)
+
+pub returns-else-ne-clause-refused : goal.returns-else-ne-clause-refused
+returns-else-ne-clause-refused c = search (tests, rules)
+
+pub returns-else-ne-clause-whole : goal.returns-else-ne-clause-whole
+returns-else-ne-clause-whole c = search (tests, rules)

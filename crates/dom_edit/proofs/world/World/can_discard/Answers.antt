@@ -1,5 +1,5 @@
 use Rattle.std.specs.Prelude.{None, is_some}
-use Rattle.std.proofs.Common.{◌≡◌, false, refl, ap, sym, ◌∙◌}
+use Rattle.std.proofs.Common.{◌≡◌, false, refl, ap, sym, ◌∙◌, tests, rules}
 use Rattle.dom_model.specs.declared.Kind.TheVariants.{Document}
 use Rattle.dom_model.specs.Forests.Forest.{parent_of}
 use Rattle.dom_model.specs.Forests.Nodes.{is_of_kind}
@@ -14,3 +14,9 @@ returns-then-not-is_of_kind c w s =
     let other : is_of_kind Document v.tree.forest c.args.top ≡ false = sym c.is_of_kind.ensures ∙ c.if-not-is_of_kind.true in
     let free = not_in_use v w c.args.top c.is_named.result s.keeps (c.is_named.ensures w s) c.if-is_named.false (root-not_held v c.requires.whole c.args.top root other) in
     rw (c.if-not-is_of_kind.true, free) refl
+
+pub returns-then-is_some : goal.returns-then-is_some
+returns-then-is_some c = search (tests, rules)
+
+pub returns-else-not-is_of_kind : goal.returns-else-not-is_of_kind
+returns-else-not-is_of_kind c = search (tests, rules)

@@ -1,4 +1,4 @@
-use Rattle.std.proofs.Common.{refl}
+use Rattle.std.proofs.Common.{refl, tests, rules}
 use Rattle.dom_edit.specs.declared.world.World.{World}
 use Rattle.dom_edit.proofs.Naming.{no-end-inside, whole-left}
 use Rattle.dom_edit.proofs.world.World.discard.Goals as goal
@@ -16,3 +16,6 @@ returns-clause-whole c =
     let w = c.requires.shown.stands_for in
     let s = c.requires.shown.shows in
     whole-left v new w c.args.top s (c.requires.unused w s) c.free.ensures c.forget.ensures refl refl refl
+
+pub returns-clause-discarded : goal.returns-clause-discarded
+returns-clause-discarded c = search (tests, rules)

@@ -1,4 +1,4 @@
-use Rattle.std.proofs.Common.{sym, ◌∙◌}
+use Rattle.std.proofs.Common.{sym, ◌∙◌, tests, rules}
 use Rattle.std.proofs.lemmas.Result.{on_ok_weaker}
 use Rattle.dom_model.proofs.Forests.Entries.{HasNode-occurs}
 use Rattle.dom_edit.proofs.InsertedNodes.{open-freed, follows-insert}
@@ -16,3 +16,18 @@ returns-clause-inserted c =
     on_ok_weaker c.insert_all.result
     (follows-insert c.args.self.now c.free.new.self c.insert_all.new.self c.args.node c.args.parent c.args.child c.args.nodes.now c.args.suppressed (sym c.is_empty.ensures ∙ c.if-is_empty.false) c.requires.nodes c.in_ok-free.ensures.freed)
     c.insert_all.ensures.inserted
+
+pub returns-then-is_empty-clause-inserted : goal.returns-then-is_empty-clause-inserted
+returns-then-is_empty-clause-inserted c = search (tests, rules)
+
+pub returns-then-is_empty-clause-parent_held : goal.returns-then-is_empty-clause-parent_held
+returns-then-is_empty-clause-parent_held c = search (tests, rules)
+
+pub returns-then-is_empty-clause-whole : goal.returns-then-is_empty-clause-whole
+returns-then-is_empty-clause-whole c = search (tests, rules)
+
+pub returns-clause-parent_held : goal.returns-clause-parent_held
+returns-clause-parent_held c = search (tests, rules)
+
+pub returns-clause-whole : goal.returns-clause-whole
+returns-clause-whole c = search (tests, rules)

@@ -1,4 +1,4 @@
-use Rattle.std.proofs.Common.{[], None, sym, ◌∙◌}
+use Rattle.std.proofs.Common.{[], None, sym, ◌∙◌, tests, rules}
 use Rattle.std.proofs.lemmas.Result.{on_ok_weaker}
 use Rattle.dom_model.specs.MutationAlgorithms.Editing.{remove_all, freed, emptied_fragment, tree_record}
 use Rattle.dom_model.proofs.Forests.Entries.{HasNode-occurs, occurs-HasNode}
@@ -27,3 +27,12 @@ returns-then-is_of_kind-clause-freed c =
     (λ r. follows-as v new (emptied_fragment n ns) (freed n ns) (freed-fragment v n ns (sym c.is_of_kind.ensures ∙ c.if-is_of_kind.true))
     (follows-then v mid new (remove_all ns) (tree_record n [] ns None None) c.in_ok-remove_all.ensures.removed r))
     c.queue_tree_record.ensures.queued
+
+pub returns-then-is_of_kind-clause-whole : goal.returns-then-is_of_kind-clause-whole
+returns-then-is_of_kind-clause-whole c = search (tests, rules)
+
+pub returns-clause-freed : goal.returns-clause-freed
+returns-clause-freed c = search (tests, rules)
+
+pub returns-clause-whole : goal.returns-clause-whole
+returns-clause-whole c = search (tests, rules)

@@ -1,3 +1,4 @@
+use Rattle.std.proofs.Common.{tests, rules}
 use Rattle.std.proofs.lemmas.Result.{on_ok_weaker}
 use Rattle.dom_edit.proofs.Marking.{stand-by_pre_insert}
 use Rattle.dom_edit.proofs.ReplacedNodes.{insertable-checked, follows-pre_insert}
@@ -14,3 +15,9 @@ returns-clause-markers c =
     (λ f. stand-by_pre_insert v c.insert.new.self c.requires.whole c.insert.ensures.whole c.args.node c.args.parent c.args.child c.requires.node_held c.requires.allowed
     (follows-pre_insert v c.insert.new.self c.args.node c.args.parent c.args.child c.reference_child-reference.result c.reference_child-reference.ensures f))
     c.insert.ensures.inserted
+
+pub returns-clause-inserted : goal.returns-clause-inserted
+returns-clause-inserted c = search (tests, rules)
+
+pub returns-clause-whole : goal.returns-clause-whole
+returns-clause-whole c = search (tests, rules)

@@ -1,4 +1,4 @@
-use Rattle.std.proofs.Common.{◌≡◌, ◌+◌, refl, ap, ◌∙◌}
+use Rattle.std.proofs.Common.{◌≡◌, ◌+◌, refl, ap, ◌∙◌, tests, rules}
 use Rattle.dom_ranges.specs.Chained.{covered_to}
 use Rattle.dom_observe.proofs.Outcomes.{by_outcome}
 use Rattle.dom_edit.specs.declared.world.World.{World}
@@ -15,3 +15,9 @@ returns-clause-whole c =
     (λ made. whole-made v new c.args.document c.args.label c.args.content c.requires.whole c.requires.document_kind c.requires.own_document
     (follows-made v new c.args.document c.args.label c.args.content made ranges refl refl refl refl) covered)
     (λ same again. whole-covered v new (v.tree.made + 1) c.requires.whole same ranges covered refl refl refl)
+
+pub returns-clause-number : goal.returns-clause-number
+returns-clause-number c = search (tests, rules)
+
+pub returns-clause-made : goal.returns-clause-made
+returns-clause-made c = search (tests, rules)

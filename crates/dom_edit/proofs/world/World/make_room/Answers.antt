@@ -1,4 +1,4 @@
-use Rattle.std.proofs.Common.{ℕ, List, Option, ap, sym, ◌∙◌, subst, length}
+use Rattle.std.proofs.Common.{ℕ, List, Option, ap, sym, ◌∙◌, subst, length, tests, rules}
 use Rattle.dom_model.specs.Worlds.World.{Range}
 use Rattle.dom_edit.specs.Inserting.{IsOpen}
 use Rattle.dom_edit.proofs.PlacedRoots.{room-fits, room-elsewhere}
@@ -16,3 +16,9 @@ gap-requires c =
     let ready = subst (λ (b : Option ℕ). IsOpen v.tree.forest c.args.parent b c.args.nodes.now) c.in-Some.is c.requires.ready in
     let small = rw c.live.ensures at c.live.type_inv in
     room-fits v.tree c.requires.whole.forest c.args.parent c.in-Some.child c.args.nodes.now c.index_under-index.result ready small v.ranges.ranges c.requires.whole.ranges
+
+pub returns-in_default : goal.returns-in_default
+returns-in_default c = search (tests, rules)
+
+pub returns : goal.returns
+returns c = search (tests, rules)

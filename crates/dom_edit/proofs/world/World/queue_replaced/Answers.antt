@@ -1,4 +1,4 @@
-use Rattle.std.proofs.Common.{sym, ◌∙◌}
+use Rattle.std.proofs.Common.{sym, ◌∙◌, tests, rules}
 use Rattle.std.proofs.lemmas.Result.{on_ok_weaker}
 use Rattle.dom_edit.proofs.ReplacedNodes.{follows-added, follows-removed}
 use Rattle.dom_edit.proofs.world.World.queue_replaced.Goals as goal
@@ -16,3 +16,12 @@ returns-clause-queued c =
           on_ok_weaker c.queue_tree_record.result
           (follows-added old new c.args.parent c.args.added.now c.args.removed.now (sym c.is_empty.ensures ∙ w.if-is_empty.false)) c.queue_tree_record.ensures.queued
     ]
+
+pub returns-then-is_empty-2-clause-queued : goal.returns-then-is_empty-2-clause-queued
+returns-then-is_empty-2-clause-queued c = search (tests, rules)
+
+pub returns-then-is_empty-2-clause-whole : goal.returns-then-is_empty-2-clause-whole
+returns-then-is_empty-2-clause-whole c = search (tests, rules)
+
+pub returns-clause-whole : goal.returns-clause-whole
+returns-clause-whole c = search (tests, rules)

@@ -1,5 +1,5 @@
 use Rattle.std.specs.Prelude.{Some}
-use Rattle.std.proofs.Common.{◌≡◌, true, false, subst, sym, ap}
+use Rattle.std.proofs.Common.{◌≡◌, true, false, subst, sym, ap, tests, rules}
 use Rattle.std.proofs.lemmas.Result.{on_ok_weaker}
 use Rattle.dom_model.specs.Forests.Forest.{HasNode, parent_of}
 use Rattle.dom_edit.specs.declared.world.World.{World}
@@ -46,3 +46,15 @@ returns-clause-removed c =
     (on_ok_weaker c.queue_tree_record.result
     (λ noted. follows-removed v c.take_out.new.self c.make_transients.new.self c.queue_tree_record.new.self n p false e f c.in_ok-make_transients.ensures.made noted)
     queued)
+
+pub returns-in_default-clause-removed : goal.returns-in_default-clause-removed
+returns-in_default-clause-removed c = search (tests, rules)
+
+pub returns-in_default-clause-whole : goal.returns-in_default-clause-whole
+returns-in_default-clause-whole c = search (tests, rules)
+
+pub returns-then-suppressed-clause-whole : goal.returns-then-suppressed-clause-whole
+returns-then-suppressed-clause-whole c = search (tests, rules)
+
+pub returns-clause-whole : goal.returns-clause-whole
+returns-clause-whole c = search (tests, rules)

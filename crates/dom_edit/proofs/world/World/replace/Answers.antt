@@ -1,4 +1,4 @@
-use Rattle.std.proofs.Common.{ap, sym, ◌∙◌}
+use Rattle.std.proofs.Common.{ap, sym, ◌∙◌, tests, rules}
 use Rattle.dom_edit.proofs.Marking.{stand-by_replace}
 use Rattle.dom_edit.proofs.ReplacedNodes.{reference_in, insertable-instead, entering-instead, follows-replace}
 use Rattle.dom_edit.proofs.world.World.replace.Goals as goal
@@ -30,3 +30,27 @@ returns-clause-markers c =
     stand-by_replace v c.queue_tree_record.new.self c.requires.whole c.queue_tree_record.ensures.whole c.args.child c.args.node c.args.parent c.requires.node_held c.in_default.ensures
     (follows-replace v c.remove_node.new.self c.enter.new.self c.queue_tree_record.new.self c.args.child c.args.node c.args.parent c.prev-previous.result c.reference_child-reference.result c.as_slice-2.result.now
     c.prev-previous.ensures r (c.as_slice-2.ensures ∙ c.in_ok-nodes.ensures) c.in_ok-remove_node.ensures.removed c.in_ok-enter.ensures.inserted c.in_ok-queue_tree_record.ensures.queued)
+
+pub returns-in-Err-clause-allowed : goal.returns-in-Err-clause-allowed
+returns-in-Err-clause-allowed c = search (tests, rules)
+
+pub returns-in-Err-clause-replaced : goal.returns-in-Err-clause-replaced
+returns-in-Err-clause-replaced c = search (tests, rules)
+
+pub returns-in-Err-clause-markers : goal.returns-in-Err-clause-markers
+returns-in-Err-clause-markers c = search (tests, rules)
+
+pub returns-in-Err-clause-refused : goal.returns-in-Err-clause-refused
+returns-in-Err-clause-refused c = search (tests, rules)
+
+pub returns-in-Err-clause-whole : goal.returns-in-Err-clause-whole
+returns-in-Err-clause-whole c = search (tests, rules)
+
+pub returns-clause-allowed : goal.returns-clause-allowed
+returns-clause-allowed c = search (tests, rules)
+
+pub returns-clause-refused : goal.returns-clause-refused
+returns-clause-refused c = search (tests, rules)
+
+pub returns-clause-whole : goal.returns-clause-whole
+returns-clause-whole c = search (tests, rules)

@@ -1,4 +1,4 @@
-use Rattle.std.proofs.Common.{sym, ◌∙◌, subst}
+use Rattle.std.proofs.Common.{sym, ◌∙◌, subst, tests, rules}
 use Rattle.std.proofs.lemmas.Result.{on_ok_weaker}
 use Rattle.dom_model.specs.MutationAlgorithms.Editing.{remove_all}
 use Rattle.dom_edit.specs.Whole.{Follows}
@@ -35,3 +35,6 @@ pub returns-clause-markers : goal.returns-clause-markers
 returns-clause-markers c =
     on_ok_weaker c.queue_replaced.result
     (stand-by_replace_all c.args.self.now c.queue_replaced.new.self c.requires.whole c.queue_replaced.ensures.whole c.args.node c.args.parent c.requires.node_held c.requires.allowed) (returns-clause-replaced c)
+
+pub returns-clause-whole : goal.returns-clause-whole
+returns-clause-whole c = search (tests, rules)

@@ -1,4 +1,5 @@
-use Rattle.std.proofs.Common.{◌∙◌, ◌∷◌, [], ◌++◌, ap}
+use Rattle.std.proofs.Common.{◌∙◌, ◌∷◌, [], ◌++◌, ap, arith}
+use Rattle.std.proofs.lemmas.Grind.{common_steps}
 use Rattle.dom_links.proofs.Leaving.{left_none, left_some}
 use Rattle.dom_links.proofs.links.Links.drop.Goals as goal
 
@@ -8,3 +9,6 @@ loop-place-preserved-in-Some-place g c =
 
 pub loop-place-preserved : goal.loop-place-preserved
 loop-place-preserved g c = left_none c.loop-place.invariant (c.in-Some.ensures.items ∙ ap (λ o. c.pop.new.self.items ++ o ∷ []) c.in_default-place.is)
+
+pub close-requires : goal.close-requires
+close-requires g c = grind (arith, common_steps)

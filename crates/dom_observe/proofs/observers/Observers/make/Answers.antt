@@ -1,5 +1,6 @@
 -- One more queue, and nothing in it.
-use Rattle.std.proofs.Common.{ap, sym, ◌∙◌, subst}
+use Rattle.std.proofs.Common.{ap, sym, ◌∙◌, subst, tests, rules, arith}
+use Rattle.std.proofs.lemmas.Grind.{common_steps}
 use Rattle.dom_model.specs.MutationObservers.Records.{with_observer}
 use Rattle.dom_observe.specs.Watchers.{Watches}
 use Rattle.dom_observe.specs.Kept.{nodes_of, queues_of, IsKept}
@@ -20,3 +21,12 @@ returns-clause-ok c = λ x w.
     let grown = ap queues_of c.in_ok-push.ensures.items ∙ queues_of-push a.queues.items c.new.result c.new.ensures.items in
     let u : Watches (record { nodes = nodes_of a.table a.nodes.entries; queues = queues_of a.queues.items; pending = a.pending.keys }) x = subst (λ o. Watches o x) (sym c.self.view_is) w in
     subst (λ qs. Watches (record { nodes = nodes_of a.table a.nodes.entries; queues = qs; pending = a.pending.keys }) (with_observer x)) (sym grown) (watches-made _ x u)
+
+pub overflow_cast-len : goal.overflow_cast-len
+overflow_cast-len c = grind (arith, common_steps)
+
+pub returns-clause-number : goal.returns-clause-number
+returns-clause-number c = grind (arith, common_steps)
+
+pub returns-clause-err : goal.returns-clause-err
+returns-clause-err c = search (tests, rules)

@@ -1,5 +1,5 @@
 -- The next cell is written, behind the others.
-use Rattle.std.proofs.Common.{◌<◌, ◌*◌, ◌+◌, ◌∷◌, ◌++◌, [], Some, length, ap, ◌∙◌, arith}
+use Rattle.std.proofs.Common.{◌<◌, ◌*◌, ◌+◌, ◌∷◌, ◌++◌, [], Some, length, ap, ◌∙◌, arith, tests, rules}
 use Rattle.dom_pages.specs.Paged.{cells_of}
 use Rattle.dom_pages.proofs.Cells.{cells_of-pushed}
 use Rattle.dom_pages.proofs.Paging.{has_next}
@@ -15,3 +15,6 @@ returns-clause-items g c =
     ap (λ p. cells_of p (len + 1)) (is_written pages len (Some c.args.item) c.index_mut-page.result.now c.put.new.self next.0 c.index_mut-page.ensures.value c.put.ensures)
     ∙ cells_of-pushed pages len (Some c.args.item) (cell_at-same pages len (Some c.args.item) next.0 next.1)
     ∙ ap (λ v. v.items ++ Some c.args.item ∷ []) c.self.view_is
+
+pub returns-clause-room : goal.returns-clause-room
+returns-clause-room g c = search (tests, rules)

@@ -1,5 +1,5 @@
 -- The cell of the number is written.
-use Rattle.std.proofs.Common.{◌/◌, [], Some, None, IsSome, length, slice_index_or, slice_set, sym, ap, ◌∙◌, subst, arith}
+use Rattle.std.proofs.Common.{◌/◌, [], Some, None, IsSome, length, slice_index_or, slice_set, sym, ap, ◌∙◌, subst, arith, tests, rules}
 use Rattle.std.proofs.lemmas.List.{get_or_default}
 use Rattle.dom_pages.specs.Paged.{cells_of, IsPaged}
 use Rattle.dom_pages.proofs.Cells.{cells_of-written}
@@ -39,3 +39,6 @@ returns-clause-items g c =
     ap (λ p. cells_of p c.self.inside.len) (is_written pages c.args.number (Some c.args.item) c.index_mut-page.result.now c.put.new.self lt c.index_mut-page.ensures.value c.put.ensures)
     ∙ cells_of-written pages c.self.inside.len c.args.number (Some c.args.item) below is
     ∙ ap (λ v. slice_set v.items c.args.number (Some c.args.item)) c.self.view_is
+
+pub returns-clause-room : goal.returns-clause-room
+returns-clause-room g c = search (tests, rules)

@@ -1,4 +1,5 @@
 use Rattle.std.proofs.Common.{ap, ◌∙◌, arith}
+use Rattle.std.proofs.lemmas.Grind.{common_steps}
 use Rattle.dom_ranges.specs.Chained.{covers, cover_of, chained_first}
 use Rattle.dom_ranges.proofs.Steps.{points-added, HasChains-grown, second-free, has-after}
 use Rattle.dom_ranges.proofs.chains.Chains.add.Goals as goal
@@ -39,3 +40,15 @@ returns-clause-chains c =
     (HasChains-grown c.args.self.now.table.items c.reserve.new.self.items c.append_free.new.self.table.items c.append_free-2.new.self.table.items c.args.self.now.heads.items c.append_free-2.new.self.heads.items
     c.reserve.ensures.items c.append_free.ensures.table c.append_free-2.ensures.table (c.append_free-2.ensures.heads ∙ c.append_free.ensures.heads) c.requires.chains)
     c.put_first.ensures.chains) c.put_first-2.ensures.chains
+
+pub append_free-requires-2 : goal.append_free-requires-2
+append_free-requires-2 c = grind (arith, common_steps)
+
+pub put_first-requires-clause-within : goal.put_first-requires-clause-within
+put_first-requires-clause-within c = grind (arith, common_steps)
+
+pub put_first-requires-clause-free : goal.put_first-requires-clause-free
+put_first-requires-clause-free c = grind (arith, common_steps)
+
+pub put_first-requires-2-clause-within : goal.put_first-requires-2-clause-within
+put_first-requires-2-clause-within c = grind (arith, common_steps)

@@ -1,5 +1,6 @@
 -- Each step covers one node.
-use Rattle.std.proofs.Common.{true, None, Some, [], ◌∷◌, ◌++◌, refl, ap, ◌∙◌, arith, length, ◌+◌, length-append}
+use Rattle.std.proofs.Common.{true, None, Some, [], ◌∷◌, ◌++◌, refl, ap, ◌∙◌, arith, length, ◌+◌, length-append, tests, rules}
+use Rattle.std.proofs.lemmas.Grind.{common_steps}
 use Rattle.dom_ranges.specs.Chained.{cover_of}
 use Rattle.dom_ranges.proofs.Covers.{cover-length, cover-appended, covered_to-there, covered_to-next}
 use Rattle.dom_ranges.proofs.Steps.{HasChains-covered}
@@ -19,3 +20,30 @@ loop-node-preserved c =
           ap cover_of e ∙ cover-appended c.loop-node.self.heads.items ∙ ap (λ bs. bs ++ true ∷ []) v.covered
           ∙ covered_to-next c.loop-node._node (cover_of c.args.self.now.heads.items) (omega (arith, have, c.len-have.ensures, c.loop-node.auto._node));
     }
+
+pub returns-then-need-have-clause-covered : goal.returns-then-need-have-clause-covered
+returns-then-need-have-clause-covered c = grind (arith, common_steps)
+
+pub loop-node-init : goal.loop-node-init
+loop-node-init c = grind (arith, common_steps)
+
+pub returns-then-need-have-clause-unchanged : goal.returns-then-need-have-clause-unchanged
+returns-then-need-have-clause-unchanged c = search (tests, rules)
+
+pub returns-then-need-have-clause-table : goal.returns-then-need-have-clause-table
+returns-then-need-have-clause-table c = search (tests, rules)
+
+pub returns-then-need-have-clause-chains : goal.returns-then-need-have-clause-chains
+returns-then-need-have-clause-chains c = search (tests, rules)
+
+pub returns-clause-covered : goal.returns-clause-covered
+returns-clause-covered c = search (tests, rules)
+
+pub returns-clause-unchanged : goal.returns-clause-unchanged
+returns-clause-unchanged c = search (tests, rules)
+
+pub returns-clause-table : goal.returns-clause-table
+returns-clause-table c = search (tests, rules)
+
+pub returns-clause-chains : goal.returns-clause-chains
+returns-clause-chains c = search (tests, rules)

@@ -1,4 +1,4 @@
-use Rattle.std.proofs.Common.{◌≡◌, Some, None, refl, Option, ℕ, false, is_some, sym, ap, ◌∙◌, arith}
+use Rattle.std.proofs.Common.{◌≡◌, Some, None, refl, Option, ℕ, false, is_some, sym, ap, ◌∙◌, arith, tests, rules}
 use Rattle.std.proofs.lemmas.Bool.{false≢true}
 use Rattle.dom_ranges.specs.Chained.{cover_of, head_at}
 use Rattle.dom_ranges.proofs.Covers.{cover-cleared, cover-past, cover-length}
@@ -23,3 +23,12 @@ returns-then-index-len-clause-covered c = rw (c.clear.ensures.items, c.number-in
 pub returns-else-index-len-clause-covered : goal.returns-else-index-len-clause-covered
 returns-else-index-len-clause-covered c =
     sym (cover-past (cover_of c.args.self.now.heads.items) c.args.node (omega (arith, cover-length c.args.self.now.heads.items, c.number-index.ensures, c.len.ensures, c.if-index-len.false)))
+
+pub returns-then-index-len-clause-table : goal.returns-then-index-len-clause-table
+returns-then-index-len-clause-table c = search (tests, rules)
+
+pub returns-else-index-len-clause-table : goal.returns-else-index-len-clause-table
+returns-else-index-len-clause-table c = search (tests, rules)
+
+pub returns-else-index-len-clause-chains : goal.returns-else-index-len-clause-chains
+returns-else-index-len-clause-chains c = search (tests, rules)

@@ -1,5 +1,5 @@
 -- Each step asks one end.
-use Rattle.std.proofs.Common.{◌≡◌, sym, ap, ◌∙◌, arith}
+use Rattle.std.proofs.Common.{◌≡◌, sym, ap, ◌∙◌, arith, tests, rules}
 use Rattle.dom_model.specs.Forests.Forest.{inclusive_descendants}
 use Rattle.dom_ranges.specs.declared.chains.End.{End}
 use Rattle.dom_ranges.specs.Chained.{end_at, point_at}
@@ -23,3 +23,9 @@ loop-index-preserved g c =
 
 pub returns-clause-points : goal.returns-clause-points
 returns-clause-points g c = all-asked _ _ _ _ _ _ c.loop-index.invariant (omega (arith, c.loop-index-test.false, c.count-index-end.ensures))
+
+pub returns-clause-chains : goal.returns-clause-chains
+returns-clause-chains g c = search (tests, rules)
+
+pub returns-clause-covered : goal.returns-clause-covered
+returns-clause-covered g c = search (tests, rules)

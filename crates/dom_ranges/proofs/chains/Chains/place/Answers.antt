@@ -1,4 +1,5 @@
-use Rattle.std.proofs.Common.{Some, None, ap, ◌∙◌, set}
+use Rattle.std.proofs.Common.{Some, None, ap, ◌∙◌, set, arith}
+use Rattle.std.proofs.lemmas.Grind.{common_steps}
 use Rattle.std.proofs.lemmas.List.{set-set}
 use Rattle.dom_ranges.specs.Chained.{points_of, covers}
 use Rattle.dom_ranges.proofs.Steps.{point-written, some-within}
@@ -16,3 +17,6 @@ returns-clause-points c =
     c.put_first.ensures.points
     ∙ ap (λ ps. set ps c.args.id (Some c.args.point)) c.take_out.ensures.points
     ∙ set-set (points_of c.args.self.now.table.items) c.args.id None (Some c.args.point)
+
+pub put_first-requires-clause-within : goal.put_first-requires-clause-within
+put_first-requires-clause-within c = grind (arith, common_steps)

@@ -1,4 +1,5 @@
-use Rattle.std.proofs.Common.{ap, sym, ◌∙◌}
+use Rattle.std.proofs.Common.{ap, sym, ◌∙◌, arith}
+use Rattle.std.proofs.lemmas.Grind.{common_steps}
 use Rattle.dom_model.specs.Worlds.World.{Point}
 use Rattle.dom_ranges.specs.Chained.{points_of, cover_of, covers, heads_without}
 use Rattle.dom_ranges.proofs.Covers.{item-there}
@@ -43,3 +44,9 @@ returns-clause-covered c =
     (node-covered t heads c.requires.chains c.args.id c.end-end.result c.unwrap-point.result c.end-end.ensures c.unwrap-point.ensures)
     (c.clear.ensures.heads ∙ c.lead_back.ensures.heads ∙ c.lead_on.ensures.heads
     ∙ out-heads t heads c.args.id c.point.inside.node c.end-end.result c.unwrap-point.result c.end-end.ensures (ap (λ (q : Point). q.node) c.point.view_is))
+
+pub end-end-requires : goal.end-end-requires
+end-end-requires c = grind (arith, common_steps)
+
+pub clear-requires : goal.clear-requires
+clear-requires c = grind (arith, common_steps)

@@ -1,4 +1,5 @@
-use Rattle.std.proofs.Common.{refl, ap, ◌∙◌}
+use Rattle.std.proofs.Common.{refl, ap, ◌∙◌, arith}
+use Rattle.std.proofs.lemmas.Grind.{common_steps}
 use Rattle.dom_ranges.specs.Chained.{covers}
 use Rattle.dom_ranges.proofs.Slots.{slot-read}
 use Rattle.dom_ranges.proofs.Pairs.{range-found, first-live, second-live, first-within, covered-is}
@@ -32,3 +33,9 @@ returns-clause-start_covered c = ap (λ cs. covers cs c.point-start.result.node)
 
 pub returns-clause-end_covered : goal.returns-clause-end_covered
 returns-clause-end_covered c = ap (λ cs. covers cs c.point-end.result.node) (covered-is _ _ _ _ _ _ _ c.self.invariant _ c.self.view_is) ∙ point-covered _ _ _ _ _ _ _ c.self.invariant _ c.self.view_is _ _ c.point-end.ensures
+
+pub unwrap-slot-requires : goal.unwrap-slot-requires
+unwrap-slot-requires c = grind (arith, common_steps)
+
+pub point-end-requires-clause-within : goal.point-end-requires-clause-within
+point-end-requires-clause-within c = grind (arith, common_steps)

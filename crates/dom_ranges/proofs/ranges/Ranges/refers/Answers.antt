@@ -1,5 +1,5 @@
 -- Each step passes one node.
-use Rattle.std.proofs.Common.{sym, ◌∙◌}
+use Rattle.std.proofs.Common.{sym, ◌∙◌, tests, rules}
 use Rattle.dom_model.specs.PlainLists.Lists.{among}
 use Rattle.dom_model.specs.Forests.Forest.{inclusive_descendants}
 use Rattle.dom_ranges.specs.Tables.{live_nodes}
@@ -30,3 +30,6 @@ returns-in-None g c =
 
 pub returns : goal.returns
 returns g c = c.refer.ensures ∙ referred _ _ _ _ _ _ _ c.self.invariant _ c.self.view_is (λ m. among m (inclusive_descendants c.args.tree.now.forest c.args.top))
+
+pub returns-then-is_idle : goal.returns-then-is_idle
+returns-then-is_idle g c = search (tests, rules)

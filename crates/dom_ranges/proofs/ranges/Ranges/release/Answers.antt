@@ -1,4 +1,5 @@
 use Rattle.std.proofs.Common.{None, set, refl, ap, ◌∙◌, arith}
+use Rattle.std.proofs.lemmas.Grind.{common_steps}
 use Rattle.dom_ranges.specs.Chained.{unchained}
 use Rattle.dom_ranges.proofs.Steps.{has-after}
 use Rattle.dom_ranges.proofs.Slots.{slot-read}
@@ -48,3 +49,9 @@ returns c =
     let b = has-after (unchained c.end.result) _ _ _ _ a c.take_out-2.ensures.chains in
     view-released _ _ _ _ _ _ _ c.self.invariant _ c.self.view_is _ _ _ _ slot c.start.ensures c.end.ensures _ _ _ b (c.take_out-2.ensures.covered ∙ c.take_out.ensures.covered) c.take_out.ensures.points c.take_out-2.ensures.points
     _ (c.clear.ensures.items ∙ ap (λ n. set c.self.inside.slots.items n None) c.number.ensures)
+
+pub unwrap-slot-requires : goal.unwrap-slot-requires
+unwrap-slot-requires c = grind (arith, common_steps)
+
+pub clear-requires : goal.clear-requires
+clear-requires c = grind (arith, common_steps)

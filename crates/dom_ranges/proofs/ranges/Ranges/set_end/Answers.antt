@@ -1,4 +1,4 @@
-use Rattle.std.proofs.Common.{ap}
+use Rattle.std.proofs.Common.{ap, tests, rules}
 use Rattle.dom_model.specs.Worlds.World.{Point}
 use Rattle.dom_ranges.proofs.ranges.Ranges.set_end.Goals as goal
 
@@ -7,3 +7,21 @@ same_root-requires-clause-b_held g c = rw (ap (λ (q : Point). q.node) c.start.v
 
 pub is_before-requires-clause-b_held : goal.is_before-requires-clause-b_held
 is_before-requires-clause-b_held g c = rw (ap (λ (q : Point). q.node) c.start.view_is) (c.requires.stands _ c.ends-start.ensures.ends).start
+
+pub returns-then-not-is_before-clause-refusal : goal.returns-then-not-is_before-clause-refusal
+returns-then-not-is_before-clause-refusal g c = search (tests, rules)
+
+pub returns-then-not-is_before-clause-set : goal.returns-then-not-is_before-clause-set
+returns-then-not-is_before-clause-set g c = search (tests, rules)
+
+pub returns-then-not-is_before-clause-unchanged : goal.returns-then-not-is_before-clause-unchanged
+returns-then-not-is_before-clause-unchanged g c = search (tests, rules)
+
+pub returns-else-same_root-clause-refusal : goal.returns-else-same_root-clause-refusal
+returns-else-same_root-clause-refusal g c = search (tests, rules)
+
+pub returns-else-same_root-clause-set : goal.returns-else-same_root-clause-set
+returns-else-same_root-clause-set g c = search (tests, rules)
+
+pub returns-else-same_root-clause-unchanged : goal.returns-else-same_root-clause-unchanged
+returns-else-same_root-clause-unchanged g c = search (tests, rules)

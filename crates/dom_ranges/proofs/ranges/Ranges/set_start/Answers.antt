@@ -1,4 +1,4 @@
-use Rattle.std.proofs.Common.{sym, ap, ◌∙◌}
+use Rattle.std.proofs.Common.{sym, ap, ◌∙◌, tests, rules}
 use Rattle.dom_model.specs.Worlds.World.{Point}
 use Rattle.dom_model.specs.Forests.Forest.{root_of}
 use Rattle.dom_ranges.proofs.Ends.{one-root}
@@ -15,3 +15,21 @@ is_before-requires-clause-one_root g c =
     sym (c.requires.stands _ c.ends-start.ensures.ends).one_root
     ∙ ap (λ (q : Point). root_of c.args.tree.now.forest q.node) (sym c.start.view_is)
     ∙ sym (one-root c.args.tree.now.forest c.p.inside.node c.start.inside.node (sym c.same_root.ensures ∙ c.if-same_root.true))
+
+pub returns-then-not-is_before-clause-refusal : goal.returns-then-not-is_before-clause-refusal
+returns-then-not-is_before-clause-refusal g c = search (tests, rules)
+
+pub returns-then-not-is_before-clause-set : goal.returns-then-not-is_before-clause-set
+returns-then-not-is_before-clause-set g c = search (tests, rules)
+
+pub returns-then-not-is_before-clause-unchanged : goal.returns-then-not-is_before-clause-unchanged
+returns-then-not-is_before-clause-unchanged g c = search (tests, rules)
+
+pub returns-else-same_root-clause-refusal : goal.returns-else-same_root-clause-refusal
+returns-else-same_root-clause-refusal g c = search (tests, rules)
+
+pub returns-else-same_root-clause-set : goal.returns-else-same_root-clause-set
+returns-else-same_root-clause-set g c = search (tests, rules)
+
+pub returns-else-same_root-clause-unchanged : goal.returns-else-same_root-clause-unchanged
+returns-else-same_root-clause-unchanged g c = search (tests, rules)

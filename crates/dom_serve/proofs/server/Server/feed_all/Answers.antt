@@ -1,4 +1,5 @@
 use Rattle.std.proofs.Common.{false, refl, arith}
+use Rattle.std.proofs.lemmas.Grind.{common_steps}
 use Rattle.dom_serve.specs.Tells.{is_write}
 use Rattle.dom_serve.proofs.Calls.{IsWritten-more, HasAnswered-more}
 use Rattle.dom_serve.proofs.Fed.{Fed-more, Breaks-within}
@@ -28,3 +29,6 @@ returns-in-Err-clause-passed g c = λ e.
 pub returns-in-Err-clause-writer : goal.returns-in-Err-clause-writer
 returns-in-Err-clause-writer g c =
     IsWritten-more g.W.Sink.works g.W.Sink.fails (is_write c.in-Err.fault) c.args.writer.now c.loop-byte.writer c.feed.new.writer c.loop-byte.invariant.writer c.in-Err.ensures.writer
+
+pub returns-clause-fed : goal.returns-clause-fed
+returns-clause-fed g c = grind (arith, common_steps)

@@ -1,3 +1,4 @@
+use Rattle.std.proofs.Common.{tests, rules}
 use Rattle.dom_session.specs.Bounding.{bounds_of}
 use Rattle.dom_session.specs.Limiting.{numbered}
 use Rattle.dom_session.specs.Views.{command_view}
@@ -14,3 +15,54 @@ returns-in-Ok-clause-answers c =
     (IsAnswered-step (record { world = c.self.inside.world; bounds = bounds_of c.self.inside.limits; ended = c.self.inside.ended })
     (record { world = c.answered.new.world; bounds = bounds_of c.self.inside.limits; ended = c.self.inside.ended })
     c.args.command c.in-Ok.reply c.in-Ok.ensures.step)
+
+pub returns-then-self-clause-answers : goal.returns-then-self-clause-answers
+returns-then-self-clause-answers c = search (tests, rules)
+
+pub returns-then-self-clause-refused : goal.returns-then-self-clause-refused
+returns-then-self-clause-refused c = search (tests, rules)
+
+pub returns-then-self-clause-open : goal.returns-then-self-clause-open
+returns-then-self-clause-open c = search (tests, rules)
+
+pub returns-then-self-clause-ended : goal.returns-then-self-clause-ended
+returns-then-self-clause-ended c = search (tests, rules)
+
+pub returns-then-self-clause-stays_ended : goal.returns-then-self-clause-stays_ended
+returns-then-self-clause-stays_ended c = search (tests, rules)
+
+pub returns-then-self-clause-bounds : goal.returns-then-self-clause-bounds
+returns-then-self-clause-bounds c = search (tests, rules)
+
+pub returns-in-Ok-clause-refused : goal.returns-in-Ok-clause-refused
+returns-in-Ok-clause-refused c = search (tests, rules)
+
+pub returns-in-Ok-clause-open : goal.returns-in-Ok-clause-open
+returns-in-Ok-clause-open c = search (tests, rules)
+
+pub returns-in-Ok-clause-ended : goal.returns-in-Ok-clause-ended
+returns-in-Ok-clause-ended c = search (tests, rules)
+
+pub returns-in-Ok-clause-stays_ended : goal.returns-in-Ok-clause-stays_ended
+returns-in-Ok-clause-stays_ended c = search (tests, rules)
+
+pub returns-in-Ok-clause-bounds : goal.returns-in-Ok-clause-bounds
+returns-in-Ok-clause-bounds c = search (tests, rules)
+
+pub returns-in-Err-clause-answers : goal.returns-in-Err-clause-answers
+returns-in-Err-clause-answers c = search (tests, rules)
+
+pub returns-in-Err-clause-refused : goal.returns-in-Err-clause-refused
+returns-in-Err-clause-refused c = search (tests, rules)
+
+pub returns-in-Err-clause-open : goal.returns-in-Err-clause-open
+returns-in-Err-clause-open c = search (tests, rules)
+
+pub returns-in-Err-clause-ended : goal.returns-in-Err-clause-ended
+returns-in-Err-clause-ended c = search (tests, rules)
+
+pub returns-in-Err-clause-stays_ended : goal.returns-in-Err-clause-stays_ended
+returns-in-Err-clause-stays_ended c = search (tests, rules)
+
+pub returns-in-Err-clause-bounds : goal.returns-in-Err-clause-bounds
+returns-in-Err-clause-bounds c = search (tests, rules)

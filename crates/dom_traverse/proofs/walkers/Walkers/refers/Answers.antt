@@ -1,5 +1,6 @@
 -- One walker after another.
 use Rattle.std.proofs.Common.{◌≡◌, ◌<◌, List, length, get_or, arith, ap, sym, ◌∙◌, subst}
+use Rattle.std.proofs.lemmas.Grind.{common_steps}
 use Rattle.dom_model.specs.PlainLists.Lists.{among}
 use Rattle.dom_model.specs.Forests.Forest.{inclusive_descendants}
 use Rattle.dom_model.specs.Worlds.World.{Walker}
@@ -15,3 +16,9 @@ loop-walker-preserved g c =
     let is = subst (λ (is : List Walker). c.walker-item.result ≡ get_or is c.loop-walker.walker-index c.walker-item.result) same c.walker-item.is in
     c.loop-walker.invariant
     ∙ any-later (λ m. among m (inclusive_descendants c.args.tree.now.forest c.args.top)) nodes_of_walker c.args.self.now c.loop-walker.walker-index c.walker-item.result lt is (sym c.stands_in.ensures ∙ c.if-stands_in.false)
+
+pub returns-then-stands_in : goal.returns-then-stands_in
+returns-then-stands_in g c = grind (arith, common_steps)
+
+pub returns : goal.returns
+returns g c = grind (arith, common_steps)

@@ -1,5 +1,6 @@
 -- Each step counts one on both sides, so where all were made the index is more than the steps.
-use Rattle.std.proofs.Common.{sym, ◌∙◌, arith}
+use Rattle.std.proofs.Common.{sym, ◌∙◌, arith, tests, rules}
+use Rattle.std.proofs.lemmas.Grind.{common_steps}
 use Rattle.dom_model.proofs.Forests.Siblings.{index-step, index-first, index-within}
 use Rattle.dom_tree.proofs.Beside.{forward-step, sides-end}
 use Rattle.dom_tree.proofs.tree.Tree.index_within.Goals as goal
@@ -43,3 +44,24 @@ returns-in-Some-next-clause-found g c =
 pub returns-clause-found : goal.returns-clause-found
 returns-clause-found g c =
     λ near. absurd (omega (arith, near, c.loop-passed.invariant.backward_counted, c.siblings-count.ensures, c.min-most.ensures, index-within c.args.self.now.forest c.args.id, c.loop-passed-test.false))
+
+pub overflow_sub-result : goal.overflow_sub-result
+overflow_sub-result g c = grind (arith, common_steps)
+
+pub returns-in-Some-clause-counted : goal.returns-in-Some-clause-counted
+returns-in-Some-clause-counted g c = search (tests, rules)
+
+pub returns-in-Some-clause-found : goal.returns-in-Some-clause-found
+returns-in-Some-clause-found g c = search (tests, rules)
+
+pub returns-in_default-prev-clause-found : goal.returns-in_default-prev-clause-found
+returns-in_default-prev-clause-found g c = search (tests, rules)
+
+pub returns-in_default-next-clause-found : goal.returns-in_default-next-clause-found
+returns-in_default-next-clause-found g c = search (tests, rules)
+
+pub returns-clause-counted : goal.returns-clause-counted
+returns-clause-counted g c = search (tests, rules)
+
+pub returns-in-Some-next-clause-counted : goal.returns-in-Some-next-clause-counted
+returns-in-Some-next-clause-counted g c = search (tests, rules)

@@ -1,5 +1,6 @@
 -- An index below the parent's count is right.
-use Rattle.std.proofs.Common.{sym, ◌∙◌}
+use Rattle.std.proofs.Common.{sym, ◌∙◌, tests, rules, arith}
+use Rattle.std.proofs.lemmas.Grind.{common_steps}
 use Rattle.dom_tree.proofs.Trees.{slot-held, parents-held, kept-read}
 use Rattle.dom_tree.proofs.tree.Tree.kept_index.Goals as goal
 
@@ -13,3 +14,9 @@ value-requires-2 g c =
 pub returns-then-index-value : goal.returns-then-index-value
 returns-then-index-value g c =
     kept-read c.self.invariant c.self.view_is c.sound.ensures c.args.id c.slot_of-slot.result c.in_ok-parent.parent c.slot_of-slot.ensures (sym c.parent.ensures ∙ c.in_ok-parent.was) c.value.result.now c.value-2.result.now _ _ c.behind-self.view_is c.behind-self-2.view_is c.value.ensures c.value-2.ensures c.if-index-value.true
+
+pub parent-requires : goal.parent-requires
+parent-requires g c = grind (arith, common_steps)
+
+pub returns : goal.returns
+returns g c = search (tests, rules)

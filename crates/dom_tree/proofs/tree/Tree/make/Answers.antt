@@ -1,5 +1,5 @@
 -- A node stored and named in the table is one more root.
-use Rattle.std.proofs.Common.{◌≡◌, [], ◌∷◌, ◌++◌, length, Some, None, ap, ◌∙◌, unwrap_or}
+use Rattle.std.proofs.Common.{◌≡◌, [], ◌∷◌, ◌++◌, length, Some, None, ap, ◌∙◌, unwrap_or, tests, rules}
 use Rattle.dom_model.specs.Forests.Arena.{added, next_slot, entry_at}
 use Rattle.dom_tree.specs.Slots.{Kept}
 use Rattle.dom_tree.proofs.Trees.{made-is, made-keeps, made-shown, fresh-small}
@@ -32,3 +32,18 @@ returns-clause-made g c =
 
 pub of-requires : goal.of-requires
 of-requires g c = fresh-small c.self.invariant c.self.view_is c.sound.ensures c.in-Ok.slot c.in-Ok.ensures.slot c.requires.room
+
+pub returns-in_default-clause-number : goal.returns-in_default-clause-number
+returns-in_default-clause-number g c = search (tests, rules)
+
+pub returns-in_default-clause-made : goal.returns-in_default-clause-made
+returns-in_default-clause-made g c = search (tests, rules)
+
+pub returns-in_default-clause-unchanged : goal.returns-in_default-clause-unchanged
+returns-in_default-clause-unchanged g c = search (tests, rules)
+
+pub returns-clause-number : goal.returns-clause-number
+returns-clause-number g c = search (tests, rules)
+
+pub returns-clause-unchanged : goal.returns-clause-unchanged
+returns-clause-unchanged g c = search (tests, rules)

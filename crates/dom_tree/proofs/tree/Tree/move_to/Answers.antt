@@ -1,5 +1,6 @@
 -- The node document alone is written.
-use Rattle.std.proofs.Common.{refl}
+use Rattle.std.proofs.Common.{refl, arith}
+use Rattle.std.proofs.lemmas.Grind.{common_steps}
 use Rattle.dom_model.specs.Forests.Forest.{with_node, in_document}
 use Rattle.dom_tree.proofs.Trees.{slot-held, write-done, keeps-shown}
 use Rattle.dom_tree.proofs.tree.Tree.move_to.Goals as goal
@@ -13,3 +14,6 @@ invariant_of-self g c = (write-done c.self.invariant c.self.view_is c.args.id c.
 pub returns : goal.returns
 returns g c =
     keeps-shown c.self.invariant c.self.view_is (with_node c.args.id (in_document c.args.document)) (write-done c.self.invariant c.self.view_is c.args.id c.slot_of-slot.result c.slot_of-slot.ensures c.value_mut-item.result.now _ _ (in_document c.args.document) (λ q. refl) (λ q. refl) c.item.view_is refl c.value_mut-item.ensures.value)
+
+pub value_mut-item-requires : goal.value_mut-item-requires
+value_mut-item-requires g c = grind (arith, common_steps)

@@ -1,3 +1,5 @@
+use Rattle.std.proofs.Common.{arith}
+use Rattle.std.proofs.lemmas.Grind.{common_steps}
 -- A root put by slot is put by number.
 use Rattle.dom_model.specs.Forests.Forest.{put}
 use Rattle.dom_tree.proofs.Trees.{slot-held, slots-held, parent-none, parent-same, no_cycle-slots, put-child, put-before, put-done, changed-shown}
@@ -40,3 +42,15 @@ pub returns : goal.returns
 returns g c =
     changed-shown c.self.invariant c.self.view_is c.number_put.new.links (put c.args.parent c.args.child c.args.before)
     (put-done c.self.invariant c.self.view_is c.sound.ensures c.args.parent c.slot_of-above.result c.args.child c.slot_of-below.result c.args.before c.slot_of_any-next.result c.slot_of-above.ensures c.slot_of-below.ensures c.slot_of_any-next.ensures c.requires.no_parent c.requires.no_cycle c.requires.before_under c.requires.kinds c.link.new.self c.number_put.new.links c.link.ensures c.number_put.ensures).same
+
+pub link-requires-clause-parent_held : goal.link-requires-clause-parent_held
+link-requires-clause-parent_held g c = grind (arith, common_steps)
+
+pub link-requires-clause-child_held : goal.link-requires-clause-child_held
+link-requires-clause-child_held g c = grind (arith, common_steps)
+
+pub number_put-requires-clause-parent_held : goal.number_put-requires-clause-parent_held
+number_put-requires-clause-parent_held g c = grind (arith, common_steps)
+
+pub number_put-requires-clause-child_held : goal.number_put-requires-clause-child_held
+number_put-requires-clause-child_held g c = grind (arith, common_steps)

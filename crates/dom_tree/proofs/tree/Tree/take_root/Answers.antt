@@ -1,3 +1,5 @@
+use Rattle.std.proofs.Common.{arith}
+use Rattle.std.proofs.lemmas.Grind.{common_steps}
 -- The root's slot is emptied, and its place in the table.
 use Rattle.dom_tree.proofs.Trees.{slot-held, parent-none, children-none, take-live, take-done, take-shown}
 use Rattle.dom_tree.proofs.tree.Tree.take_root.Goals as goal
@@ -21,3 +23,6 @@ invariant_of-self g c = (take-done c.self.invariant c.self.view_is c.sound.ensur
 
 pub returns : goal.returns
 returns g c = take-shown c.self.invariant c.self.view_is c.sound.ensures c.args.id c.slot_of-slot.result c.slot_of-slot.ensures c.requires.no_parent c.requires.no_child c.take-item.new.self c.take-item.ensures.taken c.sound-2.ensures c.number.result c.clear.new.self.items c.number.ensures c.clear.ensures.items
+
+pub take-item-requires-clause-held : goal.take-item-requires-clause-held
+take-item-requires-clause-held g c = grind (arith, common_steps)

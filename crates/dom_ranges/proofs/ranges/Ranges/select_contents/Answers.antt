@@ -1,0 +1,20 @@
+use Rattle.std.proofs.Common.{tests, rules}
+use Rattle.dom_ranges.proofs.ranges.Ranges.select_contents.Goals as goal
+
+pub returns-then-is_doctype-clause-refusal : goal.returns-then-is_doctype-clause-refusal
+returns-then-is_doctype-clause-refusal g c = search (tests, rules)
+
+pub returns-then-is_doctype-clause-set : goal.returns-then-is_doctype-clause-set
+returns-then-is_doctype-clause-set g c = search (tests, rules)
+
+pub returns-then-is_doctype-clause-unchanged : goal.returns-then-is_doctype-clause-unchanged
+returns-then-is_doctype-clause-unchanged g c = search (tests, rules)
+
+pub returns-clause-refusal : goal.returns-clause-refusal
+returns-clause-refusal g c = search (tests, rules)
+
+pub returns-clause-set : goal.returns-clause-set
+returns-clause-set g c = search (tests, rules)
+
+pub returns-clause-unchanged : goal.returns-clause-unchanged
+returns-clause-unchanged g c = search (tests, rules)

@@ -1,0 +1,14 @@
+use Rattle.std.proofs.Common.{tests, rules}
+use Rattle.dom_serve.proofs.replies.reply_text.Goals as goal
+
+pub returns-in-Ok-clause-prints : goal.returns-in-Ok-clause-prints
+returns-in-Ok-clause-prints c = search (tests, rules)
+
+pub returns-in-Ok-clause-bounds : goal.returns-in-Ok-clause-bounds
+returns-in-Ok-clause-bounds c = search (tests, rules)
+
+pub returns-in-Err-clause-prints : goal.returns-in-Err-clause-prints
+returns-in-Err-clause-prints c = search (tests, rules)
+
+pub returns-in-Err-clause-bounds : goal.returns-in-Err-clause-bounds
+returns-in-Err-clause-bounds c = search (tests, rules)
