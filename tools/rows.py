@@ -2,7 +2,8 @@
 """Writes the dialogues of dialogues as theorems and as tests.
 
 dialogues has a folder for each subject, with NAME.in, NAME.out and, where the session has options, NAME.opts (one line, as
-`--numbers 4`).
+`--numbers 4`). Where NAME.erased stands beside them, one more file has the dialogue with an observer erased, or with all watchers erased
+(tools/erased.py).
 
 Theorems: for each NAME a file Subject/Name.antt in crates/dom_model/proofs/Dialogues, and its line in Subject.antt, which must stand
 there and be named in the file beside that folder. The bytes that a session reads give the bytes that it writes, and the edits of the
@@ -14,6 +15,8 @@ with refused growths, with each read, write and flush failing in turn, and cut i
 import argparse
 import os
 import subprocess
+
+import erased
 
 ROOT = os.path.dirname(os.path.dirname(os.path.abspath(__file__)))
 DIALOGUES = os.path.join(ROOT, "dialogues")
@@ -122,6 +125,14 @@ def module_of(name):
     return "".join(word.capitalize() for word in name.split("_"))
 
 
+def erased_in(folder, dialogues):
+    """The dialogues of a folder of which something is erased: the name, what is erased, the bytes that are given and those that are due."""
+    for name, (given, due, _) in dialogues.items():
+        path = os.path.join(folder, name) + ".erased"
+        if os.path.exists(path):
+            yield name, open(path).read().split(), given.decode(), due.decode()
+
+
 def write_theorems(subject, dialogues):
     """The theorems of one subject's dialogues, and their lines in the file beside their folder."""
     proofs = os.path.join(THEOREMS, module_of(subject))
@@ -194,12 +205,15 @@ def write_tests(subject, dialogues):
 
 def main():
     argparse.ArgumentParser(description=__doc__, formatter_class=argparse.RawDescriptionHelpFormatter).parse_args()
+    without = []
     for subject in sorted(os.listdir(DIALOGUES)):
         folder = os.path.join(DIALOGUES, subject)
         names = sorted(entry[:-3] for entry in os.listdir(folder) if entry.endswith(".in"))
         dialogues = {name: dialogue(folder, name) for name in names}
         write_theorems(subject, dialogues)
         write_tests(subject, dialogues)
+        without += erased_in(folder, dialogues)
+    erased.write(ROOT, without)
     subprocess.run(["rt", "fmt"], cwd=os.path.join(ROOT, "crates/dom_cases"), check=True)
 
 
