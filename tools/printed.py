@@ -3,7 +3,7 @@
 
 Commands are the lines of fenced `sh` blocks, and of blocks of four spaces whose first word is a program here. A block runs as one script with
 bash, in a clone of what is committed (--folder for another folder), with the built program put where ./domserve looks for it. What is left
-out is told, with the reason.
+out is told, with the reason. With --all, in a folder where a start has been made, what compiles or takes long runs too.
 """
 import argparse
 import glob
@@ -25,18 +25,22 @@ Block = namedtuple("Block", "page line script shown")
 # What is left out, and why.
 LEFT_OUT = (
     (r"\.ci/run|\brt ci\b", "the gate itself, which proves all from nothing"),
-    (r"\brt \w+", "needs the kit, and compiles or proves"),
     (r"--install|\bpip install|\binstall -m|\bapt(-get)? |\bsystemctl\b|\bdocker\b|\bpodman\b", "installs, or needs what is not here"),
+    (r"\bNAME\b|\bFILE\b|\bPREFIX\b", "a form, with words to put in"),
+)
+
+# What is left out but with --all, and why.
+LONG = (
+    (r"\brt \w+", "needs the kit, and compiles or proves"),
     (r"bindings/c/(make|test|bench)\.py", "proves and builds the library for C"),
     (r"\btools/(refused_|leaks|independence|size)|\bbench/", "a long run by hand"),
-    (r"\bNAME\b|\bFILE\b|\bPREFIX\b", "a form, with words to put in"),
 )
 
 # What runs with --library alone.
 OF_LIBRARY = r"bindings/c/out|\bpkg-config\b"
 
-# The longest that a block may take, in seconds; what it left running is ended then.
-LIMIT = 120
+# The longest that a block may take, in seconds, and with --all; what it left running is ended then.
+LIMIT, LONG_LIMIT = 120, 1800
 
 
 def words():
@@ -46,7 +50,11 @@ def words():
     parser.add_argument("--library", metavar="FILE", help="an archive libdom_c.a: what needs the library for C runs too, in the scratch clone")
     parser.add_argument("--c-part", metavar="FILE", help="the kit's part in C, for bindings/c/make.py")
     parser.add_argument("--folder", help="run there, and not in a scratch clone")
-    return parser.parse_args()
+    parser.add_argument("--all", action="store_true", help="what compiles or takes long too, in --folder, where a start has been made")
+    given = parser.parse_args()
+    if given.all and not given.folder:
+        parser.error("--all goes with --folder")
+    return given
 
 
 def pages(only):
@@ -95,10 +103,11 @@ def blocks(page):
         at += 1
 
 
-def reason(script, has_library):
+def reason(script, given):
     """Why a block is left out, if it is."""
-    of_library = [] if has_library else [(OF_LIBRARY, "needs the built library for C (--library)")]
-    return next((why for pattern, why in [*LEFT_OUT, *of_library] if re.search(pattern, script)), None)
+    of_library = [] if given.library or given.all else [(OF_LIBRARY, "needs the built library for C (--library)")]
+    long = [] if given.all else LONG
+    return next((why for pattern, why in [*LEFT_OUT, *long, *of_library] if re.search(pattern, script)), None)
 
 
 def make_library(given, clone):
@@ -128,13 +137,13 @@ def end_all(process):
         pass
 
 
-def run(block, folder):
+def run(block, folder, limit):
     """What is wrong with a block once it has run, if anything is."""
     bash = ["bash", "-euo", "pipefail", "-c", block.script]
     pipes = {"stdin": subprocess.DEVNULL, "stdout": subprocess.PIPE, "stderr": subprocess.PIPE}
     process = subprocess.Popen(bash, cwd=folder, start_new_session=True, **pipes)
     # what a block leaves running holds the pipes, and is ended with it
-    timer = threading.Timer(LIMIT, end_all, [process])
+    timer = threading.Timer(limit, end_all, [process])
     timer.start()
     out, err = process.communicate()
     timer.cancel()
@@ -150,15 +159,15 @@ def tell(block, said):
     print(f"{block.page}:{block.line}: {first}{' ...' if rest else ''}: {said}", flush=True)
 
 
-def run_all(found, folder, has_library):
+def run_all(found, folder, given):
     """Runs what is not left out; returns how many ran, and how many went wrong."""
     ran = wrong = 0
     for block in found:
-        why = reason(block.script, has_library)
+        why = reason(block.script, given)
         if why:
             tell(block, f"left out: {why}")
             continue
-        fault = run(block, folder)
+        fault = run(block, folder, LONG_LIMIT if given.all else LIMIT)
         tell(block, fault or ("as printed" if block.shown is not None else "ran"))
         ran, wrong = ran + 1, wrong + bool(fault)
     return ran, wrong
@@ -173,7 +182,7 @@ def main():
         folder = given.folder or scratch(given.program, top)
         if given.library and not given.folder:
             make_library(given, folder)
-        ran, wrong = run_all(found, folder, given.library)
+        ran, wrong = run_all(found, folder, given)
     print(f"{len(found)} blocks: {ran} ran, {wrong} wrong, {len(found) - ran} left out")
     return 1 if wrong else 0
 
