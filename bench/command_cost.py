@@ -143,7 +143,114 @@ def contents_deleted(count):
     return paragraphs(count) + [["createRange", 0], ["setStart", 0, first, 4], ["setEnd", 0, last, 4]], [["deleteContents", 0]], 20
 
 
+def chain(depth):
+    """The lines that make a chain of elements below the Document, numbered from the top."""
+    for number in range(1, depth + 1):
+        yield ["createElement", 0, "e"]
+        yield ["appendChild", number - 1, number]
+
+
+def compared_in_a_chain(depth):
+    """Two points of one chain, at its top and at its foot; counted for each level between them."""
+    ends = [["createRange", 0], ["createRange", 0], ["selectNodeContents", 0, 1], ["setStart", 1, depth, 0]]
+    return list(chain(depth)) + ends, [["compareBoundaryPoints", 0, k % 4, 1] for k in range(COMMANDS)], COMMANDS * depth
+
+
+def root_of_a_chain(depth):
+    return list(chain(depth)), [["root", depth] for _ in range(COMMANDS)], COMMANDS * depth
+
+
+def contained_in_a_chain(depth):
+    return list(chain(depth)), [["contains", 1, depth] for _ in range(COMMANDS)], COMMANDS * depth
+
+
+def removes_beside_iterators(iterators):
+    """Leaves go while iterators stand elsewhere."""
+    nodes = 1000
+    making, commands, count = remove_scene(nodes)
+    return making + [["createIterator", groups(nodes)[0], 4294967295, []] for _ in range(iterators)], commands, count
+
+
+def changes_beside_observers(observers):
+    """Attributes of an element are set that nobody observes, while observers of other nodes stand beside it."""
+    nodes = 1000
+    making = list(tree(nodes)) + [["createElement", 0, "o"] for _ in range(observers)]
+    for number in range(observers):
+        making += [["createObserver"], ["observe", number, nodes + number, {"attributes": True}]]
+    return making, [["setAttribute", groups(nodes)[0] + 7, "a", "v"] for _ in range(COMMANDS)], COMMANDS
+
+
+def disconnected(observers):
+    """Each of a hundred observers is disconnected, among so many that each observe a node of their own."""
+    making = [["createElement", 0, "o"] for _ in range(observers)]
+    for number in range(observers):
+        making += [["createObserver"], ["observe", number, 1 + number, {"childList": True}]]
+    return making, [["disconnect", number] for number in range(100)], 100
+
+
+def notified(observers):
+    """A notice with one transient registration to end, among observers of other nodes."""
+    making = [["createElement", 0, "p"], ["createElement", 0, "c"], ["createObserver"], ["observe", 0, 1, {"childList": True, "subtree": True}]]
+    making += [["createElement", 0, "o"] for _ in range(observers)]
+    for number in range(observers):
+        making += [["createObserver"], ["observe", 1 + number, 3 + number, {"childList": True}]]
+    return making, [["appendChild", 1, 2], ["remove", 2], ["notify"]] * 100, 100
+
+
+def discarded_beside_records(records):
+    """Texts without a parent go, while records of other nodes wait."""
+    texts = [["createText", 0, "a"] for _ in range(COMMANDS)]
+    watch = [["createElement", 0, "p"], ["createObserver"], ["observe", 0, 1, {"attributes": True}]]
+    return watch + texts + [["setAttribute", 1, "a", "v"] for _ in range(records)], [["discard", 2 + k] for k in range(COMMANDS)], COMMANDS
+
+
+def discarded_beside_static_ranges(ranges):
+    """Texts without a parent go, while static ranges of another node stand."""
+    texts = [["createText", 0, "a"] for _ in range(COMMANDS)]
+    return [["createElement", 0, "p"]] + texts + [["createStaticRange", 1, 0, 1, 0] for _ in range(ranges)], [
+        ["discard", 2 + k] for k in range(COMMANDS)], COMMANDS
+
+
+def documents_discarded(gone):
+    """Documents go, after so many other nodes went."""
+    making = []
+    for number in range(1, gone + 1):
+        making += [["createComment", 0, ""], ["discard", number]]
+    making += [["newDocument"] for _ in range(100)]
+    return making, [["discard", gone + 1 + k] for k in range(100)], 100
+
+
+def selected_in_the_midst(children):
+    """A range is set around a child in the midst of children that were each put in front."""
+    making = [["createElement", 0, "p"]]
+    for number in range(2, children + 2):
+        making += [["createElement", 0, "e"], ["insertBefore", 1, number, number - 1 if number > 2 else None]]
+    return making + [["createRange", 0], ["selectNode", 0, children // 2]], [["selectNode", 0, children // 2 + 1] for _ in range(100)], 100
+
+
+def moved_beside_released(ranges):
+    """A group of a hundred leaves moves to and fro, while ranges stand that were released, and one that is live."""
+    nodes = 1000
+    making = list(tree(nodes)) + [["createRange", 0] for _ in range(ranges)] + [["releaseRange", number] for number in range(ranges)]
+    at = groups(nodes)
+    moves = [["appendChild", at[1 + k % 2], at[0]] for k in range(100)]
+    return making + [["createRange", 0], ["selectNode", ranges, at[3]]], moves, 100
+
+
+def taken_out_of_a_chain(depth):
+    """What lies behind the foot of a chain is extracted, from there to the end of its top; counted for each level."""
+    making = list(chain(depth)) + [["createText", 0, "some text"], ["appendChild", depth, depth + 1]]
+    making += [["createRange", 0], ["setStart", 0, depth + 1, 4], ["setEnd", 0, 0, 1]]
+    return making, [["extractContents", 0]], depth
+
+
+def cloned_out_of_a_chain(depth):
+    making, _, count = taken_out_of_a_chain(depth)
+    return making, [["cloneContents", 0]], count
+
+
 SIZES = ("among 1,000 nodes", "among 100,000")
+LEVELS = ("300 deep", "3,000 deep")
 RANGES = ("with no range elsewhere", "with 10,000 ends")
 
 PAIRS = (
@@ -160,6 +267,20 @@ PAIRS = (
     ("nextNode of a walker", SIZES, walks, (1000, 100000)),
     ("cloneNode, for each node", SIZES, cloned, (1000, 100000)),
     ("deleteContents, for each node", ("in 100 paragraphs", "in 100,000"), contents_deleted, (100, 100000)),
+    ("compareBoundaryPoints in a chain, for each level", LEVELS, compared_in_a_chain, (300, 3000)),
+    ("root in a chain, for each level", LEVELS, root_of_a_chain, (300, 3000)),
+    ("contains in a chain, for each level", LEVELS, contained_in_a_chain, (300, 3000)),
+    ("remove", ("with no iterator elsewhere", "with 10,000"), removes_beside_iterators, (0, 10000)),
+    ("a change that nobody watches", ("beside one observer of another node", "beside 10,000"), changes_beside_observers, (1, 10000)),
+    ("disconnect", ("among 100 observers", "among 10,000"), disconnected, (100, 10000)),
+    ("a child that comes, goes and is told of", ("with no other observer", "beside 10,000 of other nodes"), notified, (0, 10000)),
+    ("discard of a Text", ("with no record that waits", "beside 50,000"), discarded_beside_records, (0, 50000)),
+    ("discard of a Text", ("with no static range", "beside 50,000"), discarded_beside_static_ranges, (0, 50000)),
+    ("discard of a Document", ("after 100 other nodes went", "after 100,000"), documents_discarded, (100, 100000)),
+    ("selectNode in the midst", ("of 100 children", "of 50,000"), selected_in_the_midst, (100, 50000)),
+    ("a group that moves", ("with no released range", "beside 10,000"), moved_beside_released, (0, 10000)),
+    ("extractContents out of a chain, for each level", ("40 deep", "4,000 deep"), taken_out_of_a_chain, (40, 4000)),
+    ("cloneContents out of a chain, for each level", ("40 deep", "4,000 deep"), cloned_out_of_a_chain, (40, 4000)),
 )
 
 

@@ -6,6 +6,7 @@ proved here is kept in crates/NAME/out/check for the next time, and is no verdic
 """
 import argparse
 import os
+import shutil
 import subprocess
 import sys
 
@@ -26,36 +27,45 @@ def check(rt, crate, functions, jobs):
     return ran.returncode
 
 
-def try_edits(rt, crate):
-    """Tries the edits that must fail; returns how many were not refused."""
+def try_edits(rt, crate, names):
+    """Tries the edits that must fail, or those of these names, over what a check of the crate as it stands proves; returns how many were not refused."""
     good, bad = rt.edits_of(crate)
-    tried = rt.must_fail_all(crate, good, ["--jobs", "1"])
-    for _, text in tried:
-        print(text)
+    good = [it for it in good if not names or os.path.basename(it).removesuffix(".edit") in names]
+    lost = len(bad)
     for it in bad:
         print(f"no edit: {it}")
-    return len(bad) + sum(not refused for refused, _ in tried)
+    kept = f"{crate.folder}/out/check"
+    with rt.ending():
+        room = rt.seeded(crate, ["--jobs", "1"], kept if os.path.isdir(kept) else None)
+        if not room:
+            sys.exit(f"{crate.name} is not proved as it stands, so no edit was tried")
+        for it in good:
+            over = f"{room}/{os.path.basename(it)}"
+            rt.linked(f"{room}/seed", over)
+            outcome, text = rt.must_fail(crate, it, ["--jobs", "1"], over)
+            shutil.rmtree(over, ignore_errors=True)
+            print(text, flush=True)
+            lost += outcome not in (rt.REFUSED, rt.AT_LIMIT)
+    return lost
 
 
 def main():
     words = argparse.ArgumentParser(description=__doc__, formatter_class=argparse.RawDescriptionHelpFormatter)
     words.add_argument("crate", metavar="CRATE", help="a crate of crates.txt")
-    words.add_argument("functions", nargs="*", metavar="MODULE::FUNCTION", help="only these functions, as `rt check --only` takes them")
-    words.add_argument("--edits", action="store_true", help="try the edits that must fail, each over what those before it proved")
+    words.add_argument("functions", nargs="*", metavar="MODULE::FUNCTION", help="only these functions, as `rt check --only` takes them; with --edits, names of edits")
+    words.add_argument("--edits", action="store_true", help="try the edits that must fail, or those that are named, each over what the crate's check proves")
     words.add_argument("--jobs", type=int, default=2, help="how many modules are checked side by side (2)")
-    given = words.parse_args()
+    given = words.parse_intermixed_args()
     crates, known = graph(), {}
     if given.crate not in crates:
         words.error(f"crates.txt has no crate {given.crate}")
-    if given.edits and given.functions:
-        words.error("edits are tried of a whole crate")
     missing = [it for it in below(crates, given.crate) if not is_fresh(crates, it, known)]
     if missing:
         sys.exit(f"not proved yet, or changed since: {', '.join(missing)}. tools/start.py proves them.")
     rt = kit()
     crate = {it.name: it for it in rt.rtlib.crates_below(ROOT)}[given.crate]
     if given.edits:
-        return 1 if try_edits(rt, crate) else 0
+        return 1 if try_edits(rt, crate, given.functions) else 0
     return check(rt, crate, given.functions, given.jobs)
 
 

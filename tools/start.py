@@ -21,6 +21,8 @@ import time
 ROOT = os.path.dirname(os.path.dirname(os.path.realpath(__file__)))
 PROGRAM = "domserve"
 PARTS = ("src", "specs", "proofs")
+# What `rt` calls the task that proves a crate: it gets the processors that no other waits for.
+PROOF = "proof"
 # How often a start that takes long says what it is at, in seconds.
 PAUSE = 60
 
@@ -119,7 +121,7 @@ class Start:
 
     def prove(self, crate, given, jobs):
         """Proves and builds one crate where all below it are, and returns whether it is."""
-        if not all(given.get(it.name, True) for it in crate.below()):
+        if not all(given.get((it.name, PROOF), True) for it in crate.below()):
             return False
         crate, log = copy.copy(crate), f"{crate.folder}/out/start.log"
         os.makedirs(f"{crate.folder}/out", exist_ok=True)
@@ -148,9 +150,9 @@ class Start:
         crates = {it.name: it for it in self.rt.rtlib.crates_below(ROOT)}
         for name in self.wanted:
             crate = crates[name]
-            waits = [it.name for it in crate.below() if it.name in self.wanted]
+            waits = [(it.name, PROOF) for it in crate.below() if it.name in self.wanted]
             call = lambda given, jobs, crate=crate: self.prove(crate, given, jobs)
-            tasks[name] = (waits, crate.count(rb"\n"), self.rt.need(crate), call)
+            tasks[name, PROOF] = (waits, crate.count(rb"\n"), self.rt.need(crate), call)
         ended = threading.Event()
         threading.Thread(target=self.tell, args=(ended,), daemon=True).start()
         given = self.rt.in_lanes(tasks)
@@ -168,20 +170,27 @@ def main():
     words = argparse.ArgumentParser(description=__doc__, formatter_class=argparse.RawDescriptionHelpFormatter)
     words.add_argument("--is-fresh", action="store_true", help="only tell by the status whether the program is built of the files that are there")
     words.add_argument("--take", action="store_true", help="take the libraries that `rt ci` has just proved and left, so that none is proved again")
+    words.add_argument("crates", nargs="*", metavar="CRATE", help="prove these crates and what stands below them, in place of the program")
     given = words.parse_args()
     crates, known = graph(), {}
+    for it in given.crates:
+        if it not in crates:
+            words.error(f"crates.txt has no crate {it}")
     if given.take:
         left = take(crates, below(crates, PROGRAM))
         print(f"{PROGRAM}: not taken, since rt ci has left no library of the files that are there: {', '.join(left)}" if left else f"{PROGRAM}: every library is taken")
         return 1 if left else 0
-    all_of_it = [*below(crates, PROGRAM), PROGRAM]
+    all_of_it = []
+    for name in given.crates or [PROGRAM]:
+        all_of_it += [it for it in [*below(crates, name), name] if it not in all_of_it]
     wanted = [it for it in all_of_it if not is_fresh(crates, it, known)]
     if given.is_fresh or not wanted:
         return 1 if wanted else 0
     start = Start(kit(), wanted)
     for it in (signal.SIGTERM, signal.SIGHUP, signal.SIGINT):
         signal.signal(it, end)
-    start.say(f"proving {len(wanted)} of {len(all_of_it)} crates and building the program, once")
+    what = "" if given.crates else " and building the program, once"
+    start.say(f"proving {len(wanted)} of {len(all_of_it)} crates{what}")
     return 0 if start.run() else 1
 
 

@@ -32,6 +32,7 @@ use Rattle.dom_data.specs.dom_observe.Watchers.{Watches}
 use Rattle.dom_data.specs.dom_edit.declared.world.World.{World}
 use Rattle.dom_data.specs.dom_edit.Whole.{IsWhole, AreHeld, Keeps, Follows, unwatched}
 use Rattle.dom_data.specs.dom_edit.Covering.{covered-kept}
+use Rattle.dom_data.specs.dom_observe.HeldNames.{held-kept}
 use Rattle.dom_data.specs.dom_edit.Following.{follows-then, keeps-unwatched, sound-unwatched, whole-sound}
 use Rattle.dom_clone.specs.Growing.{made_under}
 
@@ -152,6 +153,7 @@ module _ (v : World) (h : IsWhole v) (parent child d : ℕ) (m : MayGoUnder v.tr
       let t = total-put (one_at n) parent child None v.tree.forest one in
       omega arith) refl h.covered)
       (All-weaker (AreHeld v.tree.forest) (AreHeld (put parent child None v.tree.forest)) (λ r k. record { start = there_put r.start.node k.start; end = there_put r.end.node k.end }) v.statics h.statics)
+      (held-kept v.tree.forest (put parent child None v.tree.forest) v.observers there_put h.observers)
 
 -- A copy is made, and goes under a node.
 module _ (v mid : World) (h : IsWhole v) (n parent d : ℕ) (p e : Entry (Node Content)) (ep : entry_in v.tree.forest parent ≡ Some p) (ee : entry_in v.tree.forest n ≡ Some e) (document : d ≡ p.value.document) (fit : may_stand_in p.value.label.kind e.value.label.kind ≡ true) (fo : Follows v mid (made_node d e.value.label e.value.body)) where

@@ -3,6 +3,7 @@ pub use Rattle.dom_data.specs.dom_edit.Inserting
 pub use Rattle.dom_data.specs.dom_edit.Markers
 pub use Rattle.dom_data.specs.dom_edit.Places
 pub use Rattle.dom_data.specs.dom_edit.Refusals
+pub use Rattle.dom_data.specs.dom_edit.Used
 pub use Rattle.dom_data.specs.dom_edit.Whole
 pub use Rattle.dom_data.specs.dom_edit.declared
 pub use Rattle.dom_data.specs.dom_edit.AmongChildren

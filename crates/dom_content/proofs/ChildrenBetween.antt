@@ -188,9 +188,6 @@ module _ (f : Forest Content) (once : (m : ℕ) → occurs m f ≤ 1) (parent : 
       let i : d ≡ c = cc e in
       ap Some (sym i) ∙ sym (get-place d (children_of f parent) (child-listed f once d parent w.0 w.1)) ∙ ap (slice_get (children_of f parent)) (sym (index-child f d parent w.1))
 
-pub common-is : (f : Forest Content) (n m a : ℕ) (p q : Point) → n ≡ p.node → m ≡ q.node → a ≡ common_ancestor f n m → a ≡ common_ancestor f p.node q.node
-common-is f n m a p q d e h = h ∙ ap (λ x. common_ancestor f x m) d ∙ ap (λ x. common_ancestor f p.node x) e
-
 module _ (g : Grove Content) (s : IsForest g) (r : Range) (is : IsRange g.forest r) (a : ℕ) (common : a ≡ common_ancestor g.forest r.start.node r.end.node) where
   pub top-held : HasNode g.forest a
   top-held = subst (λ m. HasNode g.forest m) (sym common) (HasNode-occurs g.forest (top g s r is) (forked g s r is).there)

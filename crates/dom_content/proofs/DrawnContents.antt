@@ -41,14 +41,11 @@ use Rattle.dom_clone.specs.dom_edit.Following.{follows-then, keeps-unwatched}
 use Rattle.dom_clone.specs.dom_edit.InsertedNodes.{item-hit}
 use Rattle.dom_clone.specs.dom_data.NewTexts.{owner-kind}
 use Rattle.dom_clone.specs.dom_data.StaysWhole.{sound-unwatched}
-use Rattle.dom_content.specs.Paths.{HasRoom, StillHeld}
+use Rattle.dom_content.specs.Paths.{HasRoom}
 use Rattle.dom_content.specs.Drawing.{AreParts, in_one_data, parts_drawn, filled}
 use Rattle.dom_content.proofs.Deleted.{follows-alike}
 use Rattle.dom_content.proofs.PieceSteps.{room-before, room-after}
 use Rattle.dom_content.proofs.DrawnNumbers.{head-rises, rest-rises, filled-rises}
-
-pub list-after : (a b : World) → StillHeld a b → (ns : List ℕ) → AreThere a.tree.forest ns → AreThere b.tree.forest ns
-list-after a b h ns k m l = h m (k m l)
 
 -- The parts that go into a fragment in turn.
 
@@ -127,8 +124,11 @@ module _ (v : World) (h : IsWhole v) (r : Range) (is : IsRange v.tree.forest r) 
   top_there : 0 < occurs top v.tree.forest
   top_there = let i = common-above v.tree.forest r.start.node r.end.node hs is.one_root in path-there v.tree.forest s.forest.once r.start.node top i.0
 
-  path-same : (n : ℕ) → 0 < occurs n v.tree.forest → path_below grown (common_ancestor grown r.start.node r.end.node) n ≡ path_below v.tree.forest top n
+  pub path-same : (n : ℕ) → 0 < occurs n v.tree.forest → path_below grown (common_ancestor grown r.start.node r.end.node) n ≡ path_below v.tree.forest top n
   path-same n k = ap (λ m. path_below grown m n) top-same ∙ ap (λ ns. reverse (up_to top ns)) (same_ancestors n k)
+
+  pub root-same : root_of grown r.start.node ≡ root_of grown r.end.node
+  root-same = root-more v.tree.forest s.forest.once fragment fresh r.start.node hs ∙ is.one_root ∙ sym (root-more v.tree.forest s.forest.once fragment fresh r.end.node he)
 
   contained-same : (n : ℕ) → 0 < occurs n v.tree.forest → is_contained unit_count grown r n ≡ is_contained unit_count v.tree.forest r n
   contained-same n k =

@@ -28,4 +28,4 @@ module _ (v : World) (r : ℕ) (p : Point) (u : RangeTable) (is : u ≡ record v
   whole-standing h within =
       let covers : AreCovered v.tree u.covered = subst (AreCovered v.tree) (sym (ap (λ (x : RangeTable). x.covered) is)) h.covered in
       whole-sound (record v { ranges = u }) (with_range r (collapsed_at p) (unwatched v)) (follows-standing.keeps (unwatched v) (keeps-unwatched v))
-      (sound-with_range r (collapsed_at p) (unwatched v) (sound-unwatched v h) within) h.documents h.owners covers h.statics
+      (sound-with_range r (collapsed_at p) (unwatched v) (sound-unwatched v h) within) h.documents h.owners covers h.statics h.observers

@@ -1,6 +1,6 @@
 -- Going down the path to the end of a range: what comes before the path goes in on the way. DOM Standard, "Interface Range" (extract, clone the contents).
-use Rattle.std.proofs.Common.{◌≡◌, ℕ, ◌<◌, ◌≤◌, Bool, true, false, List, [], ◌∷◌, take, ap, sym, ◌∙◌, subst, arith}
-use Rattle.dom_model.specs.PlainLists.Lists.{hits, up_to}
+use Rattle.std.proofs.Common.{◌≡◌, ℕ, ◌≤◌, Bool, true, false, List, [], ◌∷◌, take, ap, sym, ◌∙◌, arith}
+use Rattle.dom_model.specs.PlainLists.Lists.{up_to}
 use Rattle.dom_model.specs.Forests.Kinds.{is_character_data}
 use Rattle.dom_model.specs.Forests.Forest.{Forest, children_of}
 use Rattle.dom_model.specs.Worlds.World as model
@@ -10,13 +10,11 @@ use Rattle.dom_model.specs.MutationAlgorithms.Editing.{append}
 use Rattle.dom_model.specs.RangesAndContents.Contents.{units_into, children_into, copy_into, head_into}
 use Rattle.dom_model.proofs.Counting.CountsOfContents.{units_into-grown}
 use Rattle.dom_clone.specs.dom_edit.declared.world.World.{World}
-use Rattle.dom_clone.specs.dom_edit.Inserting.{AreThere}
-use Rattle.dom_clone.specs.dom_edit.Whole.{IsWhole, Keeps, Follows}
+use Rattle.dom_clone.specs.dom_edit.Whole.{Keeps, Follows}
 use Rattle.dom_clone.specs.dom_edit.Following.{follows-then}
 use Rattle.dom_clone.specs.dom_edit.InsertedNodes.{follows-as}
-use Rattle.dom_content.specs.declared.paths.Partial.{Partial}
-use Rattle.dom_content.specs.Paths.{HasRoom, StillHeld, opened, inner_of, entered, closed_one}
-use Rattle.dom_content.proofs.PathLists.{up_to-there}
+use Rattle.dom_content.specs.declared.partial.Partial.{Partial}
+use Rattle.dom_content.specs.Paths.{HasRoom, opened, inner_of, entered, closed_one}
 use Rattle.dom_content.proofs.PathSteps.{if_so, if_not, append-grows, opened-grows, copy-grows, if-grows, room-within}
 use Rattle.dom_content.proofs.PieceSteps.{room-after, room-as, children-grow}
 
@@ -49,9 +47,6 @@ head-enters moves into offset n m path w =
 
 -- A node is entered.
 
-pub none-there : (f : Forest Content) (ns : List ℕ) → ns ≡ [] → AreThere f ns
-none-there f ns e m h = absurd (let k : hits m ns ≡ 0 = ap (hits m) e in omega (arith, h, k))
-
 pub room-entered : (v : World) (moves : Bool) (into n next : ℕ) → HasRoom v (entered moves into n next) → HasRoom v (opened into n)
 room-entered v moves into n next r =
     room-within v (entered moves into n next) (opened into n) (λ w k. children-grow moves (inner_of into n w) (up_to next (children_of w.forest n)) (opened into n w)) r
@@ -69,9 +64,6 @@ module _ (v mid : World) (moves : Bool) (into n next : ℕ) (kids : List ℕ) (e
   follows-entered new g =
       follows-as v new (λ w. children_into moves inner kids (opened into n w)) (entered moves into n next) entered-as
       (follows-then v mid new (opened into n) (children_into moves inner kids) f g)
-
-  pub ahead-there : IsWhole v → StillHeld v mid → AreThere mid.tree.forest kids
-  ahead-there h s m k = s m (up_to-there v.tree.forest h.forest.once n next m (subst (λ (ks : List ℕ). 0 < hits m ks) ek k))
 
 -- the first node of a head is entered
 pub head-down : (v : World) (moves : Bool) (into offset n m : ℕ) (path : List ℕ) (p : Partial) → p.copy ≡ v.tree.made → ((w : model.World) → Keeps v w → p.inner ≡ inner_of into n w) → p.children.items ≡ [] →

@@ -1,15 +1,12 @@
 -- Lists of nodes: parts of the children of a node, and the way up from a node.
 use Rattle.std.specs.Prelude.{◌==◌}
-use Rattle.std.proofs.Common.{◌≡◌, ℕ, zero, suc, ◌+◌, ◌<◌, ◌≤◌, true, false, List, [], ◌∷◌, ◌++◌, take, drop, length, slice_index_or, Option, Some, None, refl, ap, sym, ◌∙◌, arith, length-drop, append-nil}
+use Rattle.std.proofs.Common.{◌≡◌, ℕ, ◌+◌, ◌<◌, ◌≤◌, true, false, List, [], ◌∷◌, ◌++◌, drop, length, slice_index_or, Option, Some, None, refl, ap, sym, ◌∙◌, arith, length-drop, append-nil}
 use Rattle.std.proofs.lemmas.List.{append_assoc}
 use Rattle.std.proofs.lemmas.List.{drop_more}
-use Rattle.dom_model.specs.PlainLists.Lists.{hits, past, up_to}
-use Rattle.dom_model.specs.Forests.Forest.{Forest, HasNode, occurs, parent_of, children_of, ancestors}
+use Rattle.dom_model.specs.PlainLists.Lists.{up_to}
+use Rattle.dom_model.specs.Forests.Forest.{Forest, HasNode, occurs, parent_of, ancestors}
 use Rattle.dom_model.proofs.Forests.Entries.{occurs-HasNode, HasNode-occurs}
-use Rattle.dom_model.proofs.Forests.Indices.{child-there}
 use Rattle.dom_model.proofs.Forests.Paths.{parent-path, root-path}
-use Rattle.dom_model.proofs.Traversal.IteratorsStay.{hits-past}
-use Rattle.dom_model.proofs.BoundaryPoints.RootsKept.{hits-up_to}
 
 pub listed : (nodes : List ℕ) (i x : ℕ) → x ≡ slice_index_or nodes i x → i < length nodes → drop i nodes ≡ x ∷ drop (i + 1) nodes
 listed nodes i x is lt = drop_more nodes i x lt ∙ ap (λ y. y ∷ drop (i + 1) nodes) (sym is)
@@ -20,31 +17,6 @@ no_more (x ∷ xs) e = absurd (omega arith)
 
 pub none-left : (nodes : List ℕ) (i : ℕ) → length nodes ≤ i → drop i nodes ≡ []
 none-left nodes i le = no_more (drop i nodes) (let l = length-drop i nodes in omega arith)
-
--- Children that are there.
-
-module _ {X : Type 0} (f : Forest X) (o : (m : ℕ) → occurs m f ≤ 1) (p : ℕ) where
-  pub past-there : (n m : ℕ) → 0 < hits m (past n (children_of f p)) → 0 < occurs m f
-  past-there n m h = child-there f o m p (let i = hits-past m n (children_of f p) in omega arith)
-
-  pub up_to-there : (n m : ℕ) → 0 < hits m (up_to n (children_of f p)) → 0 < occurs m f
-  up_to-there n m h = child-there f o m p (let i = hits-up_to m n (children_of f p) in omega arith)
-
-  hits-dropped : (x k : ℕ) (ns : List ℕ) → hits x (drop k ns) ≤ hits x ns
-  hits-dropped x zero ns = omega arith
-  hits-dropped x (suc k) [] = omega arith
-  hits-dropped x (suc k) (n ∷ ns) = let i = hits-dropped x k ns in omega arith
-
-  hits-taken : (x k : ℕ) (ns : List ℕ) → hits x (take k ns) ≤ hits x ns
-  hits-taken x zero ns = omega arith
-  hits-taken x (suc k) [] = omega arith
-  hits-taken x (suc k) (n ∷ ns) = let i = hits-taken x k ns in omega arith
-
-  pub drop-there : (k m : ℕ) → 0 < hits m (drop k (children_of f p)) → 0 < occurs m f
-  drop-there k m h = child-there f o m p (let i = hits-dropped m k (children_of f p) in omega arith)
-
-  pub take-there : (k m : ℕ) → 0 < hits m (take k (children_of f p)) → 0 < occurs m f
-  take-there k m h = child-there f o m p (let i = hits-taken m k (children_of f p) in omega arith)
 
 -- The way up.
 

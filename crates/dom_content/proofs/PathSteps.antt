@@ -15,19 +15,19 @@ use Rattle.dom_model.specs.DataAndCopies.Data.{content_in, data_of}
 use Rattle.dom_model.specs.DataAndCopies.Clones.{clone_node}
 use Rattle.dom_model.specs.RangesAndContents.Contents.{new_fragment, units_into, children_into, copy_into, tail_into}
 use Rattle.dom_model.proofs.Forests.Changes.{seen, nothing, just}
-use Rattle.dom_model.proofs.Forests.Climbing.{hits-append, hits-first}
 use Rattle.dom_model.proofs.Forests.Entries.{occurs-HasNode, HasNode-occurs}
 use Rattle.dom_model.proofs.Counting.CountsKept.{append-kept}
 use Rattle.dom_model.proofs.Counting.CountsOfContents.{units_into-grown}
 use Rattle.dom_clone.specs.dom_edit.declared.world.World.{World}
-use Rattle.dom_clone.specs.dom_edit.Inserting.{AreThere}
 use Rattle.dom_clone.specs.dom_edit.Whole.{IsWhole, Keeps, Follows}
 use Rattle.dom_clone.specs.dom_edit.Following.{follows-none, follows-then}
 use Rattle.dom_clone.specs.dom_edit.InsertedNodes.{follows-as}
-use Rattle.dom_content.specs.declared.paths.Partial.{Partial}
-use Rattle.dom_content.specs.Paths.{HasRoom, StillHeld, KindsStay, opened, inner_of, closed_one, closed, IsUnfinished, AreUnfinished}
+use Rattle.dom_content.specs.declared.partial.Partial.{Partial}
+use Rattle.dom_content.specs.Paths.{HasRoom, StillHeld, KindsStay, opened, inner_of, closed_one, closed}
+use Rattle.dom_content.specs.Coming.{IsRising, IsHolder, IsOld, AreOld, MayDraw, IsUnfinished, AreUnfinished, MayClose, IsPathTo}
+use Rattle.dom_content.proofs.Comings.{Goes, first-old, rest-old, one-old, old-there, old-goes, all_unfinished-go, inner-holder, goes-closed}
 use Rattle.dom_content.proofs.PathLists.{listed, none-left}
-use Rattle.dom_content.proofs.PieceSteps.{room-before, room-after, room-as, held-still, children-grow}
+use Rattle.dom_content.proofs.PieceSteps.{room-before, room-after, room-as, children-grow}
 
 -- What a test picks.
 
@@ -142,16 +142,6 @@ module _ (v : World) (into n d copy : ℕ) (ec : copy ≡ v.tree.made) (held : H
 pub room-copy : (v : World) (into n : ℕ) → HasRoom v (opened into n) → HasRoom v (clone_node false n)
 room-copy v into n r = room-within v (opened into n) (clone_node false n) (λ w k. let a = append-grows w.made into (clone_node false n w) in omega (arith, a)) r
 
-pub there-still : (a b : World) (ns : List ℕ) → StillHeld a b → AreThere a.tree.forest ns → AreThere b.tree.forest ns
-there-still a b ns s h m k = s m (h m k)
-
-pub unfinished-still : (a b : World) (p : Partial) → StillHeld a b → IsUnfinished a.tree.forest p → IsUnfinished b.tree.forest p
-unfinished-still a b p s i = record { copy = held-still a b s p.copy i.copy; inner = held-still a b s p.inner i.inner; children = there-still a b p.children.items s i.children }
-
-pub all_unfinished-still : (a b : World) (ps : List Partial) → StillHeld a b → AreUnfinished a.tree.forest ps → AreUnfinished b.tree.forest ps
-all_unfinished-still a b [] s h = tt
-all_unfinished-still a b (p ∷ ps) s h = (unfinished-still a b p s h.0, all_unfinished-still a b ps s h.1)
-
 -- One is finished.
 
 pub room-children : (v : World) (moves : Bool) (p : Partial) → HasRoom v (closed_one moves p) → HasRoom v (children_into moves p.inner p.children.items)
@@ -166,45 +156,50 @@ pub closed-push : (moves : Bool) (ps : List Partial) (p : Partial) (w : model.Wo
 closed-push moves [] p w = refl
 closed-push moves (q ∷ ps) p w = ap (closed_one moves q) (closed-push moves ps p w)
 
-pub unfinished-push : (f : Forest Content) (ps : List Partial) (p : Partial) → AreUnfinished f ps → IsUnfinished f p → AreUnfinished f (ps ++ p ∷ [])
-unfinished-push f [] p h i = (i, tt)
-unfinished-push f (q ∷ ps) p h i = (h.0, unfinished-push f ps p h.1 i)
+pub unfinished-push : (low : ℕ) (f : Forest Content) (ps : List Partial) (p : Partial) → AreUnfinished low f ps → IsUnfinished low f p → AreUnfinished low f (ps ++ p ∷ [])
+unfinished-push low f [] p h i = (i, tt)
+unfinished-push low f (q ∷ ps) p h i = (h.0, unfinished-push low f ps p h.1 i)
 
-pub unfinished-last : (f : Forest Content) (ps : List Partial) (p : Partial) → AreUnfinished f (ps ++ p ∷ []) → IsUnfinished f p
-unfinished-last f [] p h = h.0
-unfinished-last f (q ∷ ps) p h = unfinished-last f ps p h.1
+unfinished-last : (low : ℕ) (f : Forest Content) (ps : List Partial) (p : Partial) → AreUnfinished low f (ps ++ p ∷ []) → IsUnfinished low f p
+unfinished-last low f [] p h = h.0
+unfinished-last low f (q ∷ ps) p h = unfinished-last low f ps p h.1
 
-pub unfinished-front : (f : Forest Content) (ps : List Partial) (p : Partial) → AreUnfinished f (ps ++ p ∷ []) → AreUnfinished f ps
-unfinished-front f [] p h = tt
-unfinished-front f (q ∷ ps) p h = (h.0, unfinished-front f ps p h.1)
+unfinished-front : (low : ℕ) (f : Forest Content) (ps : List Partial) (p : Partial) → AreUnfinished low f (ps ++ p ∷ []) → AreUnfinished low f ps
+unfinished-front low f [] p h = tt
+unfinished-front low f (q ∷ ps) p h = (h.0, unfinished-front low f ps p h.1)
 
 pub record IsClosing (initial now : World) (moves : Bool) (all parts : List Partial) : Type 0 where
   pub whole : IsWhole now
   pub still : StillHeld initial now
-  pub unfinished : AreUnfinished now.tree.forest parts
+  pub may : MayClose now parts
   pub room : HasRoom now (closed moves parts)
   pub rest : (final : World) → Follows now final (closed moves parts) → Follows initial final (closed moves all)
 
-pub closing-first : (v : World) (moves : Bool) (all : List Partial) → IsWhole v → AreUnfinished v.tree.forest all → HasRoom v (closed moves all) → IsClosing v v moves all all
-closing-first v moves all h u r = record { whole = h; still = λ m x. x; unfinished = u; room = r; rest = λ final f. f }
+pub closing-first : (v : World) (moves : Bool) (all : List Partial) → IsWhole v → MayClose v all → HasRoom v (closed moves all) → IsClosing v v moves all all
+closing-first v moves all h m r = record { whole = h; still = λ m x. x; may = m; room = r; rest = λ final f. f }
 
 module _ (initial now : World) (moves : Bool) (all parts : List Partial) (p : Partial) (t : IsClosing initial now moves all (parts ++ p ∷ [])) where
-  pub closing-last : IsUnfinished now.tree.forest p
-  closing-last = unfinished-last now.tree.forest parts p t.unfinished
+  last : IsUnfinished t.may.low now.tree.forest p
+  last = unfinished-last t.may.low now.tree.forest parts p t.may.parts
+
+  pub closing-last : MayClose now (p ∷ [])
+  closing-last = record { low = t.may.low; rising = t.may.rising; parts = (last, tt) }
 
   pub closing-room : HasRoom now (closed_one moves p)
   closing-room = room-before now (closed moves (parts ++ p ∷ [])) (closed_one moves p) (closed moves parts) (λ w k. closed-push moves parts p w) (closed-grows moves parts) t.room
 
   pub closing-next : (next : World) → Follows now next (closed_one moves p) → StillHeld now next → IsWhole next → IsClosing initial next moves all parts
-  closing-next next f s h = record {
-    whole = h;
-    still = λ m x. s m (t.still m x);
-    unfinished = all_unfinished-still now next parts s (unfinished-front now.tree.forest parts p t.unfinished);
-    room = room-after now next (closed moves (parts ++ p ∷ [])) (closed_one moves p) (closed moves parts) (λ w k. closed-push moves parts p w) f t.room;
-    rest = λ final g.
-        t.rest final (follows-as now final (λ w. closed moves parts (closed_one moves p w)) (closed moves (parts ++ p ∷ [])) (λ w k. closed-push moves parts p w)
-        (follows-then now next final (closed_one moves p) (closed moves parts) f g));
-  }
+  closing-next next f s h =
+      let g = goes-closed now t.whole t.may.low t.may.rising moves p last next f in
+      record {
+        whole = h;
+        still = λ m x. s m (t.still m x);
+        may = record { low = t.may.low; rising = g.rising; parts = all_unfinished-go t.may.low now next g parts (unfinished-front t.may.low now.tree.forest parts p t.may.parts) };
+        room = room-after now next (closed moves (parts ++ p ∷ [])) (closed_one moves p) (closed moves parts) (λ w k. closed-push moves parts p w) f t.room;
+        rest = λ final g.
+            t.rest final (follows-as now final (λ w. closed moves parts (closed_one moves p w)) (closed moves (parts ++ p ∷ [])) (λ w k. closed-push moves parts p w)
+            (follows-then now next final (closed_one moves p) (closed moves parts) f g));
+      }
 
 pub closing-end : (initial now : World) (moves : Bool) (all : List Partial) → IsClosing initial now moves all [] → Follows initial now (closed moves all)
 closing-end initial now moves all t = t.rest now (follows-none now)
@@ -264,35 +259,47 @@ module _ (v : World) (moves : Bool) (into offset n : ℕ) where
 
 -- Down the path.
 
-pub record IsGoingDown (initial now : World) (moves : Bool) (whole : model.World → model.World) (walk : ℕ → List ℕ → model.World → model.World) (parts : List Partial) (here : ℕ) (path : List ℕ) : Type 0 where
+pub record IsGoingDown (initial now : World) (moves : Bool) (offset : ℕ) (whole : model.World → model.World) (walk : ℕ → List ℕ → model.World → model.World) (parts : List Partial) (here : ℕ) (path : List ℕ) : Type 0 where
   pub stays_whole : IsWhole now
   pub still : StillHeld initial now
-  pub into : HasNode now.tree.forest here
-  pub there : AreThere initial.tree.forest path
-  pub unfinished : AreUnfinished now.tree.forest parts
+  pub low : ℕ
+  pub rising : IsRising low now
+  pub into : IsHolder low now.tree.forest here
+  pub nodes : AreOld low now.tree.forest path
+  pub way : IsPathTo now.tree.forest offset path
+  pub unfinished : AreUnfinished low now.tree.forest parts
   pub room : HasRoom now (λ w. closed moves parts (walk here path w))
   pub rest : (final : World) → Follows now final (λ w. closed moves parts (walk here path w)) → Follows initial final whole
 
-pub down-first : (v : World) (moves : Bool) (walk : ℕ → List ℕ → model.World → model.World) (into : ℕ) (path : List ℕ) → IsWhole v → HasNode v.tree.forest into → AreThere v.tree.forest path → HasRoom v (walk into path) → IsGoingDown v v moves (walk into path) walk [] into path
-down-first v moves walk into path h i t r = record { stays_whole = h; still = λ m x. x; into = i; there = t; unfinished = tt; room = r; rest = λ final f. f }
+pub down-first : (v : World) (moves : Bool) (offset : ℕ) (walk : ℕ → List ℕ → model.World → model.World) (into : ℕ) (path : List ℕ) → IsWhole v → MayDraw v into path → IsPathTo v.tree.forest offset path → HasRoom v (walk into path) → IsGoingDown v v moves offset (walk into path) walk [] into path
+down-first v moves offset walk into path h m p r = record { stays_whole = h; still = λ m x. x; low = m.low; rising = m.rising; into = m.holder; nodes = m.nodes; way = p; unfinished = tt; room = r; rest = λ final f. f }
 
-module _ (initial now : World) (moves : Bool) (whole : model.World → model.World) (walk : ℕ → List ℕ → model.World → model.World) (parts : List Partial) (here n : ℕ) (path : List ℕ) (t : IsGoingDown initial now moves whole walk parts here (n ∷ path)) where
+module _ (initial now : World) (moves : Bool) (offset : ℕ) (whole : model.World → model.World) (walk : ℕ → List ℕ → model.World → model.World) (parts : List Partial) (here n : ℕ) (path : List ℕ) (t : IsGoingDown initial now moves offset whole walk parts here (n ∷ path)) where
+  pub down-first_old : IsOld t.low now.tree.forest n
+  down-first_old = first-old t.low now.tree.forest n path t.nodes
+
   pub down-held : HasNode now.tree.forest n
-  down-held = HasNode-occurs now.tree.forest n (t.still n (t.there n (hits-first n path)))
+  down-held = HasNode-occurs now.tree.forest n (old-there t.low now.tree.forest n down-first_old)
+
+  pub down-may : MayDraw now here (n ∷ [])
+  down-may = record { low = t.low; rising = t.rising; holder = t.into; nodes = one-old t.low now.tree.forest n down-first_old }
 
   pub down-room : (step : model.World → model.World) → ((w : model.World) → Keeps now w → (step w).made ≤ (walk here (n ∷ path) w).made) → HasRoom now step
   down-room step less =
       room-within now (λ w. closed moves parts (walk here (n ∷ path) w)) step
       (λ w k. let a = less w k in let b = closed-grows moves parts (walk here (n ∷ path) w) in omega (arith, a, b)) t.room
 
-  pub down-next : (next : World) (step : model.World → model.World) (p : Partial) → ((w : model.World) → Keeps now w → walk here (n ∷ path) w ≡ closed_one moves p (walk p.inner path (step w))) → Follows now next step → StillHeld now next → IsWhole next → IsUnfinished next.tree.forest p →
-      IsGoingDown initial next moves whole walk (parts ++ p ∷ []) p.inner path
-  down-next next step p same f s h u = record {
+  pub down-next : (next : World) (step : model.World → model.World) (p : Partial) → ((w : model.World) → Keeps now w → walk here (n ∷ path) w ≡ closed_one moves p (walk p.inner path (step w))) → Follows now next step → StillHeld now next → IsWhole next → Goes t.low now next → IsUnfinished t.low next.tree.forest p → IsPathTo next.tree.forest offset path →
+      IsGoingDown initial next moves offset whole walk (parts ++ p ∷ []) p.inner path
+  down-next next step p same f s h g u e = record {
     stays_whole = h;
     still = λ m x. s m (t.still m x);
-    into = u.inner;
-    there = λ m x. t.there m (let i = hits-append m (n ∷ []) path in omega arith);
-    unfinished = unfinished-push next.tree.forest parts p (all_unfinished-still now next parts s t.unfinished) u;
+    low = t.low;
+    rising = g.rising;
+    into = inner-holder t.low next.tree.forest p u;
+    nodes = λ m x. old-goes t.low now next g m (rest-old t.low now.tree.forest n path t.nodes m x);
+    way = e;
+    unfinished = unfinished-push t.low next.tree.forest parts p (all_unfinished-go t.low now next g parts t.unfinished) u;
     room = room-after now next (λ w. closed moves parts (walk here (n ∷ path) w)) step (λ w. closed moves (parts ++ p ∷ []) (walk p.inner path w)) same_closed f t.room;
     rest = λ final g.
         t.rest final (follows-as now final (λ w. closed moves (parts ++ p ∷ []) (walk p.inner path (step w))) (λ w. closed moves parts (walk here (n ∷ path) w)) same_closed
@@ -303,6 +310,9 @@ module _ (initial now : World) (moves : Bool) (whole : model.World → model.Wor
       same_closed w k = ap (closed moves parts) (same w k) ∙ sym (closed-push moves parts p (walk p.inner path (step w)))
 
   module _ (last : World) (f : Follows now last (walk here (n ∷ path))) where
+    pub down-close : Goes t.low now last → MayClose last parts
+    down-close g = record { low = t.low; rising = g.rising; parts = all_unfinished-go t.low now last g parts t.unfinished }
+
     pub down-close_room : HasRoom last (closed moves parts)
     down-close_room = room-after now last (λ w. closed moves parts (walk here (n ∷ path) w)) (walk here (n ∷ path)) (closed moves parts) (λ w k. refl) f t.room
 
@@ -318,29 +328,21 @@ tail-down v moves into offset n m path p ec ei ek w k =
     ∙ ap (λ (ks : List ℕ). append (inner_of into n w) w.made (children_into moves (inner_of into n w) ks (tail_into moves (inner_of into n w) offset (m ∷ path) (opened into n w))))
     (ek ∙ ap (λ (g : Forest Content). past m (children_of g n)) (sym k.forest)))
 
--- What a copy names once it is opened.
-pub opened-unfinished : (v mid put new : World) (p : Partial) → StillHeld v mid → StillHeld mid put → StillHeld put new → p.copy ≡ v.tree.made → HasNode mid.tree.forest v.tree.made → p.inner ≡ put.tree.made → HasNode new.tree.forest put.tree.made → AreThere v.tree.forest p.children.items → IsUnfinished new.tree.forest p
-opened-unfinished v mid put new p s t u ec hc ei hi hk = record {
-  copy = held-still put new u p.copy (held-still mid put t p.copy (subst (HasNode mid.tree.forest) (sym ec) hc));
-  inner = subst (HasNode new.tree.forest) (sym ei) hi;
-  children = λ m h. u m (t m (s m (hk m h)));
-}
-
 pub still-twice : (a b c : World) → StillHeld a b → StillHeld b c → StillHeld a c
 still-twice a b c s t m h = t m (s m h)
 
 -- The list of the nodes below, from an index on.
-module _ (initial now : World) (moves : Bool) (whole : model.World → model.World) (walk : ℕ → List ℕ → model.World → model.World) (parts : List Partial) (here n : ℕ) (below : List ℕ) (i : ℕ) (t : IsGoingDown initial now moves whole walk parts here (n ∷ drop i below)) where
-  pub down-more : (x : ℕ) → x ≡ slice_index_or below i x → i < length below → IsGoingDown initial now moves whole walk parts here (n ∷ x ∷ drop (i + 1) below)
-  down-more x is lt = subst (λ (ns : List ℕ). IsGoingDown initial now moves whole walk parts here (n ∷ ns)) (listed below i x is lt) t
+module _ (initial now : World) (moves : Bool) (offset : ℕ) (whole : model.World → model.World) (walk : ℕ → List ℕ → model.World → model.World) (parts : List Partial) (here n : ℕ) (below : List ℕ) (i : ℕ) (t : IsGoingDown initial now moves offset whole walk parts here (n ∷ drop i below)) where
+  pub down-more : (x : ℕ) → x ≡ slice_index_or below i x → i < length below → IsGoingDown initial now moves offset whole walk parts here (n ∷ x ∷ drop (i + 1) below)
+  down-more x is lt = subst (λ (ns : List ℕ). IsGoingDown initial now moves offset whole walk parts here (n ∷ ns)) (listed below i x is lt) t
 
-  pub down-last : length below ≤ i → IsGoingDown initial now moves whole walk parts here (n ∷ [])
-  down-last le = subst (λ (ns : List ℕ). IsGoingDown initial now moves whole walk parts here (n ∷ ns)) (none-left below i le) t
+  pub down-last : length below ≤ i → IsGoingDown initial now moves offset whole walk parts here (n ∷ [])
+  down-last le = subst (λ (ns : List ℕ). IsGoingDown initial now moves offset whole walk parts here (n ∷ ns)) (none-left below i le) t
 
 -- the second node of the path is there too
-pub down-next_held : (initial now : World) (moves : Bool) (whole : model.World → model.World) (walk : ℕ → List ℕ → model.World → model.World) (parts : List Partial) (here n m : ℕ) (path : List ℕ) → IsGoingDown initial now moves whole walk parts here (n ∷ m ∷ path) → HasNode now.tree.forest m
-down-next_held initial now moves whole walk parts here n m path t =
-    HasNode-occurs now.tree.forest m (t.still m (t.there m (let i = hits-append m (n ∷ []) (m ∷ path) in let j = hits-first m path in omega arith)))
+pub down-next_held : (initial now : World) (moves : Bool) (offset : ℕ) (whole : model.World → model.World) (walk : ℕ → List ℕ → model.World → model.World) (parts : List Partial) (here n m : ℕ) (path : List ℕ) → IsGoingDown initial now moves offset whole walk parts here (n ∷ m ∷ path) → HasNode now.tree.forest m
+down-next_held initial now moves offset whole walk parts here n m path t =
+    HasNode-occurs now.tree.forest m (old-there t.low now.tree.forest m (first-old t.low now.tree.forest m path (rest-old t.low now.tree.forest n (m ∷ path) t.nodes)))
 
 pub no_partials : (ps : List Partial) → length ps ≡ 0 → ps ≡ []
 no_partials [] e = refl

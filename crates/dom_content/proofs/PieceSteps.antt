@@ -1,16 +1,17 @@
 -- Pieces that go into a fragment: what is still held, and room for the numbers. DOM Standard, "Interface Range" (extract, clone the contents).
-use Rattle.std.proofs.Common.{◌≡◌, ℕ, ◌+◌, ◌<◌, ◌≤◌, Bool, true, false, List, [], ◌∷◌, drop, length, slice_index_or, refl, ap, sym, ◌∙◌, subst, arith, length-drop, Some, None, IsSome, Option}
+use Rattle.std.proofs.Common.{◌≡◌, ℕ, ◌+◌, ◌-◌, ◌<◌, ◌≤◌, Bool, true, false, List, [], ◌∷◌, take, drop, length, min, slice_index_or, refl, ap, sym, ◌∙◌, subst, arith, length-drop, Some, None, IsSome, Option}
 use Rattle.std.specs.Prelude.{IfSome}
 use Rattle.dom_model.specs.Forests.Arena.{Entry}
-use Rattle.std.proofs.lemmas.List.{drop_more}
+use Rattle.std.proofs.lemmas.Bool.{false≢true}
+use Rattle.std.proofs.lemmas.List.{drop_more, take_min}
 use Rattle.dom_model.specs.Forests.Kinds.{is_character_data}
 use Rattle.dom_model.specs.Forests.Forest.{Node, Forest, empty, node, occurs, size, tree_at, map_nodes, entry_in, HasNode}
 use Rattle.dom_model.specs.Forests.Texts.{substring, spliced}
 use Rattle.dom_model.specs.Worlds.World as model
 use Rattle.dom_model.specs.Worlds.World.{Content, no_content}
 use Rattle.dom_model.specs.Worlds.Making.{made_node}
-use Rattle.dom_model.specs.MutationAlgorithms.Checks.{check_insert}
 use Rattle.dom_model.specs.Forests.Nodes.{kind_passes, entry_has}
+use Rattle.dom_model.specs.MutationAlgorithms.Insertable.{IsInsertable}
 use Rattle.dom_model.specs.MutationAlgorithms.Editing.{append, nodes_of, document_in, node_document}
 use Rattle.dom_model.specs.DataAndCopies.Data.{content_in, cut_count, data_of, with_data, replace_data}
 use Rattle.dom_model.specs.DataAndCopies.Clones.{alone_of, original, with_copies, clone_node}
@@ -19,17 +20,17 @@ use Rattle.dom_model.proofs.Forests.Entries.{occurs-HasNode, HasNode-occurs}
 use Rattle.dom_model.proofs.Forests.Standing.{Tree, tree_of}
 use Rattle.dom_model.proofs.Worlds.SameShape.{IsAlike, with_node-alike, occurs-alike}
 use Rattle.dom_model.proofs.MutationAlgorithms.Extending.{Extends, extends-beside, put_by_insert}
-use Rattle.dom_model.proofs.Soundness.SoundEditing.{may_come_in}
 use Rattle.dom_model.proofs.Soundness.SoundAppending.{clone_copy, clone_with_copy, fragment_made}
 use Rattle.dom_model.proofs.Counting.CountsKept.{append-kept}
 use Rattle.dom_model.proofs.Counting.CountsOfData.{replace_data-kept}
 use Rattle.dom_clone.specs.dom_edit.declared.world.World.{World}
-use Rattle.dom_clone.specs.dom_edit.Inserting.{AreThere}
 use Rattle.dom_clone.specs.dom_edit.Whole.{IsWhole, Keeps, Follows, unwatched}
 use Rattle.dom_clone.specs.dom_edit.Following.{follows-none, follows-then}
-use Rattle.dom_clone.specs.dom_edit.InsertedNodes.{follows-as, forest-after, item-hit}
+use Rattle.dom_clone.specs.dom_edit.InsertedNodes.{follows-as, forest-after}
 use Rattle.dom_clone.specs.dom_edit.PlacedWorlds.{sound-unwatched}
-use Rattle.dom_content.specs.Paths.{HasRoom, StillHeld, KindsStay}
+use Rattle.dom_content.specs.Paths.{HasRoom, StillHeld, KindsStay, DataStays}
+use Rattle.dom_content.specs.Coming.{AreOld, MayDraw}
+use Rattle.dom_content.proofs.Comings.{first-old, rest-old, one-old, old-there, holder-goes, old-goes, goes-child}
 
 -- Room.
 
@@ -74,6 +75,9 @@ still-extended a b step moved f e m h = subst (λ (g : Forest Content). 0 < occu
 kinds-extended : (a b : World) (step : model.World → model.World) (moved : List ℕ) → Follows a b step → Extends a.tree.forest (step (unwatched a)).forest moved → KindsStay a b
 kinds-extended a b step moved f e test m h = ap (λ (g : Forest Content). kind_passes test g m) (forest-after a b step f) ∙ e.kinds test m h
 
+data-extended : (a b : World) (step : model.World → model.World) (moved : List ℕ) → Follows a b step → Extends a.tree.forest (step (unwatched a)).forest moved → DataStays a b
+data-extended a b step moved f e m h = ap (λ (g : Forest Content). (content_in (entry_in g m)).text) (forest-after a b step f) ∙ e.texts m h
+
 held-new : (a b : World) (step : model.World → model.World) (n : ℕ) → Follows a b step → 0 < occurs n (step (unwatched a)).forest → HasNode b.tree.forest n
 held-new a b step n f h = HasNode-occurs b.tree.forest n (subst (λ (g : Forest Content). 0 < occurs n g) (sym (forest-after a b step f)) h)
 
@@ -83,6 +87,9 @@ held-still a b s n h = HasNode-occurs b.tree.forest n (s n (occurs-HasNode a.tre
 pub still-fragment : (a b : World) (d : ℕ) → Follows a b (new_fragment d) → StillHeld a b
 still-fragment a b d f = still-extended a b (new_fragment d) [] f (extends-beside a.tree.forest _)
 
+pub data-fragment : (a b : World) (d : ℕ) → Follows a b (new_fragment d) → DataStays a b
+data-fragment a b d f = data-extended a b (new_fragment d) [] f (extends-beside a.tree.forest _)
+
 pub fragment-held : (a b : World) (d : ℕ) → IsWhole a → Follows a b (new_fragment d) → HasNode b.tree.forest a.tree.made
 fragment-held a b d h f = held-new a b (new_fragment d) a.tree.made f (fragment_made d (unwatched a) (sound-unwatched a h)).holder.there
 
@@ -91,6 +98,9 @@ still-clone a b deep n f = still-extended a b (clone_node deep n) [] f (extends-
 
 pub kinds-clone : (a b : World) (deep : Bool) (n : ℕ) → Follows a b (clone_node deep n) → KindsStay a b
 kinds-clone a b deep n f = kinds-extended a b (clone_node deep n) [] f (extends-beside a.tree.forest _)
+
+pub data-clone : (a b : World) (deep : Bool) (n : ℕ) → Follows a b (clone_node deep n) → DataStays a b
+data-clone a b deep n f = data-extended a b (clone_node deep n) [] f (extends-beside a.tree.forest _)
 
 pub clone-held : (a b : World) (deep : Bool) (n : ℕ) → IsWhole a → HasNode a.tree.forest n → Follows a b (clone_node deep n) → HasNode b.tree.forest a.tree.made
 clone-held a b deep n h held f =
@@ -102,21 +112,25 @@ still-copied a b units n f = still-extended a b (clone_with units n) [] f (exten
 pub kinds-copied : (a b : World) (units : List ℕ) (n : ℕ) → Follows a b (clone_with units n) → KindsStay a b
 kinds-copied a b units n f = kinds-extended a b (clone_with units n) [] f (extends-beside a.tree.forest _)
 
+pub data-copied : (a b : World) (units : List ℕ) (n : ℕ) → Follows a b (clone_with units n) → DataStays a b
+data-copied a b units n f = data-extended a b (clone_with units n) [] f (extends-beside a.tree.forest _)
+
 pub copied-held : (a b : World) (units : List ℕ) (n : ℕ) → IsWhole a → HasNode a.tree.forest n → Follows a b (clone_with units n) → HasNode b.tree.forest a.tree.made
 copied-held a b units n h held f =
     held-new a b (clone_with units n) a.tree.made f (clone_with_copy units n (unwatched a) (sound-unwatched a h) (occurs-HasNode a.tree.forest n held)).there
 
-module _ (a b : World) (h : IsWhole a) (parent n : ℕ) (held : HasNode a.tree.forest n) (c : check_insert a.tree.forest parent n None ≡ None) (f : Follows a b (append n parent)) where
+module _ (a b : World) (h : IsWhole a) (parent n : ℕ) (c : IsInsertable a.tree.forest n parent None) (f : Follows a b (append n parent)) where
   put : Extends a.tree.forest (append n parent (unwatched a)).forest (nodes_of (unwatched a) n)
-  put =
-      let s = sound-unwatched a h in
-      (put_by_insert false n parent None (unwatched a) s (may_come_in (unwatched a) s parent n (occurs-HasNode a.tree.forest n held) c)).extends
+  put = (put_by_insert false n parent None (unwatched a) (sound-unwatched a h) c).extends
 
   pub still-appended : StillHeld a b
   still-appended = still-extended a b (append n parent) (nodes_of (unwatched a) n) f put
 
   pub kinds-appended : KindsStay a b
   kinds-appended = kinds-extended a b (append n parent) (nodes_of (unwatched a) n) f put
+
+  pub data-appended : DataStays a b
+  data-appended = data-extended a b (append n parent) (nodes_of (unwatched a) n) f put
 
 pub still-cut : (a b : World) (n offset count : ℕ) → Follows a b (replace_data n offset count []) → StillHeld a b
 still-cut a b n offset count f m h =
@@ -140,6 +154,15 @@ pub still-data : (a b c : World) (n : ℕ) → StillHeld a b → KindsStay a b �
 still-data a b c n s i j k =
     let h = data-there a.tree.forest n k in
     j is_character_data n (s n h) ∙ i is_character_data n h ∙ k
+
+-- an offset is still within
+pub still-within : (a b c : World) (n offset : ℕ) → StillHeld a b → DataStays a b → DataStays b c → kind_passes is_character_data a.tree.forest n ≡ true → offset ≤ length (data_of (unwatched a) n) → offset ≤ length (data_of (unwatched c) n)
+still-within a b c n offset s d e k l =
+    let h = data-there a.tree.forest n k in
+    subst (λ (xs : List ℕ). offset ≤ length xs) (sym (e n (s n h) ∙ d n h)) l
+
+pub data-then : (a b c : World) → StillHeld a b → DataStays a b → DataStays b c → DataStays a c
+data-then a b c s d e m h = e m (s m h) ∙ d m h
 
 pub still-then : (a b c : World) → StillHeld a b → StillHeld b c → StillHeld a c
 still-then a b c s t m h = t m (s m h)
@@ -223,6 +246,18 @@ module _ (v : World) (moves : Bool) (into n offset count : ℕ) (units : List �
       follows-as v cut (λ w. cut_if moves n offset count (append v.tree.made into (clone_with units n w))) (units_into moves into n offset count) units-as
       (follows-then v put cut (λ w. append v.tree.made into (clone_with units n w)) (cut_if moves n offset count) (follows-then v mid put (clone_with units n) (append v.tree.made into) f g) c)
 
+-- what a node holds
+pub content-of : (f : Forest Content) (n : ℕ) (b : Content) → HasNode f n → IfSome (entry_in f n) (λ e. b ≡ e.value.body) → b ≡ content_in (entry_in f n)
+content-of f n b held e = go (entry_in f n) held e
+  where
+    go : (o : Option (Entry (Node Content))) → IsSome o → IfSome o (λ e. b ≡ e.value.body) → b ≡ content_in o
+    go None s k = absurd (false≢true s)
+    go (Some x) s k = k
+
+-- as many units as there are
+pub substring-within : (offset count k : ℕ) (xs : List ℕ) → k ≡ min count (length xs - offset) → substring offset k xs ≡ substring offset count xs
+substring-within offset count k xs e = ap (λ i. take i (drop offset xs)) (e ∙ ap (λ l. min count l) (sym (length-drop offset xs))) ∙ take_min count (drop offset xs)
+
 -- A child.
 
 copied-child : (v : World) (into n : ℕ) (w : model.World) → Keeps v w → child_into false into n w ≡ append v.tree.made into (clone_node true n w)
@@ -239,11 +274,12 @@ follows-child v mid new into n f g = follows-as v new (λ w. append v.tree.made 
 pub record IsFilling (initial here : World) (moves : Bool) (into : ℕ) (nodes : List ℕ) (i : ℕ) : Type 0 where
   pub whole : IsWhole here
   pub still : StillHeld initial here
+  pub may : MayDraw here into (drop i nodes)
   pub room : HasRoom here (children_into moves into (drop i nodes))
   pub rest : (final : World) → Follows here final (children_into moves into (drop i nodes)) → Follows initial final (children_into moves into nodes)
 
-pub filling-first : (v : World) (moves : Bool) (into : ℕ) (nodes : List ℕ) → IsWhole v → HasRoom v (children_into moves into nodes) → IsFilling v v moves into nodes 0
-filling-first v moves into nodes h r = record { whole = h; still = λ m x. x; room = r; rest = λ final f. f }
+pub filling-first : (v : World) (moves : Bool) (into : ℕ) (nodes : List ℕ) → IsWhole v → MayDraw v into nodes → HasRoom v (children_into moves into nodes) → IsFilling v v moves into nodes 0
+filling-first v moves into nodes h d r = record { whole = h; still = λ m x. x; may = d; room = r; rest = λ final f. f }
 
 module _ (initial here : World) (moves : Bool) (into : ℕ) (nodes : List ℕ) (i : ℕ) (t : IsFilling initial here moves into nodes i) where
   module _ (x : ℕ) (is : x ≡ slice_index_or nodes i x) (lt : i < length nodes) where
@@ -256,13 +292,22 @@ module _ (initial here : World) (moves : Bool) (into : ℕ) (nodes : List ℕ) (
     pub filling-room : HasRoom here (child_into moves into x)
     filling-room = room-before here (children_into moves into (drop i nodes)) (child_into moves into x) (children_into moves into (drop (i + 1) nodes)) step-is (children-grow moves into (drop (i + 1) nodes)) t.room
 
-    pub filling-held : AreThere initial.tree.forest nodes → HasNode here.tree.forest x
-    filling-held held = HasNode-occurs here.tree.forest x (t.still x (held x (item-hit nodes i x lt is)))
+    these : AreOld t.may.low here.tree.forest (x ∷ drop (i + 1) nodes)
+    these = subst (AreOld t.may.low here.tree.forest) listed t.may.nodes
+
+    pub filling-may : MayDraw here into (x ∷ [])
+    filling-may = record { low = t.may.low; rising = t.may.rising; holder = t.may.holder; nodes = one-old t.may.low here.tree.forest x (first-old t.may.low here.tree.forest x (drop (i + 1) nodes) these) }
+
+    pub filling-held : HasNode here.tree.forest x
+    filling-held = HasNode-occurs here.tree.forest x (old-there t.may.low here.tree.forest x (first-old t.may.low here.tree.forest x (drop (i + 1) nodes) these))
 
     pub filling-next : (next : World) → Follows here next (child_into moves into x) → StillHeld here next → IsWhole next → IsFilling initial next moves into nodes (i + 1)
     filling-next next f s h = record {
       whole = h;
       still = still-then initial here next t.still s;
+      may = (let low = t.may.low in
+          let g = goes-child here t.whole low t.may.rising into t.may.holder moves x (first-old low here.tree.forest x (drop (i + 1) nodes) these) next f in
+          record { low = low; rising = g.rising; holder = holder-goes low here next g into t.may.holder; nodes = λ m k. old-goes low here next g m (rest-old low here.tree.forest x (drop (i + 1) nodes) these m k) });
       room = room-after here next (children_into moves into (drop i nodes)) (child_into moves into x) (children_into moves into (drop (i + 1) nodes)) step-is f t.room;
       rest = λ final g.
           t.rest final (follows-as here final (λ w. children_into moves into (drop (i + 1) nodes) (child_into moves into x w)) (children_into moves into (drop i nodes)) step-is

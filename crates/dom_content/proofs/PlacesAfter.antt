@@ -1,36 +1,22 @@
 -- Where both ends of a live range stand once its contents are gone. DOM Standard, "Interface Range".
-use Rattle.std.proofs.Common.{◌≡◌, ℕ, ◌+◌, ◌<◌, ◌==◌, Bool, true, false, List, [], ◌∷◌, ◌++◌, filter, find, length, Some, is_some, unwrap_or, option_and_then, option_map, refl, ap, sym, ◌∙◌, subst, arith, length-append}
+use Rattle.std.proofs.Common.{◌≡◌, ℕ, ◌+◌, ◌<◌, ◌==◌, Bool, true, false, List, [], ◌∷◌, ◌++◌, filter, find, length, Some, unwrap_or, option_and_then, option_map, refl, ap, sym, ◌∙◌, arith, length-append}
 use Rattle.std.proofs.lemmas.Bool.{false≢true}
 use Rattle.dom_model.specs.PlainLists.Lists.{hits, among, head_of}
-use Rattle.dom_model.specs.Forests.Forest.{Forest, Grove, IsForest, HasNode, occurs, parent_of, index_of, ancestors}
-use Rattle.dom_model.specs.Worlds.World.{Content, Point, Range}
+use Rattle.dom_model.specs.Forests.Forest.{Grove, IsForest, occurs, parent_of, index_of, ancestors}
+use Rattle.dom_model.specs.Worlds.World.{Content, Range}
 use Rattle.dom_model.specs.Soundness.Sound.{IsRange}
 use Rattle.dom_model.specs.MutationAlgorithms.Checks.{if_given}
 use Rattle.dom_model.specs.RangesAndContents.Ranges.{point_after, common_ancestor}
 use Rattle.dom_model.specs.RangesAndContents.Contents.{new_place}
 use Rattle.dom_model.proofs.PlainLists.Numbers.{same_or, same, apart}
 use Rattle.dom_model.proofs.PlainLists.Members.{hits-last_of}
-use Rattle.dom_model.proofs.Forests.Changes.{seen, nothing, just}
-use Rattle.dom_model.proofs.Forests.Above.{above}
 use Rattle.dom_model.proofs.Forests.Chains.{way}
 use Rattle.dom_model.proofs.Forests.Climbing.{among-hits, hits-among}
-use Rattle.dom_model.proofs.Forests.Entries.{occurs-HasNode, HasNode-occurs}
+use Rattle.dom_model.proofs.Forests.Entries.{occurs-HasNode}
 use Rattle.dom_model.proofs.Forests.Indices.{parent-there}
 use Rattle.dom_model.proofs.Forests.Paths.{parent-path}
-use Rattle.dom_model.proofs.Forests.ToTheRoot.{among-above, among-here, among-top}
-use Rattle.dom_model.proofs.Forests.WaysMeeting.{above-child}
 use Rattle.dom_model.proofs.BoundaryPoints.RemovalOrder.{ancestors-split}
 use Rattle.dom_model.proofs.RangesAndContents.NewPlaces.{IsMeeting, meeting}
-
--- the way up from a node has come to `here`, under a parent that is not above the top
-pub record IsTowards {X : Type 0} (g : Grove X) (top node here parent : ℕ) : Type 0 where
-  pub there : HasNode g.forest here
-  pub up : parent_of g.forest here ≡ Some parent
-  pub on_way : among here (ancestors node g.forest) ≡ true
-  pub below : among top (ancestors parent g.forest) ≡ true
-
-same_number : (m : ℕ) → (m == m) ≡ true
-same_number m = elim (same_or m m) [ same _ t ↦ t | apart ne t ↦ absurd (ne refl) ]
 
 -- lists that part at one place part with the same number
 parted : (xs ys rest : List ℕ) (a b : ℕ) → length xs ≡ length ys → xs ++ a ∷ rest ≡ ys ++ b ∷ rest → a ≡ b
@@ -48,33 +34,6 @@ head-passes p (n ∷ ns) c e = go (p n) refl (λ k. head-passes p ns c k)
     go false t more = let k = rw t at e in more k
 
 module _ {X : Type 0} (g : Grove X) (s : IsForest g) (top node : ℕ) where
-  -- a node below the top has a parent
-  pub has-parent : (here : ℕ) → HasNode g.forest here → among top (ancestors here g.forest) ≡ true → (here == top) ≡ false → is_some (parent_of g.forest here) ≡ true
-  has-parent here h b ne =
-      elim (seen (parent_of g.forest here)) [
-        | nothing e ↦ absurd (false≢true (among-top s top here h e ne ∙ b))
-        | just q e ↦ rw e refl
-      ]
-
-  pub towards-first : (parent : ℕ) → HasNode g.forest node → among top (ancestors node g.forest) ≡ true → (node == top) ≡ false → parent_of g.forest node ≡ Some parent → IsTowards g top node node parent
-  towards-first parent h b ne e =
-      record {
-        there = h;
-        up = e;
-        on_way = sym (among-here g.forest node node h (same_number node));
-        below = among-above g.forest top node parent (above s node parent h e) ne ∙ b;
-      }
-
-  pub towards-next : (here parent next : ℕ) → HasNode g.forest node → IsTowards g top node here parent → (parent == top) ≡ false → parent_of g.forest parent ≡ Some next → IsTowards g top node parent next
-  towards-next here parent next h t ne e =
-      let up = above s here parent t.there t.up in
-      record {
-        there = up.there;
-        up = e;
-        on_way = hits-among parent (ancestors node g.forest) (above-child g.forest s.once here parent node (occurs-HasNode g.forest node h) (occurs-HasNode g.forest here t.there) (among-hits here (ancestors node g.forest) t.on_way) t.up);
-        below = among-above g.forest top parent next (above s parent next up.there e) ne ∙ t.below;
-      }
-
   -- one child of a node is on the way up from another
   one-way : (a b c : ℕ) → 0 < occurs node g.forest → 0 < hits a (ancestors node g.forest) → 0 < hits b (ancestors node g.forest) → parent_of g.forest a ≡ Some c → parent_of g.forest b ≡ Some c → a ≡ b
   one-way a b c h i j ea eb =
@@ -89,13 +48,6 @@ module _ {X : Type 0} (g : Grove X) (s : IsForest g) (top node : ℕ) where
       let m = length-append y.0 (b ∷ ancestors c g.forest) in
       let n = ap (λ ns. length ns) both in
       parted x.0 y.0 (ancestors c g.forest) a b (omega arith) both
-
--- the ends as they were read
-pub range-as : (f : Forest Content) (p q a b : Point) → a ≡ p → b ≡ q → IsRange f (record { start = p; end = q }) → IsRange f (record { start = a; end = b })
-range-as f p q a b i j h = subst (λ (x : Point). IsRange f (record { start = x; end = b })) (sym i) (subst (λ (y : Point). IsRange f (record { start = p; end = y })) (sym j) h)
-
-pub place-as : (f : Forest Content) (p q a b : Point) → a ≡ p → b ≡ q → new_place f (record { start = a; end = b }) ≡ new_place f (record { start = p; end = q })
-place-as f p q a b i j = ap (λ (x : Point). new_place f (record { start = x; end = b })) i ∙ ap (λ (y : Point). new_place f (record { start = p; end = y })) j
 
 module _ (g : Grove Content) (s : IsForest g) (r : Range) (is : IsRange g.forest r) where
   module _ (out : among r.start.node (ancestors r.end.node g.forest) ≡ false) where
@@ -113,13 +65,7 @@ module _ (g : Grove Content) (s : IsForest g) (r : Range) (is : IsRange g.forest
     met-common : common_ancestor g.forest r.start.node r.end.node ≡ met.above
     met-common = ap (λ o. unwrap_or o r.start.node) met.deepest
 
-    -- the common ancestor is above the start node, and not that node
-    pub common-above : (top : ℕ) → top ≡ common_ancestor g.forest r.start.node r.end.node → among top (ancestors r.start.node g.forest) ≡ true
-    common-above top e =
-        let nearest = parent-there g.forest met.nearest met.above met.parent in
-        ap (λ n. among n (ancestors r.start.node g.forest)) (e ∙ met-common)
-        ∙ hits-among met.above (ancestors r.start.node g.forest) (above-child g.forest s.once met.nearest met.above r.start.node hs nearest met.on_path met.parent)
-
+    -- the common ancestor is not the start node
     pub common-apart : (top : ℕ) → top ≡ common_ancestor g.forest r.start.node r.end.node → (r.start.node == top) ≡ false
     common-apart top e =
         elim (same_or r.start.node top) [
@@ -128,9 +74,6 @@ module _ (g : Grove Content) (s : IsForest g) (r : Range) (is : IsRange g.forest
               absurd (false≢true (sym out ∙ ap (λ n. among n other) (d ∙ e ∙ met-common) ∙ there))
           | apart ne t ↦ t
         ]
-
-    pub common-held : (top child : ℕ) → parent_of g.forest child ≡ Some top → HasNode g.forest top
-    common-held top child up = HasNode-occurs g.forest top (parent-path g.forest s.once child top (parent-there g.forest child top up) up).0
 
     -- behind the child on the way
     pub place-behind : (top child : ℕ) → top ≡ common_ancestor g.forest r.start.node r.end.node → parent_of g.forest child ≡ Some top → among child (ancestors r.start.node g.forest) ≡ true → new_place g.forest r ≡ record { node = top; offset = index_of g.forest child + 1 }

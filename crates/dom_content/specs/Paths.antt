@@ -1,19 +1,18 @@
--- Room for the numbers that a step gives out, nodes that are still held after it, and nodes on a path that are not finished yet.
+-- Room for the numbers that a step gives out, nodes that are still held after it, and how copies along a path are opened and closed.
 -- DOM Standard, "Interface Range" (extract, clone the contents).
 use Rattle.std.specs.Prelude.{◌≡◌, ℕ, ◌<◌, ◌≤◌, Bool, false, List, [], ◌∷◌}
 use Rattle.dom_model.specs.declared.Kind.{Kind}
-use Rattle.dom_model.specs.Forests.Forest.{Forest, HasNode, occurs, children_of}
+use Rattle.dom_model.specs.Forests.Forest.{occurs, children_of}
 use Rattle.dom_model.specs.Worlds.World as model
-use Rattle.dom_model.specs.Worlds.World.{Content}
 use Rattle.dom_model.specs.Forests.Nodes.{kind_passes}
 use Rattle.dom_model.specs.PlainLists.Lists.{up_to}
 use Rattle.dom_model.specs.MutationAlgorithms.Editing.{append, node_document}
+use Rattle.dom_model.specs.DataAndCopies.Data.{data_of}
 use Rattle.dom_model.specs.DataAndCopies.Clones.{clone_node}
 use Rattle.dom_model.specs.RangesAndContents.Contents.{new_fragment, children_into}
 use Rattle.dom_clone.specs.dom_edit.declared.world.World.{World}
-use Rattle.dom_clone.specs.dom_edit.Inserting.{AreThere}
-use Rattle.dom_clone.specs.dom_edit.Whole.{Keeps}
-use Rattle.dom_content.specs.declared.paths.Partial.{Partial}
+use Rattle.dom_clone.specs.dom_edit.Whole.{Keeps, unwatched}
+use Rattle.dom_content.specs.declared.partial.Partial.{Partial}
 
 -- in a world that it keeps, no number is left beyond the last one when the step is done
 pub record HasRoom (v : World) (step : model.World → model.World) : Type 0 where
@@ -28,6 +27,10 @@ StillHeld old new = (m : ℕ) → 0 < occurs m old.tree.forest → 0 < occurs m 
 -- and are of the kinds that they were of
 abbrev pub KindsStay : World → World → Type 0
 KindsStay old new = (test : Kind → Bool) (m : ℕ) → 0 < occurs m old.tree.forest → kind_passes test new.tree.forest m ≡ kind_passes test old.tree.forest m
+
+-- and have the data that they had
+abbrev pub DataStays : World → World → Type 0
+DataStays old new = (m : ℕ) → 0 < occurs m old.tree.forest → data_of (unwatched new) m ≡ data_of (unwatched old) m
 
 -- a copy of a node goes into a fragment, and a further fragment is made
 abbrev pub opened : ℕ → ℕ → model.World → model.World
@@ -49,13 +52,3 @@ closed_one moves p w = append p.inner p.copy (children_into moves p.inner p.chil
 abbrev pub closed : Bool → List Partial → model.World → model.World
 closed moves [] w = w
 closed moves (p ∷ ps) w = closed_one moves p (closed moves ps w)
-
--- what a copy that is not finished names is there
-pub record IsUnfinished (f : Forest Content) (p : Partial) : Type 0 where
-  pub copy : HasNode f p.copy
-  pub inner : HasNode f p.inner
-  pub children : AreThere f p.children.items
-
-abbrev pub AreUnfinished : Forest Content → List Partial → Type 0
-AreUnfinished f [] = Unit {0}
-AreUnfinished f (p ∷ ps) = IsUnfinished f p × AreUnfinished f ps

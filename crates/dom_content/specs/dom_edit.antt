@@ -2,6 +2,7 @@
 pub use Rattle.dom_clone.specs.dom_edit.Markers
 pub use Rattle.dom_clone.specs.dom_edit.Places
 pub use Rattle.dom_clone.specs.dom_edit.Refusals
+pub use Rattle.dom_clone.specs.dom_edit.Used
 pub use Rattle.dom_clone.specs.dom_edit.Whole
 pub use Rattle.dom_clone.specs.dom_edit.declared
 pub use Rattle.dom_clone.specs.dom_edit.AmongChildren

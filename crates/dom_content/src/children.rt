@@ -1,18 +1,11 @@
-//! The children that are contained in a range (DOM Standard, "Interface Range", contained children).
+//! Children of a node: from one of them or an offset on, and up to one (DOM Standard, "Trees").
 
-ghost use Rattle.std.specs.Prelude.{◌≡◌, filter, IfOk, slice_get};
+ghost use Rattle.std.specs.Prelude.{◌≡◌, take, drop, IfOk};
 ghost use Rattle.dom_model.specs.Forests.Forest.{HasNode, children_of};
-ghost use Rattle.dom_model.specs.Worlds.Lengths.{unit_count};
-ghost use Rattle.dom_model.specs.Worlds.World.{Range};
-ghost use Rattle.dom_model.specs.Soundness.Sound.{IsRange};
-ghost use Rattle.dom_model.specs.RangesAndContents.Ranges.{is_contained, common_ancestor};
-ghost use Rattle.dom_model.specs.RangesAndContents.Contents.{path_below};
-ghost use Rattle.dom_model.specs.Forests.Ways.{IsWay};
+ghost use Rattle.dom_model.specs.PlainLists.Lists.{past, up_to};
 ghost use Rattle.dom_clone.specs.dom_edit.Places.{IsAmong, from_optional, ahead_of};
-ghost use Rattle.dom_content.specs.Drawing.{index_behind, index_at};
 
 use dom_clone::of_edit::Content;
-use dom_clone::of_point::{Point, common};
 use dom_clone::of_tree::{NodeId, Tree};
 use std::alloc::{AllocError, Global};
 
@@ -41,63 +34,67 @@ pub(crate) fn children_between(
     Ok(list)
 }
 
-// The first node on a path.
-fn head(path: &[NodeId]) -> Option<NodeId>
-    ensures { result ≡ slice_get path.now 0 }
-{
-    path.first().copied()
-}
-
-// The first child of a node that lies behind a point. The path leads from the node down to that of the point.
-fn child_behind(
-    tree: &Tree<Content>,
-    parent: NodeId,
-    point: Point,
-    path: &[NodeId],
-) -> Option<NodeId>
-    requires held { HasNode tree.now.forest point.node }
-    requires way { IsWay tree.now.forest parent path.now point.node }
-    ensures { result ≡ slice_get (children_of tree.now.forest parent) (index_behind tree.now.forest point path.now) }
-{
-    tree.sound();
-    match head(path) {
-        Some(child) => tree.next(child),
-        None => tree.child_at(point.node, point.offset),
-    }
-}
-
-// The child of a node in which a point lies, or else the one behind the point.
-fn child_at(tree: &Tree<Content>, parent: NodeId, point: Point, path: &[NodeId]) -> Option<NodeId>
-    requires held { HasNode tree.now.forest point.node }
-    requires way { IsWay tree.now.forest parent path.now point.node }
-    ensures { result ≡ slice_get (children_of tree.now.forest parent) (index_at tree.now.forest point path.now) }
-{
-    tree.sound();
-    match head(path) {
-        Some(child) => Some(child),
-        None => tree.child_at(point.node, point.offset),
-    }
-}
-
-/// The children of the common ancestor of a range's two nodes that are contained in the range, by the paths from there down to the two.
-///
-/// It goes from the one path to the other.
-pub(crate) fn contained_children(
+// The children of a node from an offset on.
+pub(crate) fn children_from(
     tree: &Tree<Content>,
     alloc: Global,
-    start: Point,
-    end: Point,
-    first: &[NodeId],
-    last: &[NodeId],
+    parent: NodeId,
+    offset: usize,
 ) -> Result<Vec<NodeId>, AllocError>
-    requires range { IsRange tree.now.forest (record { start = start; end = end }) }
-    requires first { first.now ≡ path_below tree.now.forest (common_ancestor tree.now.forest start.node end.node) start.node }
-    requires last { last.now ≡ path_below tree.now.forest (common_ancestor tree.now.forest start.node end.node) end.node }
-    ensures { IfOk result (λ list. list.items ≡ filter (is_contained unit_count tree.now.forest (record { start = start; end = end })) (children_of tree.now.forest (common_ancestor tree.now.forest start.node end.node))) }
+    requires { HasNode tree.now.forest parent }
+    ensures { IfOk result (λ list. list.items ≡ drop offset (children_of tree.now.forest parent)) }
 {
     tree.sound();
-    let parent = common(tree, start.node, end.node);
-    let from = child_behind(tree, parent, start, first);
-    let until = child_at(tree, parent, end, last);
+    let from = tree.child_at(parent, offset);
+    children_between(tree, alloc, parent, from, None)
+}
+
+// The children of a node that come after one of them; none where it is not there.
+pub(crate) fn children_past(
+    tree: &Tree<Content>,
+    alloc: Global,
+    parent: NodeId,
+    child: NodeId,
+) -> Result<Vec<NodeId>, AllocError>
+    requires held { HasNode tree.now.forest parent }
+    requires child_held { HasNode tree.now.forest child }
+    ensures { IfOk result (λ list. list.items ≡ past child (children_of tree.now.forest parent)) }
+{
+    tree.sound();
+    if tree.parent(child) == Some(parent) {
+        let from = tree.next(child);
+        return children_between(tree, alloc, parent, from, None);
+    }
+    Ok(Vec::new(alloc))
+}
+
+// The children of a node that come before one of them; all where it is not there.
+pub(crate) fn children_ahead(
+    tree: &Tree<Content>,
+    alloc: Global,
+    parent: NodeId,
+    child: NodeId,
+) -> Result<Vec<NodeId>, AllocError>
+    requires { HasNode tree.now.forest parent }
+    ensures { IfOk result (λ list. list.items ≡ up_to child (children_of tree.now.forest parent)) }
+{
+    tree.sound();
+    let from = tree.first(parent);
+    children_between(tree, alloc, parent, from, Some(child))
+}
+
+// The children of a node up to an offset.
+pub(crate) fn children_until(
+    tree: &Tree<Content>,
+    alloc: Global,
+    parent: NodeId,
+    offset: usize,
+) -> Result<Vec<NodeId>, AllocError>
+    requires { HasNode tree.now.forest parent }
+    ensures { IfOk result (λ list. list.items ≡ take offset (children_of tree.now.forest parent)) }
+{
+    tree.sound();
+    let from = tree.first(parent);
+    let until = tree.child_at(parent, offset);
     children_between(tree, alloc, parent, from, until)
 }

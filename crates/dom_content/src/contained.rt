@@ -10,10 +10,10 @@ ghost use Rattle.dom_model.specs.RangesAndContents.Contents.{contained_tops};
 ghost use Rattle.dom_model.specs.RangesAndContents.BesidePaths.{tail_nodes, head_nodes};
 ghost use Rattle.dom_clone.specs.dom_edit.Inserting.{AreThere};
 ghost use Rattle.dom_clone.specs.dom_edit.Whole.{IsWhole, unwatched};
+ghost use Rattle.dom_content.specs.Drawing.{AreParts};
 
-use crate::data::has_data;
-use crate::parts::parts_of;
-use crate::paths::{children_ahead, children_from, children_past, children_until};
+use crate::children::{children_ahead, children_from, children_past, children_until};
+use crate::parts::Parts;
 use dom_clone::of_edit::{Content, World};
 use dom_clone::of_point::Point;
 use dom_clone::of_tree::{NodeId, Tree};
@@ -29,7 +29,7 @@ fn tail_of(
     requires held { HasNode world.now.tree.forest node }
     ensures { IfOk result (λ list. list.items ≡ tail_nodes (unwatched world.now) offset (node ∷ [])) }
 {
-    if has_data(&world.tree, node) {
+    if world.tree.has_data(node) {
         return Ok(Vec::new(alloc));
     }
     children_from(&world.tree, alloc, node, offset)
@@ -45,14 +45,14 @@ fn head_of(
     requires held { HasNode world.now.tree.forest node }
     ensures { IfOk result (λ list. list.items ≡ head_nodes (unwatched world.now) offset (node ∷ [])) }
 {
-    if has_data(&world.tree, node) {
+    if world.tree.has_data(node) {
         return Ok(Vec::new(alloc));
     }
     children_until(&world.tree, alloc, node, offset)
 }
 
 // The nodes that stand behind a path, from an offset of its last node on: the deepest first, as in tree order.
-fn tail_along(
+fn tail_nodes(
     world: &World,
     alloc: Global,
     offset: usize,
@@ -75,7 +75,7 @@ fn tail_along(
 }
 
 // The nodes that stand ahead of a path, up to an offset of its last node: the deepest last.
-fn head_along(
+fn head_nodes(
     world: &World,
     alloc: Global,
     offset: usize,
@@ -105,15 +105,16 @@ pub(crate) fn contained_tops(
     alloc: Global,
     start: Point,
     end: Point,
+    parts: &Parts,
 ) -> Result<Vec<NodeId>, AllocError>
     requires whole { IsWhole world.now }
     requires range { IsRange world.now.tree.forest (record { start = start; end = end }) }
+    requires parts { AreParts world.now.tree.forest (record { start = start; end = end }) parts.now.first.items parts.now.contained.items parts.now.last.items }
     ensures { IfOk result (λ tops. tops.items ≡ contained_tops (unwatched world.now) (record { start = start; end = end })) }
 {
-    let mut parts = parts_of(&world.tree, alloc, start, end)?;
-    let mut tops = tail_along(world, alloc, start.offset, &parts.first)?;
-    let mut last = head_along(world, alloc, end.offset, &parts.last)?;
-    tops.append(&mut parts.contained)?;
+    let mut tops = tail_nodes(world, alloc, start.offset, &parts.first)?;
+    tops.extend_from_slice(&parts.contained)?;
+    let mut last = head_nodes(world, alloc, end.offset, &parts.last)?;
     tops.append(&mut last)?;
     Ok(tops)
 }

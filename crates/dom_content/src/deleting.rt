@@ -1,25 +1,28 @@
 //! Contents that are deleted (DOM Standard, "Interface Range", deleteContents).
 
-ghost use Rattle.std.specs.Prelude.{◌≡◌, ℕ, ◌<◌, ◌≤◌, ◌==◌, ◌&&◌, [], length, true, false, Some, OnOk, IsSome};
-ghost use Rattle.dom_model.specs.PlainLists.Lists.{hits, among};
-ghost use Rattle.dom_model.specs.Forests.Forest.{HasNode, parent_of, ancestors};
+ghost use Rattle.std.specs.Prelude.{◌≡◌, ℕ, ◌<◌, ◌≤◌, [], length, true, false, Some, OnOk, IsSome};
+ghost use Rattle.dom_model.specs.PlainLists.Lists.{hits};
+ghost use Rattle.dom_model.specs.Forests.Forest.{HasNode};
+ghost use Rattle.dom_model.specs.Forests.Ways.{IsWay};
 ghost use Rattle.dom_model.specs.Soundness.Sound.{IsRange};
 ghost use Rattle.dom_model.specs.Forests.Kinds.{is_character_data};
 ghost use Rattle.dom_model.specs.Forests.Nodes.{kind_passes};
 ghost use Rattle.dom_model.specs.DataAndCopies.Data.{data_of, replace_data, remove_each};
 ghost use Rattle.dom_model.specs.RangesAndContents.Ranges.{collapsed_at, with_range};
-ghost use Rattle.dom_model.specs.RangesAndContents.Contents.{is_in_one_data, cut_from, cut_up_to, new_place as place_left, deleted_between, delete_contents};
+ghost use Rattle.dom_model.specs.RangesAndContents.Contents.{is_in_one_data, cut_from, cut_up_to, deleted_between, delete_contents};
 ghost use Rattle.dom_clone.specs.dom_ranges.Tables.{range_in};
 ghost use Rattle.dom_model.specs.TokenText.Edits.{delete_contents_edits};
 ghost use Rattle.dom_clone.specs.dom_edit.Whole.{IsWhole, Follows, unwatched};
 ghost use Rattle.dom_clone.specs.dom_edit.Markers.{StandByEdits};
+ghost use Rattle.dom_content.specs.Drawing.{index_behind};
 ghost use Rattle.dom_content.specs.Left.{IsLeftOf};
 
 use crate::contained::contained_tops;
-use crate::data::{has_data, is_in_one_data};
+use crate::data::is_in_one_data;
+use crate::parts::{Parts, head, parts_of};
 use dom_clone::of_data::replace_data_checked;
 use dom_clone::of_edit::{Content, World};
-use dom_clone::of_point::{Point, common};
+use dom_clone::of_point::Point;
 use dom_clone::of_ranges::RangeId;
 use dom_clone::of_tree::{NodeId, Tree};
 use std::alloc::{AllocError, Global};
@@ -41,40 +44,25 @@ fn cut_units(
     replace_data_checked(world, alloc, node, offset, count, &[])
 }
 
-// The child of a node on the way up to it from a node below it.
-fn child_towards(tree: &Tree<Content>, top: NodeId, node: NodeId) -> NodeId
-    requires held { HasNode tree.now.forest node }
-    requires below { among top (ancestors node tree.now.forest) ≡ true }
-    requires apart { (node == top) ≡ false }
-    ensures parent { parent_of tree.now.forest result ≡ Some top }
-    ensures on_way { among result (ancestors node tree.now.forest) ≡ true }
+// Where both ends of a range stand once its contents are gone: behind the child of the common ancestor on the way to the start, or at the start in that
+// ancestor itself.
+pub(crate) fn new_place(tree: &Tree<Content>, start: Point, parts: &Parts) -> Point
+    requires held { HasNode tree.now.forest start.node }
+    requires way { IsWay tree.now.forest parts.now.ancestor parts.now.first.items start.node }
+    ensures { result ≡ record { node = parts.now.ancestor; offset = index_behind tree.now.forest start parts.now.first.items } }
 {
     tree.sound();
-    let mut here = node;
-    let mut parent = tree.parent(node).unwrap();
-    while parent != top {
-        here = parent;
-        parent = tree.parent(here).unwrap();
-    }
-    here
-}
-
-// Where both ends of a range stand once its contents are gone.
-pub(crate) fn new_place(tree: &Tree<Content>, start: Point, end: Point) -> Point
-    requires range { IsRange tree.now.forest (record { start = start; end = end }) }
-    ensures place { result ≡ place_left tree.now.forest (record { start = start; end = end }) }
-    ensures held { HasNode tree.now.forest result.node }
-{
-    tree.sound();
-    if tree.is_ancestor(start.node, end.node) {
-        return start;
-    }
-    let top = common(tree, start.node, end.node);
-    let child = child_towards(tree, top, start.node);
+    let node = parts.ancestor;
+    let Some(child) = head(&parts.first) else {
+        return Point {
+            node,
+            offset: start.offset,
+        };
+    };
     // an index is below the count, so the offset behind the child is a number of the machine too
-    let _ = tree.count(top);
+    let _ = tree.count(node);
     Point {
-        node: top,
+        node,
         offset: tree.index(child) + 1,
     }
 }
@@ -99,7 +87,7 @@ fn cut_from(world: &mut World, alloc: Global, start: Point) -> Result<(), AllocE
     ensures whole { IsWhole world.new }
 {
     let Point { node, offset } = start;
-    if !has_data(&world.tree, node) {
+    if !world.tree.has_data(node) {
         return Ok(());
     }
     let length = world.tree.body(node).text.len();
@@ -114,7 +102,7 @@ fn cut_up_to(world: &mut World, alloc: Global, end: Point) -> Result<(), AllocEr
     ensures whole { IsWhole world.new }
 {
     let Point { node, offset } = end;
-    if !has_data(&world.tree, node) {
+    if !world.tree.has_data(node) {
         return Ok(());
     }
     cut_units(world, alloc, node, 0, offset)
@@ -147,8 +135,9 @@ fn delete_between(
     ensures deleted { OnOk result (Follows world.old world.new (deleted_between range (record { start = start; end = end }))) }
     ensures whole { IsWhole world.new }
 {
-    let place = new_place(&world.tree, start, end);
-    let tops = contained_tops(world, alloc, start, end)?;
+    let parts = parts_of(&world.tree, alloc, start, end)?;
+    let place = new_place(&world.tree, start, &parts);
+    let tops = contained_tops(world, alloc, start, end, &parts)?;
     cut_from(world, alloc, start)?;
     remove_each(world, alloc, &tops)?;
     cut_up_to(world, alloc, end)?;

@@ -1,6 +1,6 @@
 //! Contents that go into a fragment, moved or copied (DOM Standard, "Interface Range", extractContents, cloneContents).
 
-ghost use Rattle.std.specs.Prelude.{◌≡◌, ◌-◌, ◌==◌, ◌≤◌, ◌||◌, true, None, IfOk, OnOk, IsSome};
+ghost use Rattle.std.specs.Prelude.{◌≡◌, ◌-◌, ◌==◌, ◌≤◌, ◌||◌, ◌++◌, [], length, true, None, IfOk, OnOk, IsSome};
 ghost use Rattle.std.specs.Result.{IfErr};
 ghost use Rattle.dom_model.specs.declared.Kind.TheVariants.{DocumentType};
 ghost use Rattle.dom_model.specs.Forests.Forest.{HasNode};
@@ -8,7 +8,7 @@ ghost use Rattle.dom_model.specs.Forests.Kinds.{is_character_data};
 ghost use Rattle.dom_model.specs.Soundness.Sound.{IsRange};
 ghost use Rattle.dom_model.specs.MutationAlgorithms.Checks.{has_kind};
 ghost use Rattle.dom_model.specs.Forests.Nodes.{kind_passes, is_of_kind};
-ghost use Rattle.dom_model.specs.RangesAndContents.Ranges.{is_collapsed as ends_meet};
+ghost use Rattle.dom_model.specs.RangesAndContents.Ranges.{is_collapsed as ends_meet, common_ancestor};
 ghost use Rattle.dom_model.specs.RangesAndContents.Contents.{units_into, contents_drawn, check_draw, check_extract, extracted, extract, clone_contents};
 ghost use Rattle.dom_clone.specs.dom_ranges.Tables.{range_in};
 ghost use Rattle.dom_clone.specs.dom_edit.Inserting.{AreThere};
@@ -18,13 +18,15 @@ ghost use Rattle.dom_clone.specs.dom_edit.Markers.{StandByEdits};
 ghost use Rattle.dom_clone.specs.dom_edit.Refusals.{IsRefused};
 ghost use Rattle.dom_content.specs.Left.{IsLeftOf, HoldsBetween, MovesBetween, CopiesBetween};
 ghost use Rattle.dom_content.specs.Paths.{HasRoom, StillHeld};
+ghost use Rattle.dom_content.specs.Coming.{MayDraw, IsPathTo};
+ghost use Rattle.dom_model.specs.DataAndCopies.Data.{data_of};
 ghost use Rattle.dom_content.specs.Drawing.{AreParts, in_one_data, parts_drawn, filled};
 
 use crate::data::is_in_one_data;
 use crate::deleting::{new_place, stand_at};
 use crate::parts::{Parts, parts_of};
-use crate::paths::{head_into, tail_into};
 use crate::pieces::{children_into, new_fragment, units_into};
+use crate::ways::{head_into, tail_into};
 use dom_clone::of_edit::{Content, Refusal, World};
 use dom_clone::of_kinds::{DomError, Kind};
 use dom_clone::of_point::Point;
@@ -32,21 +34,13 @@ use dom_clone::of_ranges::RangeId;
 use dom_clone::of_tree::{NodeId, Tree};
 use std::alloc::{AllocError, Global};
 
-// Whether a node is a doctype.
-fn is_doctype(tree: &Tree<Content>, node: NodeId) -> bool
-    requires held { HasNode tree.now.forest node }
-    ensures { result ≡ is_of_kind DocumentType tree.now.forest node }
-{
-    tree.label(node).kind == Kind::DocumentType
-}
-
 // Whether one of these nodes is a doctype.
 fn has_doctype(tree: &Tree<Content>, nodes: &[NodeId]) -> bool
     requires held { AreThere tree.now.forest nodes.now }
     ensures { result ≡ has_kind DocumentType tree.now.forest nodes.now }
 {
     for node in nodes {
-        if is_doctype(tree, *node) {
+        if tree.is_of_kind(*node, Kind::DocumentType) {
             return true;
         }
     }
@@ -78,8 +72,9 @@ fn draw_units(
     end: Point,
 ) -> Result<(), AllocError>
     requires whole { IsWhole world.old }
-    requires into_held { HasNode world.old.tree.forest into }
+    requires may { MayDraw world.old into [] }
     requires kind { kind_passes is_character_data world.old.tree.forest start.node ≡ true }
+    requires within { start.offset ≤ length (data_of (unwatched world.old) start.node) }
     requires ahead { start.offset ≤ end.offset }
     requires room { HasRoom world.old (units_into moves into start.node start.offset (end.offset - start.offset)) }
     ensures drawn { OnOk result (Follows world.old world.new (units_into moves into start.node start.offset (end.offset - start.offset))) }
@@ -101,10 +96,9 @@ fn draw_parts(
     parts: &Parts,
 ) -> Result<(), AllocError>
     requires whole { IsWhole world.old }
-    requires into_held { HasNode world.old.tree.forest into }
-    requires first_held { AreThere world.old.tree.forest parts.now.first.items }
-    requires contained_held { AreThere world.old.tree.forest parts.now.contained.items }
-    requires last_held { AreThere world.old.tree.forest parts.now.last.items }
+    requires may { MayDraw world.old into (parts.now.first.items ++ (parts.now.contained.items ++ parts.now.last.items)) }
+    requires first_way { IsPathTo world.old.tree.forest start.offset parts.now.first.items }
+    requires last_way { IsPathTo world.old.tree.forest 0 parts.now.last.items }
     requires room { HasRoom world.old (parts_drawn moves into (record { start = start; end = end }) parts.now.first.items parts.now.contained.items parts.now.last.items) }
     ensures drawn { OnOk result (Follows world.old world.new (parts_drawn moves into (record { start = start; end = end }) parts.now.first.items parts.now.contained.items parts.now.last.items)) }
     ensures still_held { OnOk result (StillHeld world.old world.new) }
@@ -126,12 +120,12 @@ fn fill(
     parts: &Parts,
 ) -> Result<(), AllocError>
     requires whole { IsWhole world.old }
-    requires into_held { HasNode world.old.tree.forest into }
     requires start_held { HasNode world.old.tree.forest start.node }
+    requires within { in_one_data world.old.tree.forest (record { start = start; end = end }) ≡ true → start.offset ≤ length (data_of (unwatched world.old) start.node) }
     requires ahead { (start.node == end.node) ≡ true → start.offset ≤ end.offset }
-    requires first_held { AreThere world.old.tree.forest parts.now.first.items }
-    requires contained_held { AreThere world.old.tree.forest parts.now.contained.items }
-    requires last_held { AreThere world.old.tree.forest parts.now.last.items }
+    requires may { MayDraw world.old into (parts.now.first.items ++ (parts.now.contained.items ++ parts.now.last.items)) }
+    requires first_way { IsPathTo world.old.tree.forest start.offset parts.now.first.items }
+    requires last_way { IsPathTo world.old.tree.forest 0 parts.now.last.items }
     requires room { HasRoom world.old (filled moves (in_one_data world.old.tree.forest (record { start = start; end = end })) into (record { start = start; end = end }) parts.now.first.items parts.now.contained.items parts.now.last.items) }
     ensures drawn { OnOk result (Follows world.old world.new (filled moves (in_one_data world.old.tree.forest (record { start = start; end = end })) into (record { start = start; end = end }) parts.now.first.items parts.now.contained.items parts.now.last.items)) }
     ensures still_held { OnOk result (StillHeld world.old world.new) }
@@ -157,6 +151,7 @@ fn draw(
 ) -> Result<NodeId, AllocError>
     requires whole { IsWhole world.old }
     requires range { IsRange world.old.tree.forest (record { start = start; end = end }) }
+    requires allowed { check_draw (unwatched world.old) (record { start = start; end = end }) ≡ None }
     requires parts { AreParts world.old.tree.forest (record { start = start; end = end }) parts.now.first.items parts.now.contained.items parts.now.last.items }
     requires room { HasRoom world.old (contents_drawn moves (record { start = start; end = end })) }
     ensures number { IfOk result (λ id. id ≡ world.old.tree.made) }
@@ -183,13 +178,14 @@ fn extract_parts(
     requires live { IsSome (range_in world.old.ranges range) }
     requires range { IsRange world.old.tree.forest (record { start = start; end = end }) }
     requires allowed { check_draw (unwatched world.old) (record { start = start; end = end }) ≡ None }
+    requires ancestor { parts.now.ancestor ≡ common_ancestor world.old.tree.forest start.node end.node }
     requires parts { AreParts world.old.tree.forest (record { start = start; end = end }) parts.now.first.items parts.now.contained.items parts.now.last.items }
     requires room { HasRoom world.old (contents_drawn true (record { start = start; end = end })) }
     ensures number { IfOk result (λ id. id ≡ world.old.tree.made) }
     ensures extracted { OnOk result (Follows world.old world.new (extracted range (record { start = start; end = end }))) }
     ensures whole { IsWhole world.new }
 {
-    let place = new_place(&world.tree, start, end);
+    let place = new_place(&world.tree, start, parts);
     let stays = follows_cut(&world.tree, start, end);
     let fragment = draw(world, alloc, true, start, end, parts)?;
     if stays {
@@ -205,7 +201,7 @@ fn extract_parts(
 pub fn extract(world: &mut World, alloc: Global, range: RangeId) -> Result<NodeId, Refusal>
     requires whole { IsWhole world.old }
     requires held { IsSome (range_in world.old.ranges range) }
-    requires room { (extract range (unwatched world.old)).made ≤ 4294967295 }
+    requires room { check_extract range (unwatched world.old) ≡ None → (extract range (unwatched world.old)).made ≤ 4294967295 }
     ensures number { IfOk result (λ id. id ≡ world.old.tree.made) }
     ensures allowed { OnOk result (check_extract range (unwatched world.old) ≡ None) }
     ensures extracted { OnOk result (Follows world.old world.new (extract range)) }
@@ -250,7 +246,7 @@ pub fn extract_checked(
 pub fn clone_contents(world: &mut World, alloc: Global, range: RangeId) -> Result<NodeId, Refusal>
     requires whole { IsWhole world.old }
     requires held { IsSome (range_in world.old.ranges range) }
-    requires room { (clone_contents range (unwatched world.old)).made ≤ 4294967295 }
+    requires room { check_extract range (unwatched world.old) ≡ None → (clone_contents range (unwatched world.old)).made ≤ 4294967295 }
     ensures number { IfOk result (λ id. id ≡ world.old.tree.made) }
     ensures allowed { OnOk result (check_extract range (unwatched world.old) ≡ None) }
     ensures cloned { OnOk result (Follows world.old world.new (clone_contents range)) }

@@ -6,10 +6,11 @@ mod contained;
 mod data;
 mod deleting;
 mod drawing;
+mod partial;
 mod parts;
-mod paths;
 mod pieces;
 mod texts;
+mod ways;
 
 pub use deleting::delete_contents;
 pub use drawing::{clone_contents, extract, extract_checked};
@@ -42,7 +43,7 @@ pub mod of_edit {
 pub mod of_kinds {
     pub use dom_clone::of_kinds::{
         DomError, Exception, Kind, Label, NodeType, is_attribute_name, is_doctype_name,
-        is_element_name,
+        is_element_name, may_be_parent,
     };
 }
 
@@ -55,7 +56,9 @@ pub mod of_observe {
 
 /// What crates above name of `dom_point`.
 pub mod of_point {
-    pub use dom_clone::of_point::{Point, common, order};
+    pub use dom_clone::of_point::{
+        Point, checked_point, common, is_before, order, point_after, point_before, same_root,
+    };
 }
 
 /// What crates above name of `dom_ranges`.

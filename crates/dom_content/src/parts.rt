@@ -1,26 +1,155 @@
-//! The parts of a range: the paths down to its two nodes, and what lies between them (DOM Standard, "Interface Range", "partially contained").
+//! The parts of a range: the ways down to its two nodes, and what lies between them (DOM Standard, "Interface Range", "partially contained").
 
-ghost use Rattle.std.specs.Prelude.{IfOk};
+ghost use Rattle.std.specs.Prelude.{◌≡◌, filter, IfOk, slice_get};
+ghost use Rattle.dom_model.specs.Forests.Forest.{HasNode, children_of, ancestors};
+ghost use Rattle.dom_model.specs.Forests.Ways.{IsWay};
+ghost use Rattle.dom_model.specs.PlainLists.Lists.{up_to};
+ghost use Rattle.dom_model.specs.Worlds.Lengths.{unit_count};
+ghost use Rattle.dom_model.specs.Worlds.World.{Range};
 ghost use Rattle.dom_model.specs.Soundness.Sound.{IsRange};
-ghost use Rattle.dom_content.specs.Drawing.{AreParts};
+ghost use Rattle.dom_model.specs.RangesAndContents.Ranges.{is_contained, common_ancestor};
+ghost use Rattle.dom_model.specs.RangesAndContents.Contents.{path_below};
+ghost use Rattle.dom_content.specs.Drawing.{AreParts, index_behind, index_at};
 
-use crate::children::contained_children;
-use crate::paths::path_below;
+use crate::children::children_between;
 use dom_clone::of_edit::Content;
 use dom_clone::of_point::{Point, common};
 use dom_clone::of_tree::{NodeId, Tree};
 use std::alloc::{AllocError, Global};
 
-/// What lies in a range in part and what whole: the paths from the common ancestor of its two nodes down to them, and the children
-/// of that ancestor that are contained.
+/// What lies in a range in part and what whole: the common ancestor of its two nodes, the paths from there down to them, and the children of that
+/// ancestor that are contained.
 #[derive(Drop)]
 pub(crate) struct Parts {
+    pub ancestor: NodeId,
     pub first: Vec<NodeId>,
     pub contained: Vec<NodeId>,
     pub last: Vec<NodeId>,
 }
 
-// The parts of a range.
+// The inclusive ancestors of a node below another one, from the node on.
+fn path_up(
+    tree: &Tree<Content>,
+    alloc: Global,
+    ancestor: NodeId,
+    node: NodeId,
+) -> Result<Vec<NodeId>, AllocError>
+    requires held { HasNode tree.now.forest node }
+    ensures { IfOk result (λ path. path.items ≡ up_to ancestor (ancestors node tree.now.forest)) }
+{
+    tree.sound();
+    let mut path = Vec::new(alloc);
+    let mut here = Some(node);
+    while let Some(id) = here {
+        if id == ancestor {
+            return Ok(path);
+        }
+        path.push(id)?;
+        here = tree.parent(id);
+    }
+    Ok(path)
+}
+
+// The path from a child of an ancestor down to a node; empty where the node is the ancestor.
+fn path_below(
+    tree: &Tree<Content>,
+    alloc: Global,
+    ancestor: NodeId,
+    node: NodeId,
+) -> Result<Vec<NodeId>, AllocError>
+    requires held { HasNode tree.now.forest node }
+    ensures { IfOk result (λ path. path.items ≡ path_below tree.now.forest ancestor node) }
+{
+    let mut path = path_up(tree, alloc, ancestor, node)?;
+    path.reverse();
+    Ok(path)
+}
+
+// The first node on a path.
+pub(crate) fn head(path: &[NodeId]) -> Option<NodeId>
+    ensures { result ≡ slice_get path.now 0 }
+{
+    path.first().copied()
+}
+
+// The first child of a node that lies behind a point. The path leads from the node down to that of the point.
+fn child_behind(
+    tree: &Tree<Content>,
+    parent: NodeId,
+    point: Point,
+    path: &[NodeId],
+) -> Option<NodeId>
+    requires held { HasNode tree.now.forest point.node }
+    requires way { IsWay tree.now.forest parent path.now point.node }
+    ensures { result ≡ slice_get (children_of tree.now.forest parent) (index_behind tree.now.forest point path.now) }
+{
+    tree.sound();
+    match head(path) {
+        Some(child) => tree.next(child),
+        None => tree.child_at(point.node, point.offset),
+    }
+}
+
+// The child of a node in which a point lies, or else the one behind the point.
+fn child_at(tree: &Tree<Content>, parent: NodeId, point: Point, path: &[NodeId]) -> Option<NodeId>
+    requires held { HasNode tree.now.forest point.node }
+    requires way { IsWay tree.now.forest parent path.now point.node }
+    ensures { result ≡ slice_get (children_of tree.now.forest parent) (index_at tree.now.forest point path.now) }
+{
+    tree.sound();
+    match head(path) {
+        Some(child) => Some(child),
+        None => tree.child_at(point.node, point.offset),
+    }
+}
+
+// The children of the common ancestor of a range's two nodes that are contained in the range, by the paths from there down to the two. It goes from
+// the one path to the other.
+fn contained_children(
+    tree: &Tree<Content>,
+    alloc: Global,
+    ancestor: NodeId,
+    start: Point,
+    end: Point,
+    first: &[NodeId],
+    last: &[NodeId],
+) -> Result<Vec<NodeId>, AllocError>
+    requires range { IsRange tree.now.forest (record { start = start; end = end }) }
+    requires ancestor { ancestor ≡ common_ancestor tree.now.forest start.node end.node }
+    requires first { first.now ≡ path_below tree.now.forest (common_ancestor tree.now.forest start.node end.node) start.node }
+    requires last { last.now ≡ path_below tree.now.forest (common_ancestor tree.now.forest start.node end.node) end.node }
+    ensures { IfOk result (λ list. list.items ≡ filter (is_contained unit_count tree.now.forest (record { start = start; end = end })) (children_of tree.now.forest (common_ancestor tree.now.forest start.node end.node))) }
+{
+    tree.sound();
+    let from = child_behind(tree, ancestor, start, first);
+    let until = child_at(tree, ancestor, end, last);
+    children_between(tree, alloc, ancestor, from, until)
+}
+
+// The parts of a range that is not collapsed.
+fn gather_parts(
+    tree: &Tree<Content>,
+    alloc: Global,
+    start: Point,
+    end: Point,
+) -> Result<Parts, AllocError>
+    requires range { IsRange tree.now.forest (record { start = start; end = end }) }
+    ensures ancestor { IfOk result (λ parts. parts.ancestor ≡ common_ancestor tree.now.forest start.node end.node) }
+    ensures parts { IfOk result (λ parts. AreParts tree.now.forest (record { start = start; end = end }) parts.first.items parts.contained.items parts.last.items) }
+{
+    let ancestor = common(tree, start.node, end.node);
+    let first = path_below(tree, alloc, ancestor, start.node)?;
+    let last = path_below(tree, alloc, ancestor, end.node)?;
+    let contained = contained_children(tree, alloc, ancestor, start, end, &first, &last)?;
+    Ok(Parts {
+        ancestor,
+        first,
+        contained,
+        last,
+    })
+}
+
+// The parts of a range. Nothing is gathered where it is collapsed.
 pub(crate) fn parts_of(
     tree: &Tree<Content>,
     alloc: Global,
@@ -28,15 +157,17 @@ pub(crate) fn parts_of(
     end: Point,
 ) -> Result<Parts, AllocError>
     requires range { IsRange tree.now.forest (record { start = start; end = end }) }
-    ensures { IfOk result (λ parts. AreParts tree.now.forest (record { start = start; end = end }) parts.first.items parts.contained.items parts.last.items) }
+    ensures ancestor { IfOk result (λ parts. parts.ancestor ≡ common_ancestor tree.now.forest start.node end.node) }
+    ensures parts { IfOk result (λ parts. AreParts tree.now.forest (record { start = start; end = end }) parts.first.items parts.contained.items parts.last.items) }
 {
-    let parent = common(tree, start.node, end.node);
-    let first = path_below(tree, alloc, parent, start.node)?;
-    let last = path_below(tree, alloc, parent, end.node)?;
-    let contained = contained_children(tree, alloc, start, end, &first, &last)?;
-    Ok(Parts {
-        first,
-        contained,
-        last,
-    })
+    tree.sound();
+    if start == end {
+        return Ok(Parts {
+            ancestor: start.node,
+            first: Vec::new(alloc),
+            contained: Vec::new(alloc),
+            last: Vec::new(alloc),
+        });
+    }
+    gather_parts(tree, alloc, start, end)
 }

@@ -1,6 +1,6 @@
 //! The pieces of contents that go into a fragment: units of a node, and children, moved or copied (DOM Standard, "Interface Range").
 
-ghost use Rattle.std.specs.Prelude.{◌≡◌, ◌<◌, [], true, IfSome, IfOk, OnOk};
+ghost use Rattle.std.specs.Prelude.{◌≡◌, ◌<◌, ◌≤◌, ◌∷◌, [], length, true, None, IfSome, IfOk, OnOk};
 ghost use Rattle.dom_model.specs.declared.Kind.TheVariants.{Document, DocumentFragment};
 ghost use Rattle.dom_model.specs.Worlds.World.{no_content};
 ghost use Rattle.dom_model.specs.Worlds.Making.{made_node, named};
@@ -9,17 +9,18 @@ ghost use Rattle.dom_model.specs.Forests.Kinds.{is_character_data};
 ghost use Rattle.dom_model.specs.Forests.Texts.{substring};
 ghost use Rattle.dom_model.specs.Forests.Nodes.{is_of_kind, kind_passes};
 ghost use Rattle.dom_model.specs.MutationAlgorithms.Editing.{append};
-ghost use Rattle.dom_model.specs.DataAndCopies.Data.{content_in};
+ghost use Rattle.dom_model.specs.MutationAlgorithms.Insertable.{IsInsertable};
+ghost use Rattle.dom_model.specs.DataAndCopies.Data.{content_in, data_of};
 ghost use Rattle.dom_model.specs.DataAndCopies.Clones.{clone_node};
 ghost use Rattle.dom_model.specs.RangesAndContents.Contents.{new_fragment, clone_with, cut_if, units_into, child_into, children_into};
 ghost use Rattle.dom_model.specs.Soundness.Owners.{HasOwners};
-ghost use Rattle.dom_clone.specs.dom_edit.Inserting.{AreThere};
-ghost use Rattle.dom_clone.specs.dom_edit.Whole.{IsWhole, Follows};
-ghost use Rattle.dom_content.specs.Paths.{HasRoom, StillHeld, KindsStay};
+ghost use Rattle.dom_clone.specs.dom_edit.Whole.{IsWhole, Follows, unwatched};
+ghost use Rattle.dom_content.specs.Paths.{HasRoom, StillHeld, KindsStay, DataStays};
+ghost use Rattle.dom_content.specs.Coming.{MayDraw};
 
 use dom_clone::clone_node;
 use dom_clone::of_attrs::Attrs;
-use dom_clone::of_data::replace_data;
+use dom_clone::of_data::replace_data_checked;
 use dom_clone::of_edit::{Content, World};
 use dom_clone::of_kinds::{Kind, Label};
 use dom_clone::of_tree::{NodeId, Tree};
@@ -71,13 +72,14 @@ pub(crate) fn new_fragment(
     ensures made { OnOk result (Follows world.old world.new (new_fragment document)) }
     ensures made_held { OnOk result (HasNode world.new.tree.forest world.old.tree.made) }
     ensures still_held { OnOk result (StillHeld world.old world.new) }
+    ensures texts { OnOk result (DataStays world.old world.new) }
     ensures whole { IsWhole world.new }
 {
     let fragment = make_fragment(world, alloc, document)?;
     Ok(fragment)
 }
 
-// Puts a node last under a parent. Here the parent is a fragment or a copy that may have it, so that only memory can be wanting.
+// Puts a node, or the children of a fragment, last under a parent that may have it.
 pub(crate) fn put_last(
     world: &mut World,
     alloc: Global,
@@ -85,17 +87,15 @@ pub(crate) fn put_last(
     node: NodeId,
 ) -> Result<(), AllocError>
     requires whole { IsWhole world.old }
-    requires parent_held { HasNode world.old.tree.forest parent }
-    requires held { HasNode world.old.tree.forest node }
+    requires allowed { IsInsertable world.old.tree.forest node parent None }
     ensures appended { OnOk result (Follows world.old world.new (append node parent)) }
     ensures still_held { OnOk result (StillHeld world.old world.new) }
     ensures kinds { OnOk result (KindsStay world.old world.new) }
+    ensures texts { OnOk result (DataStays world.old world.new) }
     ensures whole { IsWhole world.new }
 {
-    match world.append(alloc, parent, node) {
-        Ok(()) => Ok(()),
-        Err(_) => Err(AllocError),
-    }
+    world.insert(alloc, parent, node, None)?;
+    Ok(())
 }
 
 // Copies a node, with its descendants where the copy is deep. Its number is the next one.
@@ -113,13 +113,14 @@ pub(crate) fn copy_of(
     ensures copy_held { OnOk result (HasNode world.new.tree.forest world.old.tree.made) }
     ensures still_held { OnOk result (StillHeld world.old world.new) }
     ensures kinds { OnOk result (KindsStay world.old world.new) }
+    ensures texts { OnOk result (DataStays world.old world.new) }
     ensures whole { IsWhole world.new }
 {
     let copy = clone_node(world, alloc, node, deep)?;
     Ok(copy)
 }
 
-// A part of a node's data. It lies within the data, so that only memory can be wanting.
+// Units of a node's data from an offset on that is within the data: so many, or as many as there are.
 fn part_of(
     tree: &Tree<Content>,
     alloc: Global,
@@ -128,13 +129,11 @@ fn part_of(
     count: usize,
 ) -> Result<Units, AllocError>
     requires held { HasNode tree.now.forest node }
+    requires within { offset ≤ length (content_in (entry_in tree.now.forest node)).text }
     ensures { IfOk result (λ units. units ≡ substring offset count (content_in (entry_in tree.now.forest node)).text) }
 {
     let data = &tree.body(node).text;
-    let length = data.len();
-    if offset > length || count > length - offset {
-        return Err(AllocError);
-    }
+    let count = count.min(data.len() - offset);
     Units::from_units(alloc, data.slice(offset, count))
 }
 
@@ -174,13 +173,14 @@ fn copy_with(
     ensures copy_held { OnOk result (HasNode world.new.tree.forest world.old.tree.made) }
     ensures still_held { OnOk result (StillHeld world.old world.new) }
     ensures kinds { OnOk result (KindsStay world.old world.new) }
+    ensures texts { OnOk result (DataStays world.old world.new) }
     ensures whole { IsWhole world.new }
 {
     let copy = make_copy(world, alloc, node, units)?;
     Ok(copy)
 }
 
-// Takes units of a node's data out, where the contents move. The offset is within, so that only memory can be wanting.
+// Takes units of a node's data out from an offset on that is within the data, where the contents move.
 fn cut_if(
     world: &mut World,
     alloc: Global,
@@ -191,6 +191,7 @@ fn cut_if(
 ) -> Result<(), AllocError>
     requires whole { IsWhole world.old }
     requires kind { kind_passes is_character_data world.old.tree.forest node ≡ true }
+    requires within { offset ≤ length (data_of (unwatched world.old) node) }
     ensures cut { OnOk result (Follows world.old world.new (cut_if moves node offset count)) }
     ensures still_held { OnOk result (StillHeld world.old world.new) }
     ensures whole { IsWhole world.new }
@@ -198,10 +199,8 @@ fn cut_if(
     if !moves {
         return Ok(());
     }
-    match replace_data(world, alloc, node, offset, count, &[]) {
-        Ok(()) => Ok(()),
-        Err(_) => Err(AllocError),
-    }
+    replace_data_checked(world, alloc, node, offset, count, &[])?;
+    Ok(())
 }
 
 // Puts a copy of a node with data into a fragment, with `count` of its units from `offset` on; where the contents move, they are cut.
@@ -215,8 +214,9 @@ pub(crate) fn units_into(
     count: usize,
 ) -> Result<(), AllocError>
     requires whole { IsWhole world.old }
-    requires into_held { HasNode world.old.tree.forest into }
+    requires may { MayDraw world.old into [] }
     requires kind { kind_passes is_character_data world.old.tree.forest node ≡ true }
+    requires within { offset ≤ length (data_of (unwatched world.old) node) }
     requires room { HasRoom world.old (units_into moves into node offset count) }
     ensures drawn { OnOk result (Follows world.old world.new (units_into moves into node offset count)) }
     ensures still_held { OnOk result (StillHeld world.old world.new) }
@@ -238,7 +238,7 @@ pub(crate) fn child_into(
     node: NodeId,
 ) -> Result<(), AllocError>
     requires whole { IsWhole world.old }
-    requires into_held { HasNode world.old.tree.forest into }
+    requires may { MayDraw world.old into (node ∷ []) }
     requires held { HasNode world.old.tree.forest node }
     requires room { HasRoom world.old (child_into moves into node) }
     ensures drawn { OnOk result (Follows world.old world.new (child_into moves into node)) }
@@ -262,8 +262,7 @@ pub(crate) fn children_into(
     nodes: &[NodeId],
 ) -> Result<(), AllocError>
     requires whole { IsWhole world.old }
-    requires into_held { HasNode world.old.tree.forest into }
-    requires held { AreThere world.old.tree.forest nodes.now }
+    requires may { MayDraw world.old into nodes.now }
     requires room { HasRoom world.old (children_into moves into nodes.now) }
     ensures drawn { OnOk result (Follows world.old world.new (children_into moves into nodes.now)) }
     ensures still_held { OnOk result (StillHeld world.old world.new) }

@@ -25,14 +25,6 @@ use dom_clone::of_tree::{NodeId, Tree};
 use dom_clone::of_units::Units;
 use std::alloc::{AllocError, Global};
 
-// Whether a node is a Text.
-fn is_text(tree: &Tree<Content>, node: NodeId) -> bool
-    requires held { HasNode tree.now.forest node }
-    ensures { result ≡ is_of_kind Text tree.now.forest node }
-{
-    tree.label(node).kind == Kind::Text
-}
-
 // Puts a part of the data of a node behind a text, where the node is a Text.
 fn append_part(
     tree: &Tree<Content>,
@@ -46,7 +38,7 @@ fn append_part(
     requires within { is_of_kind Text tree.now.forest node ≡ true → to ≤ length (content_in (entry_in tree.now.forest node)).text }
     ensures { OnOk result (text.new ≡ text.old ++ part_of tree.now.forest node from (to - from)) }
 {
-    if !is_text(tree, node) {
+    if !tree.is_of_kind(node, Kind::Text) {
         return Ok(());
     }
     let end = text.len();
@@ -119,7 +111,7 @@ fn gather_text(world: &World, alloc: Global, range: RangeId) -> Result<Units, Al
     let tree = &world.tree;
     let (start, end) = world.ranges.ends(range);
     let mut text = Units::new(alloc);
-    if start.node == end.node && is_text(tree, start.node) {
+    if start.node == end.node && tree.is_of_kind(start.node, Kind::Text) {
         append_part(tree, start.node, start.offset, end.offset, &mut text)?;
         return Ok(text);
     }

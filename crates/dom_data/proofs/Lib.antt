@@ -5,7 +5,7 @@ pub mod Outcomes
 pub mod MovedOffsets
 pub mod UnfeltIndex
 pub mod ChangedBodies
-pub mod Unasked
+pub mod Told
 pub mod StaysWhole
 pub mod SoundParting
 pub mod Behind

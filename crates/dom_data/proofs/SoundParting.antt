@@ -1,42 +1,23 @@
 -- The world is sound once a new Text stands behind the one that is split, before that loses what is beyond.
-use Rattle.std.proofs.Common.{◌≡◌, ℕ, ◌+◌, ◌-◌, ◌<◌, ◌≤◌, ◌==◌, Bool, true, false, not, ◌&&◌, [], ◌∷◌, length, Option, Some, None, IfSome, is_some, refl, ap, sym, ◌∙◌, subst, arith, length-drop}
+use Rattle.std.proofs.Common.{◌≡◌, ℕ, ◌+◌, ◌<◌, ◌≤◌, Bool, true, false, not, ◌&&◌, [], ◌∷◌, length, Option, Some, None, IfSome, is_some, ap, sym, ◌∙◌, subst, arith}
 use Rattle.std.proofs.lemmas.Bool.{false≢true}
 use Rattle.dom_model.specs.declared.Kind.{Kind}
 use Rattle.dom_model.specs.declared.Kind.TheVariants.{Text, Document, DocumentType, DocumentFragment}
-use Rattle.dom_model.specs.PlainLists.Lists.{or_else}
-use Rattle.dom_model.specs.Forests.Arena.{parent_in, children_in}
 use Rattle.dom_model.specs.Forests.Kinds.{is_kind, is_character_data}
-use Rattle.dom_model.specs.Forests.Forest.{Node, Forest, empty, node, occurs, one_at, tree_at, put, entry_in, parent_of, children_of, next_of, index_of}
-use Rattle.dom_model.specs.Worlds.World.{Content, Point, Range, World}
-use Rattle.dom_model.specs.BoundaryPoints.Points.{after_gap, after_split, moved_range, map_ranges, order_of}
+use Rattle.dom_model.specs.Forests.Forest.{Forest, occurs, entry_in, parent_of, children_of, next_of, index_of}
+use Rattle.dom_model.specs.Worlds.World.{Content, World}
+use Rattle.dom_model.specs.BoundaryPoints.Points.{after_split, map_ranges}
 use Rattle.dom_model.specs.Forests.Nodes.{entry_has, kind_passes, is_of_kind}
-use Rattle.dom_model.specs.Worlds.Lengths.{unit_count, length_in, node_length}
-use Rattle.dom_model.specs.Worlds.Making.{made_node, named, with_text}
-use Rattle.dom_model.specs.MutationAlgorithms.Editing.{tree_record, node_document, put_in, gap_before, previous_to, insert}
-use Rattle.dom_model.specs.DataAndCopies.Data.{content_in, data_of, tail_of, split_off}
-use Rattle.dom_model.specs.Soundness.Sound.{IsBoundary, IsRange, IsSound}
-use Rattle.dom_model.proofs.PlainLists.Numbers.{same_or, same, apart}
-use Rattle.dom_model.proofs.Forests.Totals.{total-beside}
-use Rattle.dom_model.proofs.Forests.Climbing.{hits-ancestors}
-use Rattle.dom_model.proofs.Forests.Entries.{occurs-HasNode, entry_under-absent}
-use Rattle.dom_model.proofs.Forests.Paths.{parent-path}
-use Rattle.dom_model.proofs.PlainLists.Places.{place_before, place-there}
+use Rattle.dom_model.specs.MutationAlgorithms.Editing.{tree_record, previous_to, insert}
+use Rattle.dom_model.specs.DataAndCopies.Data.{content_in, data_of, split_off}
+use Rattle.dom_model.specs.Soundness.Sound.{IsSound}
+use Rattle.dom_model.proofs.PlainLists.Places.{place-there}
 use Rattle.dom_model.proofs.Forests.Indices.{child-listed, index-child}
-use Rattle.dom_model.proofs.Forests.Siblings.{place-next}
-use Rattle.dom_model.proofs.BoundaryPoints.SplitOrder.{inside-childless, split_point, index-split, index-new, split-order_kept}
-use Rattle.dom_model.proofs.Worlds.SameShape.{IsAlike, index-alike, order-alike}
-use Rattle.dom_model.proofs.Soundness.SoundForests.{IsWood, entry_there, data-childless, parent-passes}
-use Rattle.dom_model.proofs.Worlds.Measured.{entry-joined, entry-beside, kind-beside, length-beside, parent-beside, length-put, length-adopted}
-use Rattle.dom_model.proofs.RangesAndContents.RangesSplit.{IsWithin, boundary-split}
-use Rattle.dom_model.proofs.Worlds.Parts.{range-from_part}
-use Rattle.dom_model.proofs.Soundness.SoundWorlds.{each-moved}
-use Rattle.dom_model.specs.DataAndCopies.Joinable.{Lives}
-use Rattle.dom_model.proofs.Soundness.SoundPlacing.{gap_each, sound-put_one, after_put, after_adoption, renamed, range_placed, occurs_placed, parent_placed, kind_placed, placed-forest}
-use Rattle.dom_model.specs.MutationAlgorithms.Insertable.{IsPlaceable, IsChildOf, IsInsertable}
-use Rattle.dom_model.proofs.Soundness.SoundMaking.{sound-made_node}
+use Rattle.dom_model.proofs.Soundness.SoundForests.{parent-passes}
+use Rattle.dom_model.specs.MutationAlgorithms.Insertable.{IsChildOf, IsInsertable}
 use Rattle.dom_model.proofs.Soundness.SoundData.{length-data}
-use Rattle.dom_model.proofs.Soundness.SoundEditing.{next_child}
-use Rattle.dom_model.proofs.Soundness.SoundSplitting.{insert-root, text_has_data, new_text}
+use Rattle.dom_model.proofs.Soundness.SoundSplitting.{insert-root, new_text}
+use Rattle.dom_model.proofs.Soundness.SoundSplitting as split
 use Rattle.dom_edit.specs.declared.world.World as code
 use Rattle.dom_edit.specs.Whole.{IsWhole, Keeps, Follows}
 use Rattle.dom_edit.proofs.Following.{follows-then, whole-sound}
@@ -44,209 +25,64 @@ use Rattle.dom_data.proofs.StaysWhole.{follows-alike}
 
 -- A Text with a parent is split.
 module _ (n parent offset : ℕ) (w : World) (s : IsSound w) (hn : 0 < occurs n w.forest) (text : is_of_kind Text w.forest n ≡ true) (par : parent_of w.forest n ≡ Some parent) (within : offset ≤ length (data_of w n)) where
-  abbrev pub new_node : Node Content
-  new_node = new_text n offset w
-
   abbrev pub made : World
-  made = made_node (node_document w n) (named Text []) (with_text (tail_of w n offset)) w
+  made = split.made n parent offset w s hn text par within
+
+  abbrev placed : World
+  placed = split.placed n parent offset w s hn text par within
+
+  abbrev parted : Forest Content
+  parted = split.parted n parent offset w s hn text par within
+
+  abbrev after_parting : World
+  after_parting = split.after_parting n parent offset w s hn text par within
 
   pub sm : IsSound made
-  sm = sound-made_node (node_document w n) (named Text []) (with_text (tail_of w n offset)) w s
-
-  absent : occurs w.made w.forest ≡ 0
-  absent = s.forest.small w.made (omega arith)
-
-  pub entry-new : entry_in made.forest w.made ≡ Some (record { value = new_node; parent = None; children = [] })
-  entry-new =
-      entry-joined None w.made w.forest (node new_node empty empty)
-      ∙ ap (λ o. or_else o (entry_in (node new_node empty empty) w.made)) (entry_under-absent None w.made w.forest absent)
-      ∙ (elim (same_or w.made w.made) [ same e t ↦ rw t refl | apart ne t ↦ absurd (ne refl) ])
+  sm = split.sm n parent offset w s hn text par within
 
   pub there-new : 0 < occurs w.made made.forest
-  there-new = occurs-HasNode made.forest w.made (rw entry-new refl)
-
-  apart-new : (m : ℕ) → 0 < occurs m w.forest → m ≡ w.made → ⊥
-  apart-new m h e = let z : occurs m w.forest ≡ 0 = ap (λ k. occurs k w.forest) e ∙ absent in omega arith
+  there-new = split.there-new n parent offset w s hn text par within
 
   pub there-old : (m : ℕ) → 0 < occurs m w.forest → 0 < occurs m made.forest
-  there-old m h = let t = total-beside (one_at m) w.forest (node new_node empty empty) in omega arith
+  there-old m h = split.there-old n parent offset w s hn text par within m h
 
   pub hp : 0 < occurs parent w.forest
-  hp = (parent-path w.forest s.forest.once n parent hn par).0
+  hp = split.hp n parent offset w s hn text par within
 
-  pub par-made : parent_of made.forest n ≡ Some parent
-  par-made = parent-beside w.forest (node new_node empty empty) n hn ∙ par
+  entry-new : entry_in made.forest w.made ≡ Some (record { value = new_text n offset w; parent = None; children = [] })
+  entry-new = split.entry-new n parent offset w s hn text par within
 
-  pub text-made : (test : Kind → Bool) → kind_passes test made.forest n ≡ kind_passes test w.forest n
-  text-made test = kind-beside w.forest (node new_node empty empty) n hn test
+  root-new : parent_of made.forest w.made ≡ None
+  root-new = split.root-new n parent offset w s hn text par within
 
-  has_data : kind_passes is_character_data w.forest n ≡ true
-  has_data = text_has_data w n text
+  par-made : parent_of made.forest n ≡ Some parent
+  par-made = split.par-made n parent offset w s hn text par within
 
-  bare : children_of made.forest n ≡ []
-  bare = data-childless sm.forest n (text-made is_character_data ∙ has_data)
+  text-made : (test : Kind → Bool) → kind_passes test made.forest n ≡ kind_passes test w.forest n
+  text-made test = split.text-made n parent offset w s hn text par within test
 
-  bare-new : children_of made.forest w.made ≡ []
-  bare-new = ap children_in entry-new
+  before_child : IsChildOf made.forest parent (next_of made.forest n)
+  before_child = split.before_child n parent offset w s hn text par within
 
-  pub root-new : parent_of made.forest w.made ≡ None
-  root-new = ap parent_in entry-new
+  there-parted : (m : ℕ) → 0 < occurs m made.forest → 0 < occurs m parted
+  there-parted m h = split.there-parted n parent offset w s hn text par within m h
 
-  pub placeable : IsPlaceable made.forest parent w.made
-  placeable =
-      record {
-        there = there-new;
-        root = root-new;
-        outside = (let i = hits-ancestors w.made parent made.forest sm.forest.once in let j = inside-childless made.forest sm.forest.once w.made parent bare-new (there-old parent hp) (apart-new parent hp) in omega arith);
-        fits = (let p = parent-passes sm.forest n parent par-made (there-old n hn) in let e = entry_there made.forest parent (there-old parent hp) in let q = rw e.1 at p in rw (e.1, entry-new) q);
-      }
+  forest_is : placed.forest ≡ parted
+  forest_is = split.forest_is n parent offset w s hn text par within
 
-  pub before_child : IsChildOf made.forest parent (next_of made.forest n)
-  before_child = go (next_of made.forest n) refl
-    where
-      go : (b : Option ℕ) → next_of made.forest n ≡ b → IsChildOf made.forest parent b
-      go None e = tt
-      go (Some d) e = (next_child made.forest sm.forest.once parent n d par-made e).child
+  kind-parted : (test : Kind → Bool) (m : ℕ) → kind_passes test parted m ≡ kind_passes test made.forest m
+  kind-parted test m = split.kind-parted n parent offset w s hn text par within test m
 
-  abbrev pub placed : World
-  placed = put_in parent (next_of made.forest n) w.made (gap_before parent (next_of made.forest n) 1 made)
-
-  sp : IsSound placed
-  sp = sound-put_one parent w.made (next_of made.forest n) made sm (there-old parent hp) placeable before_child
-
-  abbrev pub parted : Forest Content
-  parted = after_adoption parent w.made (next_of made.forest n) made sm (there-old parent hp) placeable
-
-  pub forest_is : placed.forest ≡ parted
-  forest_is = placed-forest parent w.made (next_of made.forest n) made sm (there-old parent hp) placeable
-
-  pub there-parted : (m : ℕ) → 0 < occurs m made.forest → 0 < occurs m parted
-  there-parted m h = subst (λ x. 0 < x) (sym (occurs_placed parent w.made (next_of made.forest n) made sm (there-old parent hp) placeable m)) h
-
-  pub kind-parted : (test : Kind → Bool) (m : ℕ) → kind_passes test parted m ≡ kind_passes test made.forest m
-  kind-parted = kind_placed parent w.made (next_of made.forest n) made sm (there-old parent hp) placeable
-
-  pub par-parted : parent_of parted n ≡ Some parent
-  par-parted =
-      parent_placed parent w.made (next_of made.forest n) made sm (there-old parent hp) placeable n (there-old n hn)
-      ∙ (elim (same_or n w.made) [ same e t ↦ absurd (apart-new n hn e) | apart ne t ↦ rw t par-made ])
-
-  pub par-new : parent_of parted w.made ≡ Some parent
-  par-new =
-      parent_placed parent w.made (next_of made.forest n) made sm (there-old parent hp) placeable w.made there-new
-      ∙ (elim (same_or w.made w.made) [ same e t ↦ rw t refl | apart ne t ↦ absurd (ne refl) ])
-
-  alike : IsAlike (after_put parent w.made (next_of made.forest n) made sm (there-old parent hp) placeable) parted
-  alike = renamed parent w.made (next_of made.forest n) made sm (there-old parent hp) placeable
-
-  pub index-kept : index_of parted n ≡ index_of made.forest n
-  index-kept = index-alike alike n ∙ index-split made.forest sm.forest.once parent n w.made offset (there-old n hn) there-new par-made root-new bare bare-new
-
-  pub index-after : index_of parted w.made ≡ index_of parted n + 1
-  index-after =
-      index-alike alike w.made
-      ∙ index-new made.forest sm.forest.once parent n w.made offset (there-old n hn) there-new par-made root-new bare bare-new
-      ∙ ap (λ i. i + 1) (sym (index-alike alike n))
-
-  -- lengths: only the parent's is another
-  apart-parent : (m : ℕ) → children_of made.forest m ≡ [] → (m == parent) ≡ false
-  apart-parent m e =
-      elim (same_or m parent) [
-        | same d t ↦ absurd (let k = child-listed made.forest sm.forest.once n parent (there-old n hn) par-made in let j = rw (ap (children_of made.forest) (sym d) ∙ e) at k in omega arith)
-        | apart ne t ↦ t
-      ]
-
-  apart_inside : occurs parent (tree_at w.made made.forest) ≡ 0
-  apart_inside = inside-childless made.forest sm.forest.once w.made parent bare-new (there-old parent hp) (apart-new parent hp)
-
-  length-parted : (m : ℕ) → children_of made.forest m ≡ [] → node_length unit_count parted m ≡ node_length unit_count made.forest m
-  length-parted m e =
-      length-adopted w.made (node_document made parent) (put parent w.made (next_of made.forest n) made.forest) m
-      ∙ length-put made.forest sm.forest.once parent w.made (next_of made.forest n) (there-old parent hp) there-new root-new apart_inside m (apart-parent m e)
-
-  length-text : node_length unit_count parted n ≡ length (data_of w n)
-  length-text = length-parted n bare ∙ length-beside w.forest (node new_node empty empty) n hn ∙ length-data w.forest n has_data
-
-  length-rest : node_length unit_count parted w.made ≡ length (data_of w n) - offset
-  length-rest = length-parted w.made bare-new ∙ ap (length_in unit_count) entry-new ∙ length-drop offset (data_of w n)
-
-  kind-new : is_of_kind DocumentType parted w.made ≡ false
-  kind-new = kind-parted (is_kind DocumentType) w.made ∙ ap (entry_has (is_kind DocumentType)) entry-new
-
-  wood : IsWood parted placed.made
-  wood = subst (λ (g : Forest Content). IsWood g placed.made) forest_is sp.forest
-
-  abbrev opened : Point → Point
-  opened q = after_gap parent (place_before (next_of made.forest n) (children_of made.forest parent)) 1 q
-
-  abbrev divided : Point → Point
-  divided q = after_split n offset w.made parent (index_of parted n) q
-
-  -- a boundary point of a live range goes to one
-  point-divided : (q : Point) → IsBoundary parted q → IsWithin parted q.node (divided q)
-  point-divided q b =
-      boundary-split wood parent n w.made offset (there-parted n (there-old n hn)) (there-parted w.made there-new) par-parted par-new index-after kind-new
-      (let a = length-text in let d = length-rest in omega arith) q b
-
-  split_is : (q : Point) → divided (opened q) ≡ split_point n offset w.made parent (index_of made.forest n) q
-  split_is q =
-      ap (λ i. after_split n offset w.made parent i (opened q)) index-kept
-      ∙ ap (λ i. after_split n offset w.made parent (index_of made.forest n) (after_gap parent i 1 q)) (place-next made.forest sm.forest.once n parent (there-old n hn) par-made)
-
-  range_of_made : (r : Range) → IsRange w.forest r → IsRange made.forest r
-  range_of_made r h = range-from_part w.forest made.forest s.forest.once sm.forest.once (λ m k. entry-beside w.forest (node new_node empty empty) m k) r h
-
-  range-divided : (r : Range) → IsRange w.forest r → IsRange parted (moved_range divided (moved_range opened r))
-  range-divided r h =
-      let hs = occurs-HasNode w.forest r.start.node h.starts.there in
-      let he = occurs-HasNode w.forest r.end.node h.ends.there in
-      let rm = range_of_made r h in
-      let k = range_placed parent w.made (next_of made.forest n) made sm (there-old parent hp) placeable r rm in
-      let a = point-divided (opened r.start) k.starts in
-      let b = point-divided (opened r.end) k.ends in
-      record {
-        starts = a.boundary;
-        ends = b.boundary;
-        one_root = a.one_root ∙ k.one_root ∙ sym b.one_root;
-        in_order = λ g. rm.in_order (
-            sym (split-order_kept made.forest sm.forest.once parent n w.made offset (there-old n hn) there-new par-made root-new bare bare-new r.start.node r.end.node r.start.offset r.end.offset (there-old r.start.node hs) (there-old r.end.node he) (apart-new r.start.node hs) (apart-new r.end.node he) rm.one_root)
-            ∙ sym (order-alike alike (split_point n offset w.made parent (index_of made.forest n) r.start) (split_point n offset w.made parent (index_of made.forest n) r.end))
-            ∙ ap (λ q. order_of parted q (split_point n offset w.made parent (index_of made.forest n) r.end)) (sym (split_is r.start))
-            ∙ ap (order_of parted (divided (opened r.start))) (sym (split_is r.end))
-            ∙ g);
-      }
-
-  ranges-divided : Lives (IsRange placed.forest) (map_ranges (after_split n offset w.made parent (index_of placed.forest n)) placed.ranges)
-  ranges-divided =
-      subst (λ (g : Forest Content). Lives (IsRange g) (map_ranges (after_split n offset w.made parent (index_of g n)) placed.ranges)) (sym forest_is)
-      (each-moved (λ r. IsRange parted (moved_range divided r)) (IsRange parted) divided (λ r k. k) placed.ranges
-      (gap_each (IsRange w.forest) (λ r. IsRange parted (moved_range divided r)) parent (next_of made.forest n) made before_child (parent-passes sm.forest n parent par-made (there-old n hn)) range_of_made range-divided s.ranges))
-
-  abbrev pub after_parting : World
-  after_parting =
-      let told = tree_record parent (w.made ∷ []) [] (previous_to made.forest parent (next_of made.forest n)) (next_of made.forest n) placed in
-      record told { ranges = map_ranges (after_split n offset w.made parent (index_of told.forest n)) told.ranges }
-
-  pub sound-after_parting : IsSound after_parting
-  sound-after_parting = record { forest = sp.forest; ranges = ranges-divided; iterators = sp.iterators; walkers = sp.walkers; registrations = sp.registrations }
-
-  pub split_off_is : split_off n offset w.made (Some parent) made ≡ after_parting
-  split_off_is =
-      ap (λ (v : World). record v { ranges = map_ranges (after_split n offset w.made parent (index_of v.forest n)) v.ranges })
-      (insert-root w.made parent (next_of made.forest n) made (ap (entry_has (is_kind DocumentFragment)) entry-new) root-new)
-
-  pub text-parted : is_of_kind Text parted n ≡ true
+  text-parted : is_of_kind Text parted n ≡ true
   text-parted = kind-parted (is_kind Text) n ∙ text-made (is_kind Text) ∙ text
 
-  pub text-after : is_of_kind Text after_parting.forest n ≡ true
-  text-after = ap (λ (g : Forest Content). is_of_kind Text g n) forest_is ∙ text-parted
-
   -- both Texts are counted among the children
-  pub room-parted : index_of parted n + 2 ≤ length (children_of parted parent)
+  room-parted : index_of parted n + 2 ≤ length (children_of parted parent)
   room-parted =
-      let i = place-there w.made (children_of parted parent) (child-listed parted wood.once w.made parent (there-parted w.made there-new) par-new) in
+      let par-new = split.par-new n parent offset w s hn text par within in
+      let i = place-there w.made (children_of parted parent) (child-listed parted (split.wood n parent offset w s hn text par within).once w.made parent (there-parted w.made there-new) par-new) in
       let j = index-child parted w.made parent par-new in
-      let k = index-after in
+      let k = split.index-after n parent offset w s hn text par within in
       omega arith
 
   -- what follows the old Text is not the new one
@@ -259,7 +95,7 @@ module _ (n parent offset : ℕ) (w : World) (s : IsSound w) (hn : 0 < occurs n 
   insertable = record {
     there = there-new;
     parent_there = there-old parent hp;
-    outside = placeable.outside;
+    outside = (split.placeable n parent offset w s hn text par within).outside;
     may_hold = parent-passes sm.forest n parent par-made (there-old n hn);
     no_document = ap (entry_has (is_kind Document)) entry-new;
     doctype_fits = ap (λ v. v && not (is_of_kind Document made.forest parent)) (ap (entry_has (is_kind DocumentType)) entry-new);
@@ -267,7 +103,7 @@ module _ (n parent offset : ℕ) (w : World) (s : IsSound w) (hn : 0 < occurs n 
     before_other = next-apart (next_of made.forest n) before_child;
   }
 
-  pub placed_is : insert false w.made parent (next_of made.forest n) made ≡ tree_record parent (w.made ∷ []) [] (previous_to made.forest parent (next_of made.forest n)) (next_of made.forest n) placed
+  placed_is : insert false w.made parent (next_of made.forest n) made ≡ tree_record parent (w.made ∷ []) [] (previous_to made.forest parent (next_of made.forest n)) (next_of made.forest n) placed
   placed_is = insert-root w.made parent (next_of made.forest n) made (ap (entry_has (is_kind DocumentFragment)) entry-new) root-new
 
   -- The worlds of the code: one that keeps the new Text, and one that has it behind the old one.
@@ -307,10 +143,10 @@ module _ (n parent offset : ℕ) (w : World) (s : IsSound w) (hn : 0 < occurs n 
         (follows-then v mid behind (insert false w.made parent (next_of made.forest n)) moved_ends inserted follows-moved)
 
     keeps-behind : Keeps behind after_parting
-    keeps-behind = subst (Keeps behind) (ap (λ p. split_off n offset w.made p made) par-made ∙ split_off_is) (follows-behind.keeps made k)
+    keeps-behind = subst (Keeps behind) (ap (λ p. split_off n offset w.made p made) par-made ∙ split.split_off_is n parent offset w s hn text par within) (follows-behind.keeps made k)
 
     pub whole-behind : IsWhole mid → IsWhole behind
-    whole-behind h = whole-sound behind after_parting keeps-behind sound-after_parting h.documents h.owners h.covered h.statics
+    whole-behind h = whole-sound behind after_parting keeps-behind (split.sound-after_parting n parent offset w s hn text par within) h.documents h.owners h.covered h.statics h.observers
 
     pub text-behind : is_of_kind Text mid.tree.forest n ≡ true
     text-behind = ap (λ f. is_of_kind Text f n) mid_is ∙ text-parted
@@ -318,7 +154,7 @@ module _ (n parent offset : ℕ) (w : World) (s : IsSound w) (hn : 0 < occurs n 
     pub length-behind : length (content_in (entry_in mid.tree.forest n)).text ≡ length (data_of w n)
     length-behind =
         ap (λ (g : Forest Content). length (content_in (entry_in g n)).text) mid_is
-        ∙ sym (length-data parted n (kind-parted is_character_data n ∙ text-made is_character_data ∙ has_data)) ∙ length-text
+        ∙ sym (length-data parted n (kind-parted is_character_data n ∙ text-made is_character_data ∙ split.has_data n parent offset w s hn text par within)) ∙ split.length-text n parent offset w s hn text par within
 
     pub room-behind : index_of mid.tree.forest n + 2 ≤ length (children_of mid.tree.forest parent)
     room-behind = subst (λ (g : Forest Content). index_of g n + 2 ≤ length (children_of g parent)) (sym mid_is) room-parted

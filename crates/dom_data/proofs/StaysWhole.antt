@@ -22,15 +22,12 @@ use Rattle.dom_model.proofs.RangesAndContents.RangesSpliced.{there-alike}
 use Rattle.dom_edit.specs.declared.world.World.{World}
 use Rattle.dom_edit.specs.Whole.{AreHeld, AreCovered, IsWhole, Keeps, Follows, unwatched}
 use Rattle.dom_edit.specs.dom_observe.Watchers.{Watches}
+use Rattle.dom_edit.specs.dom_observe.HeldNames.{held-kept}
 use Rattle.std.proofs.lemmas.Bool.Decides.{nat_tests}
 pub use Rattle.dom_edit.proofs.Following.{sound-unwatched}
 use Rattle.dom_edit.proofs.Following.{whole-sound}
 use Rattle.dom_edit.proofs.Covering.{covered-kept}
 use Rattle.dom_data.proofs.ChangedBodies.{EachNode-with_node}
-
--- other observers
-pub whole-observed : (old new : World) → new ≡ record old { observers = new.observers } → IsWhole old → IsWhole new
-whole-observed old new e h = subst IsWhole (sym e) (record { forest = h.forest; documents = h.documents; owners = h.owners; covered = h.covered; ranges = h.ranges; statics = h.statics; iterators = h.iterators; walkers = h.walkers })
 
 module _ (n : ℕ) (change : Node Content → Node Content) (keeps : (x : Node Content) → bare_node (change x) ≡ bare_node x) (stays : (x : Node Content) → (change x).document ≡ x.document) where
   pub documents-with_node : (f : Forest Content) → HasOneDocument f → HasOneDocument (with_node n change f)
@@ -51,8 +48,8 @@ module _ (n : ℕ) (change : Node Content → Node Content) (keeps : (x : Node C
 
   -- a node is changed, and ends move
   pub whole-with_node : (old new : World) (w : model.World) → IsWhole old → Keeps new w → IsSound w
-      → new.tree.forest ≡ with_node n change old.tree.forest → new.tree.made ≡ old.tree.made → new.ranges.covered ≡ old.ranges.covered → new.statics ≡ old.statics → IsWhole new
-  whole-with_node old new w h k s forest made covered statics =
+      → new.tree.forest ≡ with_node n change old.tree.forest → new.tree.made ≡ old.tree.made → new.ranges.covered ≡ old.ranges.covered → new.statics ≡ old.statics → new.observers ≡ old.observers → IsWhole new
+  whole-with_node old new w h k s forest made covered statics observers =
       let a = with_node-alike change keeps n old.tree.forest in
       whole-sound new w k s
       (subst HasOneDocument (sym forest) (documents-with_node old.tree.forest h.documents))
@@ -60,17 +57,16 @@ module _ (n : ℕ) (change : Node Content → Node Content) (keeps : (x : Node C
       (subst (AreCovered new.tree) (sym covered)
       (covered-kept old.tree new.tree old.ranges.covered (λ m. let z : occurs m new.tree.forest ≡ occurs m old.tree.forest = ap (occurs m) forest ∙ occurs-alike a m in omega arith) made h.covered))
       (rw (forest, statics) (All-weaker (AreHeld old.tree.forest) (AreHeld (with_node n change old.tree.forest)) (λ r k. record { start = there-alike a r.start.node k.start; end = there-alike a r.end.node k.end }) old.statics h.statics))
+      (rw (forest, observers) (held-kept old.tree.forest (with_node n change old.tree.forest) old.observers (there-alike a) h.observers))
 
 -- units are replaced, and ends move
-pub whole-replaced : (old told new : World) (n offset count : ℕ) (added : List ℕ) → IsWhole old → told ≡ record old { observers = told.observers }
+pub whole-replaced : (old told new : World) (n offset count : ℕ) (added : List ℕ) → IsWhole told → told ≡ record old { observers = told.observers }
     → kind_passes is_character_data old.tree.forest n ≡ true → offset + count ≤ length (data_of (unwatched old) n)
     → new.tree ≡ record told.tree { forest = with_node n (with_data (spliced offset count added (data_of (unwatched told) n))) told.tree.forest }
     → new.ranges ≡ record told.ranges { ranges = map_ranges (after_splice n offset count (length added)) told.ranges.ranges }
-    → new.statics ≡ told.statics → new.iters ≡ told.iters → new.walkers ≡ told.walkers → IsWhole new
-whole-replaced old told new n offset count added h e kind within tree ranges statics iters walkers =
-    let trees = ap (λ (v : World). v.tree) e in
+    → new.statics ≡ told.statics → new.iters ≡ told.iters → new.walkers ≡ told.walkers → new.observers ≡ told.observers → IsWhole new
+whole-replaced old told new n offset count added whole e kind within tree ranges statics iters walkers observers =
     let forests = ap (λ (v : World). v.tree.forest) e in
-    let whole = whole-observed old told e h in
     let kind2 = subst (λ f. kind_passes is_character_data f n ≡ true) (sym forests) kind in
     let within2 = subst (λ f. offset + count ≤ length (content_in (entry_in f n)).text) (sym forests) within in
     whole-with_node n (with_data (spliced offset count added (data_of (unwatched told) n))) (λ x. refl) (λ x. refl) told new
@@ -84,7 +80,7 @@ whole-replaced old told new n offset count added h e kind within tree ranges sta
       walkers = sym walkers;
     })
     (sound-replace_units n offset count added (unwatched told) (sound-unwatched told whole) kind2 within2)
-    (ap (λ (g : Grove Content). g.forest) tree) (ap (λ (g : Grove Content). g.made) tree) (ap (λ (t : RangeTable). t.covered) ranges) statics
+    (ap (λ (g : Grove Content). g.forest) tree) (ap (λ (g : Grove Content). g.made) tree) (ap (λ (t : RangeTable). t.covered) ranges) statics observers
 
 -- steps that come to the same where the old world's parts are kept
 pub follows-alike : (old new : World) (a b : model.World → model.World) → ((w : model.World) → Keeps old w → a w ≡ b w) → Follows old new a → Follows old new b
@@ -118,11 +114,11 @@ follows-set old new n whole text e f =
 
 -- Attributes change, and nothing else.
 
-module _ (old told new : World) (n : ℕ) (name : List ℕ) (h : IsWhole old) (e : told ≡ record old { observers = told.observers }) (ranges : new.ranges ≡ told.ranges) (statics : new.statics ≡ told.statics) (iters : new.iters ≡ told.iters) (walkers : new.walkers ≡ told.walkers) where
+module _ (old told new : World) (n : ℕ) (name : List ℕ) (h : IsWhole told) (e : told ≡ record old { observers = told.observers }) (ranges : new.ranges ≡ told.ranges) (statics : new.statics ≡ told.statics) (iters : new.iters ≡ told.iters) (walkers : new.walkers ≡ told.walkers) (observers : new.observers ≡ told.observers) where
   whole-attributes : (attributes : List Attribute) (w : model.World) → IsSound w → w.forest ≡ with_node n (with_attributes attributes) told.tree.forest → w.made ≡ told.tree.made → w.ranges ≡ told.ranges.ranges → w.static_ranges ≡ told.statics → w.iterators ≡ told.iters → w.walkers ≡ told.walkers
       → new.tree ≡ record told.tree { forest = with_node n (with_attributes attributes) told.tree.forest } → IsWhole new
   whole-attributes attributes w s forest made live fixed iterators marks tree =
-      whole-with_node n (with_attributes attributes) (λ x. refl) (λ x. refl) told new w (whole-observed old told e h)
+      whole-with_node n (with_attributes attributes) (λ x. refl) (λ x. refl) told new w h
       (record {
         forest = forest ∙ sym (ap (λ (g : Grove Content). g.forest) tree);
         made = made ∙ sym (ap (λ (g : Grove Content). g.made) tree);
@@ -131,15 +127,15 @@ module _ (old told new : World) (n : ℕ) (name : List ℕ) (h : IsWhole old) (e
         iterators = iterators ∙ sym iters;
         walkers = marks ∙ sym walkers;
       })
-      s (ap (λ (g : Grove Content). g.forest) tree) (ap (λ (g : Grove Content). g.made) tree) (ap (λ (t : RangeTable). t.covered) ranges) statics
+      s (ap (λ (g : Grove Content). g.forest) tree) (ap (λ (g : Grove Content). g.made) tree) (ap (λ (t : RangeTable). t.covered) ranges) statics observers
 
   pub whole-set_attribute : (value : List ℕ) → new.tree ≡ record told.tree { forest = with_node n (with_attributes (with_attribute name value (attributes_of (unwatched told) n))) told.tree.forest } → IsWhole new
   whole-set_attribute value tree =
       whole-attributes (with_attribute name value (attributes_of (unwatched told) n)) (set_attribute n name value (unwatched told))
-      (sound-set_attribute n name value (unwatched told) (sound-unwatched told (whole-observed old told e h))) refl refl refl refl refl refl tree
+      (sound-set_attribute n name value (unwatched told) (sound-unwatched told h)) refl refl refl refl refl refl tree
 
   pub whole-remove_attribute : has_attribute (unwatched old) n name ≡ true → new.tree ≡ record told.tree { forest = with_node n (with_attributes (without_attribute name (attributes_of (unwatched told) n))) told.tree.forest } → IsWhole new
   whole-remove_attribute there tree =
       let has : has_attribute (unwatched told) n name ≡ true = ap (λ (v : World). has_attribute (unwatched v) n name) e ∙ there in
       whole-attributes (without_attribute name (attributes_of (unwatched told) n)) (remove_attribute_if true n name (unwatched told))
-      (subst (λ b. IsSound (remove_attribute_if b n name (unwatched told))) has (sound-remove_attribute n name (unwatched told) (sound-unwatched told (whole-observed old told e h)))) refl refl refl refl refl refl tree
+      (subst (λ b. IsSound (remove_attribute_if b n name (unwatched told))) has (sound-remove_attribute n name (unwatched told) (sound-unwatched told h))) refl refl refl refl refl refl tree

@@ -92,7 +92,7 @@ module _ (old : World) (h : IsWhole old) (t p base first : ℕ) (ts : List ℕ) 
         whole-sound merged (moved (unwatched old) t p base first ts j)
         (record { forest = refl; made = refl; ranges = sym ranges_are; static_ranges = refl; iterators = refl; walkers = refl })
         (sound-merged_ranges (unwatched old) t p base first ts j)
-        h.documents h.owners (subst (AreCovered old.tree) (sym (ap (λ (r : RangeTable). r.covered) e)) h.covered) h.statics
+        h.documents h.owners (subst (AreCovered old.tree) (sym (ap (λ (r : RangeTable). r.covered) e)) h.covered) h.statics h.observers
 
     follows-merged : Follows old merged (λ w. merged_ends first t base (parent_of w.forest first) w)
     follows-merged =

@@ -5,7 +5,7 @@ use Rattle.dom_model.specs.Worlds.World.{Point}
 use Rattle.dom_model.specs.BoundaryPoints.Points.{map_ranges}
 use Rattle.dom_edit.specs.dom_ranges.Tables.{RangeTable, live_nodes}
 use Rattle.dom_edit.specs.dom_ranges.Inside.{ranges-alike}
-use Rattle.dom_edit.specs.dom_ranges.Making.{among-any}
+use Rattle.dom_model.proofs.RangesAndContents.RangesElsewhere.{among-any}
 
 -- a move by an index that matters in the parent alone is the same by any two indices, unless a live range stands there
 pub unfelt : (move : ℕ → Point → Point) (v : RangeTable) (parent i j : ℕ) → ((q : Point) → (q.node == parent) ≡ false → move i q ≡ move j q)

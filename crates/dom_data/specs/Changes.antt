@@ -1,13 +1,10 @@
--- Mutations without lists of nodes, and the old values that do for what is told of them.
-use Rattle.std.specs.Prelude.{◌≡◌, ℕ, false, List, [], Option, None, ◌⊎◌}
-use Rattle.std.specs.List.{list_any}
+-- Mutations without lists of nodes.
+use Rattle.std.specs.Prelude.{ℕ, List, [], Option, None}
 use Rattle.dom_model.specs.declared.RecordType.{RecordType}
 use Rattle.dom_model.specs.Forests.Forest.{Forest, ancestors}
 use Rattle.dom_model.specs.Worlds.World.{Content, Mutation, Observing}
 use Rattle.dom_model.specs.MutationObservers.Observing.{standing_on, noted}
-use Rattle.dom_model.specs.MutationObservers.Records.{asks_old_value, interested}
 use Rattle.dom_edit.specs.dom_observe.Watchers.{Watchers, Watches}
-use Rattle.dom_edit.specs.dom_observe.Asking.{IsAbout}
 
 -- a change of a node's data or attributes
 abbrev pub change_of : RecordType → ℕ → Option (List ℕ) → Option (List ℕ) → Mutation
@@ -27,9 +24,3 @@ change_of what target name value = record {
 abbrev pub Tells : RecordType → ℕ → Option (List ℕ) → Option (List ℕ) → Forest Content → Watchers → Watchers → Type 0
 Tells what target name value f old new =
     (x : Observing) → Watches old x → Watches new (noted (record (change_of what target name value) { standing = standing_on (ancestors target f) x.registrations }) x)
-
--- what is given is the old value, or nobody who is interested asks for it
-abbrev pub Serves : RecordType → ℕ → Option (List ℕ) → Forest Content → Watchers → Option (List ℕ) → Option (List ℕ) → Type 0
-Serves what target name f o value given =
-    (x : Observing) → Watches o x → (m : Mutation) → IsAbout what target name (ancestors target f) x m →
-    (given ≡ value) ⊎ (list_any (λ r. asks_old_value m.type r.options) (interested m) ≡ false)

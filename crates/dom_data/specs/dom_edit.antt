@@ -3,6 +3,7 @@ pub use Rattle.dom_edit.specs.Inserting
 pub use Rattle.dom_edit.specs.Markers
 pub use Rattle.dom_edit.specs.Places
 pub use Rattle.dom_edit.specs.Refusals
+pub use Rattle.dom_edit.specs.Used
 pub use Rattle.dom_edit.specs.Whole
 pub use Rattle.dom_edit.specs.declared
 pub use Rattle.dom_edit.proofs.AmongChildren

@@ -1,6 +1,6 @@
 //! Data and attributes changed where a node keeps them.
 
-ghost use Rattle.std.specs.Prelude.{◌≡◌, ◌+◌, ◌^◌, ◌<◌, ◌≤◌, length, IfSome, is_some, string_bytes, OnOk, OnErr};
+ghost use Rattle.std.specs.Prelude.{◌≡◌, ◌+◌, ◌^◌, ◌<◌, ◌≤◌, length, IfSome, is_some, option_copied, string_bytes, OnOk, OnErr};
 ghost use Rattle.dom_model.specs.Forests.Attributes.{attribute_value, with_attribute, without_attribute};
 ghost use Rattle.dom_model.specs.Forests.Forest.{HasNode, entry_in, with_node};
 ghost use Rattle.dom_model.specs.Forests.Texts.{spliced};
@@ -26,6 +26,14 @@ pub(crate) fn data_in(tree: &Tree<Content>, node: NodeId) -> &Units
     ensures { result.now ≡ (content_in (entry_in tree.now.forest node)).text }
 {
     &tree.body(node).text
+}
+
+// The value of an attribute of a node.
+pub(crate) fn value_in<'a>(tree: &'a Tree<Content>, node: NodeId, name: &str) -> Option<&'a Units>
+    requires held { HasNode tree.now.forest node }
+    ensures { option_copied result ≡ attribute_value name.now (content_in (entry_in tree.now.forest node)).attributes }
+{
+    tree.body(node).attrs.get(name)
 }
 
 // Puts `added` in place of the `count` units of a node's data from `offset` on.

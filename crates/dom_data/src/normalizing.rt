@@ -62,14 +62,6 @@ fn is_below(tree: &Tree<Content>, node: NodeId, above: NodeId) -> bool
     node != above && tree.is_ancestor(above, node)
 }
 
-// Whether a node is a Text.
-fn is_text(tree: &Tree<Content>, node: NodeId) -> bool
-    requires held { HasNode tree.now.forest node }
-    ensures { result ≡ is_of_kind Text tree.now.forest node }
-{
-    kind_in(tree, node) == Kind::Text
-}
-
 // The next sibling, where it is a Text.
 fn next_text(tree: &Tree<Content>, node: NodeId) -> Option<NodeId>
     requires held { HasNode tree.now.forest node }
@@ -77,7 +69,7 @@ fn next_text(tree: &Tree<Content>, node: NodeId) -> Option<NodeId>
 {
     tree.sound();
     match tree.next(node) {
-        Some(next) if is_text(tree, next) => Some(next),
+        Some(next) if tree.is_of_kind(next, Kind::Text) => Some(next),
         _ => None,
     }
 }

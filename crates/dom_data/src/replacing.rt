@@ -1,6 +1,6 @@
 //! The data of a node replaced, and read (DOM Standard, "Interface CharacterData").
 
-ghost use Rattle.std.specs.Prelude.{◌≡◌, ◌+◌, ◌≤◌, length, true, None, IfOk, OnOk};
+ghost use Rattle.std.specs.Prelude.{◌≡◌, ◌+◌, ◌≤◌, length, true, None, IfOk, OnOk, OnErr};
 ghost use Rattle.std.specs.Result.{IfErr};
 ghost use Rattle.dom_model.specs.Forests.Kinds.{is_character_data};
 ghost use Rattle.dom_model.specs.Forests.Nodes.{kind_passes};
@@ -32,6 +32,7 @@ pub(crate) fn replace_units(
     requires kind { kind_passes is_character_data world.old.tree.forest node ≡ true }
     requires within { offset + count ≤ length (data_of (unwatched world.old) node) }
     ensures replaced { OnOk result (Follows world.old world.new (λ w. replace_units node offset count added.now (data_record node w))) }
+    ensures kept { OnErr result (world.new ≡ record world.old { observers = world.new.observers }) }
     ensures whole { IsWhole world.new }
 {
     tell_data(world, alloc, node)?;
@@ -80,6 +81,7 @@ pub fn replace_data_checked(
     requires within { offset ≤ length (data_of (unwatched world.old) node) }
     ensures replaced { OnOk result (Follows world.old world.new (replace_data node offset count added.now)) }
     ensures markers { OnOk result (StandByEdits world.old world.new (replace_data_edits node offset count added.now)) }
+    ensures kept { OnErr result (world.new ≡ record world.old { observers = world.new.observers }) }
     ensures whole { IsWhole world.new }
 {
     let length = data_in(&world.tree, node).len();
@@ -98,6 +100,7 @@ pub fn set_data(
     requires kind { kind_passes is_character_data world.old.tree.forest node ≡ true }
     ensures set { OnOk result (Follows world.old world.new (set_data node text.now)) }
     ensures markers { OnOk result (StandByEdits world.old world.new (set_data_edits node text.now)) }
+    ensures kept { OnErr result (world.new ≡ record world.old { observers = world.new.observers }) }
     ensures whole { IsWhole world.new }
 {
     let length = data_in(&world.tree, node).len();

@@ -17,6 +17,8 @@ use Rattle.dom_model.proofs.RangesAndContents.RangesSpliced.{there-alike}
 use Rattle.dom_model.proofs.Soundness.SoundWorlds.{there_after_cut}
 use Rattle.dom_model.proofs.Soundness.SoundEditing.{sound-adopted}
 use Rattle.dom_model.proofs.MutationAlgorithms.Loosened.{forest-remove}
+use Rattle.dom_observe.specs.Held.{NamesHeld}
+use Rattle.dom_observe.proofs.HeldNames.{held-kept}
 use Rattle.dom_edit.specs.declared.world.World.{World}
 use Rattle.dom_edit.specs.Whole.{IsWhole, Keeps, Follows, unwatched}
 use Rattle.dom_edit.proofs.Following.{keeps-unwatched, whole-sound}
@@ -39,8 +41,8 @@ module _ (v new : World) (suppressed : Bool) (n : ℕ) (h : IsWhole v) (held : H
 
 -- a root gets a node document
 pub whole-adopted : (v new : World) (n d : ℕ) → IsWhole v → parent_of v.tree.forest n ≡ None → is_of_kind Document v.tree.forest d ≡ true
-    → new.tree ≡ record { forest = adopted n d v.tree.forest; made = v.tree.made } → new.ranges ≡ v.ranges → new.statics ≡ v.statics → new.iters ≡ v.iters → new.walkers ≡ v.walkers → IsWhole new
-whole-adopted v new n d h root document tree ranges statics iters walkers =
+    → new.tree ≡ record { forest = adopted n d v.tree.forest; made = v.tree.made } → new.ranges ≡ v.ranges → new.statics ≡ v.statics → new.iters ≡ v.iters → new.walkers ≡ v.walkers → new.observers ≡ v.observers → IsWhole new
+whole-adopted v new n d h root document tree ranges statics iters walkers observers =
     let f = v.tree.forest in
     let g = adopted n d f in
     let forest : g ≡ new.tree.forest = sym (ap (λ t. t.forest) tree) in
@@ -60,6 +62,8 @@ whole-adopted v new n d h root document tree ranges statics iters walkers =
     (covered-kept v.tree new.tree v.ranges.covered
     (λ m. let z : occurs m new.tree.forest ≡ occurs m f = ap (occurs m) (sym forest) ∙ occurs-alike (with_tree-alike (in_document d) (λ x. refl) n f) m in omega arith) (ap (λ t. t.made) tree) h.covered))
     (rw (forest, sym statics) at held)
+    (subst (NamesHeld new.tree.forest) (sym observers)
+    (held-kept f new.tree.forest v.observers (λ m there. subst (λ k. HasNode k m) forest (there-alike (with_tree-alike (in_document d) (λ x. refl) n f) m there)) h.observers))
 
 -- a node whose node document it is already
 pub follows-staying : (v new : World) (n d told : ℕ) → IsWhole new → Follows v new (remove false n) → IfSome (entry_in new.tree.forest n) (λ e. told ≡ e.value.document) → told ≡ d

@@ -1,11 +1,12 @@
 -- Steps of the definitions that follow one another, and what a world of the code shows after one.
-use Rattle.std.proofs.Common.{refl, All, subst}
+use Rattle.std.proofs.Common.{◌≡◌, refl, sym, All, subst}
 use Rattle.std.proofs.lemmas.List.Elements.{All-nil}
 use Rattle.dom_model.specs.Forests.Forest.{IsForest}
 use Rattle.dom_model.specs.Forests.Documents.{HasOneDocument}
 use Rattle.dom_model.specs.Worlds.World as model
 use Rattle.dom_model.specs.Soundness.Sound.{IsRegistration, IsSound}
 use Rattle.dom_model.specs.Soundness.Owners.{HasOwners}
+use Rattle.dom_observe.specs.Held.{NamesHeld}
 use Rattle.dom_edit.specs.declared.world.World.{World}
 use Rattle.dom_edit.specs.Whole.{AreHeld, AreCovered, IsWhole, Keeps, Shows, Follows, unwatched}
 
@@ -33,8 +34,8 @@ pub keeps-unwatched : (v : World) → Keeps v (unwatched v)
 keeps-unwatched v = record { forest = refl; made = refl; ranges = refl; static_ranges = refl; iterators = refl; walkers = refl }
 
 -- a world of the code is whole where it keeps a sound world, each node document is where it should be, and all nodes are covered
-pub whole-sound : (v : World) (w : model.World) → Keeps v w → IsSound w → HasOneDocument v.tree.forest → HasOwners v.tree.forest → AreCovered v.tree v.ranges.covered → All (AreHeld v.tree.forest) v.statics → IsWhole v
-whole-sound v w k s documents owners covered statics = record {
+pub whole-sound : (v : World) (w : model.World) → Keeps v w → IsSound w → HasOneDocument v.tree.forest → HasOwners v.tree.forest → AreCovered v.tree v.ranges.covered → All (AreHeld v.tree.forest) v.statics → NamesHeld v.tree.forest v.observers → IsWhole v
+whole-sound v w k s documents owners covered statics names = record {
   forest = subst (λ g. IsForest g) (rw (k.forest, k.made) refl) s.forest;
   documents = documents;
   owners = owners;
@@ -43,6 +44,7 @@ whole-sound v w k s documents owners covered statics = record {
   statics = statics;
   iterators = rw (k.forest, k.iterators) at s.iterators;
   walkers = rw (k.forest, k.walkers) at s.walkers;
+  observers = names;
 }
 
 -- a whole world is sound, as one in which nobody watches
@@ -53,4 +55,10 @@ sound-unwatched v h = record {
   iterators = h.iterators;
   walkers = h.walkers;
   registrations = All-nil (IsRegistration v.tree.forest);
+  statics = h.statics;
 }
+
+-- other observers, of which each node that they name is there
+pub whole-observed : (old new : World) → new ≡ record old { observers = new.observers } → IsWhole old → NamesHeld old.tree.forest new.observers → IsWhole new
+whole-observed old new e h names =
+    subst IsWhole (sym e) (record { forest = h.forest; documents = h.documents; owners = h.owners; covered = h.covered; ranges = h.ranges; statics = h.statics; iterators = h.iterators; walkers = h.walkers; observers = names })

@@ -2,21 +2,21 @@
 use Rattle.std.proofs.Common.{◌≡◌, ℕ, zero, suc, ◌<◌, ◌==◌, Bool, true, false, if◌then◌else◌, List, [], ◌∷◌, ◌++◌, length, get_or, Option, refl, ap, sym, ◌∙◌, subst, arith}
 use Rattle.dom_model.specs.declared.Kind.TheVariants.{DocumentFragment}
 use Rattle.dom_model.specs.PlainLists.Lists.{hits}
-use Rattle.dom_model.specs.Forests.Forest.{Forest, HasNode, occurs, children_of}
+use Rattle.dom_model.specs.Forests.Forest.{Forest, occurs, children_of}
 use Rattle.dom_model.specs.Worlds.World.{Content}
 use Rattle.dom_model.specs.Worlds.World as model
 use Rattle.dom_model.specs.Forests.Nodes.{is_of_kind}
 use Rattle.dom_model.specs.MutationAlgorithms.Editing.{remove, remove_all, nodes_of, is_fragment, emptied_fragment, tree_record, freed, previous_to, insert_all, insert_nodes, insert}
 use Rattle.dom_model.specs.MutationAlgorithms.Insertable.{IsInsertable}
 use Rattle.dom_model.proofs.Forests.Climbing.{hits-first}
-use Rattle.dom_model.proofs.Forests.Entries.{HasNode-occurs}
+use Rattle.dom_model.proofs.Forests.Entries.{HasNode-occurs, occurs-HasNode}
 use Rattle.dom_model.proofs.Forests.Indices.{child-there}
 use Rattle.dom_model.proofs.MutationAlgorithms.Loosened.{loosened-remove, loosened-remove_all}
 use Rattle.dom_model.proofs.Soundness.SoundInserting.{IsReady, freed_ready}
 use Rattle.dom_observe.specs.Watchers.{Watches}
 use Rattle.dom_edit.specs.declared.world.World.{World}
 use Rattle.dom_edit.specs.Whole.{IsWhole, Keeps, Follows, unwatched}
-use Rattle.dom_edit.specs.Inserting.{entering, AreThere, IsOpen}
+use Rattle.dom_edit.specs.Inserting.{entering, AreThere, KeepsNodes, IsOpen}
 use Rattle.dom_edit.proofs.Following.{keeps-unwatched, follows-then}
 use Rattle.dom_edit.proofs.PlacedRoots.{placed-all, placed-world}
 use Rattle.dom_edit.proofs.PlacedWorlds.{sound-unwatched, placing}
@@ -61,7 +61,7 @@ nodes-entering a n w k = ap (λ (f : Forest Content). entering f n) k.forest
 if_so : {A : Type 0} (t : Bool) (x y : A) → t ≡ true → (if t then x else y) ≡ x
 if_so t x y e = rw e refl
 
-if_not : {A : Type 0} (t : Bool) (x y : A) → t ≡ false → (if t then x else y) ≡ y
+pub if_not : {A : Type 0} (t : Bool) (x y : A) → t ≡ false → (if t then x else y) ≡ y
 if_not t x y e = rw e refl
 
 -- a fragment's children are there
@@ -86,11 +86,11 @@ open-freed a b n parent child ns h k e f =
 
 -- The nodes come in.
 
-pub there-placed : (a b : World) (parent : ℕ) (child : Option ℕ) (ns : List ℕ) → IsWhole a → IsOpen a.tree.forest parent child ns → Follows a b (placing parent child ns) → HasNode b.tree.forest parent
-there-placed a b parent child ns h ready f =
+pub nodes-placed : (a b : World) (parent : ℕ) (child : Option ℕ) (ns : List ℕ) → IsWhole a → IsOpen a.tree.forest parent child ns → Follows a b (placing parent child ns) → KeepsNodes a b
+nodes-placed a b parent child ns h ready f m held =
     let p = placed-all a.tree h.forest parent child ns ready (record { documents = h.documents; owners = h.owners }) in
     let e = forest-after a b (placing parent child ns) f ∙ ap (λ (w : model.World). w.forest) (placed-world parent child ns (unwatched a)) in
-    HasNode-occurs b.tree.forest parent (subst (λ (g : Forest Content). 0 < occurs parent g) (sym e) (subst (λ x. 0 < x) (sym (p.numbers parent)) ready.parent_there))
+    HasNode-occurs b.tree.forest m (subst (λ (g : Forest Content). 0 < occurs m g) (sym e) (subst (λ x. 0 < x) (sym (p.numbers m)) (occurs-HasNode a.tree.forest m held)))
 
 pub follows-insert_all : (a b c : World) (parent : ℕ) (child : Option ℕ) (ns : List ℕ) (suppressed : Bool) (previous : Option ℕ) → suppressed ≡ false → previous ≡ previous_to a.tree.forest parent child →
     Follows a b (placing parent child ns) → Follows b c (tree_record parent ns [] previous child) → Follows a c (insert_all suppressed parent child ns)

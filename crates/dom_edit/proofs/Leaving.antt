@@ -18,7 +18,9 @@ use Rattle.dom_model.proofs.Forests.Totals.{total-cut}
 use Rattle.dom_model.proofs.Soundness.SoundWorlds.{there_after_cut, sound-remove}
 use Rattle.dom_model.proofs.MutationAlgorithms.OwnersKept.{owned-cut}
 use Rattle.dom_ranges.specs.Tables.{IsCovered}
+use Rattle.dom_observe.specs.Held.{NamesHeld}
 use Rattle.dom_observe.specs.Watchers.{Watches}
+use Rattle.dom_observe.proofs.HeldNames.{held-kept}
 use Rattle.dom_observe.proofs.Watching.{watches-unstood}
 use Rattle.dom_edit.specs.declared.world.World.{World}
 use Rattle.dom_edit.specs.Whole.{AreHeld, AreCovered, IsWhole, Keeps, Follows, unwatched}
@@ -69,8 +71,8 @@ follows-taken v new n p tree ranges statics iters walkers observers = record {
   watches = λ w k o. subst (λ b. Watches b w.observing) (sym observers) o;
 }
 
-pub whole-taken : (v new : World) (n p : ℕ) → IsWhole v → parent_of v.tree.forest n ≡ Some p → Follows v new (taken_out n p) → new.ranges.covered ≡ v.ranges.covered → IsWhole new
-whole-taken v new n p h e f covered =
+pub whole-taken : (v new : World) (n p : ℕ) → IsWhole v → parent_of v.tree.forest n ≡ Some p → Follows v new (taken_out n p) → new.ranges.covered ≡ v.ranges.covered → new.observers ≡ v.observers → IsWhole new
+whole-taken v new n p h e f covered observers =
     let k = f.keeps (unwatched v) (keeps-unwatched v) in
     let sound = subst (λ q. IsSound (removed_from true n q (unwatched v))) e (sound-remove true n (unwatched v) (sound-unwatched v h)) in
     let owned = owned-cut n v.tree.forest h.forest.once (well_owned v h) in
@@ -82,6 +84,8 @@ whole-taken v new n p h e f covered =
     (covered-kept v.tree new.tree v.ranges.covered
     (λ m. let z : occurs m new.tree.forest ≡ occurs m v.tree.forest = ap (occurs m) (sym k.forest) ∙ total-cut (one_at m) n v.tree.forest in omega arith) (sym k.made) h.covered))
     (rw (k.forest, k.static_ranges) at held)
+    (subst (NamesHeld new.tree.forest) (sym observers)
+    (held-kept v.tree.forest new.tree.forest v.observers (λ m there. subst (λ g. HasNode g m) k.forest (there_after_cut v.tree.forest n m there)) h.observers))
 
 -- Transient registrations.
 

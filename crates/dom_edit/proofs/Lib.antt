@@ -13,6 +13,8 @@ pub mod Adopting
 pub mod Naming
 pub mod InsertedNodes
 pub mod ReplacedNodes
+pub mod NodesKept
+pub mod Named
 pub mod Marking
 pub mod Unrefused
 pub mod CallerLemmas

@@ -20,7 +20,9 @@ use Rattle.dom_model.proofs.Worlds.Measured.{entry-joined, entry-beside, kind-be
 use Rattle.dom_model.proofs.Worlds.Owners.{HasOwners-new_root, kind-there}
 use Rattle.dom_model.proofs.Soundness.SoundMaking.{sound-made_node}
 use Rattle.dom_ranges.specs.Chained.{covered_to}
+use Rattle.dom_observe.specs.Held.{NamesHeld}
 use Rattle.dom_observe.specs.Watchers.{Watches}
+use Rattle.dom_observe.proofs.HeldNames.{held-kept}
 use Rattle.dom_edit.specs.declared.world.World.{World}
 use Rattle.dom_edit.specs.Whole.{AreCovered, IsWhole, Follows, unwatched}
 use Rattle.dom_edit.proofs.Following.{keeps-unwatched, whole-sound}
@@ -62,8 +64,8 @@ follows-made v new document label body tree ranges statics iters walkers observe
 }
 
 pub whole-made : (v new : World) (document : Option ℕ) (label : Label) (body : Content) → IsWhole v → ForSome document (λ d. is_of_kind Document v.tree.forest d ≡ true)
-    → (document ≡ None → is_kind Document label.kind ≡ true) → Follows v new (made_node (unwrap_or document v.tree.made) label body) → new.ranges.covered ≡ covered_to (v.tree.made + 1) v.ranges.covered → IsWhole new
-whole-made v new document label body h given own follows covered =
+    → (document ≡ None → is_kind Document label.kind ≡ true) → Follows v new (made_node (unwrap_or document v.tree.made) label body) → new.ranges.covered ≡ covered_to (v.tree.made + 1) v.ranges.covered → new.observers ≡ v.observers → IsWhole new
+whole-made v new document label body h given own follows covered observers =
     let f = v.tree.forest in
     let x = new_node v.tree.made document label body in
     let k = follows.keeps (unwatched v) (keeps-unwatched v) in
@@ -89,10 +91,12 @@ whole-made v new document label body h given own follows covered =
     z ∙ s.forest.small m (omega arith))
     refl (sym made) h.covered))
     (rw (k.forest, k.static_ranges) at held)
+    (subst (NamesHeld new.tree.forest) (sym observers)
+    (held-kept f new.tree.forest v.observers (λ n here. subst (λ g. HasNode g n) k.forest (there n here)) h.observers))
 
 -- more nodes are covered
-pub whole-covered : (v new : World) (made : ℕ) → IsWhole v → new.tree ≡ v.tree → new.ranges.ranges ≡ v.ranges.ranges → new.ranges.covered ≡ covered_to made v.ranges.covered → new.statics ≡ v.statics → new.iters ≡ v.iters → new.walkers ≡ v.walkers → IsWhole new
-whole-covered v new made h tree ranges covered statics iters walkers = record {
+pub whole-covered : (v new : World) (made : ℕ) → IsWhole v → new.tree ≡ v.tree → new.ranges.ranges ≡ v.ranges.ranges → new.ranges.covered ≡ covered_to made v.ranges.covered → new.statics ≡ v.statics → new.iters ≡ v.iters → new.walkers ≡ v.walkers → new.observers ≡ v.observers → IsWhole new
+whole-covered v new made h tree ranges covered statics iters walkers observers = record {
   forest = rw tree h.forest;
   documents = rw tree h.documents;
   owners = rw tree h.owners;
@@ -101,4 +105,5 @@ whole-covered v new made h tree ranges covered statics iters walkers = record {
   statics = rw (tree, statics) h.statics;
   iterators = rw (tree, iters) h.iterators;
   walkers = rw (tree, walkers) h.walkers;
+  observers = rw (tree, observers) h.observers;
 }

@@ -32,9 +32,12 @@ use Rattle.dom_model.proofs.Soundness.SoundForests.{entry_there, child-fits}
 use Rattle.dom_model.proofs.Soundness.SoundDiscarding.{sound-without}
 use Rattle.dom_ranges.specs.Chained.{uncovered}
 use Rattle.dom_ranges.specs.Tables.{live_nodes}
+use Rattle.dom_observe.specs.Held.{named}
+use Rattle.dom_observe.proofs.HeldNames.{held-freed}
 use Rattle.dom_edit.specs.declared.world.World.{World}
-use Rattle.dom_edit.specs.Whole.{AreHeld, AreCovered, IsWhole, Keeps, Shows}
-use Rattle.dom_edit.proofs.Following.{whole-sound}
+use Rattle.dom_edit.specs.Whole.{AreHeld, AreCovered, IsWhole, Keeps, unwatched}
+use Rattle.dom_edit.specs.Used.{named_in, is_used}
+use Rattle.dom_edit.proofs.Following.{keeps-unwatched, whole-sound, sound-unwatched}
 use Rattle.dom_edit.proofs.Covering.{covered-left}
 
 five : (a b c d e : Bool) → ((((a || b) || c) || d) || e) ≡ (a || (b || (c || (d || e))))
@@ -43,7 +46,18 @@ five false true c d e = refl
 five false false true d e = refl
 five false false false d e = refl
 
--- a number of a tree is among those that the parts of a world name
+parted : (p : ℕ → Bool) (a b c d e : List ℕ) → ((((list_any p a || list_any p b) || list_any p c) || list_any p d) || list_any p e) ≡ list_any p (a ++ (b ++ (c ++ (d ++ e))))
+parted p a b c d e =
+    let all : list_any p (a ++ (b ++ (c ++ (d ++ e)))) ≡ (list_any p a || (list_any p b || (list_any p c || (list_any p d || list_any p e)))) =
+    rw (list_any-append p a (b ++ (c ++ (d ++ e))), list_any-append p b (c ++ (d ++ e)), list_any-append p c (d ++ e), list_any-append p d e) refl in
+    five (list_any p a) (list_any p b) (list_any p c) (list_any p d) (list_any p e) ∙ sym all
+
+-- a number of a tree is among those that the parts of the code's world name
+pub named-own : (v : World) (p : ℕ → Bool)
+    → ((((list_any p (flat_map nodes_of_live v.ranges.ranges) || list_any p (flat_map nodes_of_range v.statics)) || list_any p (flat_map nodes_of_iterator v.iters)) || list_any p (flat_map nodes_of_walker v.walkers)) || list_any p (named v.observers)) ≡ list_any p (named_in v)
+named-own v p = parted p (flat_map nodes_of_live v.ranges.ranges) (flat_map nodes_of_range v.statics) (flat_map nodes_of_iterator v.iters) (flat_map nodes_of_walker v.walkers) (named v.observers)
+
+-- and among those that a world names which it keeps
 pub named-parts : (v : World) (w : model.World) (top : ℕ) → Keeps v w → (p : ℕ → Bool) → p ≡ (λ m. among m (inclusive_descendants v.tree.forest top))
     → ((((list_any p (flat_map nodes_of_live v.ranges.ranges) || list_any p (flat_map nodes_of_range v.statics)) || list_any p (flat_map nodes_of_iterator v.iters)) || list_any p (flat_map nodes_of_walker v.walkers)) || list_any p (observed_nodes w.observing))
     ≡ list_any (λ m. among m (inclusive_descendants w.forest top)) (named_nodes w)
@@ -55,10 +69,7 @@ named-parts v w top k p e =
     let walkers = flat_map nodes_of_walker v.walkers in
     let observed = observed_nodes w.observing in
     let all : named_nodes w ≡ ranges ++ (statics ++ (iterators ++ (walkers ++ observed))) = rw (k.ranges, k.static_ranges, k.iterators, k.walkers) refl in
-    let parted : list_any p (ranges ++ (statics ++ (iterators ++ (walkers ++ observed)))) ≡ (list_any p ranges || (list_any p statics || (list_any p iterators || (list_any p walkers || list_any p observed)))) =
-    rw (list_any-append p ranges (statics ++ (iterators ++ (walkers ++ observed))), list_any-append p statics (iterators ++ (walkers ++ observed)), list_any-append p iterators (walkers ++ observed), list_any-append p walkers observed) refl in
-    five (list_any p ranges) (list_any p statics) (list_any p iterators) (list_any p walkers) (list_any p observed)
-    ∙ (sym parted ∙ (ap (list_any p) (sym all) ∙ ap (λ q. list_any q (named_nodes w)) inside))
+    parted p ranges statics iterators walkers observed ∙ (ap (list_any p) (sym all) ∙ ap (λ q. list_any q (named_nodes w)) inside)
 
 -- A test that was made, or passed over.
 pub or-met : (value first a b : Bool) → value ≡ true → first ≡ true → first ≡ a → value ≡ (a || b)
@@ -139,13 +150,14 @@ not_in_use v w n named k e none free =
     let others : list_any (λ m. among m (inclusive_descendants w.forest n)) (named_nodes w) ≡ false = sym e ∙ none in
     rw (held, others) refl
 
+pub not_used : (v : World) (n : ℕ) (named : Bool) → named ≡ list_any (λ m. among m (inclusive_descendants v.tree.forest n)) (named_in v) → named ≡ false → is_held_outside v.tree.forest n ≡ false → is_used v n ≡ false
+not_used v n named e none free =
+    let others : list_any (λ m. among m (inclusive_descendants v.tree.forest n)) (named_in v) ≡ false = sym e ∙ none in
+    rw (free, others) refl
+
 neither : (a b : Bool) → (a || b) ≡ false → (a ≡ false) × (b ≡ false)
 neither true b h = absurd (false≢true (sym h))
 neither false b h = (refl, h)
-
-pub unheld : (v : World) (w : model.World) (n : ℕ) → Keeps v w → is_in_use w n ≡ false → is_held_outside v.tree.forest n ≡ false
-unheld v w n k free =
-    sym (ap (λ f. is_held_outside f n) k.forest) ∙ (neither (is_held_outside w.forest n) (list_any (λ m. among m (inclusive_descendants w.forest n)) (named_nodes w)) free).0
 
 -- What is left where a tree goes.
 
@@ -159,35 +171,40 @@ statics-left f rest p stays (r ∷ rs) h k =
     All-cons (AreHeld rest) r rs (record { start = stays r.start.node start.0 first.start; end = stays r.end.node end.0 first.end })
     (statics-left f rest p stays rs (All-tail (AreHeld f) r rs h) end.1)
 
--- no end of a live range stands in it either
-pub no-end-inside : (v : World) (w : model.World) (n : ℕ) → Shows v w → is_in_use w n ≡ false → list_any (λ m. among m (inclusive_descendants v.tree.forest n)) (live_nodes v.ranges) ≡ false
-no-end-inside v w n s free =
-    let f = v.tree.forest in
-    let k = s.keeps in
-    let p : ℕ → Bool = λ m. among m (inclusive_descendants f n) in
-    let unnamed = (neither (is_held_outside w.forest n) (list_any (λ m. among m (inclusive_descendants w.forest n)) (named_nodes w)) free).1 in
-    let parted = named-parts v w n k p refl ∙ unnamed in
+-- no part names a node of a tree that nothing names
+record NamesNothing (v : World) (n : ℕ) : Type 0 where
+  outside : is_held_outside v.tree.forest n ≡ false
+  ranges : list_any (λ m. among m (inclusive_descendants v.tree.forest n)) (flat_map nodes_of_live v.ranges.ranges) ≡ false
+  statics : list_any (λ m. among m (inclusive_descendants v.tree.forest n)) (flat_map nodes_of_range v.statics) ≡ false
+  observers : list_any (λ m. among m (inclusive_descendants v.tree.forest n)) (named v.observers) ≡ false
+  unwatched_too : is_in_use (unwatched v) n ≡ false
+
+names-nothing : (v : World) (n : ℕ) → is_used v n ≡ false → NamesNothing v n
+names-nothing v n free =
+    let p : ℕ → Bool = λ m. among m (inclusive_descendants v.tree.forest n) in
+    let apart = neither (is_held_outside v.tree.forest n) (list_any (λ m. among m (inclusive_descendants v.tree.forest n)) (named_in v)) free in
     let a = list_any p (flat_map nodes_of_live v.ranges.ranges) in
     let b = list_any p (flat_map nodes_of_range v.statics) in
     let c = list_any p (flat_map nodes_of_iterator v.iters) in
     let d = list_any p (flat_map nodes_of_walker v.walkers) in
-    (neither a b (neither (a || b) c (neither ((a || b) || c) d (neither (((a || b) || c) || d) (list_any p (observed_nodes w.observing)) parted).0).0).0).0
+    let all = neither (((a || b) || c) || d) (list_any p (named v.observers)) (named-own v p ∙ apart.1) in
+    let first = neither a b (neither (a || b) c (neither ((a || b) || c) d all.0).0).0 in
+    let others : list_any p (named_nodes (unwatched v)) ≡ false = sym (named-parts v (unwatched v) n (keeps-unwatched v) p refl) ∙ ap (λ t. t || false) all.0 in
+    record { outside = apart.0; ranges = first.0; statics = first.1; observers = all.1; unwatched_too = rw (apart.0, others) refl }
 
-pub whole-left : (v new : World) (w : model.World) (n : ℕ) → Shows v w → is_in_use w n ≡ false
-    → new.tree ≡ record { forest = without n v.tree.forest; made = v.tree.made } → new.ranges ≡ record v.ranges { covered = uncovered (inclusive_descendants v.tree.forest n) v.ranges.covered } → new.statics ≡ v.statics → new.iters ≡ v.iters → new.walkers ≡ v.walkers → IsWhole new
-whole-left v new w n s free tree ranges statics iters walkers =
-    let h = s.whole in
-    let k = s.keeps in
+-- no end of a live range stands in it either
+pub no-end-inside : (v : World) (n : ℕ) → is_used v n ≡ false → list_any (λ m. among m (inclusive_descendants v.tree.forest n)) (live_nodes v.ranges) ≡ false
+no-end-inside v n free = (names-nothing v n free).ranges
+
+pub whole-left : (v new : World) (n : ℕ) → IsWhole v → is_used v n ≡ false
+    → new.tree ≡ record { forest = without n v.tree.forest; made = v.tree.made } → new.ranges ≡ record v.ranges { covered = uncovered (inclusive_descendants v.tree.forest n) v.ranges.covered } → new.statics ≡ v.statics → new.iters ≡ v.iters → new.walkers ≡ v.walkers → new.observers ≡ v.observers → IsWhole new
+whole-left v new n h free tree ranges statics iters walkers observers =
+    let w = unwatched v in
+    let k = keeps-unwatched v in
     let f = v.tree.forest in
     let rest = without n f in
     let p : ℕ → Bool = λ m. among m (inclusive_descendants f n) in
-    let unnamed = (neither (is_held_outside w.forest n) (list_any (λ m. among m (inclusive_descendants w.forest n)) (named_nodes w)) free).1 in
-    let parted = named-parts v w n k p refl ∙ unnamed in
-    let a = list_any p (flat_map nodes_of_live v.ranges.ranges) in
-    let b = list_any p (flat_map nodes_of_range v.statics) in
-    let c = list_any p (flat_map nodes_of_iterator v.iters) in
-    let d = list_any p (flat_map nodes_of_walker v.walkers) in
-    let no_static = (neither a b (neither (a || b) c (neither ((a || b) || c) d (neither (((a || b) || c) || d) (list_any p (observed_nodes w.observing)) parted).0).0).0).1 in
+    let nothing = names-nothing v n free in
     let stays : (m : ℕ) → p m ≡ false → HasNode f m → HasNode rest m = λ m e held.
     let i = not_among-hits m (inclusive_descendants f n) e in
     let j = hits-numbers m (tree_at n f) in
@@ -195,19 +212,20 @@ whole-left v new w n s free tree ranges statics iters walkers =
     let there = occurs-HasNode f m held in
     HasNode-occurs rest m (omega arith) in
     let forest : rest ≡ new.tree.forest = sym (ap (λ t. t.forest) tree) in
-    let left = statics-left f rest p stays v.statics h.statics no_static in
+    let left = statics-left f rest p stays v.statics h.statics nothing.statics in
+    let names = held-freed f rest v.observers (inclusive_descendants f n) (λ m held e. stays m e held) nothing.observers h.observers in
     let made : v.tree.made ≡ new.tree.made = sym (ap (λ t. t.made) tree) in
     let keeps : Keeps new (discarded n w) = record {
-      forest = ap (without n) k.forest ∙ forest;
-      made = k.made ∙ made;
-      ranges = k.ranges ∙ sym (ap (λ r. r.ranges) ranges);
-      static_ranges = k.static_ranges ∙ sym statics;
-      iterators = k.iterators ∙ sym iters;
-      walkers = k.walkers ∙ sym walkers;
+      forest = forest;
+      made = made;
+      ranges = sym (ap (λ r. r.ranges) ranges);
+      static_ranges = sym statics;
+      iterators = sym iters;
+      walkers = sym walkers;
     } in
-    whole-sound new (discarded n w) keeps (sound-without n w s.sound free)
+    whole-sound new (discarded n w) keeps (sound-without n w (sound-unwatched v h) nothing.unwatched_too)
     (subst HasOneDocument forest (HasOneDocument-without n f h.documents))
-    (subst HasOwners forest (HasOwners-discarded n f h.forest.once (unheld v w n k free) h.owners))
+    (subst HasOwners forest (HasOwners-discarded n f h.forest.once nothing.outside h.owners))
     (subst (AreCovered new.tree) (sym (ap (λ r. r.covered) ranges))
     (covered-left v.tree new.tree v.ranges.covered (inclusive_descendants f n) h.forest
     (λ m.
@@ -216,3 +234,4 @@ whole-left v new w n s free tree ranges statics iters walkers =
     let z : occurs m new.tree.forest ≡ occurs m rest = ap (occurs m) (sym forest) in
     omega arith) (sym made) h.covered))
     (rw (forest, sym statics) at left)
+    (rw (forest, sym observers) at names)

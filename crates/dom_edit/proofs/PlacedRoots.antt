@@ -7,7 +7,7 @@ use Rattle.dom_model.specs.Forests.Arena.{Entry}
 use Rattle.dom_model.specs.Forests.Documents.{HasOneDocument}
 use Rattle.dom_model.specs.Forests.Forest.{Node, Forest, empty, node, Grove, IsForest, HasNode, occurs, size, numbers, entry_in, children_of, index_of, put}
 use Rattle.dom_model.specs.Worlds.World.{Content, Point, Range, World}
-use Rattle.dom_model.specs.Soundness.Sound.{IsBoundary, IsRange, IsIterator, IsWalker, IsRegistration, IsSound}
+use Rattle.dom_model.specs.Soundness.Sound.{IsBoundary, IsRange, IsIterator, IsWalker, IsRegistration, AreHeld, IsSound}
 use Rattle.dom_model.specs.BoundaryPoints.Points.{after_gap}
 use Rattle.dom_model.specs.MutationAlgorithms.Editing.{document_in, put_in, put_all, gap_before}
 use Rattle.dom_model.proofs.PlainLists.Numbers.{same_or, same, apart}
@@ -51,6 +51,7 @@ sound-bare g s = record {
   iterators = All-nil (IsIterator g.forest);
   walkers = All-nil (IsWalker g.forest);
   registrations = All-nil (IsRegistration g.forest);
+  statics = All-nil (AreHeld g.forest);
 }
 
 -- the node document that is read

@@ -8,6 +8,7 @@ use Rattle.dom_model.specs.MutationAlgorithms.Editing.{put_all, gap_before}
 use Rattle.dom_model.proofs.Forests.Entries.{HasNode-occurs, occurs-HasNode}
 use Rattle.dom_model.proofs.Soundness.SoundPlacing.{sound-put_all}
 use Rattle.dom_observe.specs.Watchers.{Watches}
+use Rattle.dom_observe.proofs.HeldNames.{held-kept}
 use Rattle.dom_edit.specs.declared.world.World.{World}
 use Rattle.dom_edit.specs.Whole.{AreHeld, IsWhole, Keeps, Follows, unwatched}
 use Rattle.dom_edit.specs.Inserting.{all_placed, with_room, IsOpen}
@@ -54,6 +55,7 @@ whole-placed parent child nodes v h ready =
     placed.owned.documents placed.owned.owners
     (covered-kept v.tree new.tree v.ranges.covered (λ m. let z = placed.numbers m in omega arith) refl h.covered)
     (All-weaker (AreHeld v.tree.forest) (AreHeld new.tree.forest) (λ r i. record { start = there r.start.node i.start; end = there r.end.node i.end }) v.statics h.statics)
+    (held-kept v.tree.forest new.tree.forest v.observers there h.observers)
 
 -- room is made, and then the tree changes
 pub placed-is : (parent : ℕ) (child : Option ℕ) (nodes : List ℕ) (v u : World) (t : Grove Content) →

@@ -2,13 +2,14 @@
 -- DOM Standard, "Mutation algorithms" (insert), "Live ranges".
 use Rattle.std.specs.Prelude.{if◌then◌else◌, ℕ, ◌<◌, List, [], ◌∷◌, Option, Some, None}
 use Rattle.dom_model.specs.PlainLists.Lists.{hits}
-use Rattle.dom_model.specs.Forests.Forest.{Forest, entry_in, occurs, children_of, index_of, put, adopted}
+use Rattle.dom_model.specs.Forests.Forest.{Forest, HasNode, entry_in, occurs, children_of, index_of, put, adopted}
 use Rattle.dom_model.specs.Worlds.World.{Content, Range}
 use Rattle.dom_model.specs.BoundaryPoints.Points.{after_gap, map_ranges}
 use Rattle.dom_model.specs.declared.Kind.TheVariants.{DocumentFragment}
 use Rattle.dom_model.specs.Forests.Nodes.{is_of_kind}
 use Rattle.dom_model.specs.MutationAlgorithms.Editing.{document_in}
 use Rattle.dom_model.specs.MutationAlgorithms.Insertable.{ArePlaceable, IsChildOf}
+use Rattle.dom_edit.specs.declared.world.World.{World}
 use Rattle.dom_edit.specs.declared.inserting.NodeList.{NodeList}
 use Rattle.dom_edit.specs.declared.inserting.NodeList.TheVariants.{One, Many}
 
@@ -35,6 +36,10 @@ pub record IsOpen (f : Forest Content) (parent : ℕ) (child : Option ℕ) (node
 -- each node of a list is there
 abbrev pub AreThere : Forest Content → List ℕ → Type 0
 AreThere f ns = (m : ℕ) → 0 < hits m ns → 0 < occurs m f
+
+-- no node goes
+abbrev pub KeepsNodes : World → World → Type 0
+KeepsNodes old new = (n : ℕ) → HasNode old.tree.forest n → HasNode new.tree.forest n
 
 -- what comes in with a node: a fragment's children, or the node alone
 abbrev pub entering : Forest Content → ℕ → List ℕ

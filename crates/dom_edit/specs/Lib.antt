@@ -3,6 +3,7 @@ pub mod Whole
 pub mod Markers
 pub mod Refusals
 pub mod Inserting
+pub mod Used
 -- what crates above name of those below
 pub mod dom_attrs
 pub mod dom_observe

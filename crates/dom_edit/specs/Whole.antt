@@ -1,27 +1,24 @@
 -- What the code keeps of a world, and the worlds that it stands for.
 -- DOM Standard, "Nodes", "Live ranges", "Interface NodeIterator", "Interface TreeWalker", "Mutation observers".
 use Rattle.std.specs.Prelude.{◌≡◌, ℕ, ◌<◌, ◌≤◌, Bool, true, List, [], length, Option, All, IfSome}
-use Rattle.dom_model.specs.Forests.Forest.{Forest, Grove, HasNode, IsForest}
+use Rattle.dom_model.specs.Forests.Forest.{Grove, HasNode, IsForest}
 use Rattle.dom_model.specs.Forests.Documents.{HasOneDocument}
 use Rattle.dom_model.specs.Worlds.World.{Content, Range}
 use Rattle.dom_model.specs.Worlds.World as model
 use Rattle.dom_model.specs.Soundness.Sound.{IsRange, IsIterator, IsWalker, IsSound}
+pub use Rattle.dom_model.specs.Soundness.Sound.{AreHeld}
 use Rattle.dom_model.specs.Soundness.Owners.{HasOwners}
-use Rattle.dom_ranges.specs.Chained.{covers}
+use Rattle.dom_ranges.specs.Chained.{covers, covered_to}
+use Rattle.dom_observe.specs.Held.{NamesHeld}
 use Rattle.dom_observe.specs.Watchers.{Watches}
 use Rattle.dom_edit.specs.declared.world.World.{World}
-
--- both nodes of a static range are held
-pub record AreHeld (f : Forest Content) (r : Range) : Type 0 where
-  pub start : HasNode f r.start.node
-  pub end : HasNode f r.end.node
 
 -- each held node is covered, and of the numbers that are still to be given out none was forgotten
 pub record AreCovered (g : Grove Content) (covered : List Bool) : Type 0 where
   pub held : (n : ℕ) → HasNode g.forest n → covers covered n ≡ true
   pub ahead : (n : ℕ) → g.made ≤ n → n < length covered → covers covered n ≡ true
 
--- what holds of a world of the code at every time, also where memory was wanting half-way; nothing of queues
+-- what holds of a world of the code at every time, also where memory was wanting half-way; of queues no more than that what they name is there
 pub record IsWhole (v : World) : Type 0 where
   pub forest : IsForest v.tree
   pub documents : HasOneDocument v.tree.forest
@@ -31,6 +28,7 @@ pub record IsWhole (v : World) : Type 0 where
   pub statics : All (AreHeld v.tree.forest) v.statics
   pub iterators : All (IsIterator v.tree.forest) v.iters
   pub walkers : All (IsWalker v.tree.forest) v.walkers
+  pub observers : NamesHeld v.tree.forest v.observers
 
 -- all parts but those that watch are the world's
 pub record Keeps (v : World) (w : model.World) : Type 0 where
@@ -40,6 +38,11 @@ pub record Keeps (v : World) (w : model.World) : Type 0 where
   pub static_ranges : w.static_ranges ≡ v.statics
   pub iterators : w.iterators ≡ v.iters
   pub walkers : w.walkers ≡ v.walkers
+
+-- nothing has changed, but that more of the numbers ahead may be covered
+pub record CoversAhead (old new : World) : Type 0 where
+  pub made : ℕ
+  pub is : new ≡ record old { ranges = record old.ranges { covered = covered_to made old.ranges.covered } }
 
 -- the code's world stands for the definitions'
 pub record Shows (v : World) (w : model.World) : Type 0 where
@@ -58,6 +61,10 @@ pub record IsShown (v : World) : Type 0 where
 pub record Follows (old new : World) (step : model.World → model.World) : Type 0 where
   pub keeps : (w : model.World) → Keeps old w → Keeps new (step w)
   pub watches : (w : model.World) → Keeps old w → Watches old.observers w.observing → Watches new.observers (step w).observing
+
+-- the half of it that speaks of all parts but those that watch
+abbrev pub Moves : World → World → (model.World → model.World) → Type 0
+Moves old new step = (w : model.World) → Keeps old w → Keeps new (step w)
 
 -- the world with the same parts, in which nobody watches
 abbrev pub unwatched : World → model.World

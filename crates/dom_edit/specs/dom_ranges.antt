@@ -2,4 +2,3 @@
 pub use Rattle.dom_ranges.specs.Tables
 pub use Rattle.dom_ranges.proofs.Ends
 pub use Rattle.dom_ranges.proofs.Inside
-pub use Rattle.dom_ranges.proofs.Making

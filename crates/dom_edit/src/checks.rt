@@ -11,18 +11,8 @@ ghost use Rattle.dom_edit.specs.Places.{child_of, conditions_at};
 
 use crate::content::Content;
 use crate::surroundings::{Place, is_refused};
-use dom_ranges::of_kinds::{DomError, Kind};
+use dom_ranges::of_kinds::{DomError, Kind, may_be_parent};
 use dom_ranges::of_tree::{NodeId, Tree};
-
-// Whether nodes of the kind may have children.
-fn may_be_parent(kind: Kind) -> bool
-    ensures { result ≡ may_be_parent kind }
-{
-    matches!(
-        kind,
-        Kind::Document | Kind::DocumentFragment | Kind::Element
-    )
-}
 
 // Whether a kind may stand nowhere under the other: a Document, a Text under a Document, a doctype under anything else.
 fn is_misplaced(parent: Kind, kind: Kind) -> bool

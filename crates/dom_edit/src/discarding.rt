@@ -6,9 +6,9 @@ ghost use Rattle.dom_model.specs.PlainLists.Lists.{among};
 ghost use Rattle.dom_model.specs.Forests.Forest.{HasNode, inclusive_descendants};
 ghost use Rattle.dom_model.specs.Worlds.World.{World as PlainWorld};
 ghost use Rattle.dom_model.specs.MutationAlgorithms.Discarding.{named_nodes, is_in_use, discarded};
-ghost use Rattle.dom_edit.specs.Whole.{IsWhole, Shows, IsShown, Follows};
+ghost use Rattle.dom_edit.specs.Used.{named_in, is_used};
+ghost use Rattle.dom_edit.specs.Whole.{IsWhole, Shows, Follows};
 
-use crate::surroundings::is_of_kind;
 use crate::world::World;
 use dom_ranges::of_kinds::Kind;
 use dom_ranges::of_tree::NodeId;
@@ -21,19 +21,21 @@ impl World {
     pub fn can_discard(&self, top: NodeId) -> bool
         requires whole { IsWhole self.now }
         requires held { HasNode self.now.tree.forest top }
-        ensures { (w : PlainWorld) → Shows self.now w → result ≡ not (is_in_use w top) }
+        ensures unused { result ≡ not (is_used self.now top) }
+        ensures shown { (w : PlainWorld) → Shows self.now w → result ≡ not (is_in_use w top) }
     {
         if self.tree.parent(top).is_some() || self.is_named(top) {
             return false;
         }
         // only a Document can be a node document, and it has no parent
-        !is_of_kind(&self.tree, top, Kind::Document) || !self.tree.refers(top)
+        !self.tree.is_of_kind(top, Kind::Document) || !self.tree.refers(top)
     }
 
     // Whether something else than a tree names a node or a descendant of it.
     fn is_named(&self, top: NodeId) -> bool
         requires { HasNode self.now.tree.forest top }
-        ensures { (w : PlainWorld) → Shows self.now w → result ≡ list_any (λ m. among m (inclusive_descendants w.forest top)) (named_nodes w) }
+        ensures own { result ≡ list_any (λ m. among m (inclusive_descendants self.now.tree.forest top)) (named_in self.now) }
+        ensures shown { (w : PlainWorld) → Shows self.now w → result ≡ list_any (λ m. among m (inclusive_descendants w.forest top)) (named_nodes w) }
     {
         self.ranges.refers(&self.tree, top)
             || self.statics.refers(&self.tree, top)
@@ -46,9 +48,9 @@ impl World {
     ///
     /// [`World::can_discard`] tells whether nothing names them.
     pub fn discard(&mut self, top: NodeId)
-        requires shown { IsShown self.old }
+        requires whole { IsWhole self.old }
         requires held { HasNode self.old.tree.forest top }
-        requires unused { (w : PlainWorld) → Shows self.old w → is_in_use w top ≡ false }
+        requires unused { is_used self.old top ≡ false }
         ensures discarded { Follows self.old self.new (discarded top) }
         ensures whole { IsWhole self.new }
     {

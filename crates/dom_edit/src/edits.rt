@@ -13,7 +13,7 @@ ghost use Rattle.dom_model.specs.Forests.Nodes.{is_of_kind, kind_passes};
 ghost use Rattle.dom_model.specs.MutationAlgorithms.Editing.{remove, insert, pre_insert, append, replace, replace_all, adopt};
 ghost use Rattle.dom_model.specs.MutationAlgorithms.Insertable.{IsInsertable};
 ghost use Rattle.dom_model.specs.TokenText.Edits.{pre_insert_edits, append_edits, replace_edits, remove_edits, replace_all_edits, adopt_edits};
-ghost use Rattle.dom_edit.specs.Whole.{IsWhole, Follows};
+ghost use Rattle.dom_edit.specs.Whole.{IsWhole, Follows, Moves};
 ghost use Rattle.dom_edit.specs.Markers.{StandByEdits};
 ghost use Rattle.dom_edit.specs.Refusals.{check_remove_child, check_only_child, check_adopt, IsRefused};
 
@@ -161,6 +161,7 @@ impl World {
         ensures allowed { OnOk result (check_remove_child self.old.tree.forest parent child ≡ None) }
         ensures removed { OnOk result (Follows self.old self.new (remove false child)) }
         ensures markers { OnOk result (StandByEdits self.old self.new (remove_edits child)) }
+        ensures moved { check_remove_child self.old.tree.forest parent child ≡ None → Moves self.old self.new (remove false child) }
         ensures refused { IfErr result (λ e. IsRefused e (check_remove_child self.old.tree.forest parent child) self.old self.new) }
         ensures whole { IsWhole self.new }
     {
@@ -172,10 +173,13 @@ impl World {
     }
 
     /// Takes a node out of its parent; a root stays as it is (remove).
+    ///
+    /// Memory is wanted for observers alone: after an error the node has left, and some observers may not hear of it.
     pub fn remove(&mut self, alloc: Global, node: NodeId) -> Result<(), AllocError>
         requires whole { IsWhole self.old }
         requires held { HasNode self.old.tree.forest node }
         ensures removed { OnOk result (Follows self.old self.new (remove false node)) }
+        ensures moved { Moves self.old self.new (remove false node) }
         ensures markers { OnOk result (StandByEdits self.old self.new (remove_edits node)) }
         ensures whole { IsWhole self.new }
     {

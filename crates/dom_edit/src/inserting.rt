@@ -4,11 +4,10 @@ ghost use Rattle.std.specs.Prelude.{◌≡◌, [], IfOk, OnOk, true};
 ghost use Rattle.dom_model.specs.Forests.Forest.{HasNode, children_of};
 ghost use Rattle.dom_model.specs.MutationAlgorithms.Editing.{remove_all, freed, previous_to, insert_all, insert};
 ghost use Rattle.dom_model.specs.MutationAlgorithms.Insertable.{IsInsertable};
-ghost use Rattle.dom_edit.specs.Inserting.{AreThere, listed, entering, IsOpen};
+ghost use Rattle.dom_edit.specs.Inserting.{AreThere, KeepsNodes, listed, entering, IsOpen};
 ghost use Rattle.dom_edit.specs.Whole.{IsWhole, Follows};
 
 use crate::content::Content;
-use crate::surroundings::is_of_kind;
 use crate::world::World;
 use dom_ranges::of_kinds::Kind;
 use dom_ranges::of_tree::{NodeId, Tree};
@@ -61,7 +60,7 @@ pub(crate) fn entering(
     requires { HasNode tree.now.forest node }
     ensures { IfOk result (λ list. listed list ≡ entering tree.now.forest node) }
 {
-    if is_of_kind(tree, node, Kind::DocumentFragment) {
+    if tree.is_of_kind(node, Kind::DocumentFragment) {
         return Ok(NodeList::Many(children(tree, alloc, node)?));
     }
     Ok(NodeList::One([node]))
@@ -98,9 +97,10 @@ impl World {
         requires held { HasNode self.old.tree.forest node }
         requires nodes { nodes.now ≡ entering self.old.tree.forest node }
         ensures freed { OnOk result (Follows self.old self.new (freed node nodes.now)) }
+        ensures stays { OnOk result (KeepsNodes self.old self.new) }
         ensures whole { IsWhole self.new }
     {
-        if is_of_kind(&self.tree, node, Kind::DocumentFragment) {
+        if self.tree.is_of_kind(node, Kind::DocumentFragment) {
             self.remove_all(alloc, nodes)?;
             return self.queue_tree_record(alloc, node, &[], nodes, None, None);
         }
@@ -119,7 +119,7 @@ impl World {
         requires whole { IsWhole self.old }
         requires ready { IsOpen self.old.tree.forest parent child nodes.now }
         ensures inserted { OnOk result (Follows self.old self.new (insert_all suppressed parent child nodes.now)) }
-        ensures parent_held { OnOk result (HasNode self.new.tree.forest parent) }
+        ensures stays { OnOk result (KeepsNodes self.old self.new) }
         ensures whole { IsWhole self.new }
     {
         let before = child;
@@ -146,7 +146,7 @@ impl World {
         requires allowed { IsInsertable self.old.tree.forest node parent child }
         requires nodes { nodes.now ≡ entering self.old.tree.forest node }
         ensures inserted { OnOk result (Follows self.old self.new (insert suppressed node parent child)) }
-        ensures parent_held { OnOk result (HasNode self.new.tree.forest parent) }
+        ensures stays { OnOk result (KeepsNodes self.old self.new) }
         ensures whole { IsWhole self.new }
     {
         if nodes.is_empty() {

@@ -28,7 +28,7 @@ pub mod of_attrs {
 pub mod of_kinds {
     pub use dom_ranges::of_kinds::{
         DomError, Exception, Kind, Label, NodeType, is_attribute_name, is_doctype_name,
-        is_element_name,
+        is_element_name, may_be_parent,
     };
 }
 
@@ -41,7 +41,9 @@ pub mod of_observe {
 
 /// What crates above name of `dom_point`.
 pub mod of_point {
-    pub use dom_ranges::of_point::{Point, common, order};
+    pub use dom_ranges::of_point::{
+        Point, checked_point, common, is_before, order, point_after, point_before, same_root,
+    };
 }
 
 /// What crates above name of `dom_ranges`.

@@ -1,10 +1,9 @@
 //! Roots come in under a parent (DOM Standard, "Mutation algorithms", insert; "Live ranges"). Nothing here takes memory.
 
 ghost use Rattle.std.specs.Prelude.{◌≡◌, length};
-ghost use Rattle.dom_model.specs.Forests.Forest.{index_of, parent_of};
 ghost use Rattle.dom_model.specs.MutationAlgorithms.Editing.{put_all, gap_before};
 ghost use Rattle.dom_model.specs.Soundness.Owners.{IsOwnedWell};
-ghost use Rattle.dom_edit.specs.Inserting.{placed_in, all_placed, with_room, IsOpen};
+ghost use Rattle.dom_edit.specs.Inserting.{placed_in, all_placed, with_room, KeepsNodes, IsOpen};
 ghost use Rattle.dom_edit.specs.Whole.{IsWhole, Follows};
 ghost use Rattle.std.specs.Prelude.{Some, [], ◌∷◌};
 
@@ -41,23 +40,6 @@ fn put_all(tree: &mut Tree<Content>, parent: NodeId, child: Option<NodeId>, node
     }
 }
 
-// How far an index is looked for before all children are numbered.
-const NEAR: usize = 64;
-
-// The index of a child. Where it is not found near it all children of the parent are numbered.
-fn index_under(tree: &mut Tree<Content>, parent: NodeId, child: NodeId) -> usize
-    requires { parent_of tree.old.forest child ≡ Some parent }
-    ensures index { result ≡ index_of tree.old.forest child }
-    ensures unchanged { tree.new ≡ tree.old }
-{
-    tree.sound();
-    if let Some(index) = tree.index_within(child, NEAR) {
-        return index;
-    }
-    tree.number_children(parent);
-    tree.index(child)
-}
-
 impl World {
     // Live range ends behind a child make room for nodes before it. The child's index is looked for only where an end stands in the parent.
     fn make_room(&mut self, parent: NodeId, child: Option<NodeId>, nodes: &[NodeId])
@@ -72,7 +54,7 @@ impl World {
             return;
         }
         let _ = self.tree.live();
-        let index = index_under(&mut self.tree, parent, child);
+        let index = self.tree.found_index(child);
         self.ranges.gap(parent, index, nodes.len());
     }
 
@@ -81,6 +63,7 @@ impl World {
         requires whole { IsWhole self.old }
         requires ready { IsOpen self.old.tree.forest parent child nodes.now }
         ensures placed { Follows self.old self.new (λ w. put_all parent child nodes.now (gap_before parent child (length nodes.now) w)) }
+        ensures stays { KeepsNodes self.old self.new }
         ensures whole { IsWhole self.new }
     {
         let before = child;

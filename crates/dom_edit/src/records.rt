@@ -1,8 +1,10 @@
 //! Tree records (DOM Standard, "Mutation observers", queue a tree mutation record).
 
 ghost use Rattle.std.specs.Prelude.{◌≡◌, OnOk};
+ghost use Rattle.std.specs.Option.{ForSome};
 ghost use Rattle.dom_model.specs.Forests.Forest.{HasNode};
 ghost use Rattle.dom_model.specs.MutationAlgorithms.Editing.{tree_record};
+ghost use Rattle.dom_edit.specs.Inserting.{AreThere};
 ghost use Rattle.dom_edit.specs.Whole.{IsWhole, Follows};
 
 use crate::world::World;
@@ -14,38 +16,36 @@ use std::alloc::{AllocError, Global};
 impl World {
     /// Queues a record of children that came in under a node or left it, for each observer that it interests.
     ///
-    /// Where it interests nobody no list is made. After an error some observers may have their record and others not.
-    pub(crate) fn queue_tree_record(
+    /// The lists are lent: nothing is copied where it interests nobody. After an error some observers may have their record and others not.
+    pub(crate) fn queue_tree_record<'a>(
         &mut self,
-        alloc: Global,
+        _alloc: Global,
         target: NodeId,
-        added: &[NodeId],
-        removed: &[NodeId],
+        added: &'a [NodeId],
+        removed: &'a [NodeId],
         previous: Option<NodeId>,
         next: Option<NodeId>,
     ) -> Result<(), AllocError>
         requires whole { IsWhole self.old }
         requires held { HasNode self.old.tree.forest target }
+        requires added { AreThere self.old.tree.forest added.now }
+        requires removed { AreThere self.old.tree.forest removed.now }
+        requires previous { ForSome previous (λ n. HasNode self.old.tree.forest n) }
+        requires next { ForSome next (λ n. HasNode self.old.tree.forest n) }
         ensures queued { OnOk result (Follows self.old self.new (tree_record target added.now removed.now previous next)) }
         ensures parts { self.new ≡ record self.old { observers = self.new.observers } }
         ensures whole { IsWhole self.new }
     {
-        let heard = self
-            .observers
-            .interests(&self.tree, RecordType::ChildList, target, None);
-        if !heard {
-            return Ok(());
-        }
         let mutation = Mutation {
             what: RecordType::ChildList,
             target,
-            added: Vec::from_slice(alloc, added)?,
-            removed: Vec::from_slice(alloc, removed)?,
+            added,
+            removed,
             previous,
             next,
             name: None,
             old_value: None,
         };
-        self.observers.queue(&self.tree, mutation)
+        self.observers.queue(&self.tree, &mutation)
     }
 }

@@ -3,7 +3,7 @@
 ghost use Rattle.std.specs.Prelude.{◌≡◌, OnOk, IsSome, IfSome};
 ghost use Rattle.dom_model.specs.Forests.Forest.{HasNode, parent_of};
 ghost use Rattle.dom_model.specs.MutationAlgorithms.Editing.{taken_out, transients_made, remove};
-ghost use Rattle.dom_edit.specs.Whole.{IsWhole, Follows};
+ghost use Rattle.dom_edit.specs.Whole.{IsWhole, Follows, Moves};
 
 use crate::world::World;
 use dom_ranges::of_tree::NodeId;
@@ -26,6 +26,7 @@ impl World {
     fn make_transients(&mut self, parent: NodeId, node: NodeId) -> Result<(), AllocError>
         requires whole { IsWhole self.old }
         requires held { HasNode self.old.tree.forest parent }
+        requires node_held { HasNode self.old.tree.forest node }
         ensures made { OnOk result (Follows self.old self.new (transients_made node parent)) }
         ensures parts { self.new ≡ record self.old { observers = self.new.observers } }
         ensures whole { IsWhole self.new }
@@ -46,6 +47,7 @@ impl World {
         requires whole { IsWhole self.old }
         requires held { HasNode self.old.tree.forest node }
         ensures removed { OnOk result (Follows self.old self.new (remove suppressed node)) }
+        ensures moved { Moves self.old self.new (remove suppressed node) }
         ensures whole { IsWhole self.new }
     {
         let Some(parent) = self.tree.parent(node) else {

@@ -6,7 +6,7 @@ ghost use Rattle.dom_model.specs.PlainLists.Lists.{is_number};
 ghost use Rattle.dom_model.specs.Forests.Forest.{HasNode, next_of};
 ghost use Rattle.dom_model.specs.MutationAlgorithms.Editing.{insert_if_any, replaced_record};
 ghost use Rattle.dom_model.specs.MutationAlgorithms.Insertable.{IsInsertable};
-ghost use Rattle.dom_edit.specs.Inserting.{listed, entering_if_any};
+ghost use Rattle.dom_edit.specs.Inserting.{AreThere, KeepsNodes, listed, entering_if_any};
 ghost use Rattle.dom_edit.specs.Refusals.{check_only_child};
 ghost use Rattle.dom_edit.specs.Whole.{IsWhole, Follows};
 
@@ -80,7 +80,7 @@ impl World {
         requires allowed { ForSome node (λ n. IsInsertable self.old.tree.forest n parent None) }
         requires nodes { nodes.now ≡ entering_if_any self.old.tree.forest node }
         ensures inserted { OnOk result (Follows self.old self.new (insert_if_any node parent)) }
-        ensures parent_held { OnOk result (HasNode self.new.tree.forest parent) }
+        ensures stays { OnOk result (KeepsNodes self.old self.new) }
         ensures whole { IsWhole self.new }
     {
         match node {
@@ -99,6 +99,8 @@ impl World {
     ) -> Result<(), AllocError>
         requires whole { IsWhole self.old }
         requires parent_held { HasNode self.old.tree.forest parent }
+        requires added { AreThere self.old.tree.forest added.now }
+        requires removed { AreThere self.old.tree.forest removed.now }
         ensures queued { OnOk result (Follows self.old self.new (replaced_record parent added.now removed.now)) }
         ensures whole { IsWhole self.new }
     {

@@ -9,7 +9,7 @@ ghost use Rattle.dom_model.specs.Forests.Nodes.{is_of_kind};
 ghost use Rattle.dom_edit.specs.Places.{child_of, keeps_child, IsUnder, refuses, IsAmong, ahead_of, from_optional, IsFound, IsAround};
 
 use crate::content::Content;
-use dom_ranges::of_kinds::{Kind, NodeType};
+use dom_ranges::of_kinds::Kind;
 use dom_ranges::of_tree::{NodeId, Tree};
 
 /// Where a node is to come in: before a child or last, or in the place of a child.
@@ -53,14 +53,6 @@ const NOTHING: Found = Found {
     doctype: false,
 };
 
-/// Whether a node is of a kind.
-pub(crate) fn is_of_kind(tree: &Tree<Content>, node: NodeId, kind: Kind) -> bool
-    requires { HasNode tree.now.forest node }
-    ensures { result ≡ is_of_kind kind tree.now.forest node }
-{
-    kind.number() == tree.label(node).kind.number()
-}
-
 /// Whether the number is given, and is the node's.
 pub(crate) fn is_number(given: Option<NodeId>, node: NodeId) -> bool
     ensures { result ≡ is_number given node }
@@ -77,8 +69,8 @@ fn found_at(tree: &Tree<Content>, node: NodeId) -> Found
     ensures { IsFound tree.now.forest (node ∷ []) result }
 {
     Found {
-        element: is_of_kind(tree, node, Kind::Element),
-        doctype: is_of_kind(tree, node, Kind::DocumentType),
+        element: tree.is_of_kind(node, Kind::Element),
+        doctype: tree.is_of_kind(node, Kind::DocumentType),
     }
 }
 
@@ -100,8 +92,8 @@ fn found_between(
         if is_number(until, id) {
             return found;
         }
-        let element = is_of_kind(tree, id, Kind::Element);
-        let doctype = is_of_kind(tree, id, Kind::DocumentType);
+        let element = tree.is_of_kind(id, Kind::Element);
+        let doctype = tree.is_of_kind(id, Kind::DocumentType);
         found = Found {
             element: found.element || element,
             doctype: found.doctype || doctype,
@@ -178,7 +170,7 @@ fn count_children(tree: &Tree<Content>, parent: NodeId, kind: Kind) -> usize
     let mut count: usize = 0;
     let mut child = tree.first(parent);
     while let Some(id) = child {
-        if is_of_kind(tree, id, kind) {
+        if tree.is_of_kind(id, kind) {
             count += 1;
         }
         child = tree.next(id);

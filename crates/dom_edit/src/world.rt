@@ -1,6 +1,6 @@
 //! The world of a session: its nodes, and all that refers to them.
 
-ghost use Rattle.std.specs.Prelude.{◌≡◌, ◌<◌, [], true, None, IfOk, OnOk, unwrap_or};
+ghost use Rattle.std.specs.Prelude.{◌≡◌, ◌<◌, [], true, None, IfOk, OnOk, OnErr, unwrap_or};
 ghost use Rattle.std.specs.Option.{ForSome};
 ghost use Rattle.dom_model.specs.declared.Kind.TheVariants.{Document};
 ghost use Rattle.dom_model.specs.Forests.Kinds.{is_kind};
@@ -8,7 +8,7 @@ ghost use Rattle.dom_model.specs.Forests.Forest.{empty};
 ghost use Rattle.dom_model.specs.Worlds.World.{first_world};
 ghost use Rattle.dom_model.specs.Worlds.Making.{made_node};
 ghost use Rattle.dom_model.specs.Forests.Nodes.{is_of_kind};
-ghost use Rattle.dom_edit.specs.Whole.{IsWhole, Shows, Follows};
+ghost use Rattle.dom_edit.specs.Whole.{IsWhole, Shows, CoversAhead, Follows};
 
 use crate::content::Content;
 use dom_observe::Observers;
@@ -83,8 +83,10 @@ impl World {
         requires own_document { document ≡ None → is_kind Document label.kind ≡ true }
         ensures number { IfOk result (λ id. id ≡ self.old.tree.made) }
         ensures made { OnOk result (Follows self.old self.new (made_node (unwrap_or document self.old.tree.made) label content)) }
+        ensures kept { OnErr result (CoversAhead self.old self.new) }
         ensures whole { IsWhole self.new }
     {
+        // each call on a world takes the allocator; here the parts have it
         let _ = alloc;
         self.ranges.cover(self.tree.made() + 1)?;
         self.tree.make(label, content, document)

@@ -1,6 +1,7 @@
-//! The number of a kind.
+//! The number of a kind, and what nodes of a kind may have.
+
 ghost use Rattle.std.specs.Prelude.{◌≡◌, ℕ};
-ghost use Rattle.dom_model.specs.Forests.Kinds.{number_of_kind};
+ghost use Rattle.dom_model.specs.Forests.Kinds.{number_of_kind, may_be_parent, is_character_data};
 
 use dom_model::Kind;
 
@@ -28,4 +29,24 @@ impl NodeType for Kind {
             Kind::DocumentFragment => 11,
         }
     }
+}
+
+/// Whether nodes of a kind may have children (DOM Standard, "Trees").
+pub fn may_be_parent(kind: Kind) -> bool
+    ensures { result ≡ may_be_parent kind }
+{
+    matches!(
+        kind,
+        Kind::Document | Kind::DocumentFragment | Kind::Element
+    )
+}
+
+/// Whether nodes of a kind have character data (DOM Standard, "Interface CharacterData").
+pub fn is_character_data(kind: Kind) -> bool
+    ensures { result ≡ is_character_data kind }
+{
+    matches!(
+        kind,
+        Kind::Text | Kind::ProcessingInstruction | Kind::Comment
+    )
 }

@@ -1,4 +1,5 @@
--- How many numbers each step on a world takes: never more than the command asks for.
+-- How many numbers each step on a world takes: never more than the command asks for; and that no number is given out twice.
+pub mod NumbersGone
 pub mod CountsKept
 pub mod CountsOfData
 pub mod CountsOfContents
@@ -10,3 +11,5 @@ pub mod CountsOfExtraction
 pub mod StepsCounted
 pub mod CommandsCounted
 pub mod NumbersKept
+pub mod NewNumbers
+pub mod NumbersStay

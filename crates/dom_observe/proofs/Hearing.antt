@@ -61,7 +61,7 @@ stay-last p n ns h = go (among n ns)
     go true = h
     go false = among-append p ns (n ∷ []) h
 
-last-there : (n : ℕ) (ns : List ℕ) → among n (with_last ns n) ≡ true
+pub last-there : (n : ℕ) (ns : List ℕ) → among n (with_last ns n) ≡ true
 last-there n ns = go (among n ns) refl
   where
     go : (b : Bool) → among n ns ≡ b → among n (if b then ns else ns ++ n ∷ []) ≡ true

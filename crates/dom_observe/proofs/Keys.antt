@@ -1,15 +1,12 @@
 -- The keys that each node has, as the map from nodes to keys changes.
-use Rattle.std.proofs.Common.{◌≡◌, ℕ, zero, suc, ◌+◌, ◌==◌, Bool, true, false, cond, not, if◌then◌else◌, List, [], ◌∷◌, ◌++◌, length, filter, Option, Some, None, refl, ap, sym, ◌∙◌, subst, nat_eq, append-nil, arith}
+use Rattle.std.proofs.Common.{◌≡◌, ℕ, zero, suc, ◌+◌, ◌==◌, Bool, true, false, cond, not, if◌then◌else◌, List, [], ◌∷◌, ◌++◌, length, filter, Option, option_map, Some, None, refl, ap, sym, ◌∙◌, subst, nat_eq, append-nil, arith}
 use Rattle.std.specs.Prelude.{Vec, slice_index_or}
 use Rattle.std.specs.Map.{lookup, set_value, keys_of}
 use Rattle.std.specs.List.{IsDistinct, AllByRecursion}
 use Rattle.indexmap.specs.IndexMap.{insert_entry}
-use Rattle.std.specs.Map.Calls.{RetainsPairs}
-use Rattle.slab.specs.Slab.{CalledAt, RetainsFrom}
-use Rattle.std.specs.Borrow.{MutBor}
 use Rattle.dom_model.proofs.PlainLists.Numbers.{Same, same_or, same, apart}
 use Rattle.dom_observe.specs.Watchers.{on}
-use Rattle.dom_observe.specs.Registrations.{listed}
+use Rattle.dom_observe.specs.Registrations.{listed, HaveKeys}
 
 module _ {A : Type 0} where
   -- the keys of a node, by what a look-up found
@@ -74,49 +71,130 @@ module _ {A : Type 0} where
           let g = rw t at h in
           rw (t, u) (rest g i)
 
-abbrev pub kept_if : {T : Type 0} → (T → Bool) → Option T → Option T
-kept_if test None = None
-kept_if test (Some x) = if test x then Some x else None
-
--- what a slab's `retain` leaves, where the closure keeps no state and leaves each value as it was
-module _ {T F : Type 0} (step : F → ℕ → MutBor T → Bool → MutBor T → F → Type 0) (test : T → Bool) (f : F)
-    (says : (key : ℕ) (old : T) (keep : Bool) (new : T) (next : F) → CalledAt step f key old keep new next → (keep ≡ test old) × (new ≡ old) × (next ≡ f)) where
-  pub retained_slots : (key : ℕ) (slots kept : List (Option T)) → RetainsFrom step f key slots kept → (i : ℕ) → slice_index_or kept i None ≡ kept_if test (slice_index_or slots i None)
-  retained_slots key [] kept h i = rw h refl
-  retained_slots key (None ∷ slots) kept h zero = rw h.1 refl
-  retained_slots key (None ∷ slots) kept h (suc i) = rw h.1 (retained_slots (key + 1) slots h.0 h.2 i)
-  retained_slots key (Some x ∷ slots) kept h zero =
-      let s = says key x h.0 h.1 h.2 h.3 in
-      rw (h.5, s.0, s.1) refl
-  retained_slots key (Some x ∷ slots) kept h (suc i) =
-      let s = says key x h.0 h.1 h.2 h.3 in
-      rw h.5 (retained_slots (key + 1) slots h.4 (subst (λ g. RetainsFrom step g (key + 1) slots h.4) s.2 h.6) i)
-
--- a node that has no entry has no keys
-on-absent : {A : Type 0} (k : ℕ) (es : List (ℕ × Vec ℕ A)) → AllByRecursion (λ y. (k == y) ≡ false) (keys_of es) → on k (listed es) ≡ []
-on-absent k [] h = refl
-on-absent k (e ∷ es) h = rw h.0 (on-absent k es h.1)
-
--- what a sweep leaves, where its closure keeps the live keys of each node, and no node without keys
-module _ {A F : Type 0} (step : F → ℕ → Vec ℕ A → Bool → Vec ℕ A → F → Type 0) (live : ℕ → Bool) (f : F)
-    (says : (k : ℕ) (v : Vec ℕ A) (b : Bool) (w : Vec ℕ A) (g : F) → step f k v b w g → (w.items ≡ filter live v.items) × (b ≡ not (length w.items == 0)) × (g ≡ f)) where
-  pub on-swept : (n : ℕ) (es kept : List (ℕ × Vec ℕ A)) → IsDistinct nat_eq (keys_of es) → RetainsPairs step f es kept → on n (listed kept) ≡ filter live (on n (listed es))
-  unfolding IsDistinct
-  on-swept n [] kept u h = rw h refl
-  on-swept n (e ∷ es) kept u h =
-      let s = says e.0 e.1 h.0 h.1 h.2 h.4 in
-      let i = on-swept n es h.3 u.1 (subst (λ g. RetainsPairs step g es h.3) s.2 h.5) in
-      rw h.6 (go (same_or n e.0) h.0 h.1 h.3 s.0 s.1 i)
+module _ {A : Type 0} where
+  -- what a node has in the lists, by its keys
+  pub looked-set : (n k : ℕ) (es : List (ℕ × Vec ℕ A)) (v w : Vec ℕ A) → lookup (nat_eq k) es ≡ Some v → lookup (nat_eq n) (listed (set_value (nat_eq k) es w)) ≡ (if n == k then Some w.items else lookup (nat_eq n) (listed es))
+  looked-set n k [] v w h = cc
+  looked-set n k (e ∷ es) v w h = go (same_or k e.0) (same_or n e.0) (looked-set n k es v w)
     where
-      none_left : (xs : List ℕ) → false ≡ not (length xs == 0) → xs ≡ []
-      none_left [] z = refl
-      none_left (x ∷ xs) z = elim (same_or (length (x ∷ xs)) 0) [ same e t ↦ absurd (omega arith) | apart ne t ↦ let k = rw t at z in cc k ]
+      go : Same k e.0 → Same n e.0 → (lookup (nat_eq k) es ≡ Some v → lookup (nat_eq n) (listed (set_value (nat_eq k) es w)) ≡ (if n == k then Some w.items else lookup (nat_eq n) (listed es)))
+          → lookup (nat_eq n) (listed (set_value (nat_eq k) (e ∷ es) w)) ≡ (if n == k then Some w.items else lookup (nat_eq n) (listed (e ∷ es)))
+      go (same d t) (same f u) rest = let m : (n == k) ≡ true = subst (λ j. (n == j) ≡ true) (sym d) u in rw (t, u, m) refl
+      go (same d t) (apart ne u) rest = let m : (n == k) ≡ false = subst (λ j. (n == j) ≡ false) (sym d) u in rw (t, u, m) refl
+      go (apart ne t) (same f u) rest =
+          let m : (n == k) ≡ false = elim (same_or n k) [ same g _ ↦ absurd (ne (sym g ∙ f)) | apart _ x ↦ x ] in
+          rw (t, u, m) refl
+      go (apart ne t) (apart nf u) rest = let g = rw t at h in rw (t, u) (rest g)
 
-      go : Same n e.0 → (b : Bool) (w : Vec ℕ A) (rest : List (ℕ × Vec ℕ A)) → w.items ≡ filter live e.1.items → b ≡ not (length w.items == 0)
-          → on n (listed rest) ≡ filter live (on n (listed es)) → on n (listed (cond b ((e.0, w) ∷ rest) rest)) ≡ filter live (on n (listed (e ∷ es)))
-      go (same d t) true w rest items any i = rw t items
-      go (same d t) false w rest items any i =
-          let gone : on n (listed es) ≡ [] = subst (λ k. on k (listed es) ≡ []) (sym d) (on-absent e.0 es u.0) in
-          rw t (i ∙ ap (filter live) gone ∙ sym (none_left w.items any) ∙ items)
-      go (apart ne t) true w rest items any i = rw t i
-      go (apart ne t) false w rest items any i = rw t i
+  pub looked-insert : (n k : ℕ) (es : List (ℕ × Vec ℕ A)) (w : Vec ℕ A) → lookup (nat_eq k) es ≡ None → lookup (nat_eq n) (listed (insert_entry nat_eq es k w)) ≡ (if n == k then Some w.items else lookup (nat_eq n) (listed es))
+  looked-insert n k [] w h = refl
+  looked-insert n k (e ∷ es) w h = go (same_or k e.0) (same_or n e.0) (looked-insert n k es w)
+    where
+      go : Same k e.0 → Same n e.0 → (lookup (nat_eq k) es ≡ None → lookup (nat_eq n) (listed (insert_entry nat_eq es k w)) ≡ (if n == k then Some w.items else lookup (nat_eq n) (listed es)))
+          → lookup (nat_eq n) (listed (insert_entry nat_eq (e ∷ es) k w)) ≡ (if n == k then Some w.items else lookup (nat_eq n) (listed (e ∷ es)))
+      go (same d t) z rest = let g = rw t at h in cc g
+      go (apart ne t) (same f u) rest =
+          let m : (n == k) ≡ false = elim (same_or n k) [ same g _ ↦ absurd (ne (sym g ∙ f)) | apart _ x ↦ x ] in
+          rw (t, u, m) refl
+      go (apart ne t) (apart nf u) rest = let g = rw t at h in rw (t, u) (rest g)
+
+  pub looked-listed : (n : ℕ) (es : List (ℕ × Vec ℕ A)) → lookup (nat_eq n) (listed es) ≡ option_map (λ (v : Vec ℕ A). v.items) (lookup (nat_eq n) es)
+  looked-listed n [] = refl
+  looked-listed n (e ∷ es) = go (n == e.0) (looked-listed n es)
+    where
+      go : (b : Bool) → lookup (nat_eq n) (listed es) ≡ option_map (λ (v : Vec ℕ A). v.items) (lookup (nat_eq n) es)
+          → cond b (Some e.1.items) (lookup (nat_eq n) (listed es)) ≡ option_map (λ (v : Vec ℕ A). v.items) (cond b (Some e.1) (lookup (nat_eq n) es))
+      go true i = refl
+      go false i = i
+
+-- the keys of a node, by a look-up in the lists
+abbrev pub keys_in : Option (List ℕ) → List ℕ
+keys_in None = []
+keys_in (Some keys) = keys
+
+pub on-looked : (n : ℕ) (lists : List (ℕ × List ℕ)) → on n lists ≡ keys_in (lookup (nat_eq n) lists)
+on-looked n [] = refl
+on-looked n (e ∷ es) = go (n == e.0) (on-looked n es)
+  where
+    go : (b : Bool) → on n es ≡ keys_in (lookup (nat_eq n) es) → (if b then e.1 else on n es) ≡ keys_in (cond b (Some e.1) (lookup (nat_eq n) es))
+    go true i = refl
+    go false i = i
+
+-- another list of keys for one node, which has a key
+pub full-changed : (k : ℕ) (new : List ℕ) (lists lists' : List (ℕ × List ℕ)) → ((n : ℕ) → lookup (nat_eq n) lists' ≡ (if n == k then Some new else lookup (nat_eq n) lists)) → (new ≡ [] → ⊥) → HaveKeys lists → HaveKeys lists'
+full-changed k new lists lists' changed some full n keys found = go (n == k) (sym (changed n) ∙ found)
+  where
+    go : (b : Bool) → (if b then Some new else lookup (nat_eq n) lists) ≡ Some keys → keys ≡ [] → ⊥
+    go true e = let d : new ≡ keys = cc e in λ none. some (d ∙ none)
+    go false e = full n keys e
+
+pub some_key : (xs ys : List ℕ) (key : ℕ) → ys ≡ xs ++ key ∷ [] → ys ≡ [] → ⊥
+some_key [] ys key e none = let k : key ∷ [] ≡ [] = sym e ∙ none in cc k
+some_key (x ∷ xs) ys key e none = let k : x ∷ (xs ++ key ∷ []) ≡ [] = sym e ∙ none in cc k
+
+-- a key is taken out of those of a node, which stays listed
+module _ {A : Type 0} (k key : ℕ) (es : List (ℕ × Vec ℕ A)) (v w : Vec ℕ A) (there : lookup (nat_eq k) es ≡ Some v) (taken : w.items ≡ filter (λ j. not (j == key)) v.items) where
+  pub taken-on : (n : ℕ) → on n (listed (set_value (nat_eq k) es w)) ≡ (if n == k then filter (λ j. not (j == key)) (on n (listed es)) else on n (listed es))
+  taken-on n = on-looked n (listed (set_value (nat_eq k) es w)) ∙ ap keys_in (looked-set n k es v w there) ∙ go (same_or n k)
+    where
+      go : Same n k → keys_in (if n == k then Some w.items else lookup (nat_eq n) (listed es)) ≡ (if n == k then filter (λ j. not (j == key)) (on n (listed es)) else on n (listed es))
+      go (same e t) = rw t (taken ∙ sym (ap (filter (λ j. not (j == key))) (ap (λ m. on m (listed es)) e ∙ on-lookup k es ∙ ap items_in there)))
+      go (apart ne t) = rw t (sym (on-looked n (listed es)))
+
+  pub taken-others : (n : ℕ) → (n ≡ k → ⊥) → lookup (nat_eq n) (listed (set_value (nat_eq k) es w)) ≡ lookup (nat_eq n) (listed es)
+  taken-others n ne = looked-set n k es v w there ∙ elim (same_or n k) [ same e t ↦ absurd (ne e) | apart _ t ↦ rw t refl ]
+
+  self_looked : lookup (nat_eq k) (listed (set_value (nat_eq k) es w)) ≡ Some w.items
+  self_looked = looked-set k k es v w there ∙ elim (same_or k k) [ same e t ↦ rw t refl | apart ne t ↦ absurd (ne refl) ]
+
+  pub taken-bare : (length w.items == 0) ≡ true → on k (listed (set_value (nat_eq k) es w)) ≡ []
+  taken-bare empty = on-looked k (listed (set_value (nat_eq k) es w)) ∙ ap keys_in self_looked ∙ nothing w.items empty
+    where
+      nothing : (xs : List ℕ) → (length xs == 0) ≡ true → xs ≡ []
+      nothing [] z = refl
+      nothing (x ∷ xs) z = elim (same_or (length (x ∷ xs)) 0) [ same e t ↦ absurd (omega arith) | apart ne t ↦ let d : true ≡ false = sym z ∙ t in cc d ]
+
+  pub taken-some : (length w.items == 0) ≡ false → (keys : List ℕ) → lookup (nat_eq k) (listed (set_value (nat_eq k) es w)) ≡ Some keys → keys ≡ [] → ⊥
+  taken-some full keys found none =
+      let d : w.items ≡ keys = (let e : Some w.items ≡ Some keys = sym self_looked ∙ found in cc e) in
+      let e : true ≡ false = sym (ap (λ (xs : List ℕ). length xs == 0) (d ∙ none)) ∙ full in
+      cc e
+
+-- a node without an entry
+pub taken-absent : {A : Type 0} (k key : ℕ) (es : List (ℕ × Vec ℕ A)) → lookup (nat_eq k) es ≡ None → (n : ℕ) → on n (listed es) ≡ (if n == k then filter (λ j. not (j == key)) (on n (listed es)) else on n (listed es))
+taken-absent k key es none n = elim (same_or n k) [
+  | same e t ↦
+      let bare : on n (listed es) ≡ [] = ap (λ m. on m (listed es)) e ∙ on-lookup k es ∙ ap items_in none in
+      rw t (bare ∙ sym (ap (filter (λ j. not (j == key))) bare))
+  | apart ne t ↦ rw t refl
+]
+
+-- a node that was left without keys goes
+module _ {A : Type 0} (k : ℕ) (es es' : List (ℕ × Vec ℕ A)) (gone : (n : ℕ) → lookup (nat_eq n) es' ≡ (if k == n then None else lookup (nat_eq n) es)) where
+  looked-gone : (n : ℕ) → lookup (nat_eq n) (listed es') ≡ (if k == n then None else lookup (nat_eq n) (listed es))
+  looked-gone n = looked-listed n es' ∙ ap (option_map (λ (v : Vec ℕ A). v.items)) (gone n) ∙ go (k == n)
+    where
+      go : (b : Bool) → option_map (λ (v : Vec ℕ A). v.items) (if b then None else lookup (nat_eq n) es) ≡ (if b then None else lookup (nat_eq n) (listed es))
+      go true = refl
+      go false = sym (looked-listed n es)
+
+  pub gone-on : on k (listed es) ≡ [] → (n : ℕ) → on n (listed es') ≡ on n (listed es)
+  gone-on bare n = on-looked n (listed es') ∙ ap keys_in (looked-gone n) ∙ elim (same_or k n) [
+    | same e t ↦ rw t (sym (ap (λ m. on m (listed es)) (sym e) ∙ bare))
+    | apart ne t ↦ rw t (sym (on-looked n (listed es)))
+  ]
+
+  pub gone-full : (lists : List (ℕ × List ℕ)) → ((n : ℕ) → (n ≡ k → ⊥) → lookup (nat_eq n) (listed es) ≡ lookup (nat_eq n) lists) → HaveKeys lists → HaveKeys (listed es')
+  gone-full lists others full n keys found = go (same_or k n)
+    where
+      go : Same k n → keys ≡ [] → ⊥
+      go (same e t) = let l = looked-gone n in let d : None ≡ Some keys = sym (rw t at l) ∙ found in cc d
+      go (apart ne t) = let l = looked-gone n in full n keys (sym (others n (λ e. ne (sym e))) ∙ sym (rw t at l) ∙ found)
+
+-- a node keeps a key
+pub still-full : (k : ℕ) (lists lists' : List (ℕ × List ℕ)) → ((n : ℕ) → (n ≡ k → ⊥) → lookup (nat_eq n) lists' ≡ lookup (nat_eq n) lists) → ((keys : List ℕ) → lookup (nat_eq k) lists' ≡ Some keys → keys ≡ [] → ⊥) → HaveKeys lists → HaveKeys lists'
+still-full k lists lists' others here full n keys found = go (same_or n k)
+  where
+    go : Same n k → keys ≡ [] → ⊥
+    go (same e t) = here keys (ap (λ m. lookup (nat_eq m) lists') (sym e) ∙ found)
+    go (apart ne t) = full n keys (sym (others n ne) ∙ found)

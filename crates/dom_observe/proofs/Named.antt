@@ -19,15 +19,15 @@ use Rattle.dom_observe.specs.Kept.{nodes_of, queues_of}
 use Rattle.dom_observe.specs.Naming.{names_one}
 use Rattle.dom_observe.proofs.Asked.{any-found}
 
-or-left : (a b : Bool) → (a || b) ≡ false → a ≡ false
+pub or-left : (a b : Bool) → (a || b) ≡ false → a ≡ false
 or-left true b h = absurd (true≢false h)
 or-left false b h = refl
 
-or-right : (a b : Bool) → (a || b) ≡ false → b ≡ false
+pub or-right : (a b : Bool) → (a || b) ≡ false → b ≡ false
 or-right true b h = absurd (true≢false h)
 or-right false b h = h
 
-neither : (a b : Bool) → a ≡ false → b ≡ false → (a || b) ≡ false
+pub neither : (a b : Bool) → a ≡ false → b ≡ false → (a || b) ≡ false
 neither true b h i = h
 neither false b h i = i
 
@@ -49,7 +49,7 @@ absent k (e ∷ es) h = rw h.0 (absent k es h.1)
 
 module _ {A : Type 0} (p : A → Bool) where
   -- none passes under any number
-  some_under : (n : ℕ) (es : List (ℕ × List A)) → list_any (λ e. list_any p e.1) es ≡ false → list_any p (on n es) ≡ false
+  pub some_under : (n : ℕ) (es : List (ℕ × List A)) → list_any (λ e. list_any p e.1) es ≡ false → list_any p (on n es) ≡ false
   some_under n [] h = refl
   some_under n (e ∷ es) h = go (n == e.0) (some_under n es (or-right (list_any p e.1) (list_any (λ d. list_any p d.1) es) h))
     where
@@ -57,7 +57,7 @@ module _ {A : Type 0} (p : A → Bool) where
       go true i = or-left (list_any p e.1) (list_any (λ d. list_any p d.1) es) h
       go false i = i
 
-  none_under : (es : List (ℕ × List A)) → IsDistinct nat_eq (keys_of es) → ((n : ℕ) → list_any p (on n es) ≡ false) → list_any (λ e. list_any p e.1) es ≡ false
+  pub none_under : (es : List (ℕ × List A)) → IsDistinct nat_eq (keys_of es) → ((n : ℕ) → list_any p (on n es) ≡ false) → list_any (λ e. list_any p e.1) es ≡ false
   unfolding IsDistinct
   none_under [] u h = refl
   none_under (e ∷ es) u h = neither (list_any p e.1) (list_any (λ d. list_any p d.1) es) here (none_under es u.1 rest)

@@ -8,3 +8,7 @@ on_ok (Err e) h f = h
 pub by_outcome : {A E : Type 0} (r : Result A E) {P B C Q : Type 0} → OnOk r P → OnErr r B → OnErr r C → (P → Q) → (B → C → Q) → Q
 by_outcome (Ok x) h b c f g = f h
 by_outcome (Err e) h b c f g = g b c
+
+pub by_two : {A E : Type 0} (r : Result A E) {P O B C D Q : Type 0} → OnOk r P → OnOk r O → OnErr r B → OnErr r C → OnErr r D → (P → O → Q) → (B → C → D → Q) → Q
+by_two (Ok x) h o b c d f g = f h o
+by_two (Err e) h o b c d f g = g b c d

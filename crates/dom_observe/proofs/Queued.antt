@@ -24,12 +24,12 @@ standing_on-none [] = refl
 standing_on-none (n ∷ ns) = standing_on-none ns
 
 -- the keys of the ancestors have registrations
-pub standing_stands : (u : ℕ → Option Registration) (made : ℕ) (transient : Bool) (lists : List (ℕ × List ℕ)) (ns keys : List ℕ) → AllStand u made transient lists → keys ≡ flat_map (λ n. on n lists) ns → AllByRecursion (Stands u made) keys
-standing_stands u made transient lists ns keys all is =
-    subst (AllByRecursion (Stands u made)) (sym is) (all_flat (Stands u made) lists (λ n. stands_of u made transient n (on n lists) (all n)) ns)
+pub standing_stands : (u : ℕ → Option Registration) (made : ℕ) (lists : List (ℕ × List ℕ)) (ns keys : List ℕ) → AllStand u made lists → keys ≡ flat_map (λ n. on n lists) ns → AllByRecursion (Stands u made) keys
+standing_stands u made lists ns keys all is =
+    subst (AllByRecursion (Stands u made)) (sym is) (all_flat (Stands u made) lists (λ n. stands_of u made n (on n lists) (all n)) ns)
 
 -- of two facts of a number on the pending list
-not_before : (p : ℕ) (old new : List ℕ) → (among p old ≡ true → among p new ≡ true) → among p new ≡ false → among p old ≡ false
+pub not_before : (p : ℕ) (old new : List ℕ) → (among p old ≡ true → among p new ≡ true) → among p new ≡ false → among p old ≡ false
 not_before p old new stay off = go (among p old) refl
   where
     go : (b : Bool) → among p old ≡ b → b ≡ false
@@ -44,14 +44,15 @@ unheard p ls old new pended off = flag-none p ls (go (among p (keys_of ls)) refl
     go true e = absurd (true≢false (sym (subst (λ ns. among p ns ≡ true) (sym pended) (all_last-there p old (keys_of ls) e)) ∙ off))
     go false e = refl
 
-module _ {A : Type 0} (table : Slab held.Registration) (entries : List (ℕ × Vec ℕ A)) (queues : List (List Record)) (pending : List ℕ) (transient : Bool)
-    (kept : IsKept table entries queues pending transient) (queues' : List (List Record)) (pending' : List ℕ) (same_length : length queues' ≡ length queues)
+module _ {A : Type 0} (table : Slab held.Registration) (entries : List (ℕ × Vec ℕ A)) (queues : List (List Record)) (pending : List ℕ)
+    (kept : IsKept table entries queues pending) (queues' : List (List Record)) (pending' : List ℕ) (same_length : length queues' ≡ length queues)
     (stay : (p : ℕ) → among p pending ≡ true → among p pending' ≡ true) (made : AllByRecursion (λ o. o < length queues) pending')
     (others : (p : ℕ) → among p pending' ≡ false → slice_index_or queues' p [] ≡ slice_index_or queues p []) where
-  pub kept-queued : IsKept table entries queues' pending' transient
+  pub kept-queued : IsKept table entries queues' pending'
   kept-queued = record {
     unique = kept.unique;
-    stand = stand_grown (at table) (length queues) (length queues') transient (listed entries) (omega (arith, same_length)) kept.stand;
+    stand = stand_grown (at table) (length queues) (length queues') (listed entries) (omega (arith, same_length)) kept.stand;
+    full = kept.full;
     made = subst (λ l. AllByRecursion (λ o. o < l) pending') (sym same_length) made;
     waiting = λ p off. others p off ∙ kept.waiting p (not_before p pending pending' (stay p) off);
   }

@@ -82,8 +82,8 @@ found_more {B} u keys i d lt =
     one None = refl
     one (Some r) = refl
 
-pub live_of_stands : (u : ℕ → Option Registration) (made : ℕ) (transient : Bool) (n : ℕ) (keys : List ℕ) → AllByRecursion (StandsOn u made transient n) keys → AllLive u keys
-live_of_stands u made transient n keys h = all_imply (StandsOn u made transient n) (λ k. is_live u k ≡ true) (λ k s. ap is_some s.is) keys h
+pub live_of_stands : (u : ℕ → Option Registration) (made : ℕ) (n : ℕ) (keys : List ℕ) → AllByRecursion (StandsOn u made n) keys → AllLive u keys
+live_of_stands u made n keys h = all_imply (StandsOn u made n) (λ k. is_live u k ≡ true) (λ k s. ap is_some s.is) keys h
 
 -- a registration is added
 module _ (u : ℕ → Option Registration) (lists : List (ℕ × List ℕ)) (r : Registration) (v : ℕ → Option Registration) (lists' : List (ℕ × List ℕ)) (a : Added u lists r v lists') where
@@ -118,19 +118,19 @@ module _ (u : ℕ → Option Registration) (lists : List (ℕ × List ℕ)) (r :
         | apart ne t ↦ let s : (r.node == n) ≡ false = elim (same_or r.node n) [ same e w ↦ absurd (ne (sym e)) | apart _ w ↦ w ] in rw (t, s) refl
       ]
 
-  pub stands-added : (made : ℕ) (transient : Bool) → AllStand u made transient lists → r.observer < made → (transient ≡ false → r.source ≡ None) → AllStand v made transient lists'
-  stands-added made transient all lt source n =
-      subst (AllByRecursion (StandsOn v made transient n)) (sym (a.keys n))
-      (all_append (StandsOn v made transient n) (on n lists) (if n == r.node then a.key ∷ [] else [])
-      (all_imply (StandsOn u made transient n) (StandsOn v made transient n)
-      (λ k s. record { registration = s.registration; is = same_under k (ap is_some s.is) ∙ s.is; observer = s.observer; node = s.node; source = s.source }) (on n lists) (all n))
+  pub stands-added : (made : ℕ) → AllStand u made lists → r.observer < made → AllStand v made lists'
+  stands-added made all lt n =
+      subst (AllByRecursion (StandsOn v made n)) (sym (a.keys n))
+      (all_append (StandsOn v made n) (on n lists) (if n == r.node then a.key ∷ [] else [])
+      (all_imply (StandsOn u made n) (StandsOn v made n)
+      (λ k s. record { registration = s.registration; is = same_under k (ap is_some s.is) ∙ s.is; observer = s.observer; node = s.node }) (on n lists) (all n))
       (elim (same_or n r.node) [
-        | same e t ↦ rw t (record { registration = r; is = a.here; observer = lt; node = sym e; source = source }, tt)
+        | same e t ↦ rw t (record { registration = r; is = a.here; observer = lt; node = sym e }, tt)
         | apart ne t ↦ rw t tt
       ]))
 
 -- a transient registration, and what it is made of
-transient_shape : (node : ℕ) (o : Option Registration) (r : Registration) → transient_of_any node o ≡ Some r → (s : Registration) × (o ≡ Some s) × (transient_of node s ≡ r)
+pub transient_shape : (node : ℕ) (o : Option Registration) (r : Registration) → transient_of_any node o ≡ Some r → (s : Registration) × (o ≡ Some s) × (transient_of node s ≡ r)
 transient_shape node None r h = cc
 transient_shape node (Some s) r h = go s.options.subtree h
   where
@@ -176,14 +176,14 @@ module _ (u0 u : ℕ → Option Registration) (lists0 lists : List (ℕ × List 
         both [] h l = tt
         both (k ∷ keys) h l = (same_under u lists r v lists' a k (ap is_some h.0 ∙ l.0) ∙ h.0, both keys h.1 l.1)
 
-    pub turn-stands : (made : ℕ) → AllByRecursion (Stands u0 made) standing → AllStand u made true lists → AllStand v made true lists'
+    pub turn-stands : (made : ℕ) → AllByRecursion (Stands u0 made) standing → AllStand u made lists → AllStand v made lists'
     turn-stands made bounded all =
         let at_key = all_at (Stands u0 made) standing i d bounded lt in
         let s = transient_shape node (u (slice_index_or standing i d)) r some in
         let same : Some s.0 ≡ Some at_key.registration = sym s.1 ∙ all_at (λ k. u k ≡ u0 k) standing i d alike lt ∙ at_key.is in
         let origin : s.0 ≡ at_key.registration = cc same in
         let lt_made : r.observer < made = subst (λ o. o < made) (ap (λ (t : Registration). t.observer) (sym origin) ∙ ap (λ (t : Registration). t.observer) s.2) at_key.observer in
-        stands-added u lists r v lists' a made true all lt_made (λ e. let w : true ≡ false = e in cc w)
+        stands-added u lists r v lists' a made all lt_made
 
 pub alike_self : (u : ℕ → Option Registration) (keys : List ℕ) → AllByRecursion (λ k. u k ≡ u k) keys
 alike_self u [] = tt

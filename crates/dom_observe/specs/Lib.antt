@@ -1,4 +1,4 @@
-pub mod Asking
+pub mod Held
 pub mod Kept
 pub mod Names
 pub mod Naming

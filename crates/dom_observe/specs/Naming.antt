@@ -1,10 +1,20 @@
 -- The nodes that observers name: those of their registrations, and those of the records that wait.
-use Rattle.std.specs.Prelude.{ℕ, Bool, false, Option}
+use Rattle.std.specs.Prelude.{◌≡◌, ℕ, Bool, false, List, [], Option, slice_index_or}
 use Rattle.std.specs.Option.{option_map_or}
-use Rattle.std.specs.List.{list_any}
+use Rattle.std.specs.List.{list_any, AllByRecursion}
 use Rattle.dom_model.specs.Worlds.World.{Registration}
-use Rattle.dom_model.specs.MutationAlgorithms.Discarding.{nodes_of_registration}
+use Rattle.dom_model.specs.MutationObservers.Record.{Record}
+use Rattle.dom_model.specs.MutationAlgorithms.Discarding.{nodes_of_registration, nodes_of_record}
+use Rattle.dom_observe.specs.Watchers.{on}
 
 -- what stands under a key names a node that passes
 abbrev pub names_one : (ℕ → Bool) → Option Registration → Bool
 names_one p o = option_map_or (λ (r : Registration). list_any p (nodes_of_registration r)) o false
+
+-- under the keys that nodes have, no registration names a node that passes
+abbrev pub NamesNone : (ℕ → Bool) → (ℕ → Option Registration) → List (ℕ × List ℕ) → Type 0
+NamesNone p under lists = (n : ℕ) → AllByRecursion (λ key. names_one p (under key) ≡ false) (on n lists)
+
+-- nor does a record that waits
+abbrev pub TellsNone : (ℕ → Bool) → List (List Record) → Type 0
+TellsNone p queues = (o : ℕ) → list_any (λ r. list_any p (nodes_of_record r)) (slice_index_or queues o []) ≡ false

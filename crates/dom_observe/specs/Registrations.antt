@@ -1,10 +1,12 @@
 -- The registrations in the code's table, as those of the definitions.
-use Rattle.std.specs.Prelude.{◌≡◌, ◌≢◌, ◌<◌, [], ◌∷◌, ◌++◌, filter, ℕ, ◌==◌, Bool, not, ◌&&◌, ◌||◌, List, map, filter_map, Option, option_map, None, Some, is_none, is_some, Vec, if◌then◌else◌, false, true}
+use Rattle.std.specs.Prelude.{◌≡◌, ◌≢◌, ◌<◌, [], ◌∷◌, ◌++◌, filter, ℕ, ◌==◌, Bool, not, ◌&&◌, ◌||◌, List, map, filter_map, Option, option_map, None, Some, is_none, is_some, slice_index_or, nat_eq, Vec, if◌then◌else◌, false, true}
 use Rattle.std.specs.Option.{option_map_or}
 use Rattle.std.specs.List.{AllByRecursion}
+use Rattle.std.specs.Map.{lookup}
 use Rattle.slab.specs.Slab.{Slab, get}
 use Rattle.dom_model.specs.declared.RecordType.{RecordType}
 use Rattle.dom_model.specs.Worlds.World as model
+use Rattle.dom_model.specs.PlainLists.Lists.{among}
 use Rattle.dom_model.specs.MutationObservers.Observing.{transient_of}
 use Rattle.dom_model.specs.MutationObservers.Records.{is_registered, is_transient_from, type_passes}
 use Rattle.dom_observe.specs.Watchers.{on}
@@ -64,17 +66,47 @@ pub record Stands (under : ℕ → Option model.Registration) (made key : ℕ) :
   pub is : under key ≡ Some registration
   pub observer : registration.observer < made
 
--- and it is on the node; it is a transient one only where there may be transient ones
-pub record StandsOn (under : ℕ → Option model.Registration) (made : ℕ) (transient : Bool) (n key : ℕ) : Type 0 where
+-- and it is on the node
+pub record StandsOn (under : ℕ → Option model.Registration) (made : ℕ) (n key : ℕ) : Type 0 where
   pub registration : model.Registration
   pub is : under key ≡ Some registration
   pub observer : registration.observer < made
   pub node : registration.node ≡ n
-  pub source : transient ≡ false → registration.source ≡ None
 
 -- so does each key that a node has
-abbrev pub AllStand : (ℕ → Option model.Registration) → ℕ → Bool → List (ℕ × List ℕ) → Type 0
-AllStand under made transient lists = (n : ℕ) → AllByRecursion (StandsOn under made transient n) (on n lists)
+abbrev pub AllStand : (ℕ → Option model.Registration) → ℕ → List (ℕ × List ℕ) → Type 0
+AllStand under made lists = (n : ℕ) → AllByRecursion (StandsOn under made n) (on n lists)
+
+-- each node that is listed has a key
+abbrev pub HaveKeys : List (ℕ × List ℕ) → Type 0
+HaveKeys lists = (n : ℕ) (keys : List ℕ) → lookup (nat_eq n) lists ≡ Some keys → keys ≢ []
+
+-- what stands under a key is a registration on the node; a lasting one of the observer; a transient one of it
+abbrev pub is_on : ℕ → Option model.Registration → Bool
+is_on n o = option_map_or (λ (r : model.Registration). r.node == n) o false
+
+abbrev pub lasts_for : ℕ → Option model.Registration → Bool
+lasts_for i o = option_map_or (λ (r : model.Registration). (r.observer == i) && is_none r.source) o false
+
+abbrev pub passes_for : ℕ → Option model.Registration → Bool
+passes_for i o = option_map_or (λ (r : model.Registration). (r.observer == i) && is_some r.source) o false
+
+-- each node has the keys of the registrations on it, and no others
+abbrev pub Placed : (ℕ → Option model.Registration) → List (ℕ × List ℕ) → Type 0
+Placed under lists = (n key : ℕ) → among key (on n lists) ≡ is_on n (under key)
+
+-- each observer has the keys of its registrations of a kind, and no others
+abbrev pub Owned : (ℕ → Option model.Registration → Bool) → (ℕ → Option model.Registration) → List (List ℕ) → Type 0
+Owned kind under lists = (i key : ℕ) → among key (slice_index_or lists i []) ≡ kind i (under key)
+
+-- the node of a registration that a step ends
+abbrev pub ended_node : Ended → Option model.Registration → Option ℕ
+ended_node ended None = None
+ended_node ended (Some r) = if spares ended r then None else Some r.node
+
+-- the registration under the key has subtree
+abbrev pub deep_at : (ℕ → Option model.Registration) → ℕ → Bool
+deep_at under key = option_map_or (λ (r : model.Registration). r.options.subtree) (under key) false
 
 -- a registration came in last among those of its node, under a key that was vacant
 pub record Added (under : ℕ → Option model.Registration) (lists : List (ℕ × List ℕ)) (r : model.Registration) (under' : ℕ → Option model.Registration) (lists' : List (ℕ × List ℕ)) : Type 0 where
@@ -83,6 +115,14 @@ pub record Added (under : ℕ → Option model.Registration) (lists : List (ℕ 
   pub here : under' key ≡ Some r
   pub others : (other : ℕ) → other ≢ key → under' other ≡ under other
   pub keys : (n : ℕ) → on n lists' ≡ on n lists ++ (if n == r.node then key ∷ [] else [])
+
+-- its key came in last among several
+pub record NewKey (under : ℕ → Option model.Registration) (r : model.Registration) (under' : ℕ → Option model.Registration) (keys keys' : List ℕ) : Type 0 where
+  pub key : ℕ
+  pub vacant : under key ≡ None
+  pub here : under' key ≡ Some r
+  pub others : (other : ℕ) → other ≢ key → under' other ≡ under other
+  pub last : keys' ≡ keys ++ key ∷ []
 
 -- what stands under the key gives the node a transient registration, where it has subtree
 abbrev pub transient_of_any : ℕ → Option model.Registration → Option model.Registration

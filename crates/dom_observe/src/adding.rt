@@ -1,34 +1,47 @@
 //! Registrations that are added, and those that stand on the ancestors of a node.
 
-ghost use Rattle.std.specs.Prelude.{◌≡◌, ℕ, OnOk, OnErr, IfOk, nat_eq, flat_map, option_map, true};
+ghost use Rattle.std.specs.Prelude.{◌≡◌, ◌++◌, ℕ, Bool, List, length, OnOk, OnErr, IfOk, nat_eq, filter, flat_map, option_map, true, false};
 ghost use Rattle.std.specs.List.{AllByRecursion};
 ghost use Rattle.indexmap.specs.IndexMap.{IsUnique};
 ghost use Rattle.dom_model.specs.Forests.Forest.{HasNode, ancestors};
 ghost use Rattle.dom_observe.specs.Watchers.{on};
-ghost use Rattle.dom_observe.specs.Registrations.{plain, at, found, listed, Added, AllLive, Stands, AllStand, transient_under, with_added_transients};
+ghost use Rattle.dom_observe.specs.Kept.{keys_by, IsIndexed};
+ghost use Rattle.dom_observe.specs.Registrations.{plain, at, found, listed, Added, NewKey, AllLive, Stands, AllStand, HaveKeys, deep_at, transient_under, with_added_transients};
+ghost use Rattle.dom_observe.specs.Naming.{names_one, NamesNone};
 
+use crate::observer_id::ObserverId;
 use crate::registration::Registration;
 use crate::table::{keys_on, put_key};
+use crate::telling::pend;
 use dom_tree::{NodeId, Tree};
-use indexmap::IndexMap;
+use indexmap::{IndexMap, IndexSet};
 use slab::Slab;
 use std::alloc::{AllocError, Global};
 
-// Puts a registration last among those of its node.
+// Puts a registration last among those of its node, and its key among those of its observer.
 pub fn add(
     table: &mut Slab<Registration>,
     nodes: &mut IndexMap<u32, Vec<usize>>,
+    keys: &mut Vec<usize>,
     registration: Registration,
     alloc: Global,
 ) -> Result<(), AllocError>
     requires { IsUnique nat_eq nodes.old }
     ensures ok { OnOk result (Added (at table.old) (listed nodes.old.entries) (plain registration) (at table.new) (listed nodes.new.entries)) }
+    ensures own { OnOk result (NewKey (at table.old) (plain registration) (at table.new) keys.old.items keys.new.items) }
+    ensures err_own { OnErr result (keys.new.items ≡ keys.old.items) }
     ensures err_table { OnErr result (table.new.slots ≡ table.old.slots) }
     ensures err_nodes { OnErr result (listed nodes.new.entries ≡ listed nodes.old.entries) }
+    ensures full { HaveKeys (listed nodes.old.entries) → HaveKeys (listed nodes.new.entries) }
     ensures unique { IsUnique nat_eq nodes.new }
 {
     table.reserve(1)?;
-    put_key(nodes, registration.node, table.vacant_key(), alloc)?;
+    let key = table.vacant_key();
+    keys.push(key)?;
+    if let Err(error) = put_key(nodes, registration.node, key, alloc) {
+        let _ = keys.pop();
+        return Err(error);
+    }
     table.insert_reserved(registration);
     Ok(())
 }
@@ -54,6 +67,8 @@ fn transient_of(
 pub fn add_transients(
     table: &mut Slab<Registration>,
     nodes: &mut IndexMap<u32, Vec<usize>>,
+    passing: &mut Vec<Vec<usize>>,
+    fleeting: &mut IndexSet<ObserverId>,
     standing: &[usize],
     node: NodeId,
     alloc: Global,
@@ -61,13 +76,21 @@ pub fn add_transients(
     requires unique { IsUnique nat_eq nodes.old }
     requires live { (n : ℕ) → AllLive (at table.old) (on n (listed nodes.old.entries)) }
     requires standing { AllLive (at table.old) standing.now }
+    requires made { AllByRecursion (Stands (at table.old) (length passing.old.items)) standing.now }
     ensures ok { OnOk result ((n : ℕ) → found table.new (on n (listed nodes.new.entries)) ≡ with_added_transients node (found table.old standing.now) n (found table.old (on n (listed nodes.old.entries)))) }
-    ensures all_stand { (made : ℕ) → AllByRecursion (Stands (at table.old) made) standing.now → AllStand (at table.old) made true (listed nodes.old.entries) → AllStand (at table.new) made true (listed nodes.new.entries) }
+    ensures all_stand { (made : ℕ) → AllByRecursion (Stands (at table.old) made) standing.now → AllStand (at table.old) made (listed nodes.old.entries) → AllStand (at table.new) made (listed nodes.new.entries) }
+    ensures names { (p : ℕ → Bool) → p node ≡ false → AllByRecursion (λ key. names_one p (at table.old key) ≡ false) standing.now → NamesNone p (at table.old) (listed nodes.old.entries) → NamesNone p (at table.new) (listed nodes.new.entries) }
+    ensures full { HaveKeys (listed nodes.old.entries) → HaveKeys (listed nodes.new.entries) }
+    ensures indexed { (lasts : List (List ℕ)) (made : ℕ) → AllByRecursion (Stands (at table.old) made) standing.now → IsIndexed (at table.old) (listed nodes.old.entries) lasts (keys_by passing.old.items) fleeting.old.keys made → IsIndexed (at table.new) (listed nodes.new.entries) lasts (keys_by passing.new.items) fleeting.new.keys made }
+    ensures len { length passing.new.items ≡ length passing.old.items }
     ensures unique { IsUnique nat_eq nodes.new }
 {
     for key in standing {
         if let Some(made) = transient_of(table, *key, node, alloc)? {
-            add(table, nodes, made, alloc)?;
+            let observer = made.observer;
+            pend(fleeting, observer)?;
+            let keys = &mut passing[observer.number() as usize];
+            add(table, nodes, keys, made, alloc)?;
         }
     }
     Ok(())
@@ -88,6 +111,55 @@ pub fn standing<X>(
     let mut here = node;
     loop {
         keys.extend_from_slice(keys_on(nodes, here))?;
+        match tree.parent(here) {
+            Some(parent) => here = parent,
+            None => return Ok(keys),
+        }
+    }
+}
+
+// Whether the registration under a key has subtree.
+fn is_deep(table: &Slab<Registration>, key: usize) -> bool
+    ensures { result ≡ deep_at (at table.now) key }
+{
+    match table.get(key) {
+        Some(registration) => registration.options.subtree,
+        None => false,
+    }
+}
+
+// Puts the keys whose registrations have subtree last.
+fn push_deep(
+    keys: &mut Vec<usize>,
+    table: &Slab<Registration>,
+    own: &[usize],
+) -> Result<(), AllocError>
+    ensures { OnOk result (keys.new.items ≡ keys.old.items ++ filter (deep_at (at table.now)) own.now) }
+{
+    for key in own {
+        if is_deep(table, *key) {
+            keys.push(*key)?;
+        }
+    }
+    Ok(())
+}
+
+// The keys of the registrations with subtree that stand on the inclusive ancestors of a node, from the node upwards.
+pub fn standing_deep<X>(
+    table: &Slab<Registration>,
+    nodes: &IndexMap<u32, Vec<usize>>,
+    tree: &Tree<X>,
+    node: NodeId,
+    alloc: Global,
+) -> Result<Vec<usize>, AllocError>
+    requires { HasNode tree.now.forest node }
+    ensures { IfOk result (λ keys. keys.items ≡ flat_map (λ n. filter (deep_at (at table.now)) (on n (listed nodes.now.entries))) (ancestors node tree.now.forest)) }
+{
+    tree.sound();
+    let mut keys = Vec::new(alloc);
+    let mut here = node;
+    loop {
+        push_deep(&mut keys, table, keys_on(nodes, here))?;
         match tree.parent(here) {
             Some(parent) => here = parent,
             None => return Ok(keys),

@@ -2,7 +2,7 @@
 #![tactic(auto)]
 
 mod adding;
-mod asking;
+mod ending;
 mod naming;
 mod notifying;
 mod observer_id;

@@ -1,6 +1,6 @@
 //! Which nodes the registrations and the records that wait name.
 
-ghost use Rattle.std.specs.Prelude.{◌≡◌, ℕ};
+ghost use Rattle.std.specs.Prelude.{◌≡◌};
 ghost use Rattle.std.specs.List.{list_any};
 ghost use Rattle.dom_model.specs.PlainLists.Lists.{among};
 ghost use Rattle.dom_model.specs.Forests.Forest.{inclusive_descendants};
@@ -15,20 +15,12 @@ use dom_tree::{NodeId, Tree};
 use indexmap::IndexMap;
 use slab::Slab;
 
-// Whether a node, which the tree may not hold, stands inside another.
-fn is_inside<X>(tree: &Tree<X>, top: NodeId, node: NodeId) -> bool
-    ensures { result ≡ among node (inclusive_descendants tree.now.forest top) }
-{
-    tree.sound();
-    tree.holds(node) && tree.is_ancestor(top, node)
-}
-
-// The same of a node that may be missing.
+// Whether a node that may be missing stands inside another.
 fn is_some_inside<X>(tree: &Tree<X>, top: NodeId, node: Option<NodeId>) -> bool
     ensures { result ≡ list_any (λ m. among m (inclusive_descendants tree.now.forest top)) (if_any node) }
 {
     match node {
-        Some(node) => is_inside(tree, top, node),
+        Some(node) => tree.is_inside(top, node),
         None => false,
     }
 }
@@ -37,14 +29,14 @@ fn is_some_inside<X>(tree: &Tree<X>, top: NodeId, node: Option<NodeId>) -> bool
 fn is_any_inside<X>(tree: &Tree<X>, top: NodeId, nodes: &[NodeId]) -> bool
     ensures { result ≡ list_any (λ m. among m (inclusive_descendants tree.now.forest top)) nodes.now }
 {
-    nodes.iter().any(|node| is_inside(tree, top, *node))
+    nodes.iter().any(|node| tree.is_inside(top, *node))
 }
 
 // Whether a registration names a node inside.
 fn names<X>(tree: &Tree<X>, top: NodeId, registration: &Registration) -> bool
     ensures { result ≡ list_any (λ m. among m (inclusive_descendants tree.now.forest top)) (nodes_of_registration (plain registration.now)) }
 {
-    is_inside(tree, top, registration.node) || is_some_inside(tree, top, registration.source)
+    tree.is_inside(top, registration.node) || is_some_inside(tree, top, registration.source)
 }
 
 // The same of what is under a key.
@@ -68,7 +60,7 @@ fn any_names<X>(tree: &Tree<X>, top: NodeId, table: &Slab<Registration>, keys: &
 fn tells<X>(tree: &Tree<X>, top: NodeId, told: &Record) -> bool
     ensures { result ≡ list_any (λ m. among m (inclusive_descendants tree.now.forest top)) (nodes_of_record told.now) }
 {
-    is_inside(tree, top, told.target)
+    tree.is_inside(top, told.target)
         || (is_any_inside(tree, top, told.added.as_slice())
             || (is_any_inside(tree, top, told.removed.as_slice())
                 || (is_some_inside(tree, top, told.previous)

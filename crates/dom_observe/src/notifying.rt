@@ -1,10 +1,11 @@
 //! The records that pending observers are told.
 
-ghost use Rattle.std.specs.Prelude.{◌≡◌, ◌<◌, ℕ, [], filter, length, map, slice_index_or, nat_eq, true, OnOk, IfOk};
+ghost use Rattle.std.specs.Prelude.{◌≡◌, ◌<◌, ℕ, Bool, [], filter, length, map, slice_index_or, nat_eq, true, OnOk, IfOk};
 ghost use Rattle.std.specs.List.{AllByRecursion, IsDistinct};
 ghost use Rattle.dom_model.specs.PlainLists.Lists.{among};
 ghost use Rattle.dom_model.specs.MutationObservers.Records.{has_records};
 ghost use Rattle.dom_observe.specs.Kept.{queues_of};
+ghost use Rattle.dom_observe.specs.Naming.{TellsNone};
 ghost use Rattle.dom_observe.specs.Notifying.{told_of, waiting_for};
 
 use crate::observer_id::ObserverId;
@@ -23,6 +24,7 @@ pub fn gather(
     ensures told { IfOk result (λ told. told_of told.items ≡ filter has_records (map (waiting_for (queues_of queues.old.items)) pending.now.keys)) }
     ensures emptied { OnOk result ((p : ℕ) → among p pending.now.keys ≡ true → slice_index_or (queues_of queues.new.items) p [] ≡ []) }
     ensures empty { (p : ℕ) → slice_index_or (queues_of queues.old.items) p [] ≡ [] → slice_index_or (queues_of queues.new.items) p [] ≡ [] }
+    ensures names { (p : ℕ → Bool) → TellsNone p (queues_of queues.old.items) → TellsNone p (queues_of queues.new.items) }
     ensures len { length queues.new.items ≡ length queues.old.items }
 {
     let mut told = Vec::new(alloc);

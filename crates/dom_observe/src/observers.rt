@@ -1,31 +1,28 @@
 //! The observers of a tree: their registrations, their queues and the pending list.
 
-ghost use Rattle.std.specs.Prelude.{◌≡◌, ℕ, ◌+◌, ◌<◌, [], length, slice_get, IfOk, OnOk, OnErr, nat_lt, true, not, ◌==◌};
+ghost use Rattle.std.specs.Prelude.{◌≡◌, ℕ, ◌<◌, [], ◌∷◌, length, slice_get, IfOk, OnOk, OnErr, nat_lt, true};
 ghost use Rattle.dom_model.specs.Forests.Forest.{HasNode, ancestors, inclusive_descendants};
 ghost use Rattle.dom_model.specs.PlainLists.Lists.{among};
 ghost use Rattle.dom_model.specs.MutationAlgorithms.Discarding.{observed_nodes};
 ghost use Rattle.dom_model.specs.Worlds.World.{Observing};
 ghost use Rattle.dom_model.specs.MutationObservers.Observing.{standing_on, noted, with_transients};
-ghost use Rattle.dom_model.specs.MutationObservers.Records.{queue_of, observed, with_observer, records_taken, disconnected, told, after_notify, interested, asks_old_value};
-ghost use Rattle.dom_observe.specs.Asking.{IsAbout};
-ghost use Rattle.dom_observe.specs.Names.{text_of};
+ghost use Rattle.dom_model.specs.MutationObservers.Records.{queue_of, observed, with_observer, records_taken, disconnected, told, after_notify};
+ghost use Rattle.dom_observe.specs.Held.{named, nodes_of_mutation, NamesOnly};
 ghost use Rattle.std.specs.List.{list_any};
-ghost use Rattle.dom_model.specs.Worlds.World as model;
 ghost use Rattle.dom_observe.specs.Notifying.{told_of};
 ghost use Rattle.dom_observe.specs.Watchers.{Watches};
 
-use crate::adding::{add, add_transients, standing};
-use crate::asking::any_standing;
+use crate::adding::{add, add_transients, standing, standing_deep};
+use crate::ending::{end_own, end_transients};
 use crate::naming::{is_named, is_told};
 use crate::notifying::gather;
 use crate::observer_id::ObserverId;
 use crate::options::Options;
 use crate::queues::take_from;
 use crate::record::{Mutation, Record};
-use crate::registration::{Ended, Question, Registration};
-use crate::table::{end, end_transients, keys_on, own_key, set_options, sweep};
+use crate::registration::{Ended, Registration};
+use crate::table::{keys_on, own_key, seat, set_options};
 use crate::telling::{listen, tell};
-use dom_model::RecordType;
 use dom_tree::{NodeId, Tree};
 use indexmap::{IndexMap, IndexSet};
 use slab::Slab;
@@ -40,10 +37,13 @@ pub struct Observers {
     table: Slab<Registration>,
     // the keys of the registrations on a node; no entry where there is none
     nodes: IndexMap<u32, Vec<usize>>,
+    // the keys of the registrations of an observer that last, and of its transient ones
+    lasting: Vec<Vec<usize>>,
+    passing: Vec<Vec<usize>>,
+    // the observers that may have transient ones
+    fleeting: IndexSet<ObserverId>,
     queues: Vec<Vec<Record>>,
     pending: IndexSet<ObserverId>,
-    // whether there may be a transient registration
-    transient: bool,
     alloc: Global,
 }
 
@@ -52,7 +52,9 @@ impl Model for Observers {
 
     ghost Value = { Watchers };
 
-    ghost use Rattle.dom_observe.specs.Kept.{nodes_of, queues_of, IsKept};
+    ghost use Rattle.std.specs.Prelude.{length};
+    ghost use Rattle.dom_observe.specs.Registrations.{at, listed};
+    ghost use Rattle.dom_observe.specs.Kept.{nodes_of, queues_of, keys_by, IsKept, IsIndexed};
 
     ghost view = { λ o. record {
       nodes = nodes_of o.table o.nodes.entries;
@@ -60,7 +62,7 @@ impl Model for Observers {
       pending = o.pending.keys;
     } };
 
-    ghost invariant = { λ o. IsKept o.table o.nodes.entries (queues_of o.queues.items) o.pending.keys o.transient };
+    ghost invariant = { λ o. IsKept o.table o.nodes.entries (queues_of o.queues.items) o.pending.keys × IsIndexed (at o.table) (listed o.nodes.entries) (keys_by o.lasting.items) (keys_by o.passing.items) o.fleeting.keys (length (queues_of o.queues.items)) };
 }
 
 impl Observers {
@@ -71,9 +73,11 @@ impl Observers {
         Observers {
             table: Slab::new(alloc),
             nodes: IndexMap::new(alloc),
+            lasting: Vec::new(alloc),
+            passing: Vec::new(alloc),
+            fleeting: IndexSet::new(alloc),
             queues: Vec::new(alloc),
             pending: IndexSet::new(alloc),
-            transient: false,
             alloc,
         }
     }
@@ -84,8 +88,12 @@ impl Observers {
         ensures number { IfOk result (λ id. id ≡ length self.old.queues) }
         ensures ok { OnOk result ((x : Observing) → Watches self.old x → Watches self.new (with_observer x)) }
         ensures err { OnErr result (self.new ≡ self.old) }
+        ensures names { NamesOnly [] self.old self.new }
     {
-        let id = ObserverId::new(self.queues.len() as u32);
+        let made = self.queues.len();
+        seat(&mut self.lasting, made, self.alloc)?;
+        seat(&mut self.passing, made, self.alloc)?;
+        let id = ObserverId::new(made as u32);
         self.queues.push(Vec::new(self.alloc))?;
         Ok(id)
     }
@@ -106,7 +114,8 @@ impl Observers {
 
     /// Whether nothing is observed.
     pub fn is_idle(&self) -> bool
-        ensures { (x : Observing) → Watches self.now x → result ≡ true → x.registrations ≡ [] }
+        ensures idle { (x : Observing) → Watches self.now x → result ≡ true → x.registrations ≡ [] }
+        ensures observing { (x : Observing) → Watches self.now x → x.registrations ≡ [] → result ≡ true }
     {
         self.nodes.is_empty()
     }
@@ -128,12 +137,19 @@ impl Observers {
         requires held { observer < length self.old.queues }
         ensures ok { OnOk result ((x : Observing) → Watches self.old x → Watches self.new (observed observer node options x)) }
         ensures err { OnErr result (self.new ≡ self.old) }
+        ensures names { NamesOnly (node ∷ []) self.old self.new }
+        ensures made { length self.new.queues ≡ length self.old.queues }
     {
         let own = own_key(&self.table, keys_on(&self.nodes, node), observer, node);
         match own {
             Some(key) => {
-                end(&mut self.table, Ended::From(observer, node));
-                sweep(&self.table, &mut self.nodes);
+                end_own(
+                    &mut self.table,
+                    &mut self.nodes,
+                    &mut self.passing,
+                    observer,
+                    &Ended::From(observer, node),
+                );
                 set_options(&mut self.table, key, options);
                 Ok(())
             }
@@ -144,7 +160,14 @@ impl Observers {
                     options,
                     source: None,
                 };
-                add(&mut self.table, &mut self.nodes, registration, self.alloc)
+                let keys = &mut self.lasting[observer.number() as usize];
+                add(
+                    &mut self.table,
+                    &mut self.nodes,
+                    keys,
+                    registration,
+                    self.alloc,
+                )
             }
         }
     }
@@ -152,10 +175,24 @@ impl Observers {
     /// Ends all that the observer observes, and empties its queue ("disconnect").
     pub fn disconnect(&mut self, observer: ObserverId)
         requires held { observer < length self.old.queues }
-        ensures { (x : Observing) → Watches self.old x → Watches self.new (disconnected observer x) }
+        ensures ended { (x : Observing) → Watches self.old x → Watches self.new (disconnected observer x) }
+        ensures names { NamesOnly [] self.old self.new }
+        ensures made { length self.new.queues ≡ length self.old.queues }
     {
-        end(&mut self.table, Ended::Of(observer));
-        sweep(&self.table, &mut self.nodes);
+        end_own(
+            &mut self.table,
+            &mut self.nodes,
+            &mut self.lasting,
+            observer,
+            &Ended::Of(observer),
+        );
+        end_own(
+            &mut self.table,
+            &mut self.nodes,
+            &mut self.passing,
+            observer,
+            &Ended::Of(observer),
+        );
         let _ = take_from(&mut self.queues, observer, self.alloc);
     }
 
@@ -164,6 +201,8 @@ impl Observers {
         requires held { observer < length self.old.queues }
         ensures records { (x : Observing) → Watches self.old x → result.items ≡ queue_of observer x }
         ensures taken { (x : Observing) → Watches self.old x → Watches self.new (records_taken observer x) }
+        ensures names { NamesOnly [] self.old self.new }
+        ensures made { length self.new.queues ≡ length self.old.queues }
     {
         take_from(&mut self.queues, observer, self.alloc)
     }
@@ -171,7 +210,7 @@ impl Observers {
     /// Leaves transient registrations on a node that is taken from its parent, of those with subtree on the parent's inclusive
     /// ancestors ("remove").
     ///
-    /// After an error some of them may be missing.
+    /// Where none of those has subtree nothing is noted. After an error some of them may be missing.
     pub fn transients<X>(
         &mut self,
         tree: &Tree<X>,
@@ -179,16 +218,19 @@ impl Observers {
         node: NodeId,
     ) -> Result<(), AllocError>
         requires { HasNode tree.now.forest parent }
-        ensures { OnOk result ((x : Observing) → Watches self.old x → Watches self.new (with_transients node (ancestors parent tree.now.forest) x)) }
+        ensures left { OnOk result ((x : Observing) → Watches self.old x → Watches self.new (with_transients node (ancestors parent tree.now.forest) x)) }
+        ensures names { NamesOnly (node ∷ []) self.old self.new }
+        ensures made { length self.new.queues ≡ length self.old.queues }
     {
-        let standing = standing(&self.nodes, tree, parent, self.alloc)?;
+        let standing = standing_deep(&self.table, &self.nodes, tree, parent, self.alloc)?;
         if standing.is_empty() {
             return Ok(());
         }
-        self.transient = true;
         add_transients(
             &mut self.table,
             &mut self.nodes,
+            &mut self.passing,
+            &mut self.fleeting,
             standing.as_slice(),
             node,
             self.alloc,
@@ -199,9 +241,11 @@ impl Observers {
     ///
     /// Call it before the tree changes further: the ancestors of the target are those that stand now. After an error some observers may have their record
     /// and others not.
-    pub fn queue<X>(&mut self, tree: &Tree<X>, mutation: Mutation) -> Result<(), AllocError>
-        requires { HasNode tree.now.forest mutation.target }
-        ensures { OnOk result ((x : Observing) → Watches self.old x → Watches self.new (noted (record mutation { standing = standing_on (ancestors mutation.target tree.now.forest) x.registrations }) x)) }
+    pub fn queue<X>(&mut self, tree: &Tree<X>, mutation: &Mutation<'_>) -> Result<(), AllocError>
+        requires { HasNode tree.now.forest mutation.now.target }
+        ensures queued { OnOk result ((x : Observing) → Watches self.old x → Watches self.new (noted (record (mutation.now) { standing = standing_on (ancestors mutation.now.target tree.now.forest) x.registrations }) x)) }
+        ensures names { NamesOnly (nodes_of_mutation mutation.now) self.old self.new }
+        ensures made { length self.new.queues ≡ length self.old.queues }
     {
         if self.nodes.is_empty() {
             return Ok(());
@@ -215,7 +259,7 @@ impl Observers {
             &mut self.pending,
             self.alloc,
         )?;
-        tell(&mut self.queues, &heard, &mutation, self.alloc)
+        tell(&mut self.queues, &heard, mutation, self.alloc)
     }
 
     /// Tells the pending observers their records, and ends every transient registration ("notify mutation observers").
@@ -224,48 +268,26 @@ impl Observers {
     pub fn notify(&mut self) -> Result<Vec<(ObserverId, Vec<Record>)>, AllocError>
         ensures told { IfOk result (λ all. (x : Observing) → Watches self.old x → told_of all.items ≡ told x) }
         ensures after { OnOk result ((x : Observing) → Watches self.old x → Watches self.new (after_notify x)) }
+        ensures names { NamesOnly [] self.old self.new }
+        ensures made { length self.new.queues ≡ length self.old.queues }
     {
         let told = gather(&self.pending, &mut self.queues, self.alloc)?;
         self.pending.clear();
-        end_transients(&mut self.table, &mut self.nodes, self.transient);
-        self.transient = false;
+        end_transients(
+            &mut self.table,
+            &mut self.nodes,
+            &mut self.passing,
+            &self.fleeting,
+        );
+        self.fleeting.clear();
         Ok(told)
-    }
-
-    /// Whether a mutation of that type, target and name would interest an observer. Where none is interested, nothing need be queued.
-    pub fn interests<X>(
-        &self,
-        tree: &Tree<X>,
-        what: RecordType,
-        target: NodeId,
-        name: Option<&str>,
-    ) -> bool
-        requires { HasNode tree.now.forest target }
-        ensures { (x : Observing) → Watches self.now x → (m : model.Mutation) → IsAbout what target (text_of name.entry) (ancestors target tree.now.forest) x m → result ≡ not (length (interested m) == 0) }
-    {
-        let question = Question { what, target, name };
-        any_standing(&self.table, &self.nodes, tree, &question, false)
-    }
-
-    /// Whether an observer that it would interest wants the old value with it.
-    pub fn wants_old_value<X>(
-        &self,
-        tree: &Tree<X>,
-        what: RecordType,
-        target: NodeId,
-        name: Option<&str>,
-    ) -> bool
-        requires { HasNode tree.now.forest target }
-        ensures { (x : Observing) → Watches self.now x → (m : model.Mutation) → IsAbout what target (text_of name.entry) (ancestors target tree.now.forest) x m → result ≡ list_any (λ r. asks_old_value m.type r.options) (interested m) }
-    {
-        let question = Question { what, target, name };
-        any_standing(&self.table, &self.nodes, tree, &question, true)
     }
 
     /// Whether a registration, or a record that waits, names a node inside another. It asks all of them, and takes no memory.
     pub fn refers<X>(&self, tree: &Tree<X>, top: NodeId) -> bool
         requires { HasNode tree.now.forest top }
-        ensures { (x : Observing) → Watches self.now x → result ≡ list_any (λ m. among m (inclusive_descendants tree.now.forest top)) (observed_nodes x) }
+        ensures observed { (x : Observing) → Watches self.now x → result ≡ list_any (λ m. among m (inclusive_descendants tree.now.forest top)) (observed_nodes x) }
+        ensures named { result ≡ list_any (λ m. among m (inclusive_descendants tree.now.forest top)) (named self.now) }
     {
         is_named(tree, top, &self.table, &self.nodes) || is_told(tree, top, self.queues.as_slice())
     }

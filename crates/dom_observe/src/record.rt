@@ -44,33 +44,34 @@ impl Model for Record {
 
 /// A change of the tree; `what` is the type of its records.
 ///
+/// Its lists and texts are lent: they are copied into the records of those whom it interests, and only for them.
 /// A contract sees it with no registrations: those that stand are found when it is queued.
 #[derive(Debug, Drop)]
-pub struct Mutation {
+pub struct Mutation<'a> {
     pub what: RecordType,
     pub target: NodeId,
-    pub added: Vec<NodeId>,
-    pub removed: Vec<NodeId>,
+    pub added: &'a [NodeId],
+    pub removed: &'a [NodeId],
     pub previous: Option<NodeId>,
     pub next: Option<NodeId>,
-    pub name: Option<String>,
-    pub old_value: Option<Units>,
+    pub name: Option<&'a str>,
+    pub old_value: Option<&'a Units>,
 }
 
-impl Model for Mutation {
+impl<'a> Model for Mutation<'a> {
     ghost use Rattle.std.specs.Prelude.{[]};
     ghost use Rattle.dom_model.specs.Worlds.World.{Mutation as PlainMutation};
-    ghost use Rattle.dom_observe.specs.Names.{name_of};
+    ghost use Rattle.dom_observe.specs.Names.{text_of};
 
     ghost Value = { PlainMutation };
 
     ghost view = { λ m. record {
       type = m.what;
       target = m.target;
-      name = name_of m.name;
-      old_value = m.old_value;
-      added = m.added.items;
-      removed = m.removed.items;
+      name = text_of m.name;
+      old_value = text_of m.old_value;
+      added = m.added.now;
+      removed = m.removed.now;
       previous = m.previous;
       next = m.next;
       standing = [];
@@ -78,22 +79,22 @@ impl Model for Mutation {
 }
 
 // A copy of a name.
-fn copied_name(alloc: Global, name: &Option<String>) -> Result<Option<String>, AllocError>
-    ensures { IfOk result (λ copy. name_of copy ≡ name_of name.now) }
+fn copied_name(alloc: Global, name: Option<&str>) -> Result<Option<String>, AllocError>
+    ensures { IfOk result (λ copy. name_of copy ≡ text_of name.entry) }
 {
     match name {
         None => Ok(None),
-        Some(name) => Ok(Some(String::from_str(alloc, name.as_str())?)),
+        Some(name) => Ok(Some(String::from_str(alloc, name)?)),
     }
 }
 
 // A copy of a value, where it is asked for.
 fn copied_value(
     alloc: Global,
-    value: &Option<Units>,
+    value: Option<&Units>,
     asked: bool,
 ) -> Result<Option<Units>, AllocError>
-    ensures { IfOk result (λ copy. copy ≡ (if asked then value.now else None)) }
+    ensures { IfOk result (λ copy. copy ≡ (if asked then text_of value.entry else None)) }
 {
     if !asked {
         return Ok(None);
@@ -104,15 +105,15 @@ fn copied_value(
     }
 }
 
-impl Mutation {
+impl Mutation<'_> {
     // A record of it, in memory of its own; with the old value where it is asked for.
     pub(crate) fn record(&self, alloc: Global, with_old_value: bool) -> Result<Record, AllocError>
         ensures { IfOk result (λ made. made ≡ record_with self.now (if with_old_value then self.now.old_value else None)) }
     {
-        let name = copied_name(alloc, &self.name)?;
-        let old_value = copied_value(alloc, &self.old_value, with_old_value)?;
-        let added = Vec::from_slice(alloc, self.added.as_slice())?;
-        let removed = Vec::from_slice(alloc, self.removed.as_slice())?;
+        let name = copied_name(alloc, self.name)?;
+        let old_value = copied_value(alloc, self.old_value, with_old_value)?;
+        let added = Vec::from_slice(alloc, self.added)?;
+        let removed = Vec::from_slice(alloc, self.removed)?;
         Ok(Record {
             what: self.what,
             target: self.target,
@@ -131,14 +132,10 @@ impl Mutation {
         ensures target { result.target ≡ self.now.target }
         ensures name { text_of result.name ≡ self.now.name }
     {
-        let name = match &self.name {
-            None => None,
-            Some(name) => Some(name.as_str()),
-        };
         Question {
             what: self.what,
             target: self.target,
-            name,
+            name: self.name,
         }
     }
 }

@@ -77,10 +77,10 @@ impl Ended {
     ghost use Rattle.dom_observe.specs.Registrations.{plain, spares};
 
     // Whether the step leaves the registration.
-    pub fn spares(self, registration: &Registration) -> bool
-        ensures { result ≡ spares self (plain registration.now) }
+    pub fn spares(&self, registration: &Registration) -> bool
+        ensures { result ≡ spares self.now (plain registration.now) }
     {
-        match self {
+        match *self {
             Ended::Transient => registration.source.is_none(),
             Ended::Of(observer) => registration.observer != observer,
             Ended::From(observer, node) => {

@@ -1,10 +1,11 @@
 //! The table of registrations, and the keys that each node has in it.
 
-ghost use Rattle.std.specs.Prelude.{◌≡◌, ◌≢◌, ℕ, ◌==◌, ◌++◌, [], ◌∷◌, not, length, filter, find, IfOk, OnOk, OnErr, is_some, option_map, nat_eq, if◌then◌else◌, false};
+ghost use Rattle.std.specs.Prelude.{◌≡◌, ◌≢◌, ◌≤◌, ◌<◌, ℕ, ◌==◌, ◌++◌, slice_index_or, [], ◌∷◌, not, length, filter, find, IfOk, OnOk, OnErr, is_some, option_map, nat_eq, if◌then◌else◌, false};
 ghost use Rattle.indexmap.specs.IndexMap.{IsUnique};
 ghost use Rattle.slab.specs.Slab.{get};
 ghost use Rattle.dom_observe.specs.Watchers.{on};
-ghost use Rattle.dom_observe.specs.Registrations.{plain, spares, at, found, listed, AllStand, is_live, left_by, own_at, with_new_options};
+ghost use Rattle.dom_observe.specs.Registrations.{plain, spares, at, found, listed, AllStand, HaveKeys, is_live, left_by, own_at, with_new_options};
+ghost use Rattle.dom_observe.specs.Kept.{keys_by};
 
 use crate::observer_id::ObserverId;
 use crate::options::Options;
@@ -13,17 +14,6 @@ use dom_tree::NodeId;
 use indexmap::IndexMap;
 use slab::Slab;
 use std::alloc::{AllocError, Global};
-
-// Takes out the registrations that a step ends.
-pub fn end(table: &mut Slab<Registration>, ended: Ended)
-    ensures { (key : ℕ) → at table.new key ≡ left_by ended (at table.old key) }
-{
-    table.retain(
-        |_key: usize, registration: &mut Registration| -> bool
-            ensures { (result ≡ spares ended (plain registration.old)) × (registration.new ≡ registration.old) }
-        { ended.spares(registration) },
-    );
-}
 
 // Whether there is a registration under the key.
 fn is_live(table: &Slab<Registration>, key: usize) -> bool
@@ -35,43 +25,11 @@ fn is_live(table: &Slab<Registration>, key: usize) -> bool
     }
 }
 
-// Takes out the keys under which nothing is left, and answers whether any is left.
-fn prune(table: &Slab<Registration>, keys: &mut Vec<usize>) -> bool
-    ensures kept { keys.new.items ≡ filter (is_live (at table.now)) keys.old.items }
-    ensures any { result ≡ not (length keys.new.items == 0) }
+// Takes out the keys under which nothing is left.
+pub fn prune(table: &Slab<Registration>, keys: &mut Vec<usize>)
+    ensures { keys.new.items ≡ filter (is_live (at table.now)) keys.old.items }
 {
     keys.retain(|key| is_live(table, *key));
-    !keys.is_empty()
-}
-
-// Takes out the keys under which nothing is left, and the nodes that have none.
-pub fn sweep(table: &Slab<Registration>, nodes: &mut IndexMap<u32, Vec<usize>>)
-    requires { IsUnique nat_eq nodes.old }
-    ensures swept { (n : ℕ) → on n (listed nodes.new.entries) ≡ filter (is_live (at table.now)) (on n (listed nodes.old.entries)) }
-    ensures unique { IsUnique nat_eq nodes.new }
-{
-    nodes.retain(
-        |_node: &u32, keys: &mut Vec<usize>| -> bool
-            ensures { (keys.new.items ≡ filter (is_live (at table.entry.now)) keys.old.items) × (result ≡ not (length keys.new.items == 0)) }
-        { prune(table, keys) },
-    );
-}
-
-// Takes out the transient registrations, where there may be any.
-pub fn end_transients(
-    table: &mut Slab<Registration>,
-    nodes: &mut IndexMap<u32, Vec<usize>>,
-    transient: bool,
-)
-    requires { IsUnique nat_eq nodes.old }
-    ensures found { (made : ℕ) → AllStand (at table.old) made transient (listed nodes.old.entries) → (n : ℕ) → found table.new (on n (listed nodes.new.entries)) ≡ filter (spares Ended.Transient) (found table.old (on n (listed nodes.old.entries))) }
-    ensures stand { (made : ℕ) → AllStand (at table.old) made transient (listed nodes.old.entries) → AllStand (at table.new) made false (listed nodes.new.entries) }
-    ensures unique { IsUnique nat_eq nodes.new }
-{
-    if transient {
-        end(table, Ended::Transient);
-        sweep(table, nodes);
-    }
 }
 
 // The keys of a node.
@@ -94,6 +52,7 @@ pub fn put_key(
     requires { IsUnique nat_eq nodes.old }
     ensures ok { OnOk result ((n : ℕ) → on n (listed nodes.new.entries) ≡ on n (listed nodes.old.entries) ++ (if n == node then key ∷ [] else [])) }
     ensures err { OnErr result (listed nodes.new.entries ≡ listed nodes.old.entries) }
+    ensures full { HaveKeys (listed nodes.old.entries) → HaveKeys (listed nodes.new.entries) }
     ensures unique { IsUnique nat_eq nodes.new }
 {
     let number = node.number();
@@ -139,4 +98,17 @@ pub fn set_options(table: &mut Slab<Registration>, key: usize, options: Options)
     if let Some(registration) = table.get_mut(key) {
         registration.options = options;
     }
+}
+
+// Makes room for the keys of one more observer than were made.
+pub fn seat(lists: &mut Vec<Vec<usize>>, made: usize, alloc: Global) -> Result<(), AllocError>
+    requires { made ≤ length lists.old.items }
+    ensures room { OnOk result (made < length lists.new.items) }
+    ensures same { (i : ℕ) → slice_index_or (keys_by lists.new.items) i [] ≡ slice_index_or (keys_by lists.old.items) i [] }
+    ensures len { length lists.old.items ≤ length lists.new.items }
+{
+    if lists.len() == made {
+        lists.push(Vec::new(alloc))?;
+    }
+    Ok(())
 }

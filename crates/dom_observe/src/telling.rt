@@ -1,7 +1,7 @@
 //! Who is told of a mutation, and with which record (DOM Standard, "queue a mutation record").
 
-ghost use Rattle.std.specs.Prelude.{◌≡◌, ◌<◌, ℕ, false, ◌==◌, [], ◌∷◌, ◌++◌, ◌||◌, true, if◌then◌else◌, length, map, unwrap_or, slice_index_or, nat_eq, None, Some, IfOk, OnOk, OnErr};
-ghost use Rattle.std.specs.List.{AllByRecursion};
+ghost use Rattle.std.specs.Prelude.{◌≡◌, ◌<◌, ℕ, Bool, false, ◌==◌, [], ◌∷◌, ◌++◌, ◌||◌, true, if◌then◌else◌, length, map, unwrap_or, slice_index_or, nat_eq, None, Some, IfOk, OnOk, OnErr};
+ghost use Rattle.std.specs.List.{AllByRecursion, list_any};
 ghost use Rattle.std.specs.Map.{lookup, keys_of};
 ghost use Rattle.indexmap.specs.IndexMap.{get, IsUnique};
 ghost use Rattle.dom_model.specs.PlainLists.Lists.{among};
@@ -9,6 +9,8 @@ ghost use Rattle.dom_model.specs.PlainLists.LastOnce.{with_all_last, with_last};
 ghost use Rattle.dom_observe.specs.Names.{text_of};
 ghost use Rattle.dom_observe.specs.Registrations.{at, Stands};
 ghost use Rattle.dom_observe.specs.Kept.{queues_of};
+ghost use Rattle.dom_observe.specs.Held.{nodes_of_mutation};
+ghost use Rattle.dom_observe.specs.Naming.{TellsNone};
 ghost use Rattle.dom_observe.specs.Telling.{listener_under, listeners, flag_of, delivered};
 
 use crate::observer_id::ObserverId;
@@ -48,7 +50,7 @@ fn note(heard: &mut IndexMap<u32, bool>, observer: ObserverId, asks: bool) -> Re
 }
 
 // Puts an observer on the pending list, where it is not there yet.
-fn pend(pending: &mut IndexSet<ObserverId>, observer: ObserverId) -> Result<(), AllocError>
+pub fn pend(pending: &mut IndexSet<ObserverId>, observer: ObserverId) -> Result<(), AllocError>
     ensures ok { OnOk result (pending.new.keys ≡ with_last pending.old.keys observer) }
     ensures err { OnErr result (pending.new.keys ≡ pending.old.keys) }
 {
@@ -96,13 +98,14 @@ fn deliver(queues: &mut Vec<Vec<Record>>, observer: u32, told: Record) -> Result
 pub fn tell(
     queues: &mut Vec<Vec<Record>>,
     heard: &IndexMap<u32, bool>,
-    mutation: &Mutation,
+    mutation: &Mutation<'_>,
     alloc: Global,
 ) -> Result<(), AllocError>
     requires unique { IsUnique nat_eq heard.now }
     requires made { AllByRecursion (λ o. o < length queues.old.items) (keys_of heard.now.entries) }
     ensures ok { OnOk result ((p : ℕ) → slice_index_or (queues_of queues.new.items) p [] ≡ slice_index_or (queues_of queues.old.items) p [] ++ delivered mutation.now (get nat_eq heard.now p)) }
     ensures others { (p : ℕ) → get nat_eq heard.now p ≡ None → slice_index_or (queues_of queues.new.items) p [] ≡ slice_index_or (queues_of queues.old.items) p [] }
+    ensures names { (p : ℕ → Bool) → list_any p (nodes_of_mutation mutation.now) ≡ false → TellsNone p (queues_of queues.old.items) → TellsNone p (queues_of queues.new.items) }
     ensures len { length queues.new.items ≡ length queues.old.items }
 {
     for index in 0..heard.len() {

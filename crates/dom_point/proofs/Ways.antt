@@ -1,45 +1,23 @@
--- A way up from a node, step by step, and the answers where two of them meet.
-use Rattle.std.proofs.Common.{◌≡◌, ℕ, ◌<◌, nat_lt, if◌then◌else◌, Option, Some, None, refl, ap, sym, ◌∙◌, subst}
+-- The answers where the ways up from two nodes meet.
+use Rattle.std.proofs.Common.{◌≡◌, ℕ, ◌<◌, nat_lt, if◌then◌else◌, Option, Some, None, ap, sym, ◌∙◌, subst}
 use Rattle.std.specs.Ordering.{nat_cmp}
 use Rattle.std.specs.declared.cmp.Ordering.TheVariants.{Less, Greater}
 use Rattle.dom_model.specs.PlainLists.Lists.{hits}
-use Rattle.dom_model.specs.Forests.Forest.{Forest, Grove, occurs, HasNode, parent_of, index_of, ancestors, root_of, IsForest}
+use Rattle.dom_model.specs.Forests.Forest.{Grove, HasNode, parent_of, index_of, ancestors, IsForest}
 use Rattle.dom_model.specs.Worlds.World.{Point}
 use Rattle.dom_model.specs.BoundaryPoints.Points.{order_of}
 use Rattle.dom_model.specs.RangesAndContents.Ranges.{common_ancestor}
-use Rattle.dom_model.proofs.Forests.Climbing.{hits-among, among-hits}
+use Rattle.dom_model.proofs.Forests.Climbing.{among-hits}
 use Rattle.dom_model.proofs.Forests.Chains.{index-apart}
 use Rattle.dom_model.proofs.Forests.Indices.{parent-there}
-use Rattle.dom_model.proofs.Forests.Paths.{parent-path}
-use Rattle.dom_model.proofs.Forests.Entries.{occurs-HasNode, HasNode-occurs}
+use Rattle.dom_model.proofs.Forests.Entries.{occurs-HasNode}
 use Rattle.dom_model.proofs.BoundaryPoints.PointOrder.{order-one_node, order-above}
-use Rattle.dom_point.specs.Ways.{IsOnWay, AreApart}
-use Rattle.dom_model.proofs.Forests.WaysMeeting.{above-itself, above-child, above-root, met-first, met-second, met-between}
+use Rattle.dom_tree.specs.Ways.{IsOnWay, AreApart}
+use Rattle.dom_tree.proofs.Ways.{way-held}
+use Rattle.dom_model.proofs.Forests.WaysMeeting.{met-first, met-second, met-between}
 use Rattle.dom_model.proofs.BoundaryPoints.OrderByWays.{path-through, order-below, order-beside}
 
 module _ {X : Type 0} {g : Grove X} (s : IsForest g) where
-  pub way-start : (n : ℕ) → HasNode g.forest n → IsOnWay g.forest n n None
-  way-start n h = record { above = hits-among n (ancestors n g.forest) (above-itself g.forest s.once n (occurs-HasNode g.forest n h)); through = refl }
-
-  -- where a way has come to is there
-  pub way-held : (n top : ℕ) (child : Option ℕ) → HasNode g.forest n → IsOnWay g.forest n top child → HasNode g.forest top
-  way-held n top None h w = subst (λ m. HasNode g.forest m) w.through h
-  way-held n top (Some c) h w =
-      let hc = parent-there g.forest c top w.through.0 in
-      HasNode-occurs g.forest top (parent-path g.forest s.once c top hc w.through.0).0
-
-  pub way-up : (n top q : ℕ) (child : Option ℕ) → HasNode g.forest n → IsOnWay g.forest n top child → parent_of g.forest top ≡ Some q → IsOnWay g.forest n q (Some top)
-  way-up n top q child h w e =
-      let hn = occurs-HasNode g.forest n h in
-      record {
-        above = hits-among q (ancestors n g.forest) (above-child g.forest s.once top q n hn (parent-there g.forest top q e) (among-hits top (ancestors n g.forest) w.above) e);
-        through = (e, w.above);
-      }
-
-  pub way-root : (n top : ℕ) (child : Option ℕ) → HasNode g.forest n → IsOnWay g.forest n top child → root_of g.forest top ≡ root_of g.forest n
-  way-root n top child h w =
-      above-root g.forest s.once top n (occurs-HasNode g.forest n h) (occurs-HasNode g.forest top (way-held n top child h w)) (among-hits top (ancestors n g.forest) w.above)
-
   -- where ways that meet come from different children, they meet in the deepest node above both
   pub ways-common : (n m c : ℕ) (first second : Option ℕ) → HasNode g.forest n → HasNode g.forest m → IsOnWay g.forest n c first → IsOnWay g.forest m c second → AreApart first second → c ≡ common_ancestor g.forest n m
   ways-common n m c None second hn hm v w ne =
@@ -51,7 +29,7 @@ module _ {X : Type 0} {g : Grove X} (s : IsForest g) where
       sym w.through
       ∙ sym (met-second g.forest s.once n m a (occurs-HasNode g.forest n hn) (occurs-HasNode g.forest m hm) (parent-there g.forest a m e) e (among-hits a (ancestors n g.forest) v.through.1))
   ways-common n m c (Some a) (Some b) hn hm v w ne =
-      sym (met-between g.forest s.once n m c a b (occurs-HasNode g.forest n hn) (occurs-HasNode g.forest m hm) (occurs-HasNode g.forest c (way-held n c (Some a) hn v)) (parent-there g.forest a c v.through.0) (parent-there g.forest b c w.through.0) v.through.0 w.through.0 (among-hits a (ancestors n g.forest) v.through.1) (among-hits b (ancestors m g.forest) w.through.1) ne)
+      sym (met-between g.forest s.once n m c a b (occurs-HasNode g.forest n hn) (occurs-HasNode g.forest m hm) (occurs-HasNode g.forest c (way-held s n c (Some a) hn v)) (parent-there g.forest a c v.through.0) (parent-there g.forest b c w.through.0) v.through.0 w.through.0 (among-hits a (ancestors n g.forest) v.through.1) (among-hits b (ancestors m g.forest) w.through.1) ne)
 
   -- points of one node
   pub order-same : (p q : Point) → p.node ≡ q.node → order_of g.forest p q ≡ nat_cmp p.offset q.offset

@@ -1,5 +1,5 @@
 pub mod Boundary
-pub mod Ways
+pub mod Refusals
 -- what crates above name of those below
 pub mod dom_links
 pub mod dom_pages

@@ -5,17 +5,19 @@ mod ancestors;
 mod laws;
 mod ordering;
 mod point;
+mod questions;
 
 pub use ancestors::common;
 pub use laws::{one_gap_each, points_as_gaps};
 pub use ordering::order;
 pub use point::Point;
+pub use questions::{checked_point, is_before, point_after, point_before, same_root};
 
 /// What crates above name of `dom_kinds`.
 pub mod of_kinds {
     pub use dom_tree::of_kinds::{
         DomError, Exception, Kind, Label, NodeType, is_attribute_name, is_doctype_name,
-        is_element_name,
+        is_element_name, may_be_parent,
     };
 }
 

@@ -1,18 +1,19 @@
 -- Ends asked one by one whether they stand inside a node.
-use Rattle.std.proofs.Common.{◌≡◌, ℕ, zero, suc, ◌+◌, ◌<◌, ◌≤◌, ◌==◌, true, false, Bool, List, [], ◌∷◌, length, map, get_or, set, Option, Some, None, IsSome, option_map, refl, sym, ap, ◌∙◌, ⊎_elim, arith}
+use Rattle.std.proofs.Common.{◌≡◌, ℕ, zero, suc, ◌+◌, ◌<◌, ◌≤◌, ◌==◌, true, false, nat_eq, Bool, if◌then◌else◌, List, [], ◌∷◌, ◌++◌, length, map, get_or, set, Option, Some, None, option_map, refl, sym, ap, ◌∙◌, ⊎_elim, arith}
 use Rattle.std.specs.List.{list_any, flat_map}
-use Rattle.std.proofs.lemmas.Bool.{cases_eq, eqb-true, false≢true}
+use Rattle.std.proofs.lemmas.Bool.{cases_Bool, cases_eq, false≢true}
 use Rattle.std.proofs.lemmas.List.{ext_get_or, length-map}
 use Rattle.dom_model.specs.PlainLists.Lists.{among}
-use Rattle.dom_model.specs.Worlds.World.{Point}
-use Rattle.dom_model.specs.MutationAlgorithms.Discarding.{nodes_of_live}
+use Rattle.dom_model.specs.Worlds.World.{Point, Range}
+use Rattle.dom_model.specs.MutationAlgorithms.Discarding.{nodes_of_live, nodes_of_range}
+use Rattle.indexmap.specs.IndexSet.{IndexSet, contains}
 use Rattle.dom_ranges.specs.declared.chains.End.{End}
-use Rattle.dom_ranges.specs.Chained.{Heads, point_at, points_of, cover_of, HasChains, Rechains, moved_first}
-use Rattle.dom_ranges.specs.Tables.{RangeTable, live_nodes, paired, IsPaired, by_slot, moved_in, nodes_at, stands_among, IsInOrder}
+use Rattle.dom_ranges.specs.Chained.{Heads, point_at, points_of, cover_of, HasChains, Rechains, moved_from}
+use Rattle.dom_ranges.specs.Tables.{RangeTable, live_nodes, paired, IsPaired, by_slot, moved_in, nodes_at, stands_among, NamesNodes, IsInOrder}
 use Rattle.dom_ranges.proofs.Steps.{points-at, points-length, same-length, point-written, point-kept, has-after}
 use Rattle.dom_ranges.proofs.Slots.{slots-any}
 use Rattle.dom_ranges.proofs.Pairs.{ranges-are}
-use Rattle.dom_ranges.proofs.Making.{among-any}
+use Rattle.dom_ranges.proofs.Making.{among-any, many}
 
 -- the nodes of the ends are those of the live ranges
 pub nodes-paired : (ps : List (Option Point)) → IsPaired ps → nodes_at ps ≡ flat_map nodes_of_live (paired ps)
@@ -23,18 +24,18 @@ nodes-paired (None ∷ Some q ∷ rest) k = absurd (false≢true k.0)
 nodes-paired (Some p ∷ None ∷ rest) k = absurd (false≢true (sym k.0))
 nodes-paired (Some p ∷ Some q ∷ rest) k = ap (λ ns. p.node ∷ q.node ∷ ns) (nodes-paired rest k.1)
 
-pub referred : (t : List End) (heads : Heads) (slots : List (Option ℕ)) (vacant : List ℕ) (live many room : ℕ) → IsInOrder t heads slots vacant live many room → (v : RangeTable)
+pub referred : (t : List End) (heads : Heads) (slots : List (Option ℕ)) (numbers : List ℕ) → IsInOrder t heads slots numbers → (v : RangeTable)
     → record { ranges = by_slot (paired (points_of t)) slots; covered = cover_of heads } ≡ v → (p : ℕ → Bool) → list_any p (nodes_at (points_of t)) ≡ list_any p (live_nodes v)
-referred t heads slots vacant live many room k v view p =
-    ap (list_any p) (nodes-paired (points_of t) k.ends.pairs)
-    ∙ sym (slots-any p (paired (points_of t)) slots k.numbered)
-    ∙ ap (λ rs. list_any p (flat_map nodes_of_live rs)) (sym (ranges-are t heads slots vacant live many room k v view))
+referred t heads slots numbers k v view p =
+    ap (list_any p) (nodes-paired (points_of t) k.pairs)
+    ∙ sym (slots-any p (paired (points_of t)) slots numbers k.numbered (many t heads slots numbers k))
+    ∙ ap (λ rs. list_any p (flat_map nodes_of_live rs)) (sym (ranges-are t heads slots numbers k v view))
 
 -- whether an end stands in a node, told of the ranges by number
-pub stands-told : (t : List End) (heads : Heads) (slots : List (Option ℕ)) (vacant : List ℕ) (live many room : ℕ) → IsInOrder t heads slots vacant live many room → (v : RangeTable)
+pub stands-told : (t : List End) (heads : Heads) (slots : List (Option ℕ)) (numbers : List ℕ) → IsInOrder t heads slots numbers → (v : RangeTable)
     → record { ranges = by_slot (paired (points_of t)) slots; covered = cover_of heads } ≡ v → (node : ℕ) → among node (nodes_at (points_of t)) ≡ among node (live_nodes v)
-stands-told t heads slots vacant live many room k v view node =
-    among-any node (nodes_at (points_of t)) ∙ referred t heads slots vacant live many room k v view (λ m. m == node) ∙ sym (among-any node (live_nodes v))
+stands-told t heads slots numbers k v view node =
+    among-any node (nodes_at (points_of t)) ∙ referred t heads slots numbers k v view (λ m. m == node) ∙ sym (among-any node (live_nodes v))
 
 -- an end that stands inside is moved, another stays
 pub moved-inside : (inside : List ℕ) (to : Point) (o : Option Point) → stands_among inside o ≡ true → Some to ≡ option_map (moved_in inside to) o
@@ -68,9 +69,9 @@ module _ (move : Point → Point) (t0 : List End) (heads0 : Heads) (t : List End
 
   -- the next end is moved
   pub asked-moves : (id : ℕ) (t' : List End) (heads' : Heads) (q : Point) → id ≡ index → index < length t → Some q ≡ option_map move (point_at t index) → points_of t' ≡ set (points_of t) id (Some q)
-      → Rechains (moved_first id q.node) t heads t' heads' → cover_of heads' ≡ cover_of heads → AreAsked move t0 heads0 t' heads' (index + 1)
+      → Rechains (moved_from id (point_at t id) q.node) t heads t' heads' → cover_of heads' ≡ cover_of heads → AreAsked move t0 heads0 t' heads' (index + 1)
   asked-moves id t' heads' q same within h written rechained wide = record {
-    chains = has-after (moved_first id q.node) t heads t' heads' are.chains rechained;
+    chains = has-after (moved_from id (point_at t id) q.node) t heads t' heads' are.chains rechained;
     long = same-length t t' id (Some q) written ∙ are.long;
     wide = wide ∙ are.wide;
     asked = λ e l.
@@ -90,3 +91,31 @@ module _ (move : Point → Point) (t0 : List End) (heads0 : Heads) (t : List End
       mapped [] e = refl
       mapped (x ∷ xs) zero = refl
       mapped (x ∷ xs) (suc e) = mapped xs e
+
+-- the nodes of static ranges, once there is one more
+pub named-more : (rs : List Range) (p q : Point) (n : ℕ) → among n (flat_map nodes_of_range (rs ++ record { start = p; end = q } ∷ [])) ≡ (if q.node == n then true else (if p.node == n then true else among n (flat_map nodes_of_range rs)))
+named-more [] p q n =
+    ⊎_elim (λ (a : (p.node == n) ≡ true). rw a (one (q.node == n))) (λ (a : (p.node == n) ≡ false). rw a refl) (cases_Bool (p.node == n))
+  where
+    one : (b : Bool) → true ≡ (if b then true else true)
+    one true = refl
+    one false = refl
+named-more (r ∷ rs) p q n =
+    ⊎_elim (λ (a : (r.start.node == n) ≡ true). rw a (either (q.node == n) (p.node == n)))
+    (λ (a : (r.start.node == n) ≡ false).
+    ⊎_elim (λ (b : (r.end.node == n) ≡ true). rw (a, b) (either (q.node == n) (p.node == n))) (λ (b : (r.end.node == n) ≡ false). rw (a, b) (named-more rs p q n)) (cases_Bool (r.end.node == n))) (cases_Bool (r.start.node == n))
+  where
+    either : (a b : Bool) → true ≡ (if a then true else (if b then true else true))
+    either true b = refl
+    either false true = refl
+    either false false = refl
+
+-- the same of a set that had the nodes of the ranges before, and two more were put in
+pub names-more : {S : Type 0} (rs rs' : List Range) (s s0 s1 s2 : IndexSet ℕ S) (p q : Point) (i j : ℕ) → NamesNodes rs s → s0.keys ≡ s.keys → i ≡ p.node → j ≡ q.node → rs' ≡ rs ++ record { start = p; end = q } ∷ []
+    → ((n : ℕ) → contains nat_eq s1 n ≡ (if i == n then true else contains nat_eq s0 n)) → ((n : ℕ) → contains nat_eq s2 n ≡ (if j == n then true else contains nat_eq s1 n)) → NamesNodes rs' s2
+names-more rs rs' s s0 s1 s2 p q i j named same first second pushed one two n =
+    two n
+    ∙ ap (λ b. if j == n then true else b) (one n ∙ ap (λ b. if i == n then true else b) (ap (list_any (nat_eq n)) same ∙ named n))
+    ∙ ap (λ m. if m == n then true else (if i == n then true else among n (flat_map nodes_of_range rs))) second
+    ∙ ap (λ m. if q.node == n then true else (if m == n then true else among n (flat_map nodes_of_range rs))) first
+    ∙ sym (ap (λ xs. among n (flat_map nodes_of_range xs)) pushed ∙ named-more rs p q n)

@@ -318,23 +318,3 @@ module _ (v : RangeTable) (inside : List ℕ) (parent index : ℕ) where
 
 pub if-some : (o : Option ℕ) (P : ℕ → Type 0) (x : ℕ) → o ≡ Some x → P x → IfSome o P
 if-some o P x h p = subst (λ (y : Option ℕ). IfSome y P) (sym h) p
-
--- to stand inside is to have the node among the inclusive ancestors
-module _ {X : Type 0} (g : Grove X) (s : IsForest g) (top n : ℕ) where
-  pub inside-same : among top (ancestors n g.forest) ≡ among n (inclusive_descendants g.forest top)
-  inside-same =
-      ⊎_elim (λ (a : among top (ancestors n g.forest) ≡ true).
-      let i = inside s top n a in
-      a ∙ sym (hits-among n (inclusive_descendants g.forest top) (omega (arith, hits-numbers n (tree_at top g.forest)))))
-      (λ (a : among top (ancestors n g.forest) ≡ false).
-      ⊎_elim (λ (b : among n (inclusive_descendants g.forest top) ≡ true).
-      let c = inside-among s top n (omega (arith, hits-numbers n (tree_at top g.forest), among-there n (inclusive_descendants g.forest top) b)) in
-      absurd (false≢true (sym a ∙ c)))
-      (λ (b : among n (inclusive_descendants g.forest top) ≡ false). a ∙ sym b) (cases_Bool (among n (inclusive_descendants g.forest top)))) (cases_Bool (among top (ancestors n g.forest)))
-
-  pub none-inside : is_some (entry_in g.forest n) ≡ false → false ≡ among n (inclusive_descendants g.forest top)
-  none-inside h =
-      ⊎_elim (λ (b : among n (inclusive_descendants g.forest top) ≡ true).
-      let l : 0 < occurs n g.forest = omega (arith, hits-numbers n (tree_at top g.forest), among-there n (inclusive_descendants g.forest top) b, total-tree_at (one_at n) top g.forest) in
-      absurd (false≢true (sym h ∙ HasNode-occurs g.forest n l)))
-      (λ (b : among n (inclusive_descendants g.forest top) ≡ false). sym b) (cases_Bool (among n (inclusive_descendants g.forest top)))

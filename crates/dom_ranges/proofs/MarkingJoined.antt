@@ -116,6 +116,7 @@ module _ (w : World) (s : IsSound w) (n next parent : ℕ) (par : parent_of w.fo
     iterators = sound.iterators;
     walkers = sound.walkers;
     registrations = sound.registrations;
+    statics = sound.statics;
   }
 
   leave-joined : Leave (Merge n next ∷ []) w (remove true next moved)

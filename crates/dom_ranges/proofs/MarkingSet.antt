@@ -1,5 +1,5 @@
 -- The live ranges stand as their markers do, before one of them is set anew and after it.
-use Rattle.std.proofs.Common.{◌≡◌, ℕ, Bool, List, [], ◌∷◌, Option, Some, None, IfSome, sym, subst}
+use Rattle.std.proofs.Common.{◌≡◌, ℕ, [], ◌∷◌, Option, Some, None, IfSome, sym, subst}
 use Rattle.dom_model.specs.declared.Kind.TheVariants.{DocumentType}
 use Rattle.dom_model.specs.declared.DomError.TheVariants.{InvalidNodeTypeError}
 use Rattle.dom_model.specs.Worlds.Lengths.{unit_count}
@@ -20,7 +20,7 @@ use Rattle.dom_model.proofs.TokenText.Marked.MarkedEdits.{ranges-found, markers-
 use Rattle.dom_model.proofs.TokenText.EditsMade.FittingEdits.{ready-laid, ready-sound}
 use Rattle.dom_model.proofs.TokenText.EditsMade.EditsLeave.{laid}
 use Rattle.dom_model.proofs.TokenText.EditsMade.EditsOfSteps.{leave-ends}
-use Rattle.dom_ranges.specs.Markers.{SetAsMarkers, IsSetAsMarkers, MoveWhereEndsAreSet}
+use Rattle.dom_ranges.specs.Markers.{SetAsMarkers, MoveWhereEndsAreSet}
 
 module _ (w : World) (s : IsSound w) (r : ℕ) (old : Range) (e : range_at w r ≡ Some old) where
   -- a range of the forest in place of another

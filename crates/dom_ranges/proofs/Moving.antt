@@ -4,13 +4,14 @@ use Rattle.std.proofs.lemmas.Bool.{cases_Bool, cases_eq, cases_lt, false≢true,
 use Rattle.std.proofs.lemmas.Bool.Decides.{nat_tests}
 use Rattle.std.proofs.lemmas.List.{length-map, get_or_past}
 use Rattle.dom_model.specs.Worlds.World.{Point, Range}
-use Rattle.dom_model.specs.BoundaryPoints.Points.{after_gap, after_splice, after_split, after_merge, moved_range, map_ranges}
+use Rattle.dom_model.specs.BoundaryPoints.Points.{after_gap, after_splice, after_split, after_merge, map_ranges}
 use Rattle.dom_ranges.specs.declared.chains.End.{End}
 use Rattle.dom_ranges.specs.Chained.{Heads, covers, cover_of, point_at, points_of, HasChains, on_node, MovesWithin, GoesElsewhere, StaysBeside}
-use Rattle.dom_ranges.specs.Tables.{RangeTable, FitsMoved, OffsetsFit, paired, IsPaired, live_count, in_slot, by_slot, slot_at, IsKept, AreVacant, HaveSlots, IsFilled, IsInOrder}
+use Rattle.dom_ranges.specs.Tables.{RangeTable, FitsMoved, OffsetsFit, paired, IsPaired, live_count, in_slot, by_slot, slot_at, number_at, HaveSlots, IsInOrder}
 use Rattle.dom_ranges.proofs.Chained as Chained
 use Rattle.dom_ranges.proofs.Steps.{points-at, points-length}
-use Rattle.dom_ranges.proofs.Slots.{by_slot-at, by_slot-map, slots-same, vacant-same, map-some}
+use Rattle.dom_ranges.proofs.Slots.{by_slot-at, by_slot-map, slots-same, map-some, some-within}
+use Rattle.dom_ranges.proofs.Making.{many}
 use Rattle.dom_ranges.proofs.Pairs.{paired-map, IsPaired-map, live-map, ranges-are, covered-is}
 
 -- the same map, of optional points and of ranges
@@ -65,45 +66,33 @@ second-within a b g t t1 n m away d h w within e p at there =
         let r = within e p (q ∙ ap Some same) there in
         (r.0, ap (λ cs. covers cs (g p).node) w ∙ r.1)) (cases_eq x.node a)
 
--- a shift of all ends
-module _ (t : List End) (heads : Heads) (live : ℕ) (k : IsKept t heads live) (g : Point → Point) (t' : List End) (heads' : Heads) (moved : points_of t' ≡ map (λ (o : Option Point). option_map g o) (points_of t)) (chains : HasChains t' heads') where
-  pub IsKept-shifted : IsKept t' heads' live
-  IsKept-shifted = record {
-    chains = chains;
-    pairs = subst IsPaired (sym moved) (IsPaired-map g (points_of t) k.pairs);
-    alive = k.alive ∙ sym (ap (λ ps. live_count (paired ps)) moved ∙ ap live_count (paired-map g (points_of t)) ∙ live-map g (paired (points_of t)));
-    small =
-        let a : length (points_of t') ≡ length (points_of t) = ap length moved ∙ length-map (points_of t) (λ (o : Option Point). option_map g o) in
-        omega (arith, a, points-length t', points-length t, k.small);
-  }
-
--- the same of the ranges by number
-module _ (t : List End) (heads : Heads) (slots : List (Option ℕ)) (vacant : List ℕ) (live many room : ℕ) (k : IsInOrder t heads slots vacant live many room) (g : Point → Point) (t' : List End) (heads' : Heads) (moved : points_of t' ≡ map (λ (o : Option Point). option_map g o) (points_of t)) (chains : HasChains t' heads') where
+-- a shift of all ends, of the ranges by number
+module _ (t : List End) (heads : Heads) (slots : List (Option ℕ)) (numbers : List ℕ) (k : IsInOrder t heads slots numbers) (g : Point → Point) (t' : List End) (heads' : Heads) (moved : points_of t' ≡ map (λ (o : Option Point). option_map g o) (points_of t)) (chains : HasChains t' heads') where
   pairs-moved : paired (points_of t') ≡ map_ranges g (paired (points_of t))
   pairs-moved = ap paired moved ∙ paired-map g (points_of t)
 
-  pub order-shifted : IsInOrder t' heads' slots vacant live many room
+  ranges-moved : by_slot (paired (points_of t')) slots ≡ map_ranges g (by_slot (paired (points_of t)) slots)
+  ranges-moved = ap (λ ps. by_slot ps slots) pairs-moved ∙ by_slot-map g (paired (points_of t)) slots
+
+  same : length t' ≡ length t
+  same = sym (points-length t') ∙ ap length moved ∙ length-map (points_of t) (λ (o : Option Point). option_map g o) ∙ points-length t
+
+  pub order-shifted : IsInOrder t' heads' slots numbers
   order-shifted = record {
-    ends = IsKept-shifted t heads live k.ends g t' heads' moved chains;
-    numbered = subst (λ ps. HaveSlots ps slots) (sym pairs-moved) (slots-same (paired (points_of t)) (map_ranges g (paired (points_of t))) slots (map-some g (paired (points_of t))) k.numbered);
-    empty =
-        subst (λ ps. AreVacant ps vacant) (sym pairs-moved)
-        (vacant-same (paired (points_of t)) (map_ranges g (paired (points_of t))) vacant (omega (arith, length-map (paired (points_of t)) (λ (o : Option Range). option_map (moved_range g) o))) (λ s l. map-some g (paired (points_of t)) s) k.empty);
-    filled =
-        let n : length t' ≡ length t = sym (points-length t') ∙ ap length moved ∙ length-map (points_of t) (λ (o : Option Point). option_map g o) ∙ points-length t in
-        subst (λ m. IsFilled m live many room) (sym n) k.filled;
-    few =
-        let n : length t' ≡ length t = sym (points-length t') ∙ ap length moved ∙ length-map (points_of t) (λ (o : Option Point). option_map g o) ∙ points-length t in
-        omega (arith, n, k.few);
+    chains = chains;
+    pairs = subst IsPaired (sym moved) (IsPaired-map g (points_of t) k.pairs);
+    numbered = subst (λ ps. HaveSlots ps slots numbers) (sym pairs-moved) (slots-same (paired (points_of t)) (map_ranges g (paired (points_of t))) slots numbers (map-some g (paired (points_of t))) k.numbered);
+    long = same ∙ k.long;
+    counted = k.counted ∙ sym (ap live_count ranges-moved ∙ live-map g (by_slot (paired (points_of t)) slots));
+    small = omega (arith, same, k.small);
   }
 
   pub view-shifted : (v : RangeTable) → record { ranges = by_slot (paired (points_of t)) slots; covered = cover_of heads } ≡ v → cover_of heads' ≡ cover_of heads
       → record { ranges = by_slot (paired (points_of t')) slots; covered = cover_of heads' } ≡ record v { ranges = map_ranges g v.ranges }
   view-shifted v view w =
-      let x : by_slot (paired (points_of t')) slots ≡ map_ranges g (by_slot (paired (points_of t)) slots) = ap (λ ps. by_slot ps slots) pairs-moved ∙ by_slot-map g (paired (points_of t)) slots in
-      let y : v.ranges ≡ by_slot (paired (points_of t)) slots = ranges-are t heads slots vacant live many room k v view in
-      let z : v.covered ≡ cover_of heads = covered-is t heads slots vacant live many room k v view in
-      rw (x, w, y, z) refl
+      let y : v.ranges ≡ by_slot (paired (points_of t)) slots = ranges-are t heads slots numbers k v view in
+      let z : v.covered ≡ cover_of heads = covered-is t heads slots numbers k v view in
+      rw (ranges-moved, w, y, z) refl
 
 -- offsets that fit, of the points
 fits-points : (g : Point → Point) (ps : List (Option Point)) → IsPaired ps → ((r : ℕ) (range : Range) → get_or (paired ps) r None ≡ Some range → FitsMoved g range) → (e : ℕ) (p : Point) → get_or ps e None ≡ Some p → p.offset < 2 ^ 64 → (g p).offset < 2 ^ 64
@@ -125,18 +114,19 @@ fits-one g rs fit r range h =
     subst (λ (o : Option Range). IfSome o (FitsMoved g)) h a)
     (λ (past : length rs ≤ r). let z : None ≡ Some range = sym (get_or_past rs r None past) ∙ h in cc) (cases_lt r (length rs))
 
-module _ (t : List End) (heads : Heads) (slots : List (Option ℕ)) (vacant : List ℕ) (live many room : ℕ) (k : IsInOrder t heads slots vacant live many room) (v : RangeTable) (view : record { ranges = by_slot (paired (points_of t)) slots; covered = cover_of heads } ≡ v) where
+module _ (t : List End) (heads : Heads) (slots : List (Option ℕ)) (numbers : List ℕ) (k : IsInOrder t heads slots numbers) (v : RangeTable) (view : record { ranges = by_slot (paired (points_of t)) slots; covered = cover_of heads } ≡ v) where
   fits-pair : (g : Point → Point) → OffsetsFit g v.ranges → (s : ℕ) (range : Range) → get_or (paired (points_of t)) s None ≡ Some range → FitsMoved g range
   fits-pair g fit s range at =
-      let there : slot_at slots (k.numbered.number s) ≡ Some s = k.numbered.held s (ap is_some at) in
-      fits-one g v.ranges fit (k.numbered.number s) range
-      (ap (λ rs. get_or rs (k.numbered.number s) None) (ranges-are t heads slots vacant live many room k v view) ∙ by_slot-at (paired (points_of t)) slots (k.numbered.number s) ∙ ap (in_slot (paired (points_of t))) there ∙ at)
+      let r = number_at numbers s in
+      let there : slot_at slots r ≡ Some s = k.numbered.held s (omega (arith, some-within (paired (points_of t)) s (ap is_some at), many t heads slots numbers k)) in
+      fits-one g v.ranges fit r range
+      (ap (λ rs. get_or rs r None) (ranges-are t heads slots numbers k v view) ∙ by_slot-at (paired (points_of t)) slots r ∙ ap (in_slot (paired (points_of t))) there ∙ at)
 
   pub point-fits : (g : Point → Point) → OffsetsFit g v.ranges → (e : ℕ) (p : Point) → point_at t e ≡ Some p → p.offset < 2 ^ 64 → (g p).offset < 2 ^ 64
-  point-fits g fit e p h = fits-points g (points_of t) k.ends.pairs (fits-pair g fit) e p (points-at t e ∙ h)
+  point-fits g fit e p h = fits-points g (points_of t) k.pairs (fits-pair g fit) e p (points-at t e ∙ h)
 
   pub point-covered : (e : ℕ) (p : Point) → point_at t e ≡ Some p → covers (cover_of heads) p.node ≡ true
-  point-covered e p h = let c = k.ends.chains in Chained.point-covered c.chain t heads c.chained e p h
+  point-covered e p h = let c = k.chains in Chained.point-covered c.chain t heads c.chained e p h
 
   -- where the nodes of the moved points have chains
   pub moves-within : (g : Point → Point) → OffsetsFit g v.ranges → ((p : Point) → covers (cover_of heads) p.node ≡ true → covers (cover_of heads) (g p).node ≡ true) → (n : ℕ) → MovesWithin n g t (cover_of heads)

@@ -1,11 +1,11 @@
 -- Ranges are pairs of ends: what a change of the ends is to the ranges.
-use Rattle.std.proofs.Common.{◌≡◌, ℕ, zero, suc, ◌+◌, ◌<◌, ◌^◌, if◌then◌else◌, List, [], ◌∷◌, ◌++◌, length, map, get_or, set, Option, Some, None, IsSome, is_some, option_map, refl, sym, ap, subst, ◌∙◌, arith}
+use Rattle.std.proofs.Common.{◌≡◌, ℕ, zero, suc, ◌+◌, ◌<◌, if◌then◌else◌, List, [], ◌∷◌, ◌++◌, length, map, get_or, set, take, Option, Some, None, IsSome, is_some, option_map, refl, sym, ap, subst, ◌∙◌, arith}
 use Rattle.std.proofs.lemmas.Bool.{false≢true}
 use Rattle.dom_model.specs.Worlds.World.{Point, Range}
 use Rattle.dom_model.specs.BoundaryPoints.Points.{moved_range, map_ranges}
 use Rattle.dom_ranges.specs.declared.chains.End.{End}
 use Rattle.dom_ranges.specs.Chained.{Heads, cover_of, point_at, points_of}
-use Rattle.dom_ranges.specs.Tables.{RangeTable, range_in, both, paired, IsPaired, live_count, in_slot, by_slot, slot_at, IsInOrder}
+use Rattle.dom_ranges.specs.Tables.{RangeTable, range_in, both, paired, IsPaired, live_count, in_slot, by_slot, slot_at, without_slot, IsInOrder}
 use Rattle.dom_ranges.proofs.Steps.{points-at, some-within, point-kept}
 use Rattle.dom_ranges.proofs.Slots.{by_slot-at}
 
@@ -75,18 +75,32 @@ paired-length [] k = refl
 paired-length (s ∷ []) k = absurd k
 paired-length (s ∷ e ∷ rest) k = omega (arith, paired-length rest k.1)
 
+-- the two ends of a range both stand somewhere, or neither does
+paired-pair : (ps : List (Option Point)) (r : ℕ) → IsPaired ps → is_some (get_or ps (twice r) None) ≡ is_some (get_or ps (suc (twice r)) None)
+paired-pair [] r h = refl
+paired-pair (s ∷ []) r h = absurd h
+paired-pair (s ∷ e ∷ rest) zero h = h.0
+paired-pair (s ∷ e ∷ rest) (suc r) h = paired-pair rest r h.1
+
+-- the points once the last slot came into another
+take-paired : (l : ℕ) (ps : List (Option Point)) → paired (take (twice l) ps) ≡ take l (paired ps)
+take-paired zero ps = refl
+take-paired (suc l) [] = refl
+take-paired (suc l) (x ∷ []) = refl
+take-paired (suc l) (x ∷ y ∷ rest) = ap (λ rs. both x y ∷ rs) (take-paired l rest)
+
+IsPaired-take : (l : ℕ) (ps : List (Option Point)) → IsPaired ps → IsPaired (take (twice l) ps)
+IsPaired-take zero ps k = tt
+IsPaired-take (suc l) [] k = tt
+IsPaired-take (suc l) (x ∷ []) k = absurd k
+IsPaired-take (suc l) (x ∷ y ∷ rest) k = (k.0, IsPaired-take l rest k.1)
+
 -- the count of live ranges
 pub live-set : (rs : List (Option Range)) (r : ℕ) (x : Option Range) → IsSome (get_or rs r None) → suc (live_count (set rs r x)) ≡ (if is_some x then 1 else 0) + live_count rs
 live-set [] r x h = absurd (false≢true h)
 live-set (None ∷ rs) zero x h = absurd (false≢true h)
 live-set (Some y ∷ rs) zero x h = omega arith
 live-set (y ∷ rs) (suc r) x h = omega (arith, live-set rs r x h)
-
-pub live-filled : (rs : List (Option Range)) (r : ℕ) (x : Range) → r < length rs → get_or rs r None ≡ None → live_count (set rs r (Some x)) ≡ suc (live_count rs)
-live-filled [] r x w h = absurd (omega arith)
-live-filled (None ∷ rs) zero x w h = omega arith
-live-filled (Some y ∷ rs) zero x w h = absurd (cc h)
-live-filled (y ∷ rs) (suc r) x w h = omega (arith, live-filled rs r x (omega arith) h)
 
 pub live-append : (rs : List (Option Range)) (x : Option Range) → live_count (rs ++ x ∷ []) ≡ (if is_some x then 1 else 0) + live_count rs
 live-append [] x = omega arith
@@ -116,6 +130,34 @@ both-second None e h = absurd (false≢true h)
 both-second (Some p) None h = absurd (false≢true h)
 both-second (Some p) (Some q) h = refl
 
+-- the range in the last slot comes into another
+module _ (t t' : List End) (s l : ℕ) (k : IsPaired (points_of t)) (left : points_of t' ≡ without_slot s l (points_of t)) where
+  abbrev ps : List (Option Point)
+  ps = points_of t
+
+  left-points : points_of t' ≡ take (twice l) (set (set ps (twice s) (get_or ps (twice l) None)) (suc (twice s)) (get_or ps (suc (twice l)) None))
+  left-points =
+      let a : s + s + 1 ≡ suc (twice s) = omega (arith, twice-is s) in
+      let b : l + l + 1 ≡ suc (twice l) = omega (arith, twice-is l) in
+      left
+      ∙ ap (λ n. take n (set (set ps (s + s) (get_or ps n None)) (s + s + 1) (get_or ps (l + l + 1) None))) (sym (twice-is l))
+      ∙ ap (λ n. take (twice l) (set (set ps n (get_or ps (twice l) None)) (s + s + 1) (get_or ps (l + l + 1) None))) (sym (twice-is s))
+      ∙ ap (λ n. take (twice l) (set (set ps (twice s) (get_or ps (twice l) None)) n (get_or ps (l + l + 1) None))) a
+      ∙ ap (λ n. take (twice l) (set (set ps (twice s) (get_or ps (twice l) None)) (suc (twice s)) (get_or ps n None))) b
+
+  pub left-ranges : paired (points_of t') ≡ take l (set (paired ps) s (get_or (paired ps) l None))
+  left-ranges =
+      ap paired left-points
+      ∙ take-paired l (set (set ps (twice s) (get_or ps (twice l) None)) (suc (twice s)) (get_or ps (suc (twice l)) None))
+      ∙ ap (take l) (paired-set ps s (get_or ps (twice l) None) (get_or ps (suc (twice l)) None))
+      ∙ ap (λ r. take l (set (paired ps) s r)) (sym (paired-at ps l))
+
+  pub left-paired : IsPaired (points_of t')
+  left-paired =
+      subst IsPaired (sym left-points)
+      (IsPaired-take l (set (set ps (twice s) (get_or ps (twice l) None)) (suc (twice s)) (get_or ps (suc (twice l)) None))
+      (IsPaired-set ps s (get_or ps (twice l) None) (get_or ps (suc (twice l)) None) (paired-pair ps l k) k))
+
 -- the two ends of a range written
 module _ (t t1 t2 : List End) (r : ℕ) (s e : Option Point) (first : points_of t1 ≡ set (points_of t) (r + r) s) (second : points_of t2 ≡ set (points_of t1) (r + r + 1) e) where
   written-points : points_of t2 ≡ set (set (points_of t) (twice r) s) (suc (twice r)) e
@@ -129,34 +171,8 @@ module _ (t t1 t2 : List End) (r : ℕ) (s e : Option Point) (first : points_of 
   pub written-paired : is_some s ≡ is_some e → IsPaired (points_of t) → IsPaired (points_of t2)
   written-paired h k = subst IsPaired (sym written-points) (IsPaired-set (points_of t) r s e h k)
 
-  pub written-live : IsSome (both (point_at t (r + r)) (point_at t (r + r + 1))) → suc (live_count (paired (points_of t2))) ≡ (if is_some (both s e) then 1 else 0) + live_count (paired (points_of t))
-  written-live h = ap (λ rs. suc (live_count rs)) written-ranges ∙ live-set (paired (points_of t)) r (both s e) (rw (range-is t r) h)
-
--- the two ends of a range both stand somewhere, or neither does
-pub paired-pair : (ps : List (Option Point)) (r : ℕ) → IsPaired ps → is_some (get_or ps (twice r) None) ≡ is_some (get_or ps (suc (twice r)) None)
-paired-pair [] r h = refl
-paired-pair (s ∷ []) r h = absurd h
-paired-pair (s ∷ e ∷ rest) zero h = h.0
-paired-pair (s ∷ e ∷ rest) (suc r) h = paired-pair rest r h.1
-
-empty-both : (s e : Option Point) → is_some s ≡ is_some e → both s e ≡ None → (s ≡ None) × (e ≡ None)
-empty-both None None k h = (refl, refl)
-empty-both None (Some q) k h = absurd (false≢true k)
-empty-both (Some p) None k h = absurd (false≢true (sym k))
-empty-both (Some p) (Some q) k h = absurd (cc h)
-
-pub empty-ends : (t : List End) (r : ℕ) → IsPaired (points_of t) → get_or (paired (points_of t)) r None ≡ None → (point_at t (r + r) ≡ None) × (point_at t (r + r + 1) ≡ None)
-empty-ends t r k h =
-    empty-both (point_at t (r + r)) (point_at t (r + r + 1)) same (sym (range-is t r) ∙ h)
-  where
-    at : (i j : ℕ) → i ≡ j → get_or (points_of t) i None ≡ point_at t j
-    at i j q = ap (λ n. get_or (points_of t) n None) q ∙ points-at t j
-
-    same : is_some (point_at t (r + r)) ≡ is_some (point_at t (r + r + 1))
-    same = ap is_some (sym (at (twice r) (r + r) (twice-is r))) ∙ paired-pair (points_of t) r k ∙ ap is_some (at (suc (twice r)) (r + r + 1) (omega (arith, twice-is r)))
-
 -- the ranges by number
-module _ (t : List End) (heads : Heads) (slots : List (Option ℕ)) (vacant : List ℕ) (live many room : ℕ) (k : IsInOrder t heads slots vacant live many room) (v : RangeTable) (view : record { ranges = by_slot (paired (points_of t)) slots; covered = cover_of heads } ≡ v) where
+module _ (t : List End) (heads : Heads) (slots : List (Option ℕ)) (numbers : List ℕ) (k : IsInOrder t heads slots numbers) (v : RangeTable) (view : record { ranges = by_slot (paired (points_of t)) slots; covered = cover_of heads } ≡ v) where
   pub ranges-are : v.ranges ≡ by_slot (paired (points_of t)) slots
   ranges-are = sym (ap (λ (x : RangeTable). x.ranges) view)
 
@@ -165,6 +181,13 @@ module _ (t : List End) (heads : Heads) (slots : List (Option ℕ)) (vacant : Li
 
   range-in : (r : ℕ) → range_in v r ≡ in_slot (paired (points_of t)) (slot_at slots r)
   range-in r = ap (λ rs. get_or rs r None) ranges-are ∙ by_slot-at (paired (points_of t)) slots r
+
+  pub held-is : (r : ℕ) → is_some (slot_at slots r) ≡ is_some (range_in v r)
+  held-is r = go (slot_at slots r) refl
+    where
+      go : (o : Option ℕ) → slot_at slots r ≡ o → is_some (slot_at slots r) ≡ is_some (range_in v r)
+      go None e = ap is_some e ∙ sym (ap is_some (range-in r ∙ ap (in_slot (paired (points_of t))) e))
+      go (Some s) e = ap is_some e ∙ sym (ap is_some (range-in r ∙ ap (in_slot (paired (points_of t))) e) ∙ k.numbered.full r s e)
 
   -- the slot and its ends
   module _ (r s : ℕ) (slot : slot_at slots r ≡ Some s) where

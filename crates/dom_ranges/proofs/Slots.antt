@@ -1,14 +1,12 @@
 -- The slots of the numbers: what a change of the ranges by slot is to the ranges by number.
-use Rattle.std.proofs.Common.{◌≡◌, ℕ, zero, suc, ◌+◌, ◌≤◌, ◌<◌, ◌==◌, Bool, true, false, if◌then◌else◌, List, [], ◌∷◌, ◌++◌, length, get_or, set, Option, Some, None, IsSome, is_some, option_map, refl, sym, ap, subst, ◌∙◌, ◌⊎◌, inl, inr, ⊎_elim, arith, length-set, length-append, get_or-set_same, get_or-set_other}
+use Rattle.std.proofs.Common.{◌≡◌, ℕ, zero, suc, ◌+◌, ◌≤◌, ◌<◌, Bool, true, false, List, [], ◌∷◌, ◌++◌, length, get_or, set, take, Option, Some, None, IsSome, is_some, option_map, refl, sym, ap, subst, ◌∙◌, ◌⊎◌, inl, inr, ⊎_elim, arith, length-set, length-append, get_or-set_same, get_or-set_other}
 use Rattle.std.specs.List.{flat_map, list_any}
-use Rattle.std.proofs.lemmas.Bool.{cases_Bool, cases_eq, cases_lt, eq-eqb, ne_eqb, false≢true}
-use Rattle.std.proofs.lemmas.List.{map-set, map-append, set-set, get_or_past}
-use Rattle.dom_model.specs.PlainLists.Lists.{hits}
+use Rattle.std.proofs.lemmas.Bool.{cases_Bool, cases_eq, cases_lt, false≢true}
+use Rattle.std.proofs.lemmas.List.{map-append, get_or_past, get_or-take, get_or_append_left, ext_get_or, length-map, length-take}
 use Rattle.dom_model.specs.Worlds.World.{Point, Range}
 use Rattle.dom_model.specs.BoundaryPoints.Points.{moved_range, map_ranges}
 use Rattle.dom_model.specs.MutationAlgorithms.Discarding.{nodes_of_live}
-use Rattle.dom_model.proofs.Forests.Climbing.{hits-append}
-use Rattle.dom_ranges.specs.Tables.{in_slot, by_slot, slot_at, live_count, AreVacant, HaveSlots, Settles}
+use Rattle.dom_ranges.specs.Tables.{in_slot, by_slot, slot_at, number_at, live_count, HaveSlots}
 
 pub by_slot-at : (pairs : List (Option Range)) (slots : List (Option ℕ)) (r : ℕ) → get_or (by_slot pairs slots) r None ≡ in_slot pairs (get_or slots r None)
 by_slot-at pairs [] r = refl
@@ -37,13 +35,6 @@ by_slot-set pairs pairs' (o ∷ os) (suc r) h =
     ap (λ (x : Option Range). x ∷ by_slot pairs' os) (in-same pairs pairs' o (λ s. h 0 s (λ e. omega arith)))
     ∙ ap (λ xs. in_slot pairs o ∷ xs) (by_slot-set pairs pairs' os r (λ q s d. h (suc q) s (λ e. d (omega arith))))
 
-pub by_slot-cleared : (pairs pairs' : List (Option Range)) (slots : List (Option ℕ)) (r : ℕ) → ((q s : ℕ) → (q ≡ r → ⊥) → get_or slots q None ≡ Some s → get_or pairs' s None ≡ get_or pairs s None)
-    → by_slot pairs' (set slots r None) ≡ set (by_slot pairs slots) r None
-by_slot-cleared pairs pairs' slots r h =
-    map-set (λ (o : Option ℕ). in_slot pairs' o) slots r None
-    ∙ ap (λ xs. set xs r None) (by_slot-set pairs pairs' slots r h)
-    ∙ set-set (by_slot pairs slots) r (in_slot pairs' (get_or slots r None)) None
-
 pub by_slot-appended : (pairs : List (Option Range)) (slots : List (Option ℕ)) (s : ℕ) → by_slot pairs (slots ++ Some s ∷ []) ≡ by_slot pairs slots ++ get_or pairs s None ∷ []
 by_slot-appended pairs slots s = map-append (λ (o : Option ℕ). in_slot pairs o) slots (Some s ∷ [])
 
@@ -61,13 +52,6 @@ by_slot-map g pairs [] = refl
 by_slot-map g pairs (o ∷ os) =
     ap (λ (x : Option Range). x ∷ by_slot (map_ranges g pairs) os) (in-map g pairs o) ∙ ap (λ xs. option_map (moved_range g) (in_slot pairs o) ∷ xs) (by_slot-map g pairs os)
 
-pub none-is : (o : Option Range) → is_some o ≡ false → o ≡ None
-none-is None h = refl
-none-is (Some x) h = absurd (false≢true (sym h))
-
-some-is : (o : Option Range) (x : Range) → o ≡ Some x → IsSome o
-some-is o x h = ap is_some h
-
 pub map-some : (g : Point → Point) (pairs : List (Option Range)) (s : ℕ) → is_some (get_or (map_ranges g pairs) s None) ≡ is_some (get_or pairs s None)
 map-some g pairs s = ap is_some (map-at g pairs s) ∙ go (get_or pairs s None)
   where
@@ -76,27 +60,25 @@ map-some g pairs s = ap is_some (map-at g pairs s) ∙ go (get_or pairs s None)
     go (Some x) = refl
 
 -- ranges in the same slots as before
-pub slots-same : (pairs pairs' : List (Option Range)) (slots : List (Option ℕ)) → ((s : ℕ) → is_some (get_or pairs' s None) ≡ is_some (get_or pairs s None)) → HaveSlots pairs slots → HaveSlots pairs' slots
-slots-same pairs pairs' slots e h = record {
-  number = h.number;
+pub slots-same : (pairs pairs' : List (Option Range)) (slots : List (Option ℕ)) (numbers : List ℕ) → ((s : ℕ) → is_some (get_or pairs' s None) ≡ is_some (get_or pairs s None)) → HaveSlots pairs slots numbers → HaveSlots pairs' slots numbers
+slots-same pairs pairs' slots numbers e h = record {
   named = h.named;
   full = λ r s q. e s ∙ h.full r s q;
-  held = λ s q. h.held s (sym (e s) ∙ q);
+  held = h.held;
 }
 
-pub vacant-same : (pairs pairs' : List (Option Range)) (vacant : List ℕ) → length pairs ≤ length pairs' → ((s : ℕ) → 0 < hits s vacant → is_some (get_or pairs' s None) ≡ is_some (get_or pairs s None)) → AreVacant pairs vacant → AreVacant pairs' vacant
-vacant-same pairs pairs' vacant w e h = record {
-  once = h.once;
-  there = λ s l. omega (arith, h.there s l);
-  empty = λ s l. none-is (get_or pairs' s None) (e s l ∙ ap is_some (h.empty s l));
-}
+-- no slots
+pub slots-none : (slots : List (Option ℕ)) (numbers : List ℕ) → slots ≡ [] → numbers ≡ [] → HaveSlots [] slots numbers
+slots-none slots numbers e f = rw (e, f) (record { named = λ r s h. absurd (cc h); full = λ r s h. absurd (cc h); held = λ s l. absurd (omega arith) })
 
--- no slots, and none that are vacant
-pub slots-none : (slots : List (Option ℕ)) → slots ≡ [] → HaveSlots [] slots
-slots-none slots e = rw e (record { number = λ s. 0; named = λ r s h. absurd (cc h); full = λ r s h. absurd (cc h); held = λ s h. absurd (false≢true h) })
+pub some-within : (pairs : List (Option Range)) (s : ℕ) → IsSome (get_or pairs s None) → s < length pairs
+some-within [] s h = absurd (false≢true h)
+some-within (x ∷ xs) zero h = omega arith
+some-within (x ∷ xs) (suc s) h = omega (arith, some-within xs s h)
 
-pub vacant-none : (vacant : List ℕ) → vacant ≡ [] → AreVacant [] vacant
-vacant-none vacant e = rw e (record { once = λ s. omega arith; there = λ s l. absurd (omega arith); empty = λ s l. refl })
+last-is : {A : Type 0} (xs : List A) (x d : A) → get_or (xs ++ x ∷ []) (length xs) d ≡ x
+last-is [] x d = refl
+last-is (y ∷ ys) x d = last-is ys x d
 
 -- a slot that is appended
 appended-at : (slots : List (Option ℕ)) (s q k : ℕ) → get_or (slots ++ Some s ∷ []) q None ≡ Some k → (get_or slots q None ≡ Some k) ⊎ ((q ≡ length slots) × (s ≡ k))
@@ -106,68 +88,56 @@ appended-at (x ∷ xs) s zero k h = inl h
 appended-at (x ∷ xs) s (suc q) k h =
     ⊎_elim (λ (l : get_or xs q None ≡ Some k). inl l) (λ (r : (q ≡ length xs) × (s ≡ k)). inr (omega (arith, r.0), r.1)) (appended-at xs s q k h)
 
-appended-last : (slots : List (Option ℕ)) (s : ℕ) → get_or (slots ++ Some s ∷ []) (length slots) None ≡ Some s
-appended-last [] s = refl
-appended-last (x ∷ xs) s = appended-last xs s
-
 appended-kept : (slots : List (Option ℕ)) (s q k : ℕ) → get_or slots q None ≡ Some k → get_or (slots ++ Some s ∷ []) q None ≡ Some k
 appended-kept [] s q k h = absurd (cc h)
 appended-kept (x ∷ xs) s zero k h = h
 appended-kept (x ∷ xs) s (suc q) k h = appended-kept xs s q k h
 
--- a new number, with the range of an empty slot
-module _ (s : ℕ) (x : Range) (pairs pairs' : List (Option Range)) (slots : List (Option ℕ)) (vacant : List ℕ) (h : HaveSlots pairs slots) (put : Settles s x pairs pairs' vacant) where
-  unused : (q : ℕ) → get_or slots q None ≡ Some s → ⊥
-  unused q e = let z : IsSome {T = Range} None = rw put.empty at (h.full q s e) in false≢true z
+-- a new number, with a range in a new slot
+module _ (x : Range) (pairs : List (Option Range)) (slots : List (Option ℕ)) (numbers : List ℕ) (h : HaveSlots pairs slots numbers) (same : length pairs ≡ length numbers) (s : ℕ) (new : s ≡ length numbers) where
+  here : (k : ℕ) → s ≡ k → get_or (pairs ++ Some x ∷ []) k None ≡ Some x
+  here k q = ap (λ n. get_or (pairs ++ Some x ∷ []) n None) (sym q ∙ new ∙ sym same) ∙ last-is pairs (Some x) None
 
-  kept : (q k : ℕ) → get_or slots q None ≡ Some k → get_or pairs' k None ≡ get_or pairs k None
-  kept q k e = put.others k (λ n. unused q (e ∙ ap Some n))
+  kept : (r k : ℕ) → get_or slots r None ≡ Some k → get_or (pairs ++ Some x ∷ []) k None ≡ get_or pairs k None
+  kept r k e = get_or_append_left pairs (Some x ∷ []) None k (some-within pairs k (h.full r k e))
 
-  abbrev given : ℕ → ℕ
-  given k = if k == s then length slots else h.number k
-
-  given-here : given s ≡ length slots
-  given-here = rw (eq-eqb s s refl) refl
-
-  given-else : (k : ℕ) → (k ≡ s → ⊥) → given k ≡ h.number k
-  given-else k d = rw (ne_eqb k s d) refl
-
-  pub slots-added : HaveSlots pairs' (slots ++ Some s ∷ [])
-  slots-added = record { number = given; named = named; full = full; held = held }
+  pub slots-added : HaveSlots (pairs ++ Some x ∷ []) (slots ++ Some s ∷ []) (numbers ++ length slots ∷ [])
+  slots-added = record { named = named; full = full; held = held }
     where
-      named : (r k : ℕ) → slot_at (slots ++ Some s ∷ []) r ≡ Some k → given k ≡ r
+      named : (r k : ℕ) → slot_at (slots ++ Some s ∷ []) r ≡ Some k → number_at (numbers ++ length slots ∷ []) k ≡ r
       named r k e =
-          ⊎_elim (λ (l : get_or slots r None ≡ Some k). given-else k (λ n. unused r (l ∙ ap Some n)) ∙ h.named r k l)
-          (λ (q : (r ≡ length slots) × (s ≡ k)). ap given (sym q.1) ∙ given-here ∙ sym q.0) (appended-at slots s r k e)
+          ⊎_elim (λ (l : get_or slots r None ≡ Some k). get_or_append_left numbers (length slots ∷ []) 0 k (omega (arith, same, some-within pairs k (h.full r k l))) ∙ h.named r k l)
+          (λ (q : (r ≡ length slots) × (s ≡ k)). ap (number_at (numbers ++ length slots ∷ [])) (sym q.1 ∙ new) ∙ last-is numbers (length slots) 0 ∙ sym q.0) (appended-at slots s r k e)
 
-      full : (r k : ℕ) → slot_at (slots ++ Some s ∷ []) r ≡ Some k → IsSome (get_or pairs' k None)
+      full : (r k : ℕ) → slot_at (slots ++ Some s ∷ []) r ≡ Some k → IsSome (get_or (pairs ++ Some x ∷ []) k None)
       full r k e =
           ⊎_elim (λ (l : get_or slots r None ≡ Some k). ap is_some (kept r k l) ∙ h.full r k l)
-          (λ (q : (r ≡ length slots) × (s ≡ k)). some-is (get_or pairs' k None) x (ap (λ n. get_or pairs' n None) (sym q.1) ∙ put.put)) (appended-at slots s r k e)
+          (λ (q : (r ≡ length slots) × (s ≡ k)). ap is_some (here k q.1)) (appended-at slots s r k e)
 
-      held : (k : ℕ) → IsSome (get_or pairs' k None) → slot_at (slots ++ Some s ∷ []) (given k) ≡ Some k
-      held k e =
-          ⊎_elim (λ (n : k ≡ s). ap (λ m. slot_at (slots ++ Some s ∷ []) m) (ap given n ∙ given-here) ∙ appended-last slots s ∙ ap Some (sym n))
-          (λ (d : k ≡ s → ⊥). ap (λ m. slot_at (slots ++ Some s ∷ []) m) (given-else k d) ∙ appended-kept slots s (h.number k) k (h.held k (ap is_some (sym (put.others k d)) ∙ e))) (cases_eq k s)
+      held : (k : ℕ) → k < length (numbers ++ length slots ∷ []) → slot_at (slots ++ Some s ∷ []) (number_at (numbers ++ length slots ∷ []) k) ≡ Some k
+      held k l =
+          ⊎_elim (λ (q : k ≡ length numbers).
+          ap (slot_at (slots ++ Some s ∷ [])) (ap (number_at (numbers ++ length slots ∷ [])) q ∙ last-is numbers (length slots) 0) ∙ last-is slots (Some s) None ∙ ap Some (new ∙ sym q))
+          (λ (d : k ≡ length numbers → ⊥).
+          let w : k < length numbers = omega (arith, length-append numbers (length slots ∷ [])) in
+          ap (slot_at (slots ++ Some s ∷ [])) (get_or_append_left numbers (length slots ∷ []) 0 k w) ∙ appended-kept slots s (number_at numbers k) k (h.held k w)) (cases_eq k (length numbers))
 
-  pub ranges-added : by_slot pairs' (slots ++ Some s ∷ []) ≡ by_slot pairs slots ++ Some x ∷ []
+  pub ranges-added : by_slot (pairs ++ Some x ∷ []) (slots ++ Some s ∷ []) ≡ by_slot pairs slots ++ Some x ∷ []
   ranges-added =
-      by_slot-appended pairs' slots s
-      ∙ ap (λ xs. xs ++ get_or pairs' s None ∷ []) (by_slot-same pairs pairs' slots kept)
-      ∙ ap (λ (o : Option Range). by_slot pairs slots ++ o ∷ []) put.put
+      by_slot-appended (pairs ++ Some x ∷ []) slots s
+      ∙ ap (λ xs. xs ++ get_or (pairs ++ Some x ∷ []) s None ∷ []) (by_slot-same pairs (pairs ++ Some x ∷ []) slots kept)
+      ∙ ap (λ (o : Option Range). by_slot pairs slots ++ o ∷ []) (here s refl)
 
 -- the range in the slot of a number
-module _ (pairs : List (Option Range)) (slots : List (Option ℕ)) (h : HaveSlots pairs slots) (r s : ℕ) (slot : slot_at slots r ≡ Some s) where
+module _ (pairs : List (Option Range)) (slots : List (Option ℕ)) (numbers : List ℕ) (h : HaveSlots pairs slots numbers) (r s : ℕ) (slot : slot_at slots r ≡ Some s) where
   pub slot-within : r < length slots
   slot-within = ⊎_elim (λ (l : r < length slots). l) (λ (past : length slots ≤ r). let z : None ≡ Some s = sym (get_or_past slots r None past) ∙ slot in cc) (cases_lt r (length slots))
 
   pub slot-there : s < length pairs
-  slot-there =
-      ⊎_elim (λ (l : s < length pairs). l)
-      (λ (past : length pairs ≤ s). let z : IsSome {T = Range} None = rw (get_or_past pairs s None past) at (h.full r s slot) in absurd (false≢true z)) (cases_lt s (length pairs))
+  slot-there = some-within pairs s (h.full r s slot)
 
   elsewhere : (o : Option Range) (q k : ℕ) → (q ≡ r → ⊥) → get_or slots q None ≡ Some k → get_or (set pairs s o) k None ≡ get_or pairs k None
-  elsewhere o q k d e = get_or-set_other pairs s k o None (λ n. d (sym (h.named q k e) ∙ ap h.number n ∙ h.named r s slot))
+  elsewhere o q k d e = get_or-set_other pairs s k o None (λ n. d (sym (h.named q k e) ∙ ap (number_at numbers) n ∙ h.named r s slot))
 
   pub ranges-written : (o : Option Range) → by_slot (set pairs s o) slots ≡ set (by_slot pairs slots) r o
   ranges-written o =
@@ -175,11 +145,8 @@ module _ (pairs : List (Option Range)) (slots : List (Option ℕ)) (h : HaveSlot
       ∙ ap (λ (m : Option ℕ). set (by_slot pairs slots) r (in_slot (set pairs s o) m)) slot
       ∙ ap (λ (m : Option Range). set (by_slot pairs slots) r m) (get_or-set_same pairs s o None slot-there)
 
-  pub ranges-released : by_slot (set pairs s None) (set slots r None) ≡ set (by_slot pairs slots) r None
-  ranges-released = by_slot-cleared pairs (set pairs s None) slots r (elsewhere None)
-
-  pub slots-written : (x : Range) → HaveSlots (set pairs s (Some x)) slots
-  slots-written x = slots-same pairs (set pairs s (Some x)) slots same h
+  pub slots-written : (x : Range) → HaveSlots (set pairs s (Some x)) slots numbers
+  slots-written x = slots-same pairs (set pairs s (Some x)) slots numbers same h
     where
       same : (k : ℕ) → is_some (get_or (set pairs s (Some x)) k None) ≡ is_some (get_or pairs k None)
       same k =
@@ -188,114 +155,121 @@ module _ (pairs : List (Option Range)) (slots : List (Option ℕ)) (h : HaveSlot
           ∙ sym (ap (λ m. is_some (get_or pairs m None)) n ∙ h.full r s slot))
           (λ (d : k ≡ s → ⊥). ap is_some (get_or-set_other pairs s k (Some x) None d)) (cases_eq k s)
 
-  pub vacant-written : (x : Range) (vacant : List ℕ) → AreVacant pairs vacant → AreVacant (set pairs s (Some x)) vacant
-  vacant-written x vacant v =
-      vacant-same pairs (set pairs s (Some x)) vacant (omega (arith, length-set pairs s (Some x)))
-      (λ k l. ap is_some (get_or-set_other pairs s k (Some x) None (λ n. let z : IsSome {T = Range} None = rw (v.empty k l) at (subst (λ m. IsSome (get_or pairs m None)) (sym n) (h.full r s slot)) in false≢true z))) v
+  pub held-live : IsSome (get_or (by_slot pairs slots) r None)
+  held-live = ap is_some (by_slot-at pairs slots r ∙ ap (in_slot pairs) slot) ∙ h.full r s slot
 
-  pub slots-released : HaveSlots (set pairs s None) (set slots r None)
-  slots-released = record { number = h.number; named = named; full = full; held = held }
-    where
-      -- what is still there after the number's place was cleared
-      still : (q k : ℕ) → get_or (set slots r None) q None ≡ Some k → (q ≡ r → ⊥) × (get_or slots q None ≡ Some k)
-      still q k e =
-          ⊎_elim (λ (n : q ≡ r). let z : None ≡ Some k = sym (get_or-set_same slots r None None slot-within) ∙ ap (λ m. get_or (set slots r None) m None) (sym n) ∙ e in absurd (cc z))
-          (λ (d : q ≡ r → ⊥). (d, sym (get_or-set_other slots r q None None d) ∙ e)) (cases_eq q r)
+  -- the number is released: the range in the last slot, which has the number `m`, comes into the slot
+  module _ (same : length pairs ≡ length numbers) (l m : ℕ) (last : l + 1 ≡ length numbers) (mover : m ≡ number_at numbers l) where
+    abbrev pub slots_left : List (Option ℕ)
+    slots_left = set (set slots m (Some s)) r None
 
-      named : (q k : ℕ) → slot_at (set slots r None) q ≡ Some k → h.number k ≡ q
-      named q k e = h.named q k (still q k e).1
+    abbrev pub pairs_left : List (Option Range)
+    pairs_left = take l (set pairs s (get_or pairs l None))
 
-      full : (q k : ℕ) → slot_at (set slots r None) q ≡ Some k → IsSome (get_or (set pairs s None) k None)
-      full q k e = let w = still q k e in ap is_some (elsewhere None q k w.0 w.1) ∙ h.full q k w.1
+    abbrev pub numbers_left : List ℕ
+    numbers_left = take l (set numbers s m)
 
-      held : (k : ℕ) → IsSome (get_or (set pairs s None) k None) → slot_at (set slots r None) (h.number k) ≡ Some k
-      held k e =
-          ⊎_elim (λ (n : k ≡ s).
-          let z : IsSome {T = Range} None = subst (λ (o : Option Range). IsSome o) (ap (λ m. get_or (set pairs s None) m None) n ∙ get_or-set_same pairs s None None slot-there) e in absurd (false≢true z))
-          (λ (d : k ≡ s → ⊥).
-          let l = h.held k (ap is_some (sym (get_or-set_other pairs s k None None d)) ∙ e) in
-          get_or-set_other slots r (h.number k) None None (λ n. let z : Some k ≡ Some s = sym l ∙ ap (λ m. slot_at slots m) n ∙ slot in d (cc)) ∙ l) (cases_eq k s)
+    pub moves : slot_at slots m ≡ Some l
+    moves = ap (slot_at slots) mover ∙ h.held l (omega (arith, last))
 
-  pub vacant-released : (vacant : List ℕ) → AreVacant pairs vacant → AreVacant (set pairs s None) (vacant ++ s ∷ [])
-  vacant-released vacant v = record { once = once; there = there; empty = empty }
-    where
-      full-here : 0 < hits s vacant → ⊥
-      full-here l = let z : IsSome {T = Range} None = rw (v.empty s l) at (h.full r s slot) in false≢true z
+    mover-within : m < length slots
+    mover-within = ⊎_elim (λ (w : m < length slots). w) (λ (past : length slots ≤ m). let z : None ≡ Some l = sym (get_or_past slots m None past) ∙ moves in cc) (cases_lt m (length slots))
 
-      here : (k : ℕ) → k ≡ s → hits k (vacant ++ s ∷ []) ≡ 1
-      here k n =
-          let a : (s == s) ≡ true = eq-eqb s s refl in
-          let b : hits s (s ∷ []) ≡ 1 = rw a refl in
-          let z : hits s vacant ≡ 0 = ⊎_elim (λ (e : hits s vacant ≡ 0). e) (λ (d : hits s vacant ≡ 0 → ⊥). absurd (full-here (omega arith))) (cases_eq (hits s vacant) 0) in
-          ap (λ m. hits m (vacant ++ s ∷ [])) n ∙ omega (arith, hits-append s vacant (s ∷ []))
+    in-front : (m ≡ r → ⊥) → s < l
+    in-front d =
+        ⊎_elim (λ (q : s ≡ l). absurd (d (mover ∙ ap (number_at numbers) (sym q) ∙ h.named r s slot))) (λ (n : s ≡ l → ⊥). omega (arith, slot-there, same, last)) (cases_eq s l)
 
-      beside : (k : ℕ) → (k ≡ s → ⊥) → hits k (vacant ++ s ∷ []) ≡ hits k vacant
-      beside k d =
-          let a : (s == k) ≡ false = ne_eqb s k (λ n. d (sym n)) in
-          let b : hits k (s ∷ []) ≡ 0 = rw a refl in
-          omega (arith, hits-append k vacant (s ∷ []))
+    cleared : slot_at slots_left r ≡ None
+    cleared = get_or-set_same (set slots m (Some s)) r None None (omega (arith, slot-within, length-set slots m (Some s)))
 
-      once : (k : ℕ) → hits k (vacant ++ s ∷ []) ≤ 1
-      once k = ⊎_elim (λ (n : k ≡ s). omega (arith, here k n)) (λ (d : k ≡ s → ⊥). omega (arith, beside k d, v.once k)) (cases_eq k s)
+    at-mover : (m ≡ r → ⊥) → slot_at slots_left m ≡ Some s
+    at-mover d = get_or-set_other (set slots m (Some s)) r m None None d ∙ get_or-set_same slots m (Some s) None mover-within
 
-      there : (k : ℕ) → 0 < hits k (vacant ++ s ∷ []) → k < length (set pairs s None)
-      there k l =
-          ⊎_elim (λ (n : k ≡ s). omega (arith, slot-there, length-set pairs s None)) (λ (d : k ≡ s → ⊥). omega (arith, v.there k (omega (arith, beside k d)), length-set pairs s None)) (cases_eq k s)
+    stays : (q : ℕ) → (q ≡ r → ⊥) → (q ≡ m → ⊥) → slot_at slots_left q ≡ slot_at slots q
+    stays q d n = get_or-set_other (set slots m (Some s)) r q None None d ∙ get_or-set_other slots m q (Some s) None n
 
-      empty : (k : ℕ) → 0 < hits k (vacant ++ s ∷ []) → get_or (set pairs s None) k None ≡ None
-      empty k l =
-          ⊎_elim (λ (n : k ≡ s). ap (λ m. get_or (set pairs s None) m None) n ∙ get_or-set_same pairs s None None slot-there)
-          (λ (d : k ≡ s → ⊥). get_or-set_other pairs s k None None d ∙ v.empty k (omega (arith, beside k d))) (cases_eq k s)
+    pair-mover : (m ≡ r → ⊥) → get_or pairs_left s None ≡ get_or pairs l None
+    pair-mover d = get_or-take l (set pairs s (get_or pairs l None)) s None (in-front d) ∙ get_or-set_same pairs s (get_or pairs l None) None slot-there
 
--- the slot that was listed last as vacant
-module _ (pairs : List (Option Range)) (vacant rest : List ℕ) (s : ℕ) (v : AreVacant pairs vacant) (last : vacant ≡ rest ++ s ∷ []) where
-  counted : (k : ℕ) → hits k vacant ≡ hits k rest + hits k (s ∷ [])
-  counted k = ap (hits k) last ∙ hits-append k rest (s ∷ [])
+    pair-stays : (k : ℕ) → k < l → (k ≡ s → ⊥) → get_or pairs_left k None ≡ get_or pairs k None
+    pair-stays k w d = get_or-take l (set pairs s (get_or pairs l None)) k None w ∙ get_or-set_other pairs s k (get_or pairs l None) None d
 
-  one : hits s (s ∷ []) ≡ 1
-  one = let a : (s == s) ≡ true = eq-eqb s s refl in rw a refl
+    -- a number that is neither of the two has another slot, which is not the last
+    not-there : (q k : ℕ) → (q ≡ r → ⊥) → slot_at slots q ≡ Some k → k ≡ s → ⊥
+    not-there q k d e n = d (sym (h.named q k e) ∙ ap (number_at numbers) n ∙ h.named r s slot)
 
-  pub last-there : s < length pairs
-  last-there = v.there s (omega (arith, counted s, one))
+    not-last : (q k : ℕ) → (q ≡ m → ⊥) → slot_at slots q ≡ Some k → k < l
+    not-last q k d e =
+        ⊎_elim (λ (n : k ≡ l). absurd (d (sym (h.named q k e) ∙ ap (number_at numbers) n ∙ sym mover)))
+        (λ (n : k ≡ l → ⊥). omega (arith, some-within pairs k (h.full q k e), same, last)) (cases_eq k l)
 
-  pub last-empty : get_or pairs s None ≡ None
-  last-empty = v.empty s (omega (arith, counted s, one))
+    gone : (q k : ℕ) → slot_at slots_left q ≡ Some k → q ≡ r → ⊥
+    gone q k e n = let z : None ≡ Some k = sym cleared ∙ ap (slot_at slots_left) (sym n) ∙ e in cc
 
-  pub last-settled : (x : Range) (pairs' : List (Option Range)) → pairs' ≡ set pairs s (Some x) → Settles s x pairs pairs' rest
-  last-settled x pairs' e = rw e (record {
-    empty = last-empty;
-    put = get_or-set_same pairs s (Some x) None last-there;
-    others = λ k d. get_or-set_other pairs s k (Some x) None d;
-    left = record {
-      once = λ k. omega (arith, counted k, v.once k);
-      there = λ k l. omega (arith, counted k, v.there k (omega (arith, counted k)), length-set pairs s (Some x));
-      empty = λ k l. get_or-set_other pairs s k (Some x) None (apart k l) ∙ v.empty k (omega (arith, counted k));
-    };
-  })
-    where
-      apart : (k : ℕ) → 0 < hits k rest → k ≡ s → ⊥
-      apart k l n = let l' : 0 < hits s rest = rw n at l in omega (arith, counted s, one, v.once s)
+    pub slots-released : HaveSlots pairs_left slots_left numbers_left
+    slots-released = record { named = named; full = full; held = held }
+      where
+        moved-here : (q k : ℕ) → slot_at slots_left q ≡ Some k → q ≡ m → k ≡ s
+        moved-here q k e n =
+            let z : Some s ≡ Some k = sym (at-mover (λ i. gone q k e (n ∙ i))) ∙ ap (slot_at slots_left) (sym n) ∙ e in cc
 
--- a slot that is new
-module _ (pairs : List (Option Range)) (vacant : List ℕ) (v : AreVacant pairs vacant) where
-  pub new-settled : (s : ℕ) (x : Range) (pairs' : List (Option Range)) (vacant' : List ℕ) → s ≡ length pairs → pairs' ≡ pairs ++ Some x ∷ [] → vacant' ≡ vacant → Settles s x pairs pairs' vacant'
-  new-settled s x pairs' vacant' n e w = rw (n, e, w) (record {
-    empty = get_or_past pairs (length pairs) None (omega arith);
-    put = at-last pairs x;
-    others = others pairs x;
-    left = vacant-same pairs (pairs ++ Some x ∷ []) vacant (omega (arith, length-append pairs (Some x ∷ [])))
-        (λ k l. ap is_some (others pairs x k (λ q. omega (arith, v.there k l)))) v;
-  })
-    where
-      at-last : (ps : List (Option Range)) (x : Range) → get_or (ps ++ Some x ∷ []) (length ps) None ≡ Some x
-      at-last [] x = refl
-      at-last (p ∷ ps) x = at-last ps x
+        there : (q k : ℕ) → slot_at slots_left q ≡ Some k → (q ≡ m → ⊥) → slot_at slots q ≡ Some k
+        there q k e n = sym (stays q (gone q k e) n) ∙ e
 
-      others : (ps : List (Option Range)) (x : Range) (k : ℕ) → (k ≡ length ps → ⊥) → get_or (ps ++ Some x ∷ []) k None ≡ get_or ps k None
-      others [] x zero d = absurd (d refl)
-      others [] x (suc k) d = refl
-      others (p ∷ ps) x zero d = refl
-      others (p ∷ ps) x (suc k) d = others ps x k (λ q. d (omega arith))
+        named : (q k : ℕ) → slot_at slots_left q ≡ Some k → number_at numbers_left k ≡ q
+        named q k e =
+            ⊎_elim (λ (n : q ≡ m).
+            let w = in-front (λ i. gone q k e (n ∙ i)) in
+            let v : s < length numbers = omega (arith, slot-there, same) in
+            ap (number_at numbers_left) (moved-here q k e n) ∙ get_or-take l (set numbers s m) s 0 w ∙ get_or-set_same numbers s m 0 v ∙ sym n)
+            (λ (d : q ≡ m → ⊥).
+            let a = there q k e d in
+            get_or-take l (set numbers s m) k 0 (not-last q k d a) ∙ get_or-set_other numbers s k m 0 (not-there q k (gone q k e) a) ∙ h.named q k a) (cases_eq q m)
+
+        full : (q k : ℕ) → slot_at slots_left q ≡ Some k → IsSome (get_or pairs_left k None)
+        full q k e =
+            ⊎_elim (λ (n : q ≡ m). ap (λ i. is_some (get_or pairs_left i None)) (moved-here q k e n) ∙ ap is_some (pair-mover (λ i. gone q k e (n ∙ i))) ∙ h.full m l moves)
+            (λ (d : q ≡ m → ⊥). let a = there q k e d in ap is_some (pair-stays k (not-last q k d a) (not-there q k (gone q k e) a)) ∙ h.full q k a) (cases_eq q m)
+
+        held : (k : ℕ) → k < length numbers_left → slot_at slots_left (number_at numbers_left k) ≡ Some k
+        held k w0 =
+            let w : k < l = omega (arith, length-take l (set numbers s m)) in
+            ⊎_elim (λ (n : k ≡ s).
+            let apart : m ≡ r → ⊥ = (λ i. let z : Some l ≡ Some s = sym moves ∙ ap (slot_at slots) i ∙ slot in let y : l ≡ s = cc in omega arith) in
+            let v : s < length numbers = omega (arith, slot-there, same) in
+            ap (slot_at slots_left) (ap (number_at numbers_left) n ∙ get_or-take l (set numbers s m) s 0 (in-front apart) ∙ get_or-set_same numbers s m 0 v) ∙ at-mover apart ∙ ap Some (sym n))
+            (λ (d : k ≡ s → ⊥).
+            let a = h.held k (omega (arith, last)) in
+            let b : number_at numbers k ≡ r → ⊥ = (λ i. let z : Some k ≡ Some s = sym a ∙ ap (slot_at slots) i ∙ slot in d cc) in
+            let c : number_at numbers k ≡ m → ⊥ = (λ i. let z : Some k ≡ Some l = sym a ∙ ap (slot_at slots) i ∙ moves in let y : k ≡ l = cc in omega arith) in
+            ap (slot_at slots_left) (get_or-take l (set numbers s m) k 0 w ∙ get_or-set_other numbers s k m 0 d) ∙ stays (number_at numbers k) b c ∙ a) (cases_eq k s)
+
+    pub ranges-released : by_slot pairs_left slots_left ≡ set (by_slot pairs slots) r None
+    ranges-released =
+        ext_get_or None (by_slot pairs_left slots_left) (set (by_slot pairs slots) r None)
+        (length-map slots_left (λ (o : Option ℕ). in_slot pairs_left o) ∙ length-set (set slots m (Some s)) r None ∙ length-set slots m (Some s)
+        ∙ sym (length-map slots (λ (o : Option ℕ). in_slot pairs o)) ∙ sym (length-set (by_slot pairs slots) r None))
+        (λ q w. by_slot-at pairs_left slots_left q ∙ at q)
+      where
+        wide : r < length (by_slot pairs slots)
+        wide = omega (arith, slot-within, length-map slots (λ (o : Option ℕ). in_slot pairs o))
+
+        at : (q : ℕ) → in_slot pairs_left (slot_at slots_left q) ≡ get_or (set (by_slot pairs slots) r None) q None
+        at q =
+            ⊎_elim (λ (n : q ≡ r).
+            ap (λ i. in_slot pairs_left (slot_at slots_left i)) n ∙ ap (in_slot pairs_left) cleared ∙ sym (ap (λ i. get_or (set (by_slot pairs slots) r None) i None) n ∙ get_or-set_same (by_slot pairs slots) r None None wide))
+            (λ (d : q ≡ r → ⊥). beside d ∙ sym (get_or-set_other (by_slot pairs slots) r q None None d ∙ by_slot-at pairs slots q)) (cases_eq q r)
+          where
+            other : (q ≡ r → ⊥) → (q ≡ m → ⊥) → (o : Option ℕ) → slot_at slots q ≡ o → in_slot pairs_left o ≡ in_slot pairs o
+            other d n None e = refl
+            other d n (Some k) e = pair-stays k (not-last q k n e) (not-there q k d e)
+
+            beside : (q ≡ r → ⊥) → in_slot pairs_left (slot_at slots_left q) ≡ in_slot pairs (slot_at slots q)
+            beside d =
+                ⊎_elim (λ (n : q ≡ m).
+                let apart : m ≡ r → ⊥ = (λ i. d (n ∙ i)) in
+                ap (λ i. in_slot pairs_left (slot_at slots_left i)) n ∙ ap (in_slot pairs_left) (at-mover apart) ∙ pair-mover apart ∙ sym (ap (λ i. in_slot pairs (slot_at slots i)) n ∙ ap (in_slot pairs) moves))
+                (λ (n : q ≡ m → ⊥). ap (in_slot pairs_left) (stays q d n) ∙ other d n (slot_at slots q) refl) (cases_eq q m)
 
 -- the nodes of live ranges are those of the ranges in slots
 any-set : (p : ℕ → Bool) (rs : List (Option Range)) (r : ℕ) (x : Range) → get_or rs r None ≡ Some x → list_any p (nodes_of_live (Some x)) ≡ true → list_any p (flat_map nodes_of_live rs) ≡ true
@@ -324,8 +298,8 @@ any-none p (Some x ∷ rs) h =
     ⊎_elim (λ (b : p x.end.node ≡ true). let f : true ≡ false = rw (a, b) at y in absurd (false≢true (sym f))) (λ (b : p x.end.node ≡ false). rw (a, b) w) (cases_Bool (p x.end.node))) (cases_Bool (p x.start.node))
 
 -- whatever is told of one of them is told of one of the others
-pub slots-any : (p : ℕ → Bool) (pairs : List (Option Range)) (slots : List (Option ℕ)) → HaveSlots pairs slots → list_any p (flat_map nodes_of_live (by_slot pairs slots)) ≡ list_any p (flat_map nodes_of_live pairs)
-slots-any p pairs slots h =
+pub slots-any : (p : ℕ → Bool) (pairs : List (Option Range)) (slots : List (Option ℕ)) (numbers : List ℕ) → HaveSlots pairs slots numbers → length pairs ≡ length numbers → list_any p (flat_map nodes_of_live (by_slot pairs slots)) ≡ list_any p (flat_map nodes_of_live pairs)
+slots-any p pairs slots numbers h same =
     ⊎_elim (λ (t : list_any p (flat_map nodes_of_live (by_slot pairs slots)) ≡ true). t ∙ sym (up t)) (λ (f : list_any p (flat_map nodes_of_live (by_slot pairs slots)) ≡ false). f ∙ sym (down f))
     (cases_Bool (list_any p (flat_map nodes_of_live (by_slot pairs slots))))
   where
@@ -344,7 +318,9 @@ slots-any p pairs slots h =
         go (Some s) f = (s, f)
 
     onto : (s : ℕ) (x : Range) → get_or pairs s None ≡ Some x → (q : ℕ) × (get_or (by_slot pairs slots) q None ≡ Some x)
-    onto s x e = (h.number s, by_slot-at pairs slots (h.number s) ∙ ap (in_slot pairs) (h.held s (some-is (get_or pairs s None) x e)) ∙ e)
+    onto s x e =
+        let w : s < length numbers = omega (arith, same, some-within pairs s (ap is_some e)) in
+        (number_at numbers s, by_slot-at pairs slots (number_at numbers s) ∙ ap (in_slot pairs) (h.held s w) ∙ e)
 
     up : list_any p (flat_map nodes_of_live (by_slot pairs slots)) ≡ true → list_any p (flat_map nodes_of_live pairs) ≡ true
     up t =
@@ -355,13 +331,7 @@ slots-any p pairs slots h =
     down f = from-none pairs (by_slot pairs slots) onto f
 
 -- no live ranges have no nodes
-idle-list : (pairs : List (Option Range)) → live_count pairs ≡ 0 → (s : ℕ) → get_or pairs s None ≡ None
-idle-list [] h s = refl
-idle-list (None ∷ rs) h zero = refl
-idle-list (None ∷ rs) h (suc s) = idle-list rs (omega arith) s
-idle-list (Some r ∷ rs) h s = absurd (omega arith)
-
-pub idle-slots : (pairs : List (Option Range)) (slots : List (Option ℕ)) → live_count pairs ≡ 0 → flat_map nodes_of_live (by_slot pairs slots) ≡ []
-idle-slots pairs [] h = refl
-idle-slots pairs (None ∷ os) h = idle-slots pairs os h
-idle-slots pairs (Some s ∷ os) h = let e = idle-list pairs h s in rw e (idle-slots pairs os h)
+pub idle-none : (rs : List (Option Range)) → live_count rs ≡ 0 → flat_map nodes_of_live rs ≡ []
+idle-none [] h = refl
+idle-none (None ∷ rs) h = idle-none rs (omega arith)
+idle-none (Some r ∷ rs) h = absurd (omega arith)

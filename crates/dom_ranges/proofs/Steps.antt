@@ -1,14 +1,15 @@
 -- The steps by which an end is taken out of its chain or put in come to the changed tables.
-use Rattle.std.proofs.Common.{◌≡◌, ℕ, zero, suc, ◌+◌, ◌<◌, ◌≤◌, true, false, not, List, [], ◌∷◌, length, set, get_or, ◌++◌, Option, Some, None, is_some, refl, sym, ap, subst, ◌∙◌, ⊎_elim, arith, length-set, get_or-set_same, get_or-set_other}
+use Rattle.std.proofs.Common.{◌≡◌, ℕ, zero, suc, ◌+◌, ◌<◌, ◌≤◌, ◌==◌, if◌then◌else◌, true, false, List, [], ◌∷◌, length, set, get_or, take, ◌++◌, Option, Some, None, is_some, refl, sym, ap, ◌∙◌, ⊎_elim, arith, length-set, get_or-set_same, get_or-set_other}
 use Rattle.std.specs.Option.{IsSome}
-use Rattle.std.proofs.lemmas.Bool.{cases_eq, cases_lt, false≢true}
-use Rattle.std.proofs.lemmas.List.{map-set, map-append, length-map, get_or_past}
-use Rattle.dom_model.specs.PlainLists.Lists.{hits, head_of}
+use Rattle.std.proofs.lemmas.Bool.{cases_eq, cases_lt, eq-eqb, ne_eqb, false≢true}
+use Rattle.std.proofs.lemmas.List.{map-set, map-append, length-map, length-take, get_or_past, get_or-take, take-set-le, take-map}
+use Rattle.dom_model.specs.PlainLists.Lists.{hits}
 use Rattle.dom_model.specs.Worlds.World.{Point}
 use Rattle.dom_ranges.specs.declared.chains.End.{End}
-use Rattle.dom_ranges.specs.Chained.{Heads, free_end, end_at, point_at, points_of, covers, cover_of, head_in, head_at, stands_at, IsChained, HasChains, Rechains, unchained, chained_first, ForLink, led_on, heads_led, led_back, table_without, heads_without, table_with, heads_with}
+use Rattle.dom_ranges.specs.Chained.{Heads, free_end, end_at, point_at, points_of, covers, cover_of, head_in, head_at, stands_at, HasChains, Rechains, unchained, chained_first, moved_from, table_moved, ForLink, led_on, heads_led, led_back, table_without, heads_without, table_with, heads_with}
+use Rattle.dom_ranges.specs.Tables.{without_slot}
 use Rattle.dom_ranges.proofs.Covers.{cover-set}
-use Rattle.dom_ranges.proofs.Chained.{live-within, in-chain, point-covered, next-within, prev-within, head-within, has-head, IsChained-without, IsChained-with, led_on-length}
+use Rattle.dom_ranges.proofs.Chained.{live-within, in-chain, point-covered, next-within, prev-within, head-within, IsChained-without, IsChained-with, led_on-length}
 
 -- the table and the heads, once an end is taken out
 pub out-table : (t t1 t2 t3 : List End) (id : ℕ) (end : End) → end ≡ end_at t id → t1 ≡ led_on end.prev end.next t → t2 ≡ led_back end.next end.prev t1 → t3 ≡ set t2 id free_end → t3 ≡ table_without id t
@@ -170,6 +171,108 @@ HasChains-forgotten t heads n none has = HasChains-same t t heads (set heads n N
         ⊎_elim (λ (w : n < length heads). rw q (ap head_in (get_or-set_same heads n None None w) ∙ sym none))
         (λ (past : length heads ≤ n). ap (λ h. head_at h m) (set-past heads n past)) (cases_lt n (length heads)))
         (λ (d : m ≡ n → ⊥). ap head_in (get_or-set_other heads n m None None d)) (cases_eq m n)
+
+-- an end that stays in its node stays in its chain
+stands-alike : (n : ℕ) (p q : Point) → p.node ≡ q.node → stands_at n (Some p) ≡ stands_at n (Some q)
+stands-alike n p q h = ap (λ (m : ℕ). if m == n then 1 else 0) h
+
+pub stays-there : (p q : Point) → p.node ≡ q.node → (stands_at q.node (Some p) == 1) ≡ true
+stays-there p q h = let y : (p.node == q.node) ≡ true = eq-eqb p.node q.node h in rw y refl
+
+pub goes-elsewhere : (p q : Point) → (p.node ≡ q.node → ⊥) → (stands_at q.node (Some p) == 1) ≡ false
+goes-elsewhere p q d = let y : (p.node == q.node) ≡ false = ne_eqb p.node q.node d in rw y refl
+
+module _ (t t' : List End) (heads heads' : Heads) (e : ℕ) (p q : Point) (at : point_at t e ≡ Some p) (node : p.node ≡ q.node) (table : t' ≡ table_moved e q t) (same : heads' ≡ heads) where
+  within : e < length t
+  within = live-within t e p at
+
+  moved-itself : end_at (table_moved e q t) e ≡ record (end_at t e) { point = Some q }
+  moved-itself = get_or-set_same t e (record (end_at t e) { point = Some q }) free_end within
+
+  moved-other : (k : ℕ) → (k ≡ e → ⊥) → end_at (table_moved e q t) k ≡ end_at t k
+  moved-other k d = get_or-set_other t e k (record (end_at t e) { point = Some q }) free_end d
+
+  pub moved-points : points_of t' ≡ set (points_of t) e (Some q)
+  moved-points = ap points_of table ∙ map-set (λ (x : End). x.point) t e (record (end_at t e) { point = Some q })
+
+  pub rechained-inside : Rechains (moved_from e (point_at t e) q.node) t heads t' heads'
+  rechained-inside c ok =
+      let y = stays-there p q node in
+      rw (table, same, at, y) (record {
+        first = ok.first;
+        counted = λ k n.
+            ⊎_elim (λ (i : k ≡ e).
+            rw i (ok.counted e n ∙ ap (stands_at n) at ∙ stands-alike n p q node ∙ sym (ap (λ (x : End). stands_at n x.point) moved-itself)))
+            (λ (d : k ≡ e → ⊥). ok.counted k n ∙ sym (ap (λ (x : End). stands_at n x.point) (moved-other k d))) (cases_eq k e);
+        next = λ k n h.
+            ⊎_elim (λ (i : k ≡ e). ap (λ m. (end_at (table_moved e q t) m).next) i ∙ ap (λ (x : End). x.next) moved-itself ∙ ap (λ m. (end_at t m).next) (sym i) ∙ ok.next k n h)
+            (λ (d : k ≡ e → ⊥). ap (λ (x : End). x.next) (moved-other k d) ∙ ok.next k n h) (cases_eq k e);
+        prev = λ k n h.
+            ⊎_elim (λ (i : k ≡ e). ap (λ m. (end_at (table_moved e q t) m).prev) i ∙ ap (λ (x : End). x.prev) moved-itself ∙ ap (λ m. (end_at t m).prev) (sym i) ∙ ok.prev k n h)
+            (λ (d : k ≡ e → ⊥). ap (λ (x : End). x.prev) (moved-other k d) ∙ ok.prev k n h) (cases_eq k e);
+      })
+
+-- an end that goes to another node comes first there
+pub rechained-over : (t t1 t2 : List End) (heads h1 h2 : Heads) (e : ℕ) (p q : Point) → point_at t e ≡ Some p → (p.node ≡ q.node → ⊥) → Rechains (unchained e) t heads t1 h1 → Rechains (chained_first e q.node) t1 h1 t2 h2
+    → Rechains (moved_from e (point_at t e) q.node) t heads t2 h2
+rechained-over t t1 t2 heads h1 h2 e p q at d taken put chain ok = let y = goes-elsewhere p q d in rw (at, y) (put (unchained e chain) (taken chain ok))
+
+-- an end that stood still stands after another was written, and after another was taken out
+pub live-after : (t t1 : List End) (i k : ℕ) (p : Point) → points_of t1 ≡ set (points_of t) i (Some p) → IsSome (point_at t k) → IsSome (point_at t1 k)
+live-after t t1 i k p w h =
+    ⊎_elim (λ (q : k ≡ i). ap (λ n. is_some (point_at t1 n)) q ∙ ap is_some (point-written t t1 i (Some p) (omega (arith, some-within t k h)) w))
+    (λ (d : k ≡ i → ⊥). ap is_some (point-kept t t1 i k (Some p) d w) ∙ h) (cases_eq k i)
+
+pub live-beside : (t t1 : List End) (i k : ℕ) (o : Option Point) → (k ≡ i → ⊥) → points_of t1 ≡ set (points_of t) i o → IsSome (point_at t k) → IsSome (point_at t1 k)
+live-beside t t1 i k o d w h = ap is_some (point-kept t t1 i k o d w) ∙ h
+
+-- a table may end where no end stands any more
+pub HasChains-cut : (t t' : List End) (heads heads' : Heads) (n : ℕ) → t' ≡ take n t → heads' ≡ heads → ((e : ℕ) → n ≤ e → point_at t e ≡ None) → HasChains t heads → HasChains t' heads'
+HasChains-cut t t' heads heads' n cut same free has = rw (cut, same) (record {
+  chain = has.chain;
+  chained = record {
+    first = has.chained.first;
+    counted = λ e m.
+        ⊎_elim (λ (w : e < n). has.chained.counted e m ∙ sym (ap (λ (x : End). stands_at m x.point) (get_or-take n t e free_end w)))
+        (λ (past : n ≤ e). has.chained.counted e m ∙ ap (stands_at m) (free e past) ∙ sym (ap (λ (x : End). stands_at m x.point) (get_or_past (take n t) e free_end (omega (arith, length-take n t))))) (cases_lt e n);
+    next = λ e m h. ap (λ (x : End). x.next) (front e m h) ∙ has.chained.next e m h;
+    prev = λ e m h. ap (λ (x : End). x.prev) (front e m h) ∙ has.chained.prev e m h;
+  };
+})
+  where
+    front : (e m : ℕ) → 0 < hits e (has.chain m) → end_at (take n t) e ≡ end_at t e
+    front e m h =
+        ⊎_elim (λ (w : e < n). get_or-take n t e free_end w)
+        (λ (past : n ≤ e). absurd (omega (arith, has.chained.counted e m ∙ ap (stands_at m) (free e past)))) (cases_lt e n)
+
+-- the ends of the last slot come into another, and are taken out of theirs
+module _ (t t1 t2 t3 t4 t5 : List End) (s l i j a b : ℕ) (p q : Point) (first : i ≡ s + s) (second : j ≡ s + s + 1) (first-last : a ≡ l + l) (second-last : b ≡ l + l + 1) (long : length t ≡ l + l + 2)
+    (starts : point_at t (l + l) ≡ Some p) (ends : point_at t (l + l + 1) ≡ Some q) (w1 : points_of t1 ≡ set (points_of t) i (Some p)) (w2 : points_of t2 ≡ set (points_of t1) j (Some q)) (w3 : points_of t3 ≡ set (points_of t2) a None) (w4 : points_of t4 ≡ set (points_of t3) b None) where
+  long-2 : length t2 ≡ l + l + 2
+  long-2 = same-length t1 t2 j (Some q) w2 ∙ same-length t t1 i (Some p) w1 ∙ long
+
+  pub cut-free : (e : ℕ) → l + l ≤ e → point_at t4 e ≡ None
+  cut-free e w =
+      ⊎_elim (λ (n : e ≡ b). ap (point_at t4) n ∙ point-written t3 t4 b None (omega (arith, long-2, same-length t2 t3 a None w3)) w4)
+      (λ (d : e ≡ b → ⊥). point-kept t3 t4 b e None d w4
+      ∙ ⊎_elim (λ (n : e ≡ a). ap (point_at t3) n ∙ point-written t2 t3 a None (omega (arith, long-2)) w3)
+      (λ (m : e ≡ a → ⊥). point-kept t2 t3 a e None m w3 ∙ ap (λ (x : End). x.point) (get_or_past t2 e free_end (omega (arith, long-2)))) (cases_eq e a)) (cases_eq e b)
+
+  pub cut-points : (n : ℕ) → n ≡ l + l → t5 ≡ take n t4 → points_of t5 ≡ without_slot s l (points_of t)
+  cut-points n is cut =
+      let ps = points_of t in
+      let x : Some p ≡ get_or ps (l + l) None = sym starts ∙ sym (points-at t (l + l)) in
+      let y : Some q ≡ get_or ps (l + l + 1) None = sym ends ∙ sym (points-at t (l + l + 1)) in
+      ap points_of (cut ∙ ap (λ k. take k t4) is)
+      ∙ sym (take-map (λ (e : End). e.point) (l + l) t4)
+      ∙ ap (take (l + l)) (w4 ∙ ap (λ xs. set xs b None) w3)
+      ∙ take-set-le (l + l) (set (points_of t2) a None) b None (omega arith)
+      ∙ take-set-le (l + l) (points_of t2) a None (omega arith)
+      ∙ ap (take (l + l)) (w2 ∙ ap (λ xs. set xs j (Some q)) w1)
+      ∙ ap (λ k. take (l + l) (set (set ps k (Some p)) j (Some q))) first
+      ∙ ap (λ k. take (l + l) (set (set ps (s + s) (Some p)) k (Some q))) second
+      ∙ ap (λ o. take (l + l) (set (set ps (s + s) o) (s + s + 1) (Some q))) x
+      ∙ ap (λ o. take (l + l) (set (set ps (s + s) (get_or ps (l + l) None)) (s + s + 1) o)) y
 
 -- two ends that are appended and put in are the last of the table
 set-last : (ps : List (Option Point)) (s e : Option Point) → set (set (ps ++ None ∷ [] ++ None ∷ []) (length ps) s) (suc (length ps)) e ≡ ps ++ s ∷ e ∷ []

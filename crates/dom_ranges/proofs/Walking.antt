@@ -8,9 +8,9 @@ use Rattle.dom_model.specs.Worlds.World.{Point}
 use Rattle.dom_point.specs.dom_links.Neighbours.{after-none, after-left_out, hits-left_out_other}
 use Rattle.dom_point.specs.dom_links.Counting.{length-le_from_once}
 use Rattle.dom_ranges.specs.declared.chains.End.{End}
-use Rattle.dom_ranges.specs.Chained.{Heads, end_at, point_at, points_of, covers, cover_of, head_at, stands_at, IsChained, HasChains, Rechains, moved_first, on_node, MovesWithin}
+use Rattle.dom_ranges.specs.Chained.{Heads, end_at, point_at, points_of, covers, cover_of, head_at, stands_at, IsChained, HasChains, Rechains, moved_from, on_node, MovesWithin}
 use Rattle.dom_ranges.proofs.Chained.{in-stands, once, chained-within}
-use Rattle.dom_ranges.proofs.Steps.{points-at, points-length, same-length, point-written, point-kept}
+use Rattle.dom_ranges.proofs.Steps.{points-at, points-length, same-length, point-written, point-kept, stays-there, goes-elsewhere}
 
 -- the ends along a list of links, no more than the fuel
 abbrev pub along : List End → ℕ → Option ℕ → List ℕ
@@ -167,10 +167,22 @@ module _ (node : ℕ) (move : Point → Point) (t0 : List End) (covered : List B
     other : (k : ℕ) → 0 < hits k es → k ≡ id → ⊥
     other k h q = let z : 0 < hits id es = rw q at h in omega (arith, out)
 
-    pub stepped : (p q : Point) → point_at t id ≡ Some p → q ≡ move p → (t' : List End) (heads' : Heads) → points_of t' ≡ set (points_of t) id (Some q) → Rechains (moved_first id q.node) t heads t' heads' → cover_of heads' ≡ cover_of heads
-        → IsWalked node move t0 covered t' heads' (moved_first id q.node chain) es
+    -- the chains once the end is moved, where it stays in the node and where it leaves it
+    abbrev over : Point → Point → ℕ → List ℕ
+    over p q = moved_from id (Some p) q.node chain
+
+    stays : (p q : Point) → p.node ≡ node → (q.node == node) ≡ true → over p q node ≡ chain node
+    stays p q n y = let z : (stands_at q.node (Some p) == 1) ≡ true = stays-there p q (n ∙ sym (eqb-true q.node node y)) in rw z refl
+
+    leaves : (p q : Point) → p.node ≡ node → (q.node == node) ≡ false → over p q node ≡ left_out id (chain node)
+    leaves p q n y =
+        let z : (stands_at q.node (Some p) == 1) ≡ false = goes-elsewhere p q (λ e. let v : (q.node == node) ≡ true = eq-eqb q.node node (sym e ∙ n) in false≢true (sym y ∙ v)) in
+        rw (z, y) refl
+
+    pub stepped : (p q : Point) → point_at t id ≡ Some p → q ≡ move p → (t' : List End) (heads' : Heads) → points_of t' ≡ set (points_of t) id (Some q) → Rechains (moved_from id (point_at t id) q.node) t heads t' heads' → cover_of heads' ≡ cover_of heads
+        → IsWalked node move t0 covered t' heads' (over p q) es
     stepped p q at moves t' heads' written rechained wide = record {
-      chained = rechained chain w.chained;
+      chained = subst (λ (o : Option Point). IsChained (moved_from id o q.node chain) t' heads') at (rechained chain w.chained);
       one = λ k. omega (arith, w.one k);
       inside = inside;
       follows = follows;
@@ -179,28 +191,21 @@ module _ (node : ℕ) (move : Point → Point) (t0 : List End) (covered : List B
       wide = wide ∙ w.wide;
     }
       where
-        fewer : List ℕ
-        fewer = left_out id (chain node)
-
-        first : (k : ℕ) → (k ≡ id → ⊥) → hits k (moved_first id q.node chain node) ≡ hits k (chain node)
+        first : (k : ℕ) → (k ≡ id → ⊥) → hits k (over p q node) ≡ hits k (chain node)
         first k d =
-            ⊎_elim (λ (y : (q.node == node) ≡ true). rw y (hits-rest k id (left_out id (chain node)) d ∙ hits-left_out_other k id (chain node) (λ e. d (sym e))))
-            (λ (y : (q.node == node) ≡ false). rw y (hits-left_out_other k id (chain node) (λ e. d (sym e)))) (cases_Bool (q.node == node))
+            ⊎_elim (λ (y : (q.node == node) ≡ true). ap (hits k) (stays p q (id-node p at) y))
+            (λ (y : (q.node == node) ≡ false). ap (hits k) (leaves p q (id-node p at) y) ∙ hits-left_out_other k id (chain node) (λ e. d (sym e))) (cases_Bool (q.node == node))
 
-        inside : (k : ℕ) → 0 < hits k es → 0 < hits k (moved_first id q.node chain node)
+        inside : (k : ℕ) → 0 < hits k es → 0 < hits k (over p q node)
         inside k h = let d = other k h in omega (arith, first k d, w.inside k (omega (arith, hits-rest k id es d)))
 
-        second : (k : ℕ) → (k ≡ id → ⊥) → after k (moved_first id q.node chain node) ≡ after k (left_out id (chain node))
-        second k d =
-            ⊎_elim (λ (y : (q.node == node) ≡ true). rw y (after-rest k id (left_out id (chain node)) d))
-            (λ (y : (q.node == node) ≡ false). rw y refl) (cases_Bool (q.node == node))
-
-        follows : (k : ℕ) → 0 < hits k es → after k (moved_first id q.node chain node) ≡ after k es
+        follows : (k : ℕ) → 0 < hits k es → after k (over p q node) ≡ after k es
         follows k h =
             let d = other k h in
             let a : after k (chain node) ≡ after k es = w.follows k (omega (arith, hits-rest k id es d)) ∙ after-rest k id es d in
             let b : is_number (after k (chain node)) id ≡ false = rw a (after-none k id es out) in
-            second k d ∙ after-left_out k id (chain node) d (once chain t heads w.chained id node) ∙ rw b a
+            ⊎_elim (λ (y : (q.node == node) ≡ true). ap (after k) (stays p q (id-node p at) y) ∙ a)
+            (λ (y : (q.node == node) ≡ false). ap (after k) (leaves p q (id-node p at) y) ∙ after-left_out k id (chain node) d (once chain t heads w.chained id node) ∙ rw b a) (cases_Bool (q.node == node))
 
         stood : point_at t0 id ≡ Some p
         stood = sym id-stood ∙ at
@@ -246,13 +251,13 @@ module _ (node : ℕ) (move : Point → Point) (t0 : List End) (covered : List B
         let m = within id p (sym (id-stood node move t0 covered t heads walk.chain id there.es w) ∙ h) (id-node node move t0 covered t heads walk.chain id there.es w p h) in
         (m.0, ap (λ cs. covers cs (move p).node) w.wide ∙ m.1)
 
-    module _ (p r : Point) (at : point_at t id ≡ Some p) (moves : r ≡ move p) (t' : List End) (heads' : Heads) (written : points_of t' ≡ set (points_of t) id (Some r)) (rechained : Rechains (moved_first id r.node) t heads t' heads') (wide : cover_of heads' ≡ cover_of heads) where
-      on : IsWalked node move t0 covered t' heads' (moved_first id r.node walk.chain) there.es
+    module _ (p r : Point) (at : point_at t id ≡ Some p) (moves : r ≡ move p) (t' : List End) (heads' : Heads) (written : points_of t' ≡ set (points_of t) id (Some r)) (rechained : Rechains (moved_from id (point_at t id) r.node) t heads t' heads') (wide : cover_of heads' ≡ cover_of heads) where
+      on : IsWalked node move t0 covered t' heads' (moved_from id (Some p) r.node walk.chain) there.es
       on = stepped node move t0 covered t heads walk.chain id there.es there.is p r at moves t' heads' written rechained wide
 
       pub walk-step : Walks node move t0 covered t' heads' (end_at t id).next
       walk-step = record {
-        chain = moved_first id r.node walk.chain;
+        chain = moved_from id (Some p) r.node walk.chain;
         rest = there.es;
         starts = id-next node move t0 covered t heads walk.chain id there.es there.is;
         walked = on;
@@ -261,7 +266,7 @@ module _ (node : ℕ) (move : Point → Point) (t0 : List End) (covered : List B
       pub walk-smaller : length (along t' (length t') (end_at t id).next) < length (along t (length t) here)
       walk-smaller =
           let a : along t' (length t') (end_at t id).next ≡ there.es =
-          ap (along t' (length t')) (id-next node move t0 covered t heads walk.chain id there.es there.is) ∙ measured node move t0 covered t' heads' (moved_first id r.node walk.chain) there.es on in
+          ap (along t' (length t')) (id-next node move t0 covered t heads walk.chain id there.es there.is) ∙ measured node move t0 covered t' heads' (moved_from id (Some p) r.node walk.chain) there.es on in
           let b : along t (length t) here ≡ id ∷ there.es = ap (along t (length t)) q ∙ measured node move t0 covered t heads walk.chain (id ∷ there.es) there.is in
           omega (arith, ap length a, ap length b)
 

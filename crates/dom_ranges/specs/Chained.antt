@@ -111,6 +111,14 @@ chained_first e node chain n = if node == n then e ∷ chain n else chain n
 abbrev pub moved_first : ℕ → ℕ → (ℕ → List ℕ) → ℕ → List ℕ
 moved_first e node chain n = chained_first e node (unchained e chain) n
 
+-- the table, with another point for an end
+abbrev pub table_moved : ℕ → Point → List End → List End
+table_moved e p t = slice_set t e (record (end_at t e) { point = Some p })
+
+-- the chains, with an end moved from a point to a node: it keeps its place where it stays in its node, and comes first where it does not
+abbrev pub moved_from : ℕ → Option Point → ℕ → (ℕ → List ℕ) → ℕ → List ℕ
+moved_from e from node chain = if stands_at node from == 1 then chain else moved_first e node chain
+
 -- what a change of chains does to whichever chains there are
 abbrev pub Rechains : ((ℕ → List ℕ) → ℕ → List ℕ) → List End → Heads → List End → Heads → Type 0
 Rechains change t heads t' heads' = (chain : ℕ → List ℕ) → IsChained chain t heads → IsChained (change chain) t' heads'

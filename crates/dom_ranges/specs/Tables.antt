@@ -1,16 +1,17 @@
 -- The table of live ranges, and what it is to be in order. DOM Standard, "Live ranges".
-use Rattle.std.specs.Prelude.{◌≡◌, ℕ, ◌+◌, ◌^◌, ◌<◌, ◌≤◌, Bool, true, false, if◌then◌else◌, List, [], ◌∷◌, length, map, slice_index_or, Option, Some, None, IfSome, IsSome, is_some, Result, Ok, Err}
+use Rattle.std.specs.Prelude.{◌≡◌, ℕ, ◌+◌, ◌^◌, ◌<◌, ◌≤◌, nat_eq, Bool, true, false, if◌then◌else◌, List, [], ◌∷◌, length, map, take, slice_index_or, slice_set, Option, Some, None, IfSome, IsSome, is_some}
 use Rattle.std.specs.List.{All, flat_map}
 use Rattle.std.specs.declared.cmp.Ordering.TheVariants.{Greater}
 use Rattle.dom_model.specs.declared.Kind.TheVariants.{DocumentType}
-use Rattle.dom_model.specs.declared.DomError.{DomError}
 use Rattle.dom_model.specs.Worlds.World.{Point, Range}
-use Rattle.dom_model.specs.PlainLists.Lists.{among, hits}
+use Rattle.dom_model.specs.PlainLists.Lists.{among}
 use Rattle.dom_model.specs.Forests.Forest.{Forest, HasNode, root_of}
 use Rattle.dom_model.specs.BoundaryPoints.Points.{order_of}
 use Rattle.dom_model.specs.Forests.Nodes.{is_of_kind}
 use Rattle.dom_model.specs.Worlds.Lengths.{node_length}
-use Rattle.dom_model.specs.MutationAlgorithms.Discarding.{nodes_of_live}
+use Rattle.dom_model.specs.MutationAlgorithms.Discarding.{nodes_of_live, nodes_of_range}
+use Rattle.indexmap.specs.IndexSet.{IndexSet, contains}
+pub use Rattle.dom_point.specs.Refusals.{refused}
 use Rattle.dom_ranges.specs.declared.chains.End.{End}
 use Rattle.dom_ranges.specs.Chained.{Heads, covers, points_of, HasChains}
 
@@ -39,11 +40,6 @@ pub record FitsMoved (move : Point → Point) (r : Range) : Type 0 where
 -- the same of every live range
 abbrev pub OffsetsFit : (Point → Point) → List (Option Range) → Type 0
 OffsetsFit move ranges = All (λ (r : Option Range). IfSome r (FitsMoved move)) ranges
-
--- an answer that is a refusal or nothing
-abbrev pub refused : Option DomError → Result (Unit {0}) DomError
-refused None = Ok tt
-refused (Some e) = Err e
 
 -- the nodes in which points stand
 abbrev pub nodes_at : List (Option Point) → List ℕ
@@ -80,6 +76,10 @@ module _ {X : Type 0} where
     pub end : HasNode f r.end.node
     pub one_root : root_of f r.start.node ≡ root_of f r.end.node
 
+-- a set has the nodes of static ranges and no others
+abbrev pub NamesNodes : {S : Type 0} → List Range → IndexSet ℕ S → Type 0
+NamesNodes ranges nodes = (n : ℕ) → contains nat_eq nodes n ≡ among n (flat_map nodes_of_range ranges)
+
 -- the range from one end to another, where both stand somewhere
 abbrev pub both : Option Point → Option Point → Option Range
 both None end = None
@@ -115,42 +115,28 @@ by_slot pairs slots = map (λ (o : Option ℕ). in_slot pairs o) slots
 abbrev pub slot_at : List (Option ℕ) → ℕ → Option ℕ
 slot_at slots r = slice_index_or slots r None
 
--- what the live ranges keep of their ends
-pub record IsKept (t : List End) (heads : Heads) (live : ℕ) : Type 0 where
+-- the points, with those of the last slot in a slot, and none of the last slot
+abbrev pub without_slot : ℕ → ℕ → List (Option Point) → List (Option Point)
+without_slot slot last ps =
+    take (last + last)
+    (slice_set (slice_set ps (slot + slot) (slice_index_or ps (last + last) None)) (slot + slot + 1) (slice_index_or ps (last + last + 1) None))
+
+-- the number of the range in a slot
+abbrev pub number_at : List ℕ → ℕ → ℕ
+number_at numbers s = slice_index_or numbers s 0
+
+-- each number that has a slot has one to itself, with a range in it, and each slot is that of a number
+pub record HaveSlots (pairs : List (Option Range)) (slots : List (Option ℕ)) (numbers : List ℕ) : Type 0 where
+  pub named : (r s : ℕ) → slot_at slots r ≡ Some s → number_at numbers s ≡ r
+  pub full : (r s : ℕ) → slot_at slots r ≡ Some s → IsSome (slice_index_or pairs s None)
+  pub held : (s : ℕ) → s < length numbers → slot_at slots (number_at numbers s) ≡ Some s
+
+-- what the live ranges keep of their ends, of the slots of their numbers, and of the numbers of their slots. There are as many slots as live
+-- ranges, and two ends to each
+pub record IsInOrder (t : List End) (heads : Heads) (slots : List (Option ℕ)) (numbers : List ℕ) : Type 0 where
   pub chains : HasChains t heads
   pub pairs : IsPaired (points_of t)
-  pub alive : live ≡ live_count (paired (points_of t))
+  pub numbered : HaveSlots (paired (points_of t)) slots numbers
+  pub long : length t ≡ length numbers + length numbers
+  pub counted : length numbers ≡ live_count (by_slot (paired (points_of t)) slots)
   pub small : length t ≤ 2 ^ 33
-
--- each vacant slot is listed once, and no range is in it
-pub record AreVacant (pairs : List (Option Range)) (vacant : List ℕ) : Type 0 where
-  pub once : (s : ℕ) → hits s vacant ≤ 1
-  pub there : (s : ℕ) → 0 < hits s vacant → s < length pairs
-  pub empty : (s : ℕ) → 0 < hits s vacant → slice_index_or pairs s None ≡ None
-
--- each number that has a slot has one to itself, with a range in it, and each range is in the slot of a number
-pub record HaveSlots (pairs : List (Option Range)) (slots : List (Option ℕ)) : Type 0 where
-  pub number : ℕ → ℕ
-  pub named : (r s : ℕ) → slot_at slots r ≡ Some s → number s ≡ r
-  pub full : (r s : ℕ) → slot_at slots r ≡ Some s → IsSome (slice_index_or pairs s None)
-  pub held : (s : ℕ) → IsSome (slice_index_or pairs s None) → slot_at slots (number s) ≡ Some s
-
--- there are as many slots as live ranges and vacant slots, and room to list them all as vacant
-pub record IsFilled (ends live vacant room : ℕ) : Type 0 where
-  pub filled : ends ≡ live + live + vacant + vacant
-  pub listed : live + vacant ≤ room
-
--- what the live ranges keep of their ends, of the slots of their numbers, and of the vacant slots. There are no more slots than numbers
-pub record IsInOrder (t : List End) (heads : Heads) (slots : List (Option ℕ)) (vacant : List ℕ) (live many room : ℕ) : Type 0 where
-  pub ends : IsKept t heads live
-  pub numbered : HaveSlots (paired (points_of t)) slots
-  pub empty : AreVacant (paired (points_of t)) vacant
-  pub filled : IsFilled (length t) live many room
-  pub few : length t ≤ length slots + length slots
-
--- a range comes into an empty slot, and these slots are vacant then
-pub record Settles (s : ℕ) (x : Range) (pairs pairs' : List (Option Range)) (vacant : List ℕ) : Type 0 where
-  pub empty : slice_index_or pairs s None ≡ None
-  pub put : slice_index_or pairs' s None ≡ Some x
-  pub others : (k : ℕ) → (k ≡ s → ⊥) → slice_index_or pairs' k None ≡ slice_index_or pairs k None
-  pub left : AreVacant pairs' vacant

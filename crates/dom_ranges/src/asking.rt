@@ -10,7 +10,6 @@ ghost use Rattle.dom_ranges.specs.Tables.{nodes_at, stands_among, moved_in};
 
 use crate::chains::{Chains, End};
 use crate::numbers::EndId;
-use crate::statics::is_inside;
 use dom_point::Point;
 use dom_point::of_tree::{NodeId, Tree};
 
@@ -19,7 +18,7 @@ fn stands_inside<X>(end: End, tree: &Tree<X>, top: NodeId) -> bool
     ensures { result ≡ stands_among (inclusive_descendants tree.now.forest top) end.point }
 {
     match end.point {
-        Some(point) => is_inside(tree, top, point.node),
+        Some(point) => tree.is_inside(top, point.node),
         None => false,
     }
 }

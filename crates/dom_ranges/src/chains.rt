@@ -10,11 +10,11 @@ ghost use Rattle.std.specs.Vec.{vec_len, vec_capacity};
 ghost use Rattle.dom_model.specs.PlainLists.Lists.{among};
 ghost use Rattle.dom_model.specs.Worlds.World.{Point as PointValue};
 ghost use Rattle.dom_point.specs.dom_pages.Numbered.{item_at};
-ghost use Rattle.dom_ranges.specs.Chained.{free_end, end_at, head_at, covers, covered_to, cover_of, point_at, points_of, ForLink, led_on, led_back, heads_led, HasChains, Rechains, unchained, chained_first, on_node, MovesWithin, GoesElsewhere, StaysBeside, moved_first};
+ghost use Rattle.dom_ranges.specs.Chained.{free_end, end_at, head_at, covers, covered_to, cover_of, point_at, points_of, ForLink, led_on, led_back, heads_led, HasChains, Rechains, unchained, chained_first, on_node, MovesWithin, GoesElsewhere, StaysBeside, table_moved, moved_from};
 ghost use Rattle.dom_ranges.specs.Shifting.{shifted};
-ghost use Rattle.dom_ranges.specs.Tables.{nodes_at};
+ghost use Rattle.dom_ranges.specs.Tables.{nodes_at, without_slot};
 
-use crate::numbers::EndId;
+use crate::numbers::{EndId, RangeSlot};
 use crate::shift::Shift;
 use dom_point::Point;
 use dom_point::of_pages::Pages;
@@ -197,17 +197,32 @@ impl Chains {
         self.begin(node, id);
     }
 
+    // Writes another point of the node in which an end stands. The end keeps its place in the chain.
+    fn move_inside(&mut self, id: EndId, point: Point)
+        requires { id < length self.old.table.items }
+        ensures table { self.new.table.items ≡ table_moved id point self.old.table.items }
+        ensures heads { self.new.heads.items ≡ self.old.heads.items }
+    {
+        let end = &mut self.table[id.index()];
+        end.point = Some(point);
+    }
+
     /// Moves an end that stands somewhere to another point.
     pub(crate) fn place(&mut self, id: EndId, point: Point)
         requires live { IsSome (point_at self.old.table.items id) }
         requires covered { covers (cover_of self.old.heads.items) point.node ≡ true }
         requires chains { HasChains self.old.table.items self.old.heads.items }
         ensures points { points_of self.new.table.items ≡ slice_set (points_of self.old.table.items) id (Some point) }
-        ensures chains { Rechains (moved_first id point.node) self.old.table.items self.old.heads.items self.new.table.items self.new.heads.items }
+        ensures chains { Rechains (moved_from id (point_at self.old.table.items id) point.node) self.old.table.items self.old.heads.items self.new.table.items self.new.heads.items }
         ensures covered { cover_of self.new.heads.items ≡ cover_of self.old.heads.items }
     {
-        self.take_out(id);
-        self.put_first(id, point);
+        let from = self.point(id);
+        if node_of(&from) == node_of(&point) {
+            self.move_inside(id, point);
+        } else {
+            self.take_out(id);
+            self.put_first(id, point);
+        }
     }
 
     /// Shifts the ends that stand in a node. It walks the chain of that node and no other.
@@ -275,6 +290,27 @@ impl Chains {
         self.put_first(EndId::new(index), start);
         self.put_first(EndId::new(index + 1), end);
         Ok(())
+    }
+
+    /// Takes the two ends in a slot out of their nodes. The two in the last slot come into it, and the table ends before them.
+    pub(crate) fn swap_remove(&mut self, slot: RangeSlot, last: RangeSlot)
+        requires start { IsSome (point_at self.old.table.items (slot + slot)) }
+        requires end { IsSome (point_at self.old.table.items (slot + slot + 1)) }
+        requires last_start { IsSome (point_at self.old.table.items (last + last)) }
+        requires last_end { IsSome (point_at self.old.table.items (last + last + 1)) }
+        requires last { length self.old.table.items ≡ last + last + 2 }
+        requires chains { HasChains self.old.table.items self.old.heads.items }
+        ensures points { points_of self.new.table.items ≡ without_slot slot last (points_of self.old.table.items) }
+        ensures chains { HasChains self.new.table.items self.new.heads.items }
+        ensures covered { cover_of self.new.heads.items ≡ cover_of self.old.heads.items }
+    {
+        let start = self.point(last.start());
+        let end = self.point(last.end());
+        self.place(slot.start(), start);
+        self.place(slot.end(), end);
+        self.take_out(last.start());
+        self.take_out(last.end());
+        self.table.truncate(last.start().index());
     }
 
     /// Makes room for the chains of the nodes numbered below `made` that were not covered yet. One that was forgotten stays so.

@@ -38,7 +38,8 @@ impl RangeId {
     }
 }
 
-/// The place of a live range's two ends in the table of ends. A slot is used again once its range was released.
+/// The place of a live range's two ends in the table of ends. There are as many slots as live ranges: where one is released, the range in
+/// the last slot comes into its slot.
 #[derive(Clone, Copy, Debug, PartialEq, Eq)]
 pub(crate) struct RangeSlot {
     index: u32,
@@ -61,6 +62,12 @@ impl RangeSlot {
         ensures { result ≡ index }
     {
         RangeSlot { index }
+    }
+
+    pub(crate) fn index(self) -> usize
+        ensures { result ≡ self }
+    {
+        self.index as usize
     }
 
     /// The end at which the range in the slot starts.

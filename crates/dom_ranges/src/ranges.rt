@@ -2,12 +2,11 @@
 
 ghost use Rattle.std.specs.Prelude.{◌≡◌, ◌+◌, ◌^◌, ◌<◌, ◌≤◌, [], ◌∷◌, ◌++◌, length, slice_set, Some, None, IsSome, is_some, true, false, IfOk, OnOk, OnErr};
 ghost use Rattle.std.specs.List.{list_any};
-ghost use Rattle.std.specs.Vec.{vec_len, vec_capacity};
 ghost use Rattle.dom_model.specs.PlainLists.Lists.{among};
 ghost use Rattle.dom_model.specs.Forests.Forest.{HasNode, inclusive_descendants};
 ghost use Rattle.dom_model.specs.Worlds.World.{Range};
-ghost use Rattle.dom_ranges.specs.Chained.{covers, covered_to, uncovered, cover_of, points_of};
-ghost use Rattle.dom_ranges.specs.Tables.{IsCovered, range_in, slot_at, live_nodes, paired, IsRangeIn, IsKept, AreVacant, IsFilled, Settles};
+ghost use Rattle.dom_ranges.specs.Chained.{covers, covered_to, uncovered};
+ghost use Rattle.dom_ranges.specs.Tables.{IsCovered, range_in, slot_at, live_nodes, live_count, IsRangeIn};
 
 use crate::chains::Chains;
 use crate::numbers::{RangeId, RangeSlot};
@@ -19,18 +18,17 @@ use std::marker::Model;
 
 /// The live ranges of a session (DOM Standard, "Live ranges"), with their ends found by node.
 ///
-/// A number leads to a slot, which has the two ends, for as long as its range is live. A slot that was released is taken again first, and
-/// the pages of the numbers give their memory back where no range is live.
+/// A number leads to a slot, which has the two ends, for as long as its range is live, and a slot leads back to its number. Where a range is
+/// released the one in the last slot comes into its slot, so each slot has a live range. The pages of the slots give their memory back where
+/// no range is live.
 #[derive(Drop)]
 pub struct Ranges {
     pub(crate) chains: Chains,
     slots: Pages<RangeSlot>,
-    vacant: Vec<RangeSlot>,
-    live: u64,
+    numbers: Vec<RangeId>,
 }
 
 impl Model for Ranges {
-    ghost use Rattle.std.specs.Vec.{vec_len, vec_capacity};
     ghost use Rattle.dom_ranges.specs.Chained.{cover_of, points_of};
     ghost use Rattle.dom_ranges.specs.Tables.{RangeTable, paired, by_slot, IsInOrder};
 
@@ -38,7 +36,7 @@ impl Model for Ranges {
 
     ghost view = { λ a. record { ranges = by_slot (paired (points_of a.chains.table.items)) a.slots.items; covered = cover_of a.chains.heads.items } };
 
-    ghost invariant = { λ a. IsInOrder a.chains.table.items a.chains.heads.items a.slots.items a.vacant.items a.live (vec_len a.vacant) (vec_capacity a.vacant) };
+    ghost invariant = { λ a. IsInOrder a.chains.table.items a.chains.heads.items a.slots.items a.numbers.items };
 }
 
 // The slot of a number, where it has one.
@@ -46,41 +44,6 @@ fn slot_of(slots: &Pages<RangeSlot>, r: RangeId) -> Option<RangeSlot>
     ensures { result ≡ slot_at slots.now.items r }
 {
     slots.get(r.number() as usize)
-}
-
-// Puts two ends into a vacant slot, or into a new one where none is vacant. For a new one there is room among the vacant slots too.
-fn settle(
-    chains: &mut Chains,
-    vacant: &mut Vec<RangeSlot>,
-    live: u64,
-    start: Point,
-    end: Point,
-) -> Result<RangeSlot, AllocError>
-    requires start_covered { covers (cover_of chains.old.heads.items) start.node ≡ true }
-    requires end_covered { covers (cover_of chains.old.heads.items) end.node ≡ true }
-    requires few { length chains.old.table.items + 2 ≤ 2 ^ 33 }
-    requires kept { IsKept chains.old.table.items chains.old.heads.items live }
-    requires vacant { AreVacant (paired (points_of chains.old.table.items)) vacant.old.items }
-    requires filled { IsFilled (length chains.old.table.items) live (vec_len vacant.old) (vec_capacity vacant.old) }
-    ensures settled { IfOk result (λ s. Settles s (record { start = start; end = end }) (paired (points_of chains.old.table.items)) (paired (points_of chains.new.table.items)) vacant.new.items) }
-    ensures kept { OnOk result (IsKept chains.new.table.items chains.new.heads.items (live + 1)) }
-    ensures filled { OnOk result (IsFilled (length chains.new.table.items) (live + 1) (vec_len vacant.new) (vec_capacity vacant.new)) }
-    ensures few { OnOk result (length chains.new.table.items ≤ length chains.old.table.items + 2) }
-    ensures covered { cover_of chains.new.heads.items ≡ cover_of chains.old.heads.items }
-    ensures err_points { OnErr result (points_of chains.new.table.items ≡ points_of chains.old.table.items) }
-    ensures err_kept { OnErr result (IsKept chains.new.table.items chains.new.heads.items live) }
-    ensures err_vacant { OnErr result (vacant.new.items ≡ vacant.old.items) }
-    ensures err_filled { OnErr result (IsFilled (length chains.new.table.items) live (vec_len vacant.new) (vec_capacity vacant.new)) }
-{
-    if let Some(slot) = vacant.pop() {
-        chains.put_first(slot.start(), start);
-        chains.put_first(slot.end(), end);
-        return Ok(slot);
-    }
-    vacant.reserve(live as usize + 1)?;
-    let slot = RangeSlot::new((chains.count() / 2) as u32);
-    chains.add(start, end)?;
-    Ok(slot)
 }
 
 impl Ranges {
@@ -91,8 +54,7 @@ impl Ranges {
         Ranges {
             chains: Chains::new(alloc),
             slots: Pages::new(alloc),
-            vacant: Vec::new(alloc),
-            live: 0,
+            numbers: Vec::new(alloc),
         }
     }
 
@@ -154,10 +116,12 @@ impl Ranges {
     {
         let _ = tree;
         self.slots.reserve(1)?;
-        let slot = settle(&mut self.chains, &mut self.vacant, self.live, start, end)?;
+        self.numbers.reserve(1)?;
+        self.chains.add(start, end)?;
         let r = RangeId::new(self.slots.len() as u32);
-        self.slots.push_reserved(slot);
-        self.live += 1;
+        self.slots
+            .push_reserved(RangeSlot::new(self.numbers.len() as u32));
+        self.numbers.push_reserved(r);
         Ok(r)
     }
 
@@ -168,11 +132,11 @@ impl Ranges {
         self.slots.len() as u64
     }
 
-    /// How many slots there are: those of the live ranges, and the vacant ones, which the next ranges take first.
+    /// How many ranges are live: there is one slot to each, so this tells how much memory their ends take.
     pub fn slots(&self) -> usize
-        ensures { result ≤ length self.now.ranges }
+        ensures { result ≡ live_count self.now.ranges }
     {
-        self.chains.count() / 2
+        self.numbers.len()
     }
 
     /// Whether there is such a range, and it was not released.
@@ -201,11 +165,12 @@ impl Ranges {
         ensures { self.new ≡ record self.old { ranges = slice_set self.old.ranges r None } }
     {
         let slot = slot_of(&self.slots, r).unwrap();
-        self.chains.take_out(slot.start());
-        self.chains.take_out(slot.end());
+        let last = self.numbers.len() - 1;
+        let moved = self.numbers[last];
+        self.chains.swap_remove(slot, RangeSlot::new(last as u32));
+        self.slots.set(moved.number() as usize, slot);
         self.slots.clear(r.number() as usize);
-        self.vacant.push_reserved(slot);
-        self.live -= 1;
+        self.numbers.swap_remove(slot.index());
     }
 
     // Moves both ends of a range.
@@ -231,7 +196,7 @@ impl Ranges {
     fn is_idle(&self) -> bool
         ensures { result ≡ true → live_nodes self.now ≡ [] }
     {
-        self.live == 0
+        self.numbers.is_empty()
     }
 
     // So many nodes are asked for the ends that stand in them, before each end is asked for its node instead.

@@ -3,62 +3,17 @@
 ghost use Rattle.std.specs.Prelude.{◌≡◌, slice_set, Some, None, IsSome, IfSome, OnOk, OnErr};
 ghost use Rattle.std.specs.Option.{ForSome};
 ghost use Rattle.dom_model.specs.declared.Kind.TheVariants.{DocumentType};
-ghost use Rattle.dom_model.specs.Forests.Forest.{HasNode, parent_of, root_of};
+ghost use Rattle.dom_model.specs.Forests.Forest.{HasNode, parent_of};
 ghost use Rattle.dom_model.specs.Worlds.World.{Range};
-ghost use Rattle.dom_model.specs.Forests.Nodes.{is_of_kind, same_root as has_same_root};
-ghost use Rattle.dom_model.specs.RangesAndContents.Ranges.{is_before as comes_before, start_set, end_set, check_point, check_parent, check_contents, around, contents_of, collapsed, collapsed_at};
+ghost use Rattle.dom_model.specs.Forests.Nodes.{is_of_kind};
+ghost use Rattle.dom_model.specs.RangesAndContents.Ranges.{start_set, end_set, check_point, check_parent, check_contents, around, contents_of, collapsed, collapsed_at};
 ghost use Rattle.dom_ranges.specs.Tables.{IsCovered, range_in, StandsIn, refused};
 
 use crate::numbers::RangeId;
 use crate::ranges::Ranges;
 use dom_point::of_kinds::{DomError, Kind};
 use dom_point::of_tree::{Body, NodeId, Tree};
-use dom_point::{Point, order};
-use std::cmp::Ordering;
-
-// Whether a node is a doctype.
-pub(crate) fn is_doctype<X>(tree: &Tree<X>, node: NodeId) -> bool
-    requires { HasNode tree.now.forest node }
-    ensures { result ≡ is_of_kind DocumentType tree.now.forest node }
-{
-    tree.label(node).kind == Kind::DocumentType
-}
-
-// Whether two nodes have one root.
-pub(crate) fn same_root<X>(tree: &Tree<X>, a: NodeId, b: NodeId) -> bool
-    requires a_held { HasNode tree.now.forest a }
-    requires b_held { HasNode tree.now.forest b }
-    ensures { result ≡ has_same_root tree.now.forest a b }
-{
-    tree.root(a) == tree.root(b)
-}
-
-// Whether the first of two points of one root comes before the second.
-pub(crate) fn is_before<X>(tree: &Tree<X>, a: Point, b: Point) -> bool
-    requires a_held { HasNode tree.now.forest a.node }
-    requires b_held { HasNode tree.now.forest b.node }
-    requires one_root { root_of tree.now.forest a.node ≡ root_of tree.now.forest b.node }
-    ensures { result ≡ comes_before tree.now.forest a b }
-{
-    match order(tree, a, b) {
-        Ordering::Less => true,
-        Ordering::Equal | Ordering::Greater => false,
-    }
-}
-
-// The refusal of a point to be an end.
-fn checked_point<X: Body>(tree: &Tree<X>, node: NodeId, offset: usize) -> Result<(), DomError>
-    requires { HasNode tree.now.forest node }
-    ensures { result ≡ refused (check_point X.length tree.now.forest (record { node = node; offset = offset })) }
-{
-    if is_doctype(tree, node) {
-        return Err(DomError::InvalidNodeTypeError);
-    }
-    if tree.length(node) < offset {
-        return Err(DomError::IndexSizeError);
-    }
-    Ok(())
-}
+use dom_point::{Point, checked_point, is_before, same_root};
 
 impl Ranges {
     /// Sets the start. In another tree, or past the end, the end moves there too.
@@ -184,7 +139,7 @@ impl Ranges {
         ensures set { OnOk result (self.new ≡ record self.old { ranges = slice_set self.old.ranges r (Some (contents_of X.length tree.now.forest node)) }) }
         ensures unchanged { OnErr result (self.new ≡ self.old) }
     {
-        if is_doctype(tree, node) {
+        if tree.is_of_kind(node, Kind::DocumentType) {
             return Err(DomError::InvalidNodeTypeError);
         }
         let offset = tree.length(node);

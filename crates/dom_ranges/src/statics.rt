@@ -1,6 +1,6 @@
 //! Static ranges (DOM Standard, "Interface StaticRange").
 
-ghost use Rattle.std.specs.Prelude.{◌≡◌, ◌<◌, nat_le, [], ◌∷◌, ◌++◌, length, slice_get, Some, IsSome, is_some, IfSome, IfOk, OnOk, OnErr};
+ghost use Rattle.std.specs.Prelude.{◌≡◌, ℕ, ◌+◌, ◌<◌, ◌≤◌, ◌==◌, nat_eq, nat_le, if◌then◌else◌, true, [], ◌∷◌, ◌++◌, length, slice_get, Some, IsSome, is_some, IfSome, IfOk, OnOk, OnErr};
 ghost use Rattle.std.specs.List.{list_any, flat_map};
 ghost use Rattle.std.specs.Option.{ForSome};
 ghost use Rattle.dom_model.specs.PlainLists.Lists.{among};
@@ -10,11 +10,12 @@ ghost use Rattle.dom_model.specs.RangesAndContents.StaticRanges.{check_static, i
 ghost use Rattle.dom_model.specs.MutationAlgorithms.Discarding.{nodes_of_range};
 ghost use Rattle.dom_model.specs.Worlds.Lengths.{node_length};
 ghost use Rattle.dom_ranges.specs.Tables.{refused};
+ghost use Rattle.indexmap.specs.IndexSet.{contains, spare};
 
-use crate::setting::{is_before, is_doctype, same_root};
-use dom_point::Point;
-use dom_point::of_kinds::DomError;
+use dom_point::of_kinds::{DomError, Kind};
 use dom_point::of_tree::{Body, NodeId, Tree};
+use dom_point::{Point, is_before, same_root};
+use indexmap::IndexSet;
 use std::alloc::{AllocError, Global};
 use std::marker::Model;
 
@@ -69,10 +70,12 @@ impl Model for StaticRange {
     ghost inverse = { λ r. record { start = r.start; end = r.end } };
 }
 
-/// The static ranges of a session.
+/// The static ranges of a session. None of them is ever taken away.
 #[derive(Drop)]
 pub struct Statics {
     table: Vec<StaticRange>,
+    // the numbers of the nodes in which their ends stand
+    nodes: IndexSet<u32>,
 }
 
 impl Model for Statics {
@@ -82,6 +85,10 @@ impl Model for Statics {
     ghost Value = { List Range };
 
     ghost view = { λ a. a.table.items };
+
+    ghost use Rattle.dom_ranges.specs.Tables.{NamesNodes};
+
+    ghost invariant = { λ a. NamesNodes a.table.items a.nodes };
 }
 
 impl Statics {
@@ -91,6 +98,7 @@ impl Statics {
     {
         Statics {
             table: Vec::new(alloc),
+            nodes: IndexSet::new(alloc),
         }
     }
 
@@ -100,7 +108,7 @@ impl Statics {
         requires end_held { HasNode tree.now.forest end }
         ensures { result ≡ refused (check_static tree.now.forest start end) }
     {
-        if is_doctype(tree, start) || is_doctype(tree, end) {
+        if tree.is_of_kind(start, Kind::DocumentType) || tree.is_of_kind(end, Kind::DocumentType) {
             return Err(DomError::InvalidNodeTypeError);
         }
         Ok(())
@@ -113,8 +121,12 @@ impl Statics {
         ensures made { OnOk result (self.new ≡ self.old ++ record { start = start; end = end } ∷ []) }
         ensures unchanged { OnErr result (self.new ≡ self.old) }
     {
+        self.table.reserve(1)?;
+        self.nodes.reserve(2)?;
+        name(&mut self.nodes, start.node);
+        name(&mut self.nodes, end.node);
         let u = StaticId::new(self.table.len() as u32);
-        self.table.push(StaticRange { start, end })?;
+        self.table.push_reserved(StaticRange { start, end });
         Ok(u)
     }
 
@@ -152,13 +164,40 @@ impl Statics {
         are_valid(tree, start, end)
     }
 
-    /// Whether an end of a static range stands inside a node. It asks every static range.
+    /// Whether an end of a static range stands inside a node.
+    ///
+    /// It walks the nodes inside, and where they are more than those that static ranges name it asks each static range.
     pub fn refers<X>(&self, tree: &Tree<X>, top: NodeId) -> bool
         requires { HasNode tree.now.forest top }
         ensures { result ≡ list_any (λ m. among m (inclusive_descendants tree.now.forest top)) (flat_map nodes_of_range self.now) }
     {
+        tree.sound();
+        let mut here = top;
+        for _step in 0..self.nodes.len() + 1 {
+            if self.names(here) {
+                return true;
+            }
+            match tree.next_inside(top, here) {
+                Some(next) => here = next,
+                None => return false,
+            }
+        }
+        self.refer(tree, top)
+    }
+
+    // Whether an end stands in a node.
+    fn names(&self, node: NodeId) -> bool
+        ensures { result ≡ among node (flat_map nodes_of_range self.now) }
+    {
+        self.nodes.contains(&node.number())
+    }
+
+    // Whether an end stands inside a node. It asks each static range.
+    fn refer<X>(&self, tree: &Tree<X>, top: NodeId) -> bool
+        ensures { result ≡ list_any (λ m. among m (inclusive_descendants tree.now.forest top)) (flat_map nodes_of_range self.now) }
+    {
         for range in &self.table {
-            if is_inside(tree, top, range.start.node) || is_inside(tree, top, range.end.node) {
+            if tree.is_inside(top, range.start.node) || tree.is_inside(top, range.end.node) {
                 return true;
             }
         }
@@ -166,12 +205,13 @@ impl Statics {
     }
 }
 
-// Whether a node, which the tree may not hold, stands inside another.
-pub(crate) fn is_inside<X>(tree: &Tree<X>, top: NodeId, node: NodeId) -> bool
-    ensures { result ≡ among node (inclusive_descendants tree.now.forest top) }
+// Puts a node among those that static ranges name, for which there is room.
+fn name(nodes: &mut IndexSet<u32>, node: NodeId)
+    requires { 0 < spare nodes.old }
+    ensures named { (n : ℕ) → contains nat_eq nodes.new n ≡ (if node == n then true else contains nat_eq nodes.old n) }
+    ensures room { spare nodes.old ≤ spare nodes.new + 1 }
 {
-    tree.sound();
-    tree.holds(node) && tree.is_ancestor(top, node)
+    nodes.insert(node.number()).unwrap();
 }
 
 // Whether an offset is within the length of a node.

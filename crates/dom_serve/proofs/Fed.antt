@@ -1,8 +1,7 @@
 -- What a server holds and has written after more bytes.
-use Rattle.std.proofs.Common.{◌≡◌, ℕ, ◌+◌, ◌<◌, ◌≤◌, Bool, true, false, List, [], ◌∷◌, ◌++◌, length, Option, Result, Ok, Err, refl, sym, ap, ◌∙◌, subst, arith, append-nil, length-append, append_assoc, take, drop, get_or, take-append-drop, ◌⊎◌, inl, inr}
+use Rattle.std.proofs.Common.{◌≡◌, ℕ, ◌+◌, ◌<◌, ◌≤◌, Bool, true, false, List, [], ◌∷◌, ◌++◌, length, Option, Result, Ok, Err, refl, sym, ap, ◌∙◌, subst, arith, append-nil, length-append, append_assoc, ◌⊎◌, inl, inr}
 use Rattle.std.specs.Prelude.{◌==◌, nat_le, if◌then◌else◌}
-use Rattle.std.proofs.lemmas.Bool.{le-leb, lt-leb, ne_eqb, eqb-false}
-use Rattle.std.proofs.lemmas.List.{take_more}
+use Rattle.std.proofs.lemmas.Bool.{le-leb, lt-leb, eqb-false}
 use Rattle.std.specs.Io.KnownBytes.{Appends}
 use Rattle.dom_model.specs.declared.OwnError.TheVariants.{LineTooLong}
 use Rattle.dom_model.specs.Commands.Table.{whole_table}
@@ -15,9 +14,8 @@ use Rattle.dom_wire.specs.Sessions.{StandsFor}
 use Rattle.dom_serve.specs.declared.fault.Fault.{Fault}
 use Rattle.dom_serve.specs.declared.fault.Fault.TheVariants.{Read, Write, Memory, InputTooLong}
 use Rattle.dom_serve.specs.declared.server.Server.{Server}
-use Rattle.dom_serve.specs.Writes.{IsPrefix}
-use Rattle.dom_serve.specs.Server.{held_command, held_step, Fails, HoldsPiece, Stands, Grows, Breaks, Fed, Finishes, SaysWant}
-use Rattle.dom_serve.proofs.Lines.{whole_lines-append_newline, last_piece-append_newline, whole_lines-append_other, last_piece-append_other, due-append, due-other, due-newline, world-newline}
+use Rattle.dom_serve.specs.Server.{EndsNoLine, held_command, held_step, Fails, HoldsPiece, Stands, Grows, Breaks, Fed, Finishes, SaysWant}
+use Rattle.dom_serve.proofs.Lines.{whole_lines-append_newline, last_piece-append_newline, whole_lines-append_part, last_piece-append_part, due-append, due-part, due-newline, world-newline}
 use Rattle.dom_serve.proofs.Growth.{Grows-same, Grows-one, Grows-trans, Breaks-more, Breaks-after, Breaks-want, Breaks-front}
 
 -- ---- the line that is held
@@ -99,88 +97,113 @@ Stands-answered b bytes s s' kept taken taken' h e answers bounds line lines non
     let a = subst (λ t. StandsFor s'.session t.world × Appends taken taken' (reply_line t.reply)) (step-held b bytes s kept h e) (answers (world_at b bytes) h.world) in
     (Stands-newline b bytes s s' h a.0 bounds line lines none short, Grows-newline b bytes taken taken' a.1)
 
--- ---- another byte
+-- ---- bytes that end no line
 
-Stands-other : (b : Bounds) (bytes : List ℕ) (byte : ℕ) (s s' : Server) → (byte == 10) ≡ false → Stands b bytes s → s'.session ≡ s.session
-    → s'.line ≡ s.line → s'.lines ≡ s.lines → HoldsPiece b.line s'.kept.items s'.too_long (last_piece bytes ++ byte ∷ [])
-    → Stands b (bytes ++ byte ∷ []) s'
-Stands-other b bytes byte s s' other h session line lines piece =
-    let same = whole_lines-append_other bytes byte other in
+Stands-longer : (b : Bounds) (bytes part : List ℕ) (s s' : Server) → EndsNoLine part → Stands b bytes s → s'.session ≡ s.session → s'.line ≡ s.line
+    → s'.lines ≡ s.lines → HoldsPiece b.line s'.kept.items s'.too_long (last_piece bytes ++ part) → Stands b (bytes ++ part) s'
+Stands-longer b bytes part s s' ends_none h session line lines piece =
+    let same = whole_lines-append_part bytes part ends_none in
     record {
       world = subst (λ v. StandsFor s'.session (world_after whole_table b first_world v)) (sym same) (subst (λ v. StandsFor v (world_at b bytes)) (sym session) h.world);
       bounds = ap (λ v. v.bounds) session ∙ h.bounds;
       line = line ∙ h.line;
       lines = lines ∙ h.lines ∙ ap length (sym same);
-      piece = subst (λ v. HoldsPiece b.line s'.kept.items s'.too_long v) (sym (last_piece-append_other bytes byte other)) piece;
+      piece = subst (λ v. HoldsPiece b.line s'.kept.items s'.too_long v) (sym (last_piece-append_part bytes part ends_none)) piece;
     }
 
--- a byte that ends no line was taken
-pub Stands-byte : (b : Bounds) (bytes : List ℕ) (byte : ℕ) (s s' : Server) (taken : Option (List ℕ)) → (byte ≡ 10 → ⊥) → Stands b bytes s → s'.session ≡ s.session
-    → s'.line ≡ s.line → s'.lines ≡ s.lines → HoldsPiece b.line s'.kept.items s'.too_long (last_piece bytes ++ byte ∷ [])
-    → Stands b (bytes ++ byte ∷ []) s' × Grows (due whole_table b bytes false) (due whole_table b (bytes ++ byte ∷ []) false) taken taken
-Stands-byte b bytes byte s s' taken differs h session line lines piece =
-    let other : (byte == 10) ≡ false = ne_eqb byte 10 differs in (
-      Stands-other b bytes byte s s' other h session line lines piece,
-      Grows-same (due whole_table b bytes false) (due whole_table b (bytes ++ byte ∷ []) false) taken (due-other b bytes byte other),
-    )
+-- bytes that end no line were taken
+pub Stands-part : (b : Bounds) (bytes part : List ℕ) (s s' : Server) (taken : Option (List ℕ)) → EndsNoLine part → Stands b bytes s → s'.session ≡ s.session
+    → s'.line ≡ s.line → s'.lines ≡ s.lines → HoldsPiece b.line s'.kept.items s'.too_long (last_piece bytes ++ part)
+    → Stands b (bytes ++ part) s' × Grows (due whole_table b bytes false) (due whole_table b (bytes ++ part) false) taken taken
+Stands-part b bytes part s s' taken ends_none h session line lines piece = (
+  Stands-longer b bytes part s s' ends_none h session line lines piece,
+  Grows-same (due whole_table b bytes false) (due whole_table b (bytes ++ part) false) taken (due-part b bytes part ends_none),
+)
 
 -- the line stays too long
-pub holds-longer : (limit : ℕ) (kept : List ℕ) (too_long : Bool) (piece : List ℕ) (byte : ℕ) → too_long ≡ true → HoldsPiece limit kept too_long piece
-    → HoldsPiece limit kept too_long (piece ++ byte ∷ [])
-holds-longer limit kept true piece byte e p = omega (arith, length-append piece (byte ∷ []))
-holds-longer limit kept false piece byte e p = absurd (cc)
+pub holds-longer : (limit : ℕ) (kept : List ℕ) (too_long : Bool) (piece part : List ℕ) → too_long ≡ true → HoldsPiece limit kept too_long piece
+    → HoldsPiece limit kept too_long (piece ++ part)
+holds-longer limit kept true piece part e p = omega (arith, length-append piece part)
+holds-longer limit kept false piece part e p = absurd (cc)
 
 -- the line becomes too long
-pub holds-too_long : (limit : ℕ) (kept : List ℕ) (too_long : Bool) (piece : List ℕ) (byte : ℕ) → too_long ≡ false → length kept ≡ limit
-    → HoldsPiece limit kept too_long piece → limit < length (piece ++ byte ∷ [])
-holds-too_long limit kept true piece byte e f p = absurd (cc)
-holds-too_long limit kept false piece byte e f p = omega (arith, length-append piece (byte ∷ []), ap length p.0)
+pub holds-too_long : (limit : ℕ) (kept : List ℕ) (too_long : Bool) (piece part : List ℕ) → too_long ≡ false → limit < length kept + length part
+    → HoldsPiece limit kept too_long piece → limit < length (piece ++ part)
+holds-too_long limit kept true piece part e f p = absurd (cc)
+holds-too_long limit kept false piece part e f p = omega (arith, length-append piece part, ap length p.0, f)
 
--- one more byte is kept
-pub holds-more : (limit : ℕ) (kept kept' : List ℕ) (too_long : Bool) (piece : List ℕ) (byte : ℕ) → too_long ≡ false → (length kept ≡ limit → ⊥)
-    → kept' ≡ kept ++ byte ∷ [] → HoldsPiece limit kept too_long piece → HoldsPiece limit kept' too_long (piece ++ byte ∷ [])
-holds-more limit kept kept' true piece byte e f k p = absurd (cc)
-holds-more limit kept kept' false piece byte e f k p =
-    (ap (λ l. l ++ byte ∷ []) p.0 ∙ sym k, omega (arith, length-append kept (byte ∷ []), ap length k, f, p.1))
+-- more bytes are kept
+pub holds-more : (limit : ℕ) (kept kept' : List ℕ) (too_long : Bool) (piece part : List ℕ) → too_long ≡ false → length kept + length part ≤ limit
+    → kept' ≡ kept ++ part → HoldsPiece limit kept too_long piece → HoldsPiece limit kept' too_long (piece ++ part)
+holds-more limit kept kept' true piece part e f k p = absurd (cc)
+holds-more limit kept kept' false piece part e f k p = (ap (λ l. l ++ part) p.0 ∙ sym k, omega (arith, length-append kept part, ap length k, f))
 
--- the byte could not be kept
-pub Breaks-byte : (b : Bounds) (bytes : List ℕ) (byte : ℕ) (taken taken' : Option (List ℕ)) (fault : Fault) → SaysWant taken taken' fault
-    → Breaks (due whole_table b bytes false) (due whole_table b (bytes ++ byte ∷ []) false) taken taken' fault
-Breaks-byte b bytes byte taken taken' fault w =
-    Breaks-want (due whole_table b bytes false) (due whole_table b (bytes ++ byte ∷ []) false) taken taken' fault (due-append b bytes (byte ∷ []) false) w
+-- the bytes could not be kept
+pub Breaks-part : (b : Bounds) (bytes part : List ℕ) (taken taken' : Option (List ℕ)) (fault : Fault) → SaysWant taken taken' fault
+    → Breaks (due whole_table b bytes false) (due whole_table b (bytes ++ part) false) taken taken' fault
+Breaks-part b bytes part taken taken' fault w =
+    Breaks-want (due whole_table b bytes false) (due whole_table b (bytes ++ part) false) taken taken' fault (due-append b bytes part false) w
 
--- ---- many bytes
+-- ---- one part after another
 
--- a fault at one of many bytes
-pub Breaks-within : (b : Bounds) (bytes piece : List ℕ) (i byte : ℕ) (taken taken' taken'' : Option (List ℕ)) (fault : Fault) → i < length piece → get_or piece i 0 ≡ byte
-    → Grows (due whole_table b bytes false) (due whole_table b (bytes ++ take i piece) false) taken taken'
-    → Breaks (due whole_table b (bytes ++ take i piece) false) (due whole_table b ((bytes ++ take i piece) ++ byte ∷ []) false) taken' taken'' fault
-    → Breaks (due whole_table b bytes false) (due whole_table b (bytes ++ piece) false) taken taken'' fault
-Breaks-within b bytes piece i byte taken taken' taken'' fault inside e p q =
-    let front : take (i + 1) piece ≡ take i piece ++ byte ∷ [] = take_more piece i 0 inside ∙ ap (λ x. take i piece ++ x ∷ []) e in
-    let same : (bytes ++ take i piece) ++ byte ∷ [] ≡ bytes ++ take (i + 1) piece = append_assoc bytes (take i piece) (byte ∷ []) ∙ ap (λ l. bytes ++ l) (sym front) in
-    let whole : ((bytes ++ take i piece) ++ byte ∷ []) ++ drop (i + 1) piece ≡ bytes ++ piece =
-    ap (λ l. l ++ drop (i + 1) piece) same ∙ append_assoc bytes (take (i + 1) piece) (drop (i + 1) piece) ∙ ap (λ l. bytes ++ l) (take-append-drop (i + 1) piece) in
-    let more = subst (λ l. IsPrefix (due whole_table b ((bytes ++ take i piece) ++ byte ∷ []) false) (due whole_table b l false)) whole
-    (due-append b ((bytes ++ take i piece) ++ byte ∷ []) (drop (i + 1) piece) false) in
-    Breaks-after (due whole_table b bytes false) (due whole_table b (bytes ++ take i piece) false) (due whole_table b (bytes ++ piece) false) taken taken' taken'' fault p
-    (Breaks-more (due whole_table b (bytes ++ take i piece) false) (due whole_table b ((bytes ++ take i piece) ++ byte ∷ []) false) (due whole_table b (bytes ++ piece) false)
-    taken' taken'' fault more q)
+-- a fault is one of all the bytes
+pub Breaks-early : (b : Bounds) (bytes middle rest : List ℕ) (taken taken' : Option (List ℕ)) (fault : Fault)
+    → Breaks (due whole_table b bytes false) (due whole_table b middle false) taken taken' fault
+    → Breaks (due whole_table b bytes false) (due whole_table b (middle ++ rest) false) taken taken' fault
+Breaks-early b bytes middle rest taken taken' fault q =
+    Breaks-more (due whole_table b bytes false) (due whole_table b middle false) (due whole_table b (middle ++ rest) false) taken taken' fault
+    (due-append b middle rest false) q
 
--- one byte more of many
-pub Fed-more : (b : Bounds) (bytes piece : List ℕ) (i byte : ℕ) (s' : Server) (taken taken' taken'' : Option (List ℕ)) → i < length piece → get_or piece i 0 ≡ byte
-    → Grows (due whole_table b bytes false) (due whole_table b (bytes ++ take i piece) false) taken taken'
-    → Stands b ((bytes ++ take i piece) ++ byte ∷ []) s'
-    × Grows (due whole_table b (bytes ++ take i piece) false) (due whole_table b ((bytes ++ take i piece) ++ byte ∷ []) false) taken' taken''
-    → Stands b (bytes ++ take (i + 1) piece) s' × Grows (due whole_table b bytes false) (due whole_table b (bytes ++ take (i + 1) piece) false) taken taken''
-Fed-more b bytes piece i byte s' taken taken' taken'' inside e p q =
-    let front : take (i + 1) piece ≡ take i piece ++ byte ∷ [] = take_more piece i 0 inside ∙ ap (λ x. take i piece ++ x ∷ []) e in
-    let same : (bytes ++ take i piece) ++ byte ∷ [] ≡ bytes ++ take (i + 1) piece = append_assoc bytes (take i piece) (byte ∷ []) ∙ ap (λ l. bytes ++ l) (sym front) in (
-      subst (λ l. Stands b l s') same q.0,
-      subst (λ l. Grows (due whole_table b bytes false) (due whole_table b l false) taken taken'') same
-          (Grows-trans (due whole_table b bytes false) (due whole_table b (bytes ++ take i piece) false) (due whole_table b ((bytes ++ take i piece) ++ byte ∷ []) false)
-          taken taken' taken'' p q.1),
+-- more bytes after what was fed before
+pub Fed-more : {T : Type 0} (b : Bounds) (bytes middle bytes' : List ℕ) (s' : Server) (taken taken' taken'' : Option (List ℕ)) (result : Result T Fault)
+    → Grows (due whole_table b bytes false) (due whole_table b middle false) taken taken' → Fed b middle bytes' s' taken' taken'' result
+    → Fed b bytes bytes' s' taken taken'' result
+Fed-more b bytes middle bytes' s' taken taken' taken'' (Ok x) p q =
+    (q.0, Grows-trans (due whole_table b bytes false) (due whole_table b middle false) (due whole_table b bytes' false) taken taken' taken'' p q.1)
+Fed-more b bytes middle bytes' s' taken taken' taken'' (Err fault) p q =
+    Breaks-after (due whole_table b bytes false) (due whole_table b middle false) (due whole_table b bytes' false) taken taken' taken'' fault p q
+
+-- the bytes of a piece up to the newline after a line, and those after it
+pub line_ahead : (piece front rest line after : List ℕ) → piece ≡ front ++ rest → rest ≡ line ++ 10 ∷ after → piece ≡ (front ++ line ++ 10 ∷ []) ++ after
+line_ahead piece front rest line after e f = e ∙ ap (λ l. front ++ l) f ∙ simp append_assoc
+
+line_behind : (bytes front line : List ℕ) → bytes ++ front ++ line ++ 10 ∷ [] ≡ bytes ++ (front ++ line ++ 10 ∷ [])
+line_behind bytes front line = simp append_assoc
+
+-- one line more of a piece
+pub Fed-line : (b : Bounds) (bytes front line : List ℕ) (s' : Server) (taken taken' taken'' : Option (List ℕ))
+    → Grows (due whole_table b bytes false) (due whole_table b (bytes ++ front) false) taken taken'
+    → Stands b (bytes ++ front ++ line ++ 10 ∷ []) s'
+    × Grows (due whole_table b (bytes ++ front) false) (due whole_table b (bytes ++ front ++ line ++ 10 ∷ []) false) taken' taken''
+    → Stands b (bytes ++ (front ++ line ++ 10 ∷ [])) s'
+    × Grows (due whole_table b bytes false) (due whole_table b (bytes ++ (front ++ line ++ 10 ∷ [])) false) taken taken''
+Fed-line b bytes front line s' taken taken' taken'' p q =
+    subst (λ l. Stands b l s' × Grows (due whole_table b bytes false) (due whole_table b l false) taken taken'') (line_behind bytes front line) (
+      q.0,
+      Grows-trans (due whole_table b bytes false) (due whole_table b (bytes ++ front) false) (due whole_table b (bytes ++ front ++ line ++ 10 ∷ []) false)
+          taken taken' taken'' p q.1,
     )
+
+-- a fault at one of the lines of a piece
+pub Breaks-line : (b : Bounds) (bytes piece front rest line after : List ℕ) (taken taken' taken'' : Option (List ℕ)) (fault : Fault) → piece ≡ front ++ rest
+    → rest ≡ line ++ 10 ∷ after → Grows (due whole_table b bytes false) (due whole_table b (bytes ++ front) false) taken taken'
+    → Breaks (due whole_table b (bytes ++ front) false) (due whole_table b (bytes ++ front ++ line ++ 10 ∷ []) false) taken' taken'' fault
+    → Breaks (due whole_table b bytes false) (due whole_table b (bytes ++ piece) false) taken taken'' fault
+Breaks-line b bytes piece front rest line after taken taken' taken'' fault e f p q =
+    let whole : (bytes ++ front ++ line ++ 10 ∷ []) ++ after ≡ bytes ++ piece =
+    ap (λ l. l ++ after) (line_behind bytes front line) ∙ append_assoc bytes (front ++ line ++ 10 ∷ []) after
+    ∙ ap (λ l. bytes ++ l) (sym (line_ahead piece front rest line after e f)) in
+    Breaks-after (due whole_table b bytes false) (due whole_table b (bytes ++ front) false) (due whole_table b (bytes ++ piece) false) taken taken' taken'' fault p
+    (subst (λ l. Breaks (due whole_table b (bytes ++ front) false) (due whole_table b l false) taken' taken'' fault) whole
+    (Breaks-early b (bytes ++ front) (bytes ++ front ++ line ++ 10 ∷ []) after taken' taken'' fault q))
+
+-- what is left of a piece
+pub Fed-rest : {T : Type 0} (b : Bounds) (bytes piece front rest : List ℕ) (s' : Server) (taken taken' taken'' : Option (List ℕ)) (result : Result T Fault)
+    → piece ≡ front ++ rest → Grows (due whole_table b bytes false) (due whole_table b (bytes ++ front) false) taken taken'
+    → Fed b (bytes ++ front) (bytes ++ front ++ rest) s' taken' taken'' result → Fed b bytes (bytes ++ piece) s' taken taken'' result
+Fed-rest b bytes piece front rest s' taken taken' taken'' result e p q =
+    subst (λ l. Fed b bytes l s' taken taken'' result) (append_assoc bytes front rest ∙ ap (λ l. bytes ++ l) (sym e))
+    (Fed-more b bytes (bytes ++ front) (bytes ++ front ++ rest) s' taken taken' taken'' result p q)
 
 -- ---- the end
 

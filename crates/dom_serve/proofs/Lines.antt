@@ -1,13 +1,16 @@
 -- Lines of a stream that grows at its end.
-use Rattle.std.proofs.Common.{◌≡◌, ℕ, Bool, true, false, List, [], ◌∷◌, ◌++◌, refl, sym, ap, ◌∙◌, append_assoc, append-nil}
+use Rattle.std.proofs.Common.{◌≡◌, ◌≢◌, ℕ, Bool, true, false, List, [], ◌∷◌, ◌++◌, refl, sym, ap, ◌∙◌, append_assoc, append-nil}
 use Rattle.std.specs.Prelude.{◌==◌, if◌then◌else◌}
+use Rattle.std.proofs.lemmas.Bool.{ne_eqb}
 use Rattle.std.proofs.lemmas.Grind.{flat_map-append}
+use Rattle.std.proofs.lemmas.List.Elements.{All-head, All-tail}
 use Rattle.dom_model.specs.Commands.Table.{Row, whole_table}
 use Rattle.dom_model.specs.Commands.Answer.{Bounds}
 use Rattle.dom_model.specs.Worlds.World.{World, first_world}
 use Rattle.dom_model.specs.Commands.Printed.{reply_line}
 use Rattle.dom_model.specs.Commands.Output.{onto_first, onto_last, whole_lines, last_piece, line_if_any, line_step, replies_from, world_after, due_lines, due, joined}
 use Rattle.dom_serve.specs.Writes.{IsPrefix}
+use Rattle.dom_serve.specs.Server.{EndsNoLine}
 
 pub joined-append : (xs ys : List (List ℕ)) → joined (xs ++ ys) ≡ joined xs ++ joined ys
 joined-append xs ys = flat_map-append (λ part. part) xs ys
@@ -54,23 +57,43 @@ last_piece-append_newline (b ∷ xs) =
     newline_piece (b == 10) b (whole_lines xs) (whole_lines (xs ++ 10 ∷ [])) (last_piece xs) (last_piece (xs ++ 10 ∷ []))
     (whole_lines-append_newline xs) (last_piece-append_newline xs)
 
-other_piece : (t : Bool) (b c : ℕ) (before after : List (List ℕ)) (piece rest : List ℕ) → after ≡ before → rest ≡ piece ++ c ∷ []
-    → (if t then rest else onto_last b after rest) ≡ (if t then piece else onto_last b before piece) ++ c ∷ []
-other_piece true b c before after piece rest e f = f
-other_piece false b c [] after piece rest e f = ap (λ ls. onto_last b ls rest) e ∙ ap (λ l. b ∷ l) f
-other_piece false b c (line ∷ lines) after piece rest e f = ap (λ ls. onto_last b ls rest) e ∙ f
+-- ---- bytes that end no line
 
-pub whole_lines-append_other : (xs : List ℕ) (c : ℕ) → (c == 10) ≡ false → whole_lines (xs ++ c ∷ []) ≡ whole_lines xs
+is_other : (b : ℕ) (bytes : List ℕ) → EndsNoLine (b ∷ bytes) → (b == 10) ≡ false
+is_other b bytes h = ne_eqb b 10 (All-head (λ byte. byte ≢ 10) b bytes h)
+
+whole_lines-none : (part : List ℕ) → EndsNoLine part → whole_lines part ≡ []
 unfolding whole_lines
-whole_lines-append_other [] c h = ap (λ t. if t then [] ∷ [] else []) h
-whole_lines-append_other (b ∷ xs) c h = ap (λ ls. if b == 10 then [] ∷ ls else onto_first b ls) (whole_lines-append_other xs c h)
+whole_lines-none [] h = refl
+whole_lines-none (b ∷ part) h =
+    ap (λ t. if t then [] ∷ whole_lines part else onto_first b (whole_lines part)) (is_other b part h)
+    ∙ ap (onto_first b) (whole_lines-none part (All-tail (λ byte. byte ≢ 10) b part h))
 
-pub last_piece-append_other : (xs : List ℕ) (c : ℕ) → (c == 10) ≡ false → last_piece (xs ++ c ∷ []) ≡ last_piece xs ++ c ∷ []
+last_piece-whole : (part : List ℕ) → EndsNoLine part → last_piece part ≡ part
+unfolding last_piece
+last_piece-whole [] h = refl
+last_piece-whole (b ∷ part) h =
+    let rest = All-tail (λ byte. byte ≢ 10) b part h in
+    ap (λ t. if t then last_piece part else onto_last b (whole_lines part) (last_piece part)) (is_other b part h)
+    ∙ ap (λ ls. onto_last b ls (last_piece part)) (whole_lines-none part rest) ∙ ap (λ l. b ∷ l) (last_piece-whole part rest)
+
+pub whole_lines-append_part : (xs part : List ℕ) → EndsNoLine part → whole_lines (xs ++ part) ≡ whole_lines xs
+unfolding whole_lines
+whole_lines-append_part [] part h = whole_lines-none part h
+whole_lines-append_part (b ∷ xs) part h = ap (λ ls. if b == 10 then [] ∷ ls else onto_first b ls) (whole_lines-append_part xs part h)
+
+longer_piece : (t : Bool) (b : ℕ) (before after : List (List ℕ)) (piece longer part : List ℕ) → after ≡ before → longer ≡ piece ++ part
+    → (if t then longer else onto_last b after longer) ≡ (if t then piece else onto_last b before piece) ++ part
+longer_piece true b before after piece longer part e f = f
+longer_piece false b [] after piece longer part e f = ap (λ ls. onto_last b ls longer) e ∙ ap (λ l. b ∷ l) f
+longer_piece false b (line ∷ lines) after piece longer part e f = ap (λ ls. onto_last b ls longer) e ∙ f
+
+pub last_piece-append_part : (xs part : List ℕ) → EndsNoLine part → last_piece (xs ++ part) ≡ last_piece xs ++ part
 unfolding whole_lines last_piece
-last_piece-append_other [] c h = ap (λ t. if t then [] else c ∷ []) h
-last_piece-append_other (b ∷ xs) c h =
-    other_piece (b == 10) b c (whole_lines xs) (whole_lines (xs ++ c ∷ [])) (last_piece xs) (last_piece (xs ++ c ∷ []))
-    (whole_lines-append_other xs c h) (last_piece-append_other xs c h)
+last_piece-append_part [] part h = last_piece-whole part h
+last_piece-append_part (b ∷ xs) part h =
+    longer_piece (b == 10) b (whole_lines xs) (whole_lines (xs ++ part)) (last_piece xs) (last_piece (xs ++ part)) part
+    (whole_lines-append_part xs part h) (last_piece-append_part xs part h)
 
 -- ---- more bytes
 
@@ -113,9 +136,9 @@ due-append b xs ys ended =
     replies_from-prefix whole_table b first_world (whole_lines xs) (due_lines (xs ++ ys) ended)
     (IsPrefix-trans (whole_lines xs) (whole_lines (xs ++ ys)) (due_lines (xs ++ ys) ended) (whole_lines-append xs ys) (due_lines-prefix (xs ++ ys) ended))
 
-pub due-other : (b : Bounds) (xs : List ℕ) (c : ℕ) → (c == 10) ≡ false → due whole_table b (xs ++ c ∷ []) false ≡ due whole_table b xs false
+pub due-part : (b : Bounds) (xs part : List ℕ) → EndsNoLine part → due whole_table b (xs ++ part) false ≡ due whole_table b xs false
 unfolding due
-due-other b xs c h = ap (replies_from whole_table b first_world) (whole_lines-append_other xs c h)
+due-part b xs part h = ap (replies_from whole_table b first_world) (whole_lines-append_part xs part h)
 
 -- the reply to the last line is due once its newline is there
 pub due-newline : (b : Bounds) (xs : List ℕ)

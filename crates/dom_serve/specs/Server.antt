@@ -1,5 +1,5 @@
 -- What a server holds, and what it writes when bytes come.
-use Rattle.std.specs.Prelude.{◌≡◌, ℕ, ◌<◌, ◌≤◌, Bool, true, false, List, ◌++◌, length, Option, Result, Ok, Err, ◌⊎◌}
+use Rattle.std.specs.Prelude.{◌≡◌, ◌≢◌, ℕ, ◌<◌, ◌≤◌, Bool, true, false, List, ◌++◌, length, Option, Result, Ok, Err, ◌⊎◌}
 use Rattle.std.specs.List.{All}
 use Rattle.std.specs.Io.KnownBytes.{Appends, Consumes}
 use Rattle.dom_model.specs.declared.OwnError.{OwnError}
@@ -58,6 +58,10 @@ SaysWant taken taken' Read = ⊥
 SaysWant taken taken' Write = AppendsFront taken taken' out_of_memory_line
 SaysWant taken taken' Memory = Appends taken taken' out_of_memory_line
 SaysWant taken taken' InputTooLong = ⊥
+
+-- no newline is among the bytes
+abbrev pub EndsNoLine : List ℕ → Type 0
+EndsNoLine bytes = All (λ byte. byte ≢ 10) bytes
 
 -- the bytes of the unfinished line were kept, or there were too many
 abbrev pub HoldsPiece : ℕ → List ℕ → Bool → List ℕ → Type 0

@@ -1,11 +1,11 @@
-//! Taking bytes, one at a time, and answering each line at its newline.
+//! Taking bytes, and answering each line at its newline.
 
-ghost use Rattle.std.specs.Prelude.{◌≡◌, ℕ, ◌+◌, ◌<◌, ◌≤◌, ◌^◌, true, false, List, ◌++◌, ◌∷◌, [], length, IfOk};
+ghost use Rattle.std.specs.Prelude.{◌≡◌, ℕ, ◌+◌, ◌<◌, ◌≤◌, ◌^◌, true, false, List, ◌++◌, ◌∷◌, [], length, IfOk, MatchOption};
 ghost use Rattle.dom_model.specs.Commands.Answer.{Bounds};
 ghost use Rattle.dom_wire.specs.Sessions.{bounds_of};
 ghost use Rattle.dom_serve.specs.Calls.{HasAnswered, IsWritten};
 ghost use Rattle.dom_serve.specs.Tells.{is_write_fault};
-ghost use Rattle.dom_serve.specs.Server.{Stands, Fed, Finishes};
+ghost use Rattle.dom_serve.specs.Server.{EndsNoLine, Stands, Fed, Finishes};
 
 use crate::fault::Fault;
 use crate::replies::answer;
@@ -13,7 +13,17 @@ use crate::server::Server;
 use crate::streams::Sink;
 use crate::writing::write_out_of_memory;
 use dom_wire::{Limits, Session};
+use memchr::memchr;
 use std::alloc::{AllocError, Global};
+
+/// The bytes ahead of the first newline, and those after it.
+fn split_line(bytes: &[u8]) -> Option<(&[u8], &[u8])>
+    ensures { MatchOption result (EndsNoLine bytes.now)
+        (λ parts. EndsNoLine parts.0.now × (bytes.now ≡ parts.0.now ++ 10 ∷ parts.1.now)) }
+{
+    let end = memchr(b'\n', bytes)?;
+    Some((&bytes[..end], &bytes[end + 1..]))
+}
 
 impl Server {
     /// A server that no byte has come to.
@@ -59,31 +69,43 @@ impl Server {
         Ok(())
     }
 
-    /// Takes a byte.
-    fn feed<W: Sink>(&mut self, byte: u8, writer: &mut W) -> Result<(), Fault>
-        requires room { self.old.lines + 1 < 2 ^ 64 }
+    /// Takes bytes among which is no newline. Of a line with more bytes than it may have none are held.
+    fn keep<W: Sink>(&mut self, part: &[u8], writer: &mut W) -> Result<(), Fault>
+        requires part { EndsNoLine part.now }
         ensures fed { (b : Bounds) (bytes : List ℕ) → Stands b bytes self.old →
-            Fed b bytes (bytes ++ byte ∷ []) self.new (W.taken writer.old) (W.taken writer.new) result }
+            Fed b bytes (bytes ++ part.now) self.new (W.taken writer.old) (W.taken writer.new) result }
+        ensures lines { self.new.lines ≡ self.old.lines }
+        ensures passed { is_write_fault result ≡ false →
+            HasAnswered W.is_passed_on writer.old self.old.lines writer.new self.new.lines }
+        ensures writer { IsWritten W.works W.fails (is_write_fault result) writer.old writer.new }
+    {
+        if self.too_long {
+            return Ok(());
+        }
+        if self.kept.len() + part.len() > self.line {
+            self.kept.clear();
+            self.too_long = true;
+            return Ok(());
+        }
+        match self.kept.extend_from_slice(part) {
+            Ok(()) => Ok(()),
+            Err(AllocError) => Err(write_out_of_memory(writer)),
+        }
+    }
+
+    /// Takes what is left of a line, and answers the line.
+    fn feed_line<W: Sink>(&mut self, rest: &[u8], writer: &mut W) -> Result<(), Fault>
+        requires room { self.old.lines + 1 < 2 ^ 64 }
+        requires rest { EndsNoLine rest.now }
+        ensures fed { (b : Bounds) (bytes : List ℕ) → Stands b bytes self.old →
+            Fed b bytes (bytes ++ rest.now ++ 10 ∷ []) self.new (W.taken writer.old) (W.taken writer.new) result }
         ensures lines { self.new.lines ≤ self.old.lines + 1 }
         ensures passed { is_write_fault result ≡ false →
             HasAnswered W.is_passed_on writer.old self.old.lines writer.new self.new.lines }
         ensures writer { IsWritten W.works W.fails (is_write_fault result) writer.old writer.new }
     {
-        if byte == b'\n' {
-            return self.end_line(writer);
-        }
-        if self.too_long {
-            return Ok(());
-        }
-        if self.kept.len() == self.line {
-            self.kept.clear();
-            self.too_long = true;
-            return Ok(());
-        }
-        match self.kept.push(byte) {
-            Ok(()) => Ok(()),
-            Err(_) => Err(write_out_of_memory(writer)),
-        }
+        self.keep(rest, writer)?;
+        self.end_line(writer)
     }
 
     /// Takes bytes, and answers each line at its newline.
@@ -96,12 +118,12 @@ impl Server {
             HasAnswered W.is_passed_on writer.old self.old.lines writer.new self.new.lines }
         ensures writer { IsWritten W.works W.fails (is_write_fault result) writer.old writer.new }
     {
-        for byte in piece {
-            if let Err(fault) = self.feed(*byte, writer) {
-                return Err(fault);
-            }
+        let mut rest = piece;
+        while let Some((line, after)) = split_line(rest) {
+            self.feed_line(line, writer)?;
+            rest = after;
         }
-        Ok(())
+        self.keep(rest, writer)
     }
 
     /// Answers the last line, where the input did not end with a newline.

@@ -20,8 +20,10 @@ impl<W: Write> ToWrite<W> {
         ensures taken { ⟦<ToWrite<W> as Sink>⟧.taken result ≡ W.contents inner }
         ensures passed { ⟦<ToWrite<W> as Sink>⟧.is_passed_on result ≡ true }
     {
-        let flushed = true;
-        ToWrite { inner, flushed }
+        ToWrite {
+            inner,
+            flushed: true,
+        }
     }
 
     /// The std writer.

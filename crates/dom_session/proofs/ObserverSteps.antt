@@ -1,18 +1,21 @@
 -- The steps that change the observers and nothing else, from a world that is shown.
-use Rattle.std.proofs.Common.{◌≡◌, ℕ, nat_lt, true, List, length, Option, Some, None, Ok, Err, refl}
+use Rattle.std.proofs.Common.{◌≡◌, ℕ, ◌+◌, nat_lt, true, false, List, [], ◌∷◌, length, subst, Option, Some, None, Ok, Err, refl}
 use Rattle.std.specs.Prelude.{is_some}
 use Rattle.dom_model.specs.declared.DomError.{DomError}
-use Rattle.dom_model.specs.Forests.Forest.{entry_in}
+use Rattle.dom_model.specs.Forests.Forest.{HasNode, entry_in}
 use Rattle.dom_model.specs.Worlds.World.{Observing, Options}
 use Rattle.dom_model.specs.Worlds.World as model
-use Rattle.dom_model.specs.Commands.Command.{Command, Observe, Disconnect, Notify}
+use Rattle.dom_model.specs.Commands.Command.{Command, CreateObserver, Observe, Disconnect, TakeRecords, Notify}
 use Rattle.dom_model.specs.MutationObservers.GivenOptions.{GivenOptions}
 use Rattle.dom_model.specs.Commands.Reply as model_reply
 use Rattle.dom_model.specs.Commands.Answer.{Bounds, answer}
 use Rattle.dom_model.specs.Commands.AnswerObserving.{with_observing}
-use Rattle.dom_model.specs.MutationObservers.Records.{options_refusal, options_of, settled, settled_unless, observed, disconnected, told, after_notify}
-use Rattle.dom_model.specs.MutationObservers.Record.{Told}
+use Rattle.dom_model.specs.MutationObservers.Records.{options_refusal, options_of, settled, settled_unless, with_observer, observed, disconnected, queue_of, records_taken, told, after_notify}
+use Rattle.dom_model.specs.MutationObservers.Record.{Record, Told}
+use Rattle.dom_model.proofs.PlainLists.Numbers.{same_or, same, apart}
+use Rattle.dom_wrap.specs.dom_observe.Held.{NamesHeld, NamesOnly}
 use Rattle.dom_wrap.specs.dom_observe.Watchers.{Watchers, Watches}
+use Rattle.dom_wrap.specs.dom_observe.HeldNames.{held-after}
 use Rattle.dom_wrap.specs.dom_edit.declared.world.World.{World}
 use Rattle.dom_wrap.specs.dom_edit.Whole.{IsWhole, Shows}
 use Rattle.dom_session.specs.declared.reply.Reply.{Reply}
@@ -23,10 +26,10 @@ use Rattle.dom_session.proofs.TreeEdits.{not-none}
 
 module _ (v : World) (whole : IsWhole v) where
   -- the observers are others, which watch what the step makes of it
-  pub step-observers : (b : Bounds) (c : Command) (reply : Reply) (o : Watchers) (step : Observing → Observing) → ((w : model.World) → Shows v w → answer b w c ≡ record { reply = reply_view reply; world = with_observing (step w.observing) w }) → ((x : Observing) → Watches v.observers x → Watches o (step x)) → IsStep v (record v { observers = o }) b c reply
-  step-observers b c reply o step e watched =
+  pub step-observers : (b : Bounds) (c : Command) (reply : Reply) (o : Watchers) (step : Observing → Observing) → ((w : model.World) → Shows v w → answer b w c ≡ record { reply = reply_view reply; world = with_observing (step w.observing) w }) → ((x : Observing) → Watches v.observers x → Watches o (step x)) → NamesHeld v.tree.forest o → IsStep v (record v { observers = o }) b c reply
+  step-observers b c reply o step e watched names =
       let new : World = record v { observers = o } in
-      let whole_next : IsWhole new = record { forest = whole.forest; documents = whole.documents; owners = whole.owners; covered = whole.covered; ranges = whole.ranges; statics = whole.statics; iterators = whole.iterators; walkers = whole.walkers } in
+      let whole_next : IsWhole new = record { forest = whole.forest; documents = whole.documents; owners = whole.owners; covered = whole.covered; ranges = whole.ranges; statics = whole.statics; iterators = whole.iterators; walkers = whole.walkers; observers = names } in
       step-follows b c reply v new (λ w. with_observing (step w.observing) w) e
       (record {
         keeps = λ w k. record { forest = k.forest; made = k.made; ranges = k.ranges; static_ranges = k.static_ranges; iterators = k.iterators; walkers = k.walkers };
@@ -34,18 +37,31 @@ module _ (v : World) (whole : IsWhole v) where
       })
       whole_next
 
-  pub step-observe : (b : Bounds) (i n : ℕ) (given : GivenOptions) (o : Watchers) (reply : Reply) → nat_lt i (length v.observers.queues) ≡ true → is_some (entry_in v.tree.forest n) ≡ true → options_refusal given ≡ None → reply_view reply ≡ model_reply.Done model_reply.Nothing → ((x : Observing) → Watches v.observers x → Watches o (observed i n (options_of given) x)) → IsStep v (record v { observers = o }) b (Observe i n given) reply
-  step-observe b i n given o reply made there allowed said watched =
+  -- no other node is named
+  pub names-none : (o : Watchers) → NamesOnly [] v.observers o → NamesHeld v.tree.forest o
+  names-none o only = held-after v.tree.forest [] v.observers o only (λ n e. absurd (cc e)) whole.observers
+
+  pub step-observe : (b : Bounds) (i n : ℕ) (given : GivenOptions) (o : Watchers) (reply : Reply) → nat_lt i (length v.observers.queues) ≡ true → is_some (entry_in v.tree.forest n) ≡ true → options_refusal given ≡ None → reply_view reply ≡ model_reply.Done model_reply.Nothing → ((x : Observing) → Watches v.observers x → Watches o (observed i n (options_of given) x)) → NamesOnly (n ∷ []) v.observers o → IsStep v (record v { observers = o }) b (Observe i n given) reply
+  step-observe b i n given o reply made there allowed said watched only =
       step-observers b (Observe i n given) reply o (observed i n (options_of given))
       (λ w s. rw (said, s.watched.made, made, s.keeps.forest, not-none (entry_in v.tree.forest n) there, allowed) refl) watched
+      (held-after v.tree.forest (n ∷ []) v.observers o only (λ m e. elim (same_or n m) [ same d t ↦ subst (λ k. HasNode v.tree.forest k) d there | apart ne t ↦ absurd (let k = rw t at e in cc k) ]) whole.observers)
 
-  pub step-disconnect : (b : Bounds) (i : ℕ) (o : Watchers) (reply : Reply) → nat_lt i (length v.observers.queues) ≡ true → reply_view reply ≡ model_reply.Done model_reply.Nothing → ((x : Observing) → Watches v.observers x → Watches o (disconnected i x)) → IsStep v (record v { observers = o }) b (Disconnect i) reply
-  step-disconnect b i o reply made said watched =
-      step-observers b (Disconnect i) reply o (disconnected i) (λ w s. rw (said, s.watched.made, made) refl) watched
+  pub step-disconnect : (b : Bounds) (i : ℕ) (o : Watchers) (reply : Reply) → nat_lt i (length v.observers.queues) ≡ true → reply_view reply ≡ model_reply.Done model_reply.Nothing → ((x : Observing) → Watches v.observers x → Watches o (disconnected i x)) → NamesOnly [] v.observers o → IsStep v (record v { observers = o }) b (Disconnect i) reply
+  step-disconnect b i o reply made said watched only =
+      step-observers b (Disconnect i) reply o (disconnected i) (λ w s. rw (said, s.watched.made, made) refl) watched (names-none o only)
 
-  pub step-notify : (b : Bounds) (all : List Told) (o : Watchers) (reply : Reply) → reply_view reply ≡ model_reply.Done (model_reply.Notified all) → ((x : Observing) → Watches v.observers x → all ≡ told x) → ((x : Observing) → Watches v.observers x → Watches o (after_notify x)) → IsStep v (record v { observers = o }) b Notify reply
-  step-notify b all o reply said are watched =
-      step-observers b Notify reply o after_notify (λ w s. rw (said, are w.observing s.watched) refl) watched
+  pub step-create : (b : Bounds) (o : Watchers) (reply : Reply) → nat_lt b.numbers (length v.observers.queues + 1) ≡ false → reply_view reply ≡ model_reply.Done (model_reply.Number (length v.observers.queues)) → ((x : Observing) → Watches v.observers x → Watches o (with_observer x)) → NamesOnly [] v.observers o → IsStep v (record v { observers = o }) b CreateObserver reply
+  step-create b o reply room said watched only =
+      step-observers b CreateObserver reply o with_observer (λ w s. rw (said, s.watched.made, room) refl) watched (names-none o only)
+
+  pub step-take : (b : Bounds) (i : ℕ) (records : List Record) (o : Watchers) (reply : Reply) → nat_lt i (length v.observers.queues) ≡ true → reply_view reply ≡ model_reply.Done (model_reply.Records records) → ((x : Observing) → Watches v.observers x → records ≡ queue_of i x) → ((x : Observing) → Watches v.observers x → Watches o (records_taken i x)) → NamesOnly [] v.observers o → IsStep v (record v { observers = o }) b (TakeRecords i) reply
+  step-take b i records o reply made said are watched only =
+      step-observers b (TakeRecords i) reply o (records_taken i) (λ w s. rw (said, s.watched.made, made, are w.observing s.watched) refl) watched (names-none o only)
+
+  pub step-notify : (b : Bounds) (all : List Told) (o : Watchers) (reply : Reply) → reply_view reply ≡ model_reply.Done (model_reply.Notified all) → ((x : Observing) → Watches v.observers x → all ≡ told x) → ((x : Observing) → Watches v.observers x → Watches o (after_notify x)) → NamesOnly [] v.observers o → IsStep v (record v { observers = o }) b Notify reply
+  step-notify b all o reply said are watched only =
+      step-observers b Notify reply o after_notify (λ w s. rw (said, are w.observing s.watched) refl) watched (names-none o only)
 
   -- options that are refused
   pub step-not_observed : (b : Bounds) (i n : ℕ) (given : GivenOptions) (error : DomError) (reply : Reply) → nat_lt i (length v.observers.queues) ≡ true → is_some (entry_in v.tree.forest n) ≡ true → options_refusal given ≡ Some error → reply_view reply ≡ model_reply.Dom error → IsStep v v b (Observe i n given) reply

@@ -44,7 +44,7 @@ module _ (b : Bounds) (c : Command) (reply : Reply) where
       let f = follows-ranges v t rs is in
       let covers : AreCovered v.tree t.covered = subst (AreCovered v.tree) (sym (ap (λ (x : RangeTable). x.covered) is)) s.shows.whole.covered in
       let whole : IsWhole (record v { ranges = t }) =
-      whole-sound (record v { ranges = t }) next (f.keeps u s.shows.keeps) (sound-next v s next (e u s.shows)) s.shows.whole.documents s.shows.whole.owners covers s.shows.whole.statics in
+      whole-sound (record v { ranges = t }) next (f.keeps u s.shows.keeps) (sound-next v s next (e u s.shows)) s.shows.whole.documents s.shows.whole.owners covers s.shows.whole.statics s.shows.whole.observers in
       step-follows b c reply v (record v { ranges = t }) (λ w. record w { ranges = rs }) e f whole
 
   -- a command that sets one live range, to what becomes of a range that is given
@@ -66,5 +66,5 @@ module _ (b : Bounds) (c : Command) (reply : Reply) where
       let f = follows-statics v t ss is in
       let kept : All (AreHeld v.tree.forest) t = subst (λ xs. All (AreHeld v.tree.forest) xs) (sym is) held in
       let whole : IsWhole (record v { statics = t }) =
-      whole-sound (record v { statics = t }) next (f.keeps u s.shows.keeps) (sound-next v s next (e u s.shows)) s.shows.whole.documents s.shows.whole.owners s.shows.whole.covered kept in
+      whole-sound (record v { statics = t }) next (f.keeps u s.shows.keeps) (sound-next v s next (e u s.shows)) s.shows.whole.documents s.shows.whole.owners s.shows.whole.covered kept s.shows.whole.observers in
       step-follows b c reply v (record v { statics = t }) (λ w. record w { static_ranges = ss }) e f whole

@@ -49,7 +49,7 @@ module _ (v : World) (shown : IsShown v) (b : Bounds) (c : Command) (reply : Rep
       let step : model.World → model.World = λ w. record w { iterators = xs } in
       let keeps : (w : model.World) → Keeps v w → Keeps new (step w) = λ w k. record { forest = k.forest; made = k.made; ranges = k.ranges; static_ranges = k.static_ranges; iterators = refl; walkers = k.walkers } in
       let h = shown.shows.whole in
-      let whole : IsWhole new = whole-sound new (step shown.stands_for) (keeps shown.stands_for shown.shows.keeps) (sound-after step e) h.documents h.owners h.covered h.statics in
+      let whole : IsWhole new = whole-sound new (step shown.stands_for) (keeps shown.stands_for shown.shows.keeps) (sound-after step e) h.documents h.owners h.covered h.statics h.observers in
       step-follows b c reply v new step e (record { keeps = keeps; watches = λ w k o. o }) whole
 
   -- the walkers are others
@@ -59,7 +59,7 @@ module _ (v : World) (shown : IsShown v) (b : Bounds) (c : Command) (reply : Rep
       let step : model.World → model.World = λ w. record w { walkers = xs } in
       let keeps : (w : model.World) → Keeps v w → Keeps new (step w) = λ w k. record { forest = k.forest; made = k.made; ranges = k.ranges; static_ranges = k.static_ranges; iterators = k.iterators; walkers = refl } in
       let h = shown.shows.whole in
-      let whole : IsWhole new = whole-sound new (step shown.stands_for) (keeps shown.stands_for shown.shows.keeps) (sound-after step e) h.documents h.owners h.covered h.statics in
+      let whole : IsWhole new = whole-sound new (step shown.stands_for) (keeps shown.stands_for shown.shows.keeps) (sound-after step e) h.documents h.owners h.covered h.statics h.observers in
       step-follows b c reply v new step e (record { keeps = keeps; watches = λ w k o. o }) whole
 
 module _ (v : World) (shown : IsShown v) where

@@ -2,11 +2,9 @@
 
 ghost use Rattle.std.specs.Prelude.{◌≡◌, true};
 ghost use Rattle.dom_model.specs.Forests.Forest.{HasNode, root_of};
-ghost use Rattle.dom_model.specs.declared.Kind.TheVariants.{DocumentType};
-ghost use Rattle.dom_model.specs.Forests.Nodes.{is_of_kind, same_root as has_same_root};
-ghost use Rattle.dom_model.specs.Worlds.Lengths.{unit_count};
+ghost use Rattle.dom_model.specs.Forests.Nodes.{same_root as has_same_root};
 ghost use Rattle.dom_model.specs.Worlds.World.{Range};
-ghost use Rattle.dom_model.specs.RangesAndContents.Ranges.{is_before as comes_before, check_point, place_against, is_point_in, intersects};
+ghost use Rattle.dom_model.specs.RangesAndContents.Ranges.{place_against, is_point_in, intersects};
 ghost use Rattle.dom_model.specs.Commands.Command.{CompareBoundaryPoints, ComparePoint, IsPointInRange, IntersectsNode, CommonAncestor};
 ghost use Rattle.dom_model.specs.Commands.Guards.{Bounds};
 ghost use Rattle.dom_model.specs.Commands.Reply.{is_refusal};
@@ -19,47 +17,11 @@ use crate::command::Comparing;
 use crate::reply::{Answer, Reply};
 use dom_model::OwnError;
 use dom_wrap::of_edit::{Content, World};
-use dom_wrap::of_kinds::{DomError, Kind};
-use dom_wrap::of_point::{Point, common, order};
+use dom_wrap::of_kinds::DomError;
+use dom_wrap::of_point::{Point, checked_point, common, is_before, order, same_root};
 use dom_wrap::of_ranges::RangeId;
 use dom_wrap::of_tree::{NodeId, Tree};
 use std::cmp::Ordering;
-
-// Whether two nodes have one root.
-fn same_root(tree: &Tree<Content>, a: NodeId, b: NodeId) -> bool
-    requires a_held { HasNode tree.now.forest a }
-    requires b_held { HasNode tree.now.forest b }
-    ensures { result ≡ has_same_root tree.now.forest a b }
-{
-    tree.root(a) == tree.root(b)
-}
-
-// Whether the first of two points of one root comes before the second.
-fn is_before(tree: &Tree<Content>, a: Point, b: Point) -> bool
-    requires a_held { HasNode tree.now.forest a.node }
-    requires b_held { HasNode tree.now.forest b.node }
-    requires one_root { root_of tree.now.forest a.node ≡ root_of tree.now.forest b.node }
-    ensures { result ≡ comes_before tree.now.forest a b }
-{
-    match order(tree, a, b) {
-        Ordering::Less => true,
-        Ordering::Equal | Ordering::Greater => false,
-    }
-}
-
-// The refusal of a point to be a boundary point.
-fn checked_point(tree: &Tree<Content>, node: NodeId, offset: usize) -> Result<(), DomError>
-    requires { HasNode tree.now.forest node }
-    ensures { result ≡ refused (check_point unit_count tree.now.forest (record { node = node; offset = offset })) }
-{
-    if tree.label(node).kind == Kind::DocumentType {
-        return Err(DomError::InvalidNodeTypeError);
-    }
-    if tree.length(node) < offset {
-        return Err(DomError::IndexSizeError);
-    }
-    Ok(())
-}
 
 // Where a point of the range's root stands: before it, after it, or in it.
 fn place(tree: &Tree<Content>, point: Point, start: Point, end: Point) -> Ordering

@@ -2,9 +2,7 @@
 
 ghost use Rattle.std.specs.Prelude.{◌≡◌, ◌≤◌, ◌+◌, ◌*◌, nat_lt, true, IfOk};
 ghost use Rattle.dom_model.specs.declared.Kind.TheVariants.{Document};
-ghost use Rattle.dom_model.specs.Forests.Kinds.{is_kind};
-ghost use Rattle.dom_model.specs.Forests.Forest.{HasNode, size};
-ghost use Rattle.dom_model.specs.Forests.Nodes.{kind_passes};
+ghost use Rattle.dom_model.specs.Forests.Forest.{size};
 ghost use Rattle.dom_model.specs.Commands.Command.{ImportNode, CloneNode, IsEqual, IsContaining, ComparePosition};
 ghost use Rattle.dom_model.specs.Commands.Guards.{Bounds};
 ghost use Rattle.dom_model.specs.Commands.Reply.{is_refusal};
@@ -17,7 +15,7 @@ use crate::command::Copying;
 use crate::reply::{Answer, Reply};
 use dom_model::OwnError;
 use dom_wrap::of_edit::{Refusal, World};
-use dom_wrap::of_kinds::{DomError, Kind, NodeType};
+use dom_wrap::of_kinds::{DomError, Kind};
 use dom_wrap::of_tree::NodeId;
 use std::alloc::{AllocError, Global};
 
@@ -29,14 +27,6 @@ pub fn lacks_numbers(world: &World, numbers: u64) -> bool
     let made = world.tree.made();
     let live = world.tree.live();
     made >= numbers || live >= numbers || numbers - made < 2 * live + 8
-}
-
-// Whether a node is a Document.
-fn is_document(world: &World, node: NodeId) -> bool
-    requires { HasNode world.now.tree.forest node }
-    ensures { result ≡ kind_passes (is_kind Document) world.now.tree.forest node }
-{
-    Kind::Document.number() == world.tree.label(node).kind.number()
 }
 
 /// Copies a node into a document, with or without all below it.
@@ -56,7 +46,7 @@ pub fn import_node(
     if !world.tree.holds(document) || !world.tree.holds(node) {
         return Ok(Reply::Own(OwnError::NoSuchObject));
     }
-    if !is_document(world, document) {
+    if !world.tree.is_of_kind(document, Kind::Document) {
         return Ok(Reply::Dom(DomError::TypeError));
     }
     if lacks_numbers(world, numbers) {

@@ -3,13 +3,12 @@
 ghost use Rattle.std.specs.Prelude.{◌≡◌, true, not, IfOk};
 ghost use Rattle.dom_model.specs.declared.Kind.TheVariants.{Document};
 ghost use Rattle.dom_model.specs.Forests.Kinds.{may_be_parent};
-ghost use Rattle.dom_model.specs.Forests.Forest.{HasNode};
 ghost use Rattle.dom_model.specs.Forests.Nodes.{is_of_kind};
 ghost use Rattle.dom_model.specs.Commands.AnswerTree.{is_child_node};
 ghost use Rattle.dom_model.specs.Commands.Command.{InsertBefore, AppendChild, AdoptNode, ReplaceChild, RemoveChild, Remove, ReplaceChildren, Discard};
 ghost use Rattle.dom_model.specs.Commands.Guards.{Bounds};
 ghost use Rattle.dom_model.specs.Commands.Reply.{is_refusal};
-ghost use Rattle.dom_wrap.specs.dom_edit.Whole.{IsShown};
+ghost use Rattle.dom_wrap.specs.dom_edit.Whole.{IsWhole, IsShown};
 ghost use Rattle.dom_session.specs.Views.{editing_view, reply_view};
 ghost use Rattle.dom_session.specs.Stands.{IsStep};
 ghost use Rattle.dom_session.specs.Refusing.{lacks_given};
@@ -18,7 +17,7 @@ use crate::command::Editing;
 use crate::reply::{Answer, Reply};
 use dom_model::OwnError;
 use dom_wrap::of_edit::{Refusal, World};
-use dom_wrap::of_kinds::{DomError, Kind};
+use dom_wrap::of_kinds::{DomError, Kind, may_be_parent};
 use dom_wrap::of_tree::NodeId;
 use std::alloc::{AllocError, Global};
 
@@ -32,29 +31,11 @@ fn holds_given(world: &World, id: &Option<NodeId>) -> bool
     }
 }
 
-// Whether a node is a Document.
-fn is_document(world: &World, id: NodeId) -> bool
-    requires { HasNode world.now.tree.forest id }
-    ensures { result ≡ is_of_kind Document world.now.tree.forest id }
-{
-    world.tree.label(id).kind == Kind::Document
-}
-
 // Whether a kind can be removed by itself: a Document and a DocumentFragment have no parent.
 fn is_child_node(kind: Kind) -> bool
     ensures { result ≡ is_child_node kind }
 {
     !matches!(kind, Kind::Document | Kind::DocumentFragment)
-}
-
-// Whether nodes of the kind may have children.
-fn may_be_parent(kind: Kind) -> bool
-    ensures { result ≡ may_be_parent kind }
-{
-    matches!(
-        kind,
-        Kind::Document | Kind::DocumentFragment | Kind::Element
-    )
 }
 
 /// Inserts a node under a parent, before a child of it or last.
@@ -197,7 +178,7 @@ pub fn adopt_node(
     if !world.tree.holds(document) || !world.tree.holds(node) {
         return Ok(Reply::Own(OwnError::NoSuchObject));
     }
-    if !is_document(world, document) {
+    if !world.tree.is_of_kind(document, Kind::Document) {
         return Ok(Reply::Dom(DomError::TypeError));
     }
     match world.adopt(alloc, document, node) {
@@ -209,7 +190,7 @@ pub fn adopt_node(
 
 /// Lets a node and all that stands under it go, where nothing else names one of them.
 pub fn discard(world: &mut World, top: NodeId) -> Reply
-    requires shown { IsShown world.old }
+    requires whole { IsWhole world.old }
     ensures step { (b : Bounds) → IsStep world.old world.new b (Discard top) result }
     ensures refused { is_refusal (reply_view result) ≡ true → world.new ≡ world.old }
 {

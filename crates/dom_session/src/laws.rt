@@ -1,10 +1,10 @@
 //! Laws of whole lists of commands. They follow from the definitions that `Session::apply` meets one command at a time; nothing here runs.
 
-ghost use Rattle.std.specs.Prelude.{◌≡◌, ℕ, ◌≤◌, Bool, true, List, [], ◌∷◌, ◌++◌, map, length, remove, Some, option_map};
-ghost use Rattle.dom_model.specs.Forests.Forest.{root_of};
+ghost use Rattle.std.specs.Prelude.{◌≡◌, ℕ, ◌<◌, ◌≤◌, Bool, true, List, [], ◌∷◌, ◌++◌, map, length, remove, Some, None, option_map};
+ghost use Rattle.dom_model.specs.Forests.Forest.{HasNode, root_of};
 ghost use Rattle.dom_model.specs.Worlds.World.{Range, World, first_world};
 ghost use Rattle.dom_model.specs.Commands.Command.{Command, RangeText};
-ghost use Rattle.dom_model.specs.Commands.Reply.{Units, Done, is_refusal};
+ghost use Rattle.dom_model.specs.Commands.Reply.{Number, Units, Done, is_refusal};
 ghost use Rattle.dom_model.specs.Commands.Guards.{Bounds};
 ghost use Rattle.dom_model.specs.Commands.Answer.{answer};
 ghost use Rattle.dom_model.specs.RangesAndContents.Ranges.{end_of, range_at};
@@ -17,6 +17,7 @@ ghost use Rattle.dom_model.specs.Commands.Table.{Row};
 ghost use Rattle.dom_model.specs.Commands.Line.{command_within};
 ghost use Rattle.dom_model.specs.Commands.Output.{whole_lines, last_piece, line_step, world_after, replies_from, due};
 ghost use Rattle.dom_model.specs.Commands.Counts.{counts_of, asked, plus, of_each, AreAtMost};
+ghost use Rattle.dom_model.specs.Commands.NewNumbers.{Numbered, made_by, IsNext};
 ghost use Rattle.dom_model.specs.Soundness.Sound.{IsSound};
 ghost use Rattle.dom_model.specs.Erasure.DiscardsAlike.{replies_to_discards};
 ghost use Rattle.dom_model.specs.Erasure.Erasing.{replies_to, makes_no_discard, without_observers, replies_without_observers, makes_no_edit_by_range, without_watchers, replies_without_watchers};
@@ -51,7 +52,8 @@ pub fn lines_are_their_commands()
 
 /// A law: every world that commands reach is sound. The forest is one; both ends of each live range stand in one tree, within their
 /// nodes' lengths, and the start not after the end; each iterator's reference stands inside its root; what walkers and registrations
-/// name is there (DOM Standard, "Boundary points", "Live ranges", "Traversal").
+/// name is there, and so are both nodes of each static range, whatever its offsets (DOM Standard, "Boundary points", "Live ranges",
+/// "Interface StaticRange", "Traversal").
 pub fn worlds_stay_sound()
     ensures { (b : Bounds) → (cs : List Command) → IsSound (world_past b first_world cs) }
 {}
@@ -81,6 +83,33 @@ pub fn numbers_stay_within()
     ensures as_asked { (b : Bounds) → (cs : List Command) → (c : Command) →
         AreAtMost (counts_of (answer b (world_past b first_world cs) c).world) (plus (counts_of (world_past b first_world cs)) (asked (world_past b first_world cs) c)) }
     ensures limited { (b : Bounds) → (cs : List Command) → 1 ≤ b.numbers → AreAtMost (counts_of (world_past b first_world cs)) (of_each b.numbers) }
+{}
+
+/// A law: of no kind of object are numbers taken back, whatever the world: after any commands each count is at least what it was (ours).
+pub fn numbers_only_rise()
+    ensures { (b : Bounds) → (w : World) → (cs : List Command) → AreAtMost (counts_of w) (counts_of (world_past b w cs)) }
+{}
+
+/// A law: what is gone stays gone, whatever the world and the commands. A node whose number was given out and that is not there is never
+/// there again, so that a node which was not there before has a number that was not given out before; and a live range that was released
+/// stays released (ours; a node is gone once its tree is discarded).
+pub fn what_is_gone_stays_gone()
+    ensures nodes { (b : Bounds) → (w : World) → (cs : List Command) → (n : ℕ) → n < w.made → (HasNode w.forest n → ⊥) →
+        HasNode (world_past b w cs).forest n → ⊥ }
+    ensures new_nodes { (b : Bounds) → (w : World) → (cs : List Command) → (n : ℕ) → (HasNode w.forest n → ⊥) →
+        HasNode (world_past b w cs).forest n → w.made ≤ n }
+    ensures ranges { (b : Bounds) → (w : World) → (cs : List Command) → (r : ℕ) → r < length w.ranges → range_at w r ≡ None →
+        range_at (world_past b w cs) r ≡ None }
+{}
+
+/// A law: no number is given out twice, whatever the world. A number that a command answers as new is the next of its kind: as many were
+/// given out before it. So of two commands of one list that each answer a new number of one kind the later answers a greater one (ours).
+pub fn new_numbers_differ()
+    ensures next { (b : Bounds) → (w : World) → (c : Command) → (kind : Numbered) → (n : ℕ) → made_by c ≡ Some kind →
+        (answer b w c).reply ≡ Done (Number n) → IsNext kind n w (answer b w c).world }
+    ensures later { (b : Bounds) → (w : World) → (c : Command) → (between : List Command) → (d : Command) → (kind : Numbered) → (n : ℕ) → (m : ℕ) →
+        made_by c ≡ Some kind → made_by d ≡ Some kind →
+        (answer b w c).reply ≡ Done (Number n) → (answer b (world_past b w (c ∷ between)) d).reply ≡ Done (Number m) → n < m }
 {}
 
 /// A law: each end of each live range stands where its marker stands. In the token texts of a world that commands reach a marker stands

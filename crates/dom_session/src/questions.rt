@@ -64,9 +64,6 @@ pub fn children(world: &World, alloc: Global, node: NodeId) -> Result<Reply, All
     Ok(Reply::Done(Answer::Numbers(numbers)))
 }
 
-// How far an index is looked for before all children are counted.
-const NEAR: usize = 64;
-
 /// How many siblings stand before a node. Where that is not found near it, all of them are counted, so that it is known of each.
 pub fn index(world: &mut World, node: NodeId) -> Reply
     ensures step { (b : Bounds) → IsStep world.old world.new b (Index node) result }
@@ -75,14 +72,7 @@ pub fn index(world: &mut World, node: NodeId) -> Reply
     if !world.tree.holds(node) {
         return Reply::Own(OwnError::NoSuchObject);
     }
-    world.tree.sound();
-    if let Some(index) = world.tree.index_within(node, NEAR) {
-        return Reply::Done(Answer::Count(index));
-    }
-    if let Some(parent) = world.tree.parent(node) {
-        world.tree.number_children(parent);
-    }
-    Reply::Done(Answer::Count(world.tree.index(node)))
+    Reply::Done(Answer::Count(world.tree.found_index(node)))
 }
 
 /// The length of a node.

@@ -1,10 +1,8 @@
 //! The commands that set the ends of live ranges (DOM Standard, "Interface Range").
 
-ghost use Rattle.std.specs.Prelude.{◌≡◌, ℕ, true, IfSome};
-ghost use Rattle.dom_model.specs.Forests.Forest.{HasNode};
+ghost use Rattle.std.specs.Prelude.{◌≡◌, true, IfSome};
 ghost use Rattle.dom_model.specs.Worlds.World.{World as PlainWorld};
 ghost use Rattle.dom_model.specs.Soundness.Sound.{IsBoundary};
-ghost use Rattle.dom_model.specs.RangesAndContents.Ranges.{point_before as place_before, point_after as place_after};
 ghost use Rattle.dom_model.specs.Commands.Command.{Command as PlainCommand, SetStart, SetEnd, SetStartBefore, SetStartAfter, SetEndBefore, SetEndAfter, Collapse, SelectNode, SelectNodeContents};
 ghost use Rattle.dom_model.specs.Commands.Guards.{Bounds};
 ghost use Rattle.dom_model.specs.Commands.Answer.{answer};
@@ -17,38 +15,11 @@ ghost use Rattle.dom_session.specs.Stands.{IsStep};
 use crate::command::Setting;
 use crate::reply::{Answer, Reply};
 use dom_model::OwnError;
-use dom_wrap::of_edit::{Content, World};
+use dom_wrap::of_edit::World;
 use dom_wrap::of_kinds::DomError;
-use dom_wrap::of_point::Point;
+use dom_wrap::of_point::{Point, point_after, point_before};
 use dom_wrap::of_ranges::RangeId;
-use dom_wrap::of_tree::{NodeId, Tree};
-
-// The point ahead of a node in its parent; none without a parent.
-fn point_before(tree: &Tree<Content>, node: NodeId) -> Option<Point>
-    requires { HasNode tree.now.forest node }
-    ensures { result ≡ place_before tree.now.forest node }
-{
-    let parent = tree.parent(node)?;
-    Some(Point {
-        node: parent,
-        offset: tree.index(node),
-    })
-}
-
-// The point behind a node in its parent; none without a parent.
-fn point_after(tree: &Tree<Content>, node: NodeId) -> Option<Point>
-    requires { HasNode tree.now.forest node }
-    ensures { result ≡ place_after tree.now.forest node }
-{
-    tree.sound();
-    let parent = tree.parent(node)?;
-    // an index is below the count, so the offset behind the node is a number of the machine too
-    let _ = tree.count(parent);
-    Some(Point {
-        node: parent,
-        offset: tree.index(node) + 1,
-    })
-}
+use dom_wrap::of_tree::NodeId;
 
 /// Sets the start of a live range.
 pub fn set_start(world: &mut World, range: RangeId, node: NodeId, offset: u32) -> Reply

@@ -4,7 +4,6 @@ ghost use Rattle.std.specs.Prelude.{◌≡◌, ◌≤◌, true, option_map, IfOk
 ghost use Rattle.dom_model.specs.declared.Kind.TheVariants.{Text};
 ghost use Rattle.dom_model.specs.Forests.Forest.{HasNode, entry_in};
 ghost use Rattle.dom_model.specs.Forests.Kinds.{is_kind, is_character_data};
-ghost use Rattle.dom_model.specs.Forests.Nodes.{kind_passes};
 ghost use Rattle.dom_model.specs.DataAndCopies.Data.{content_in};
 ghost use Rattle.dom_model.specs.Commands.Command.{GetData, SetData, AppendData, InsertData, DeleteData, ReplaceData, SubstringData, SplitText, TextContent, SetTextContent, Normalize};
 ghost use Rattle.dom_model.specs.Commands.Guards.{Bounds};
@@ -24,24 +23,6 @@ use dom_wrap::of_tree::{NodeId, Tree};
 use dom_wrap::of_units::Units;
 use std::alloc::{AllocError, Global};
 
-// Whether a kind has character data.
-fn is_character_data(kind: Kind) -> bool
-    ensures { result ≡ is_character_data kind }
-{
-    matches!(
-        kind,
-        Kind::Text | Kind::ProcessingInstruction | Kind::Comment
-    )
-}
-
-// Whether a node has character data.
-fn has_data(tree: &Tree<Content>, node: NodeId) -> bool
-    requires { HasNode tree.now.forest node }
-    ensures { result ≡ kind_passes is_character_data tree.now.forest node }
-{
-    is_character_data(tree.label(node).kind)
-}
-
 // Why a node has no data.
 fn refusal(world: &World, node: NodeId) -> Option<Reply>
     ensures { option_map reply_view result ≡ kind_refusal is_character_data world.now node }
@@ -49,7 +30,7 @@ fn refusal(world: &World, node: NodeId) -> Option<Reply>
     if !world.tree.holds(node) {
         return Some(Reply::Own(OwnError::NoSuchObject));
     }
-    if !has_data(&world.tree, node) {
+    if !world.tree.has_data(node) {
         return Some(Reply::Dom(DomError::TypeError));
     }
     None

@@ -1,23 +1,11 @@
-//! Tree order inside a node: whether a node stands there, what comes before one, and what comes after all of it (DOM Standard, "Trees").
+//! Tree order inside a node: what comes before a node there, and what comes after all of it (DOM Standard, "Trees").
 
-ghost use Rattle.std.specs.Prelude.{◌≡◌, ℕ, true};
+ghost use Rattle.std.specs.Prelude.{◌≡◌, true};
 ghost use Rattle.dom_model.specs.PlainLists.Lists.{among, before, head_of};
 ghost use Rattle.dom_model.specs.Forests.Forest.{HasNode, ancestors, inclusive_descendants};
 ghost use Rattle.dom_model.specs.MutationAlgorithms.PreRemoval.{following_outside};
 
 use dom_tree::{NodeId, Tree};
-
-// Whether the number is that of an inclusive descendant of `top`.
-pub(crate) fn is_inside<X>(tree: &Tree<X>, top: NodeId, node: NodeId) -> bool
-    requires { HasNode tree.now.forest top }
-    ensures { result ≡ among node (inclusive_descendants tree.now.forest top) }
-{
-    tree.sound();
-    match tree.first(top) {
-        None => node == top,
-        Some(_) => tree.holds(node) && tree.is_ancestor(top, node),
-    }
-}
 
 // The node that precedes in tree order, among the inclusive descendants of `top`.
 pub(crate) fn previous_inside<X>(tree: &Tree<X>, top: NodeId, node: NodeId) -> Option<NodeId>

@@ -1,6 +1,6 @@
 //! One node iterator (DOM Standard, "Interface NodeIterator").
 
-ghost use Rattle.std.specs.Prelude.{◌≡◌, ℕ, ◌==◌, true, not, ◌&&◌, find, reverse};
+ghost use Rattle.std.specs.Prelude.{◌≡◌, ◌==◌, true, not, ◌&&◌, find, reverse};
 ghost use Rattle.std.specs.List.{list_any};
 ghost use Rattle.dom_model.specs.PlainLists.Lists.{among, up_to, past};
 ghost use Rattle.dom_model.specs.MutationAlgorithms.Discarding.{nodes_of_iterator};
@@ -11,7 +11,7 @@ ghost use Rattle.dom_model.specs.MutationAlgorithms.PreRemoval.{pre_removed};
 ghost use Rattle.dom_traverse.specs.Standing.{StandsInside};
 
 use crate::filter::Filter;
-use crate::inside::{is_inside, past_inside, previous_inside};
+use crate::inside::{past_inside, previous_inside};
 use dom_tree::{NodeId, Tree};
 use std::marker::Model;
 
@@ -148,7 +148,7 @@ impl NodeIterator {
         ensures { result ≡ (among self.now.reference (inclusive_descendants tree.now.forest node) && (not (node == self.now.root) && among node (inclusive_descendants tree.now.forest self.now.root))) }
     {
         tree.sound();
-        is_inside(tree, node, self.reference)
+        tree.is_inside(node, self.reference)
             && node != self.root
             && tree.is_ancestor(self.root, node)
     }
@@ -158,6 +158,6 @@ impl NodeIterator {
         requires { HasNode tree.now.forest top }
         ensures { result ≡ list_any (λ m. among m (inclusive_descendants tree.now.forest top)) (nodes_of_iterator self.now) }
     {
-        is_inside(tree, top, self.root) || is_inside(tree, top, self.reference)
+        tree.is_inside(top, self.root) || tree.is_inside(top, self.reference)
     }
 }

@@ -1,6 +1,6 @@
 //! One tree walker (DOM Standard, "Interface TreeWalker").
 
-ghost use Rattle.std.specs.Prelude.{◌≡◌, ℕ};
+ghost use Rattle.std.specs.Prelude.{◌≡◌};
 ghost use Rattle.std.specs.List.{list_any};
 ghost use Rattle.dom_model.specs.PlainLists.Lists.{among};
 ghost use Rattle.dom_model.specs.Forests.Forest.{HasNode, inclusive_descendants};
@@ -10,7 +10,6 @@ ghost use Rattle.dom_traverse.specs.Standing.{StandsThere};
 
 use crate::course::Side;
 use crate::filter::Filter;
-use crate::inside::is_inside;
 use crate::walks;
 use dom_model::Move;
 use dom_tree::{NodeId, Tree};
@@ -68,6 +67,6 @@ impl TreeWalker {
         requires { HasNode tree.now.forest top }
         ensures { result ≡ list_any (λ m. among m (inclusive_descendants tree.now.forest top)) (nodes_of_walker self.now) }
     {
-        is_inside(tree, top, self.root) || is_inside(tree, top, self.current)
+        tree.is_inside(top, self.root) || tree.is_inside(top, self.current)
     }
 }

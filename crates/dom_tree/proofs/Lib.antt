@@ -12,7 +12,9 @@ pub mod Reading
 pub mod Referring
 pub mod Renumbering
 pub mod Spelling
+pub mod Steps
 pub mod Stores
 pub mod Taking
 pub mod TreeOrder
 pub mod Trees
+pub mod Ways

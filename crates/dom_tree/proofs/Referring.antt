@@ -1,16 +1,18 @@
 -- Whether a tree is named from outside, by a look at each number.
-use Rattle.std.proofs.Common.{◌≡◌, ℕ, suc, ◌+◌, ◌<◌, ◌≤◌, Bool, true, false, not, ◌&&◌, ◌||◌, List, [], ◌∷◌, ◌++◌, map, Option, Some, None, IsSome, is_some, IfSome, refl, ap, sym, ◌∙◌, arith, ⊎_elim}
+use Rattle.std.proofs.Common.{◌≡◌, ◌==◌, ℕ, suc, ◌+◌, ◌<◌, ◌≤◌, Bool, true, false, not, ◌&&◌, ◌||◌, List, [], ◌∷◌, ◌++◌, map, Option, Some, None, IsSome, is_some, IfSome, refl, ap, sym, ◌∙◌, arith, ⊎_elim}
 use Rattle.std.proofs.lemmas.Bool.{cases_lt, false≢true}
 use Rattle.std.proofs.lemmas.List.{map-append}
 use Rattle.std.specs.List.{list_any}
-use Rattle.dom_model.specs.PlainLists.Lists.{hits, among}
-use Rattle.dom_model.specs.Forests.Arena.{Entry}
+use Rattle.dom_model.specs.PlainLists.Lists.{hits, among, head_of}
+use Rattle.dom_model.specs.Forests.Arena.{Entry, children_in}
 use Rattle.dom_model.specs.Forests.Lies.{Lies}
-use Rattle.dom_model.specs.Forests.Forest.{Node, Forest, empty, node, Row, Grove, occurs, one_at, rows, numbers, tree_at, without, entry_in, parent_of, ancestors, inclusive_descendants, IsForest}
+use Rattle.dom_model.specs.Forests.Forest.{Node, Forest, empty, node, Row, Grove, occurs, one_at, tops, rows, numbers, tree_at, without, entry_in, HasNode, parent_of, children_of, ancestors, inclusive_descendants, IsForest}
 use Rattle.dom_model.specs.MutationAlgorithms.Discarding.{documents, is_held_outside}
 use Rattle.dom_model.proofs.PlainLists.Numbers.{same_or, same, apart}
-use Rattle.dom_model.proofs.Forests.Totals.{total-tree_at}
+use Rattle.dom_model.proofs.Forests.Totals.{total-tree_at, tree_at-absent}
 use Rattle.dom_model.proofs.Forests.TreeOrder.Flattened.{hits-numbers}
+use Rattle.dom_model.proofs.Forests.Standing.{Tree, tree_of}
+use Rattle.dom_model.proofs.Forests.Below.{at_itself}
 use Rattle.dom_model.proofs.Forests.Lying.{Lies-without_root}
 use Rattle.dom_model.proofs.Forests.Climbing.{hits-ancestors, hits-among, not_among-hits, hits-not_among}
 use Rattle.dom_model.proofs.Forests.Entries.{occurs-HasNode, HasNode-occurs, Lies-entry_in, entry_under-absent}
@@ -83,6 +85,33 @@ module _ {X : Type 0} {g : Grove X} (s : IsForest g) (top : ℕ) where
       (λ (lt : 0 < occurs m g.forest). absurd (false≢true (sym e ∙ HasNode-occurs g.forest m lt)))
       (λ (le : occurs m g.forest ≤ 0). omega (arith, hits-numbers m (tree_at top g.forest), total-tree_at (one_at m) top g.forest))
       (cases_lt 0 (occurs m g.forest)))
+
+  -- nothing stands under a number that no node has
+  pub nothing-under : is_some (entry_in g.forest top) ≡ false → (m : ℕ) → among m (inclusive_descendants g.forest top) ≡ false
+  nothing-under e m =
+      let z : tree_at top g.forest ≡ empty = tree_at-absent top g.forest (⊎_elim
+      (λ (lt : 0 < occurs top g.forest). absurd (false≢true (sym e ∙ HasNode-occurs g.forest top lt)))
+      (λ (le : occurs top g.forest ≤ 0). omega arith)
+      (cases_lt 0 (occurs top g.forest))) in
+      rw z refl
+
+  -- nothing but the node itself stands inside a node without children
+  pub inside-alone : HasNode g.forest top → head_of (children_of g.forest top) ≡ None → (m : ℕ) → among m (inclusive_descendants g.forest top) ≡ (m == top)
+  inside-alone h e m = from (tree_of g.forest s.once top (occurs-HasNode g.forest top h))
+    where
+      none : (f : Forest X) → head_of (tops f) ≡ None → f ≡ empty
+      none empty z = refl
+      none (node x kids rest) z = absurd (cc z)
+
+      from : Tree g.forest top → among m (inclusive_descendants g.forest top) ≡ (m == top)
+      from t =
+          let bare : t.kids ≡ empty = none t.kids (sym (ap (λ (i : Option (Entry (Node X))). head_of (children_in i)) t.entry) ∙ e) in
+          ap (λ (f : Forest X). among m (numbers f)) (t.tree ∙ ap (λ (f : Forest X). node t.top f empty) bare)
+          ∙ ap (λ k. among m (k ∷ [])) t.is_top
+          ∙ elim (same_or top m) [
+            | same d v ↦ rw (v, d, at_itself m) refl
+            | apart ne v ↦ elim (same_or m top) [ same d _ ↦ absurd (ne (sym d)) | apart _ u ↦ rw (v, u) refl ]
+          ]
 
   pub refers-document : (n d : ℕ) → IfSome (entry_in g.forest n) (λ e. d ≡ e.value.document) → is_some (entry_in g.forest n) ≡ true → (b : Bool) → among d (inclusive_descendants g.forest top) ≡ b → refers_from g.forest top n ≡ (b && not (among n (inclusive_descendants g.forest top)))
   refers-document n d h i b e = ap (λ v. v && not (among n (inclusive_descendants g.forest top))) (go (entry_in g.forest n) h i)

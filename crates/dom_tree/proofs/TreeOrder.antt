@@ -14,6 +14,7 @@ use Rattle.dom_model.proofs.Forests.TreeOrder.Flattened.{hits-numbers}
 use Rattle.dom_model.proofs.PlainLists.Places.{place-there}
 use Rattle.dom_model.proofs.Forests.Climbing.{ancestors-there, hits-ancestors, among-hits, hits-among, not_among-hits, hits-self}
 use Rattle.dom_model.proofs.Forests.Paths.{parent-path, root-path}
+use Rattle.dom_model.proofs.Forests.WaysMeeting.{above-apart, above-higher}
 use Rattle.dom_model.proofs.Forests.Chains.{root-child}
 use Rattle.dom_model.proofs.RangesAndContents.PathsApart.{along, along-ancestors}
 use Rattle.dom_model.proofs.Traversal.IteratorsStay.{tree_at-inside}
@@ -22,31 +23,11 @@ use Rattle.dom_model.proofs.Forests.Entries.{occurs-HasNode, HasNode-occurs, Lie
 use Rattle.dom_model.proofs.Forests.TreeOrder.Ordering.{Single, single, tree_at-single, Lies-tree_at}
 use Rattle.dom_model.proofs.Forests.TreeOrder.Preceding.{place-front, place-behind}
 
-pub options-same : (o q : Option ℕ) → option_eq (λ x y. x == y) o q ≡ true → o ≡ q
-options-same None None e = refl
-options-same None (Some y) e = absurd (false≢true e)
-options-same (Some x) None e = absurd (false≢true e)
-options-same (Some x) (Some y) e = ap Some (eqb-true x y e)
-
-pub options-apart : (o q : Option ℕ) → option_eq (λ x y. x == y) o q ≡ false → o ≡ q → ⊥
-options-apart None q e d = absurd (let k : option_eq (λ x y. x == y) None None ≡ false = subst (λ m. option_eq (λ x y. x == y) None m ≡ false) (sym d) e in false≢true (sym k))
-options-apart (Some x) q e d =
-    let k : option_eq (λ x y. x == y) (Some x) (Some x) ≡ false = subst (λ m. option_eq (λ x y. x == y) (Some x) m ≡ false) (sym d) e in
-    false≢true (sym k ∙ eq-eqb x x refl)
-
 module _ {X : Type 0} where
   pub length-numbers : (f : Forest X) → length (numbers f) ≡ size f
   length-numbers empty = refl
   length-numbers (node x kids rest) =
       omega (arith, length-append (numbers kids) (numbers rest), length-numbers kids, length-numbers rest)
-
-  -- a node has no more ancestors than there are nodes
-  pub ancestors-within : (n : ℕ) (f : Forest X) → length (ancestors n f) ≤ size f
-  ancestors-within n f = omega (arith, counts (ancestors n f), along-ancestors (λ _. 1) n f)
-    where
-      counts : (ns : List ℕ) → along (λ _. 1) ns ≡ length ns
-      counts [] = refl
-      counts (m ∷ ms) = omega (arith, counts ms)
 
 -- the places of a tree's nodes: the tree's own, after the top's; all others stand before or behind
 pub record IsBlock {X : Type 0} (p : ℕ) (f : Forest X) : Type 0 where
@@ -233,12 +214,24 @@ same_order a b c d h k =
     (λ (le : b ≤ a). le-ltb a b le ∙ sym (le-ltb c d (k le)))
     (cases_lt a b)
 
+tested : (b : Bool) → (b ≡ true) ⊎ (b ≡ false)
+tested true = inl refl
+tested false = inr refl
+
 module _ {X : Type 0} {g : Grove X} (s : IsForest g) where
   there : (n : ℕ) → HasNode g.forest n → 0 < occurs n g.forest
   there n h = occurs-HasNode g.forest n h
 
   within : (n m : ℕ) → among n (ancestors m g.forest) ≡ true → 0 < occurs m (tree_at n g.forest)
   within n m h = omega (arith, hits-ancestors n m g.forest s.once, among-hits n (ancestors m g.forest) h)
+
+  -- an ancestor is there
+  pub top-there : (n m : ℕ) → among n (ancestors m g.forest) ≡ true → HasNode g.forest n
+  top-there n m h =
+      HasNode-occurs g.forest n (⊎_elim
+      (λ (lt : 0 < occurs n g.forest). lt)
+      (λ (le : occurs n g.forest ≤ 0). absurd (let z : tree_at n g.forest ≡ empty = tree_at-absent n g.forest (omega arith) in let w = within n m h in let w2 = rw z at w in omega arith))
+      (cases_lt 0 (occurs n g.forest)))
 
   outside : (n m : ℕ) → among n (ancestors m g.forest) ≡ false → occurs m (tree_at n g.forest) ≡ 0
   outside n m h = sym (hits-ancestors n m g.forest s.once) ∙ not_among-hits n (ancestors m g.forest) h
@@ -360,144 +353,47 @@ module _ {X : Type 0} {g : Grove X} (s : IsForest g) where
         | inl t ↦ absurd (let k = higher p q h t ne in omega arith)
         | inr t ↦ t
       ]
-    where
-      tested : (b : Bool) → (b ≡ true) ⊎ (b ≡ false)
-      tested true = inl refl
-      tested false = inr refl
 
   pub depth-child : (n q : ℕ) → HasNode g.forest n → parent_of g.forest n ≡ Some q → (length (ancestors n g.forest) ≡ suc (length (ancestors q g.forest))) × HasNode g.forest q
   depth-child n q h e = (let r = parent-path g.forest s.once n q (there n h) e in (ap length r.1, HasNode-occurs g.forest q r.0))
 
-  depth-root : (n : ℕ) → HasNode g.forest n → parent_of g.forest n ≡ None → length (ancestors n g.forest) ≡ 1
-  depth-root n h e = ap length (root-path g.forest s.once n (there n h) e)
-
-  depth-some : (n : ℕ) → HasNode g.forest n → 0 < length (ancestors n g.forest)
-  depth-some n h = (let i = ancestors-there n g.forest (there n h) in let k : length (ancestors n g.forest) ≡ length (n ∷ i.0) = ap length i.1 in omega arith)
-
-  -- two nodes of one depth and one root
-  module _ (l r : ℕ) (hl : HasNode g.forest l) (hr : HasNode g.forest r) (ne : l ≡ r → ⊥) (root : root_of g.forest l ≡ root_of g.forest r) (depth : length (ancestors l g.forest) ≡ length (ancestors r g.forest)) where
-    -- have parents, both or none
-    pub parents-both : (p : ℕ) → parent_of g.forest l ≡ Some p → IsSome (parent_of g.forest r)
-    parents-both p e =
-        elim (seen (parent_of g.forest r)) [
-          | nothing d ↦ absurd (let i = depth-child l p hl e in omega (arith, i.0, depth-some p i.1, depth-root r hr d))
-          | just q d ↦ rw d refl
-        ]
-
-    pub parents-none : parent_of g.forest l ≡ None → parent_of g.forest r ≡ None
-    parents-none e =
-        elim (seen (parent_of g.forest r)) [
-          | nothing d ↦ d
-          | just q d ↦ absurd (let i = depth-child r q hr d in omega (arith, i.0, depth-some q i.1, depth-root l hl e))
-        ]
-
-    -- where they are children of one parent, that is there
-    pub one-parent : parent_of g.forest l ≡ parent_of g.forest r → IsSome (parent_of g.forest l)
-    one-parent e =
-        elim (seen (parent_of g.forest l)) [
-          | nothing d ↦
-              let rl : root_of g.forest l ≡ Some l = ap last_of (root-path g.forest s.once l (there l hl) d) in
-              let rr : root_of g.forest r ≡ Some r = ap last_of (root-path g.forest s.once r (there r hr) (sym e ∙ d)) in
-              let k : Some l ≡ Some r = sym rl ∙ root ∙ rr in
-              absurd (ne (cc k))
-          | just q d ↦ rw d refl
-        ]
-
-    pub one-order : parent_of g.forest l ≡ parent_of g.forest r → nat_lt (index_of g.forest l) (index_of g.forest r) ≡ nat_lt (place_in l (numbers g.forest)) (place_in r (numbers g.forest))
-    one-order e =
-        elim (seen (parent_of g.forest l)) [
-          | nothing d ↦ absurd (let k = one-parent e in let k2 = rw d at k in false≢true k2)
-          | just q d ↦ order-children q l r hl hr d (sym e ∙ d)
-        ]
-
-    -- and their parents, where they are two, stand in the same order
-    module _ (p q : ℕ) (el : parent_of g.forest l ≡ Some p) (er : parent_of g.forest r ≡ Some q) (pq : p ≡ q → ⊥) where
-      pub parents-depth : length (ancestors p g.forest) ≡ length (ancestors q g.forest)
-      parents-depth = omega (arith, (depth-child l p hl el).0, (depth-child r q hr er).0)
-
-      pub parents-root : root_of g.forest p ≡ root_of g.forest q
-      parents-root = sym (root-child g.forest s.once l p (there l hl) el) ∙ root ∙ root-child g.forest s.once r q (there r hr) er
-
-      pub parents-order : nat_lt (place_in p (numbers g.forest)) (place_in q (numbers g.forest)) ≡ nat_lt (place_in l (numbers g.forest)) (place_in r (numbers g.forest))
-      parents-order =
-          order-right q r p (depth-child r q hr er).1 (among-parent r q hr er) (depth-child l p hl el).1 (not_above q p (depth-child l p hl el).1 (λ d. pq (sym d)) (sym parents-depth))
-          ∙ order-left p l r (depth-child l p hl el).1 (among-parent l p hl el) hr aside
-        where
-          higher_up : p ≡ r → ⊥
-          higher_up d = omega (arith, ap (λ m. length (ancestors m g.forest)) d, (depth-child l p hl el).0)
-
-          aside : among p (ancestors r g.forest) ≡ false
-          aside =
-              rw ((parent-path g.forest s.once r q (there r hr) er).1) (elim (same_or r p) [
-                | same d t ↦ absurd (higher_up (sym d))
-                | apart _ t ↦ rw t (not_above p q (depth-child r q hr er).1 pq parents-depth)
-              ])
-
-  climbing : (fuel p n : ℕ) → length (ancestors n g.forest) ≤ fuel → HasNode g.forest n → among p (ancestors n g.forest) ≡ true → root_of g.forest p ≡ root_of g.forest n
-  climbing zero p n b h a = absurd (let k = depth-some n h in omega arith)
-  climbing (suc less) p n b h a =
-      elim (same_or p n) [
-        | same d _ ↦ ap (root_of g.forest) d
-        | apart ne _ ↦
-            elim (seen (parent_of g.forest n)) [
-              | nothing e ↦ absurd (let k = higher p n h a ne in let z = depth-root n h e in omega (arith, shallow p n h a))
-              | just q e ↦
-                  let r = parent-path g.forest s.once n q (there n h) e in
-                  let long = depth-child n q h e in
-                  let k : 0 < hits p (n ∷ ancestors q g.forest) = among-hits p (n ∷ ancestors q g.forest) (subst (λ l. among p l ≡ true) r.1 a) in
-                  elim (same_or n p) [
-                    | same d _ ↦ absurd (ne (sym d))
-                    | apart _ t ↦
-                        let k2 = rw t at k in
-                        climbing less p q (omega (arith, long.0)) long.1 (hits-among p (ancestors q g.forest) (omega arith)) ∙ sym (root-child g.forest s.once n q (there n h) e)
-                  ]
-            ]
-      ]
+  -- two nodes below two children of one node stand as these do
+  pub met-beside : (a b q l r : ℕ) → HasNode g.forest a → HasNode g.forest b → parent_of g.forest l ≡ Some q → parent_of g.forest r ≡ Some q → among l (ancestors a g.forest) ≡ true → among r (ancestors b g.forest) ≡ true → (l ≡ r → ⊥) → nat_lt (index_of g.forest l) (index_of g.forest r) ≡ nat_lt (place_in a (numbers g.forest)) (place_in b (numbers g.forest))
+  met-beside a b q l r ha hb el er la rb ne =
+      order-children q l r hl hr el er
+      ∙ order-right r b l hr rb hl (not_above r l hl (λ d. ne (sym d)) (sym level))
+      ∙ order-left l a b hl la hb aside
     where
-      shallow : (p n : ℕ) → HasNode g.forest n → among p (ancestors n g.forest) ≡ true → 0 < length (ancestors p g.forest)
-      shallow p n h a = depth-some p (HasNode-occurs g.forest p (omega (arith, hits-occurs p n h a)))
-        where
-          hits-occurs : (p n : ℕ) → HasNode g.forest n → among p (ancestors n g.forest) ≡ true → 0 < occurs p g.forest
-          hits-occurs p n h a =
-              ⊎_elim
-              (λ (lt : 0 < occurs p g.forest). lt)
-              (λ (le : occurs p g.forest ≤ 0). absurd (let z : tree_at p g.forest ≡ empty = tree_at-absent p g.forest (omega arith) in let w = within p n a in let w2 = rw z at w in omega arith))
-              (cases_lt 0 (occurs p g.forest))
+      hl : HasNode g.forest l
+      hl = top-there l a la
 
-  pub root-through : (p n : ℕ) → HasNode g.forest n → among p (ancestors n g.forest) ≡ true → root_of g.forest p ≡ root_of g.forest n
-  root-through p n = climbing (length (ancestors n g.forest)) p n (omega arith)
+      hr : HasNode g.forest r
+      hr = top-there r b rb
 
-  -- an inclusive ancestor of the same depth is the node
-  pub settled : (p n : ℕ) → HasNode g.forest n → among p (ancestors n g.forest) ≡ true → length (ancestors p g.forest) ≡ length (ancestors n g.forest) → p ≡ n
-  settled p n h a e = elim (same_or p n) [ same d _ ↦ d | apart ne _ ↦ absurd (let k = higher p n h a ne in omega arith) ]
+      level : length (ancestors l g.forest) ≡ length (ancestors r g.forest)
+      level = omega (arith, (depth-child l q hl el).0, (depth-child r q hr er).0)
 
-  -- two nodes stand as their ancestors of one depth, which are two
-  pub settled-order : (a b l r : ℕ) → HasNode g.forest a → HasNode g.forest b → HasNode g.forest l → HasNode g.forest r → among l (ancestors a g.forest) ≡ true → among r (ancestors b g.forest) ≡ true → length (ancestors l g.forest) ≡ length (ancestors r g.forest) → (l ≡ r → ⊥) → (length (ancestors l g.forest) ≡ length (ancestors a g.forest)) ⊎ (length (ancestors r g.forest) ≡ length (ancestors b g.forest)) → nat_lt (place_in l (numbers g.forest)) (place_in r (numbers g.forest)) ≡ nat_lt (place_in a (numbers g.forest)) (place_in b (numbers g.forest))
-  settled-order a b l r ha hb hl hr la rb e ne c =
-      order-right r b l hr rb hl (not_above r l hl (λ d. ne (sym d)) (sym e))
-      ∙ ⊎_elim
-      (λ (d : length (ancestors l g.forest) ≡ length (ancestors a g.forest)). ap (λ m. nat_lt (place_in m (numbers g.forest)) (place_in b (numbers g.forest))) (settled l a ha la d))
-      (λ (d : length (ancestors r g.forest) ≡ length (ancestors b g.forest)). order-left l a b hl la hb (ap (λ m. among l (ancestors m g.forest)) (sym (settled r b hb rb d)) ∙ not_above l r hr ne e))
-      c
-
-  -- an ancestor of one is the other
-  pub settled-above : (a b l : ℕ) → HasNode g.forest a → HasNode g.forest b → among l (ancestors a g.forest) ≡ true → among l (ancestors b g.forest) ≡ true → (x y : ℕ) → 1 + x ≡ length (ancestors a g.forest) → 1 + y ≡ length (ancestors b g.forest) → length (ancestors l g.forest) + (x - y) ≡ length (ancestors a g.forest) → length (ancestors l g.forest) + (y - x) ≡ length (ancestors b g.forest) → nat_lt x y ≡ nat_lt (place_in a (numbers g.forest)) (place_in b (numbers g.forest))
-  settled-above a b l ha hb la lb x y ex ey cx cy =
-      ⊎_elim
-      (λ (lt : x < y).
-      let d : l ≡ a = settled l a ha la (omega arith) in
-      let ab : among a (ancestors b g.forest) ≡ true = subst (λ m. among m (ancestors b g.forest) ≡ true) d lb in
-      let ne : a ≡ b → ⊥ = λ z. omega (arith, ap (λ m. length (ancestors m g.forest)) z) in
-      lt-ltb x y lt ∙ sym (lt-ltb (place_in a (numbers g.forest)) (place_in b (numbers g.forest)) (order-above a b ha ab ne)))
-      (λ (le : y ≤ x).
-      let d : l ≡ b = settled l b hb lb (omega arith) in
-      let ba : among b (ancestors a g.forest) ≡ true = subst (λ m. among m (ancestors a g.forest) ≡ true) d la in
-      le-ltb x y le ∙ sym (le-ltb (place_in a (numbers g.forest)) (place_in b (numbers g.forest)) (behind ba)))
-      (cases_lt x y)
-    where
-      behind : among b (ancestors a g.forest) ≡ true → place_in b (numbers g.forest) ≤ place_in a (numbers g.forest)
-      behind ba =
-          elim (same_or b a) [
-            | same d _ ↦ omega (arith, ap (λ m. place_in m (numbers g.forest)) d)
-            | apart ne _ ↦ omega (arith, order-above b a hb ba ne)
+      aside : among l (ancestors b g.forest) ≡ false
+      aside =
+          elim (tested (among l (ancestors b g.forest))) [
+            | inl t ↦ absurd (ne (above-apart g.forest s.once l r b (there b hb) (there l hl) (there r hr) (among-hits l (ancestors b g.forest) t) (among-hits r (ancestors b g.forest) rb) level))
+            | inr t ↦ t
           ]
+
+  -- a node stands ahead of those below a child of it
+  pub met-above : (a b c : ℕ) → HasNode g.forest b → among a (ancestors b g.forest) ≡ true → parent_of g.forest c ≡ Some a → among c (ancestors b g.forest) ≡ true → true ≡ nat_lt (place_in a (numbers g.forest)) (place_in b (numbers g.forest))
+  met-above a b c hb ab e cb =
+      sym (lt-ltb (place_in a (numbers g.forest)) (place_in b (numbers g.forest)) (order-above a b (top-there a b ab) ab apart_from))
+    where
+      apart_from : a ≡ b → ⊥
+      apart_from d =
+          let low = above-higher g.forest s.once c b (there b hb) (among-hits c (ancestors b g.forest) cb) in
+          omega (arith, low, (depth-child c a (top-there c b cb) e).0, ap (λ m. length (ancestors m g.forest)) d)
+
+  -- and not behind one above it
+  pub met-below : (a b : ℕ) → HasNode g.forest a → among b (ancestors a g.forest) ≡ true → false ≡ nat_lt (place_in a (numbers g.forest)) (place_in b (numbers g.forest))
+  met-below a b ha ba =
+      sym (le-ltb (place_in a (numbers g.forest)) (place_in b (numbers g.forest)) (elim (same_or b a) [
+        | same d _ ↦ omega (arith, ap (λ m. place_in m (numbers g.forest)) d)
+        | apart ne _ ↦ omega (arith, order-above b a (top-there b a ba) ba ne)
+      ]))

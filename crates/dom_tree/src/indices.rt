@@ -7,6 +7,9 @@ use crate::node_id::NodeId;
 use crate::tree::{Tree, slot_of};
 use crate::upkeep::number_all;
 
+// How far an index is looked for before all children are numbered.
+const NEAR: usize = 64;
+
 impl<X> Tree<X> {
     /// The number of preceding siblings, where it is known without counting.
     pub fn kept_index(&self, id: NodeId) -> Option<usize>
@@ -31,5 +34,21 @@ impl<X> Tree<X> {
         let slot = slot_of(&self.table, parent);
         self.links.sound();
         number_all(&mut self.links, slot);
+    }
+
+    /// The number of preceding siblings; 0 for a root. It looks 64 steps to both sides, and where it does not find it there it numbers all children of the parent, so that it is known of each. It takes no memory.
+    pub fn found_index(&mut self, id: NodeId) -> usize
+        requires { HasNode self.old.forest id }
+        ensures index { result ≡ index_of self.old.forest id }
+        ensures unchanged { self.new ≡ self.old }
+    {
+        if let Some(index) = self.index_within(id, NEAR) {
+            return index;
+        }
+        self.sound();
+        if let Some(parent) = self.parent(id) {
+            self.number_children(parent);
+        }
+        self.index(id)
     }
 }

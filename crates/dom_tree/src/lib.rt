@@ -5,6 +5,8 @@ mod body;
 mod discarding;
 mod indices;
 mod item;
+mod kinds;
+mod meeting;
 mod node_id;
 mod slot_number;
 mod tree;
@@ -12,6 +14,7 @@ mod upkeep;
 mod walks;
 
 pub use body::Body;
+pub use meeting::Meeting;
 pub use node_id::NodeId;
 pub use tree::Tree;
 
@@ -19,7 +22,7 @@ pub use tree::Tree;
 pub mod of_kinds {
     pub use dom_kinds::{
         DomError, Exception, Kind, Label, NodeType, is_attribute_name, is_doctype_name,
-        is_element_name,
+        is_element_name, may_be_parent,
     };
 }
 

@@ -45,6 +45,14 @@ impl<X> Model for Tree<X> {
     ghost invariant = { λ t. IsTree t.links t.table.items t.live };
 }
 
+/// The slot of a number, where the table has one.
+pub(crate) fn slot_at(table: &Pages<SlotNumber>, id: NodeId) -> Option<Slot>
+    ensures { result ≡ slot_in table.now.items id }
+{
+    let found = table.get(id.number() as usize)?;
+    Some(found.slot())
+}
+
 /// The slot of a number that the table has.
 pub(crate) fn slot_of(table: &Pages<SlotNumber>, id: NodeId) -> Slot
     requires { IsSome (slot_in table.now.items id) }
@@ -64,16 +72,16 @@ fn slot_of_any(table: &Pages<SlotNumber>, id: Option<NodeId>) -> Option<Slot>
     }
 }
 
-// The number of the node in a slot.
-fn number_of<X>(links: &Links<Item<X>>, slot: Slot) -> NodeId
+/// The number of the node in a slot.
+pub(crate) fn number_of<X>(links: &Links<Item<X>>, slot: Slot) -> NodeId
     requires { IsHeld (nodes_of links.now) slot }
     ensures { result ≡ number_at (entry_at (nodes_of links.now)) slot }
 {
     links.value(slot).number
 }
 
-// The numbers in place of the slots.
-fn named<X>(links: &Links<Item<X>>, slot: Option<Slot>) -> Option<NodeId>
+/// The numbers in place of the slots.
+pub(crate) fn named<X>(links: &Links<Item<X>>, slot: Option<Slot>) -> Option<NodeId>
     requires { ForSome slot (λ s. IsHeld (nodes_of links.now) s) }
     ensures { result ≡ option_map (number_at (entry_at (nodes_of links.now))) slot }
 {

@@ -1,6 +1,6 @@
 //! Walks over the tree: ancestors and tree order (DOM Standard, "Trees").
 
-ghost use Rattle.std.specs.Prelude.{◌≡◌, ◌+◌, ◌-◌, ◌<◌, ◌≤◌, nat_lt, length, slice_get, Some, IsSome, IfSome, true};
+ghost use Rattle.std.specs.Prelude.{◌≡◌, ◌-◌, ◌<◌, ◌≤◌, nat_lt, length, slice_get, Some, IsSome, IfSome, true};
 ghost use Rattle.dom_model.specs.PlainLists.Lists.{among, after, last_of, place_in};
 ghost use Rattle.dom_model.specs.Forests.Arena.{siblings_in};
 ghost use Rattle.dom_model.specs.Forests.Forest.{HasNode, entry_in, parent_of, children_of, index_of, root_of, ancestors, numbers, inclusive_descendants, adopted};
@@ -8,7 +8,7 @@ ghost use Rattle.dom_tree.specs.Lengths.{length_of};
 
 use crate::body::Body;
 use crate::node_id::NodeId;
-use crate::tree::Tree;
+use crate::tree::{Tree, number_of, slot_at, slot_of};
 use dom_kinds::Kind;
 
 impl<X> Tree<X> {
@@ -18,11 +18,12 @@ impl<X> Tree<X> {
         ensures { Some result ≡ root_of self.now.forest id }
     {
         self.sound();
-        let mut top = id;
-        while let Some(above) = self.parent(top) {
+        self.links.sound();
+        let mut top = slot_of(&self.table, id);
+        while let Some(above) = self.links.parent(top) {
             top = above;
         }
-        top
+        number_of(&self.links, top)
     }
 
     /// Whether `above` is an inclusive ancestor of `id`.
@@ -31,14 +32,33 @@ impl<X> Tree<X> {
         ensures { result ≡ among above (ancestors id self.now.forest) }
     {
         self.sound();
-        let mut here = id;
-        while here != above {
-            match self.parent(here) {
+        self.links.sound();
+        let Some(end) = slot_at(&self.table, above) else {
+            return false;
+        };
+        let mut here = slot_of(&self.table, id);
+        while here != end {
+            match self.links.parent(here) {
                 Some(parent) => here = parent,
                 None => return false,
             }
         }
         true
+    }
+
+    /// Whether a number is that of an inclusive descendant of `top`. The tree may hold neither; it does not climb where `top` has no children.
+    pub fn is_inside(&self, top: NodeId, node: NodeId) -> bool
+        ensures { result ≡ among node (inclusive_descendants self.now.forest top) }
+    {
+        self.sound();
+        self.links.sound();
+        let Some(slot) = slot_at(&self.table, top) else {
+            return false;
+        };
+        match self.links.first(slot) {
+            None => node == top,
+            Some(_) => self.holds(node) && self.is_ancestor(top, node),
+        }
     }
 
     /// The node that follows in tree order, among the inclusive descendants of the root.
@@ -47,15 +67,16 @@ impl<X> Tree<X> {
         ensures { IfSome (root_of self.now.forest id) (λ root. result ≡ after id (inclusive_descendants self.now.forest root)) }
     {
         self.sound();
-        if let Some(child) = self.first(id) {
-            return Some(child);
+        self.links.sound();
+        let mut here = slot_of(&self.table, id);
+        if let Some(child) = self.links.first(here) {
+            return Some(number_of(&self.links, child));
         }
-        let mut here = id;
         loop {
-            if let Some(next) = self.next(here) {
-                return Some(next);
+            if let Some(next) = self.links.next(here) {
+                return Some(number_of(&self.links, next));
             }
-            match self.parent(here) {
+            match self.links.parent(here) {
                 Some(parent) => here = parent,
                 None => return None,
             }
@@ -69,15 +90,17 @@ impl<X> Tree<X> {
         ensures { result ≡ after id (inclusive_descendants self.now.forest top) }
     {
         self.sound();
-        if let Some(child) = self.first(id) {
-            return Some(child);
+        self.links.sound();
+        let mut here = slot_of(&self.table, id);
+        if let Some(child) = self.links.first(here) {
+            return Some(number_of(&self.links, child));
         }
-        let mut here = id;
-        while here != top {
-            if let Some(next) = self.next(here) {
-                return Some(next);
+        let end = slot_of(&self.table, top);
+        while here != end {
+            if let Some(next) = self.links.next(here) {
+                return Some(number_of(&self.links, next));
             }
-            here = self.parent(here).unwrap();
+            here = self.links.parent(here).unwrap();
         }
         None
     }
@@ -88,11 +111,12 @@ impl<X> Tree<X> {
         ensures { Some result ≡ last_of (inclusive_descendants self.now.forest id) }
     {
         self.sound();
-        let mut here = id;
-        while let Some(last) = self.last(here) {
+        self.links.sound();
+        let mut here = slot_of(&self.table, id);
+        while let Some(last) = self.links.last(here) {
             here = last;
         }
-        here
+        number_of(&self.links, here)
     }
 
     /// Whether `a` precedes `b` in tree order. Both have one root.
@@ -103,70 +127,11 @@ impl<X> Tree<X> {
         ensures { result ≡ nat_lt (place_in a (numbers self.now.forest)) (place_in b (numbers self.now.forest)) }
     {
         self.sound();
-        let a_depth = self.depth(a);
-        let b_depth = self.depth(b);
-        let left = self.climbed(a, a_depth.saturating_sub(b_depth));
-        let right = self.climbed(b, b_depth.saturating_sub(a_depth));
-        if left == right {
-            return a_depth < b_depth;
-        }
-        self.stands_ahead(left, right)
-    }
-
-    // How many ancestors a node has.
-    fn depth(&self, id: NodeId) -> u64
-        requires { HasNode self.now.forest id }
-        ensures { 1 + result ≡ length (ancestors id self.now.forest) }
-    {
-        self.sound();
-        let most = self.live();
-        let mut here = id;
-        for depth in 0..most {
-            match self.parent(here) {
-                Some(parent) => here = parent,
-                None => return depth,
-            }
-        }
-        most
-    }
-
-    // The ancestor that is so many steps up.
-    fn climbed(&self, id: NodeId, steps: u64) -> NodeId
-        requires held { HasNode self.now.forest id }
-        requires deep { steps < length (ancestors id self.now.forest) }
-        ensures held { HasNode self.now.forest result }
-        ensures above { among result (ancestors id self.now.forest) ≡ true }
-        ensures steps { length (ancestors result self.now.forest) + steps ≡ length (ancestors id self.now.forest) }
-    {
-        self.sound();
-        let mut here = id;
-        for _climbed in 0..steps {
-            let above = self.parent(here);
-            here = above.unwrap();
-        }
-        here
-    }
-
-    // Whether one node precedes another of the same depth.
-    fn stands_ahead(&self, a: NodeId, b: NodeId) -> bool
-        requires a_held { HasNode self.now.forest a }
-        requires b_held { HasNode self.now.forest b }
-        requires apart { ¬ (a ≡ b) }
-        requires one_root { root_of self.now.forest a ≡ root_of self.now.forest b }
-        requires one_depth { length (ancestors a self.now.forest) ≡ length (ancestors b self.now.forest) }
-        ensures { result ≡ nat_lt (place_in a (numbers self.now.forest)) (place_in b (numbers self.now.forest)) }
-    {
-        self.sound();
-        let mut left = a;
-        let mut right = b;
-        loop {
-            let left_parent = self.parent(left);
-            let right_parent = self.parent(right);
-            if left_parent == right_parent {
-                return self.comes_before(left, right);
-            }
-            left = left_parent.unwrap();
-            right = right_parent.unwrap();
+        let met = self.meeting(a, b);
+        match (met.first, met.second) {
+            (Some(first), Some(second)) => self.comes_before(first, second),
+            (None, Some(_)) => true,
+            (_, None) => false,
         }
     }
 
@@ -199,19 +164,21 @@ impl<X> Tree<X> {
         ensures { result ≡ nat_lt (index_of self.now.forest a) (index_of self.now.forest b) }
     {
         self.sound();
-        let mut forward = a;
-        let mut backward = a;
+        self.links.sound();
+        let end = slot_of(&self.table, b);
+        let mut forward = slot_of(&self.table, a);
+        let mut backward = forward;
         loop {
-            let Some(next) = self.next(forward) else {
+            let Some(next) = self.links.next(forward) else {
                 return false;
             };
-            if next == b {
+            if next == end {
                 return true;
             }
-            let Some(prev) = self.prev(backward) else {
+            let Some(prev) = self.links.prev(backward) else {
                 return true;
             };
-            if prev == b {
+            if prev == end {
                 return false;
             }
             forward = next;
@@ -247,18 +214,23 @@ impl<X> Tree<X> {
         ensures found { index_of self.now.forest id ≤ steps → IsSome result }
     {
         self.sound();
-        let count = self.siblings(id);
-        let most = steps.min(count);
-        let mut backward = id;
-        let mut forward = id;
-        for passed in 0..=most {
-            if let Some(index) = self.kept_index(backward) {
+        self.links.sound();
+        let mut backward = slot_of(&self.table, id);
+        let mut forward = backward;
+        let Some(parent) = self.links.parent(backward) else {
+            return Some(0);
+        };
+        let count = self.links.count(parent);
+        let sure = self.links.value(parent).sure;
+        for passed in 0..=steps.min(count) {
+            let index = self.links.value(backward).index;
+            if index < sure {
                 return Some(passed + index);
             }
-            let Some(prev) = self.prev(backward) else {
+            let Some(prev) = self.links.prev(backward) else {
                 return Some(passed);
             };
-            let Some(next) = self.next(forward) else {
+            let Some(next) = self.links.next(forward) else {
                 return Some(count - 1 - passed);
             };
             backward = prev;
@@ -288,11 +260,12 @@ impl<X> Tree<X> {
         ensures { result ≡ slice_get (children_of self.now.forest id) steps }
     {
         self.sound();
-        let mut child = self.first(id)?;
+        self.links.sound();
+        let mut child = self.links.first(slot_of(&self.table, id))?;
         for _passed in 0..steps {
-            child = self.next(child)?;
+            child = self.links.next(child)?;
         }
-        Some(child)
+        Some(number_of(&self.links, child))
     }
 
     // The child so many steps before the last.
@@ -302,11 +275,12 @@ impl<X> Tree<X> {
         ensures { result ≡ slice_get (children_of self.now.forest id) (length (children_of self.now.forest id) - 1 - steps) }
     {
         self.sound();
-        let mut child = self.last(id)?;
+        self.links.sound();
+        let mut child = self.links.last(slot_of(&self.table, id))?;
         for _passed in 0..steps {
-            child = self.prev(child)?;
+            child = self.links.prev(child)?;
         }
-        Some(child)
+        Some(number_of(&self.links, child))
     }
 
     /// Sets the node document of all inclusive descendants of a node.

@@ -3,10 +3,7 @@
 ghost use Rattle.std.specs.Prelude.{◌≡◌, ◌<◌, ◌+◌, [], map, slice_index, slice_index_or, slice_set, string_bytes};
 ghost use Rattle.dom_model.specs.MutationObservers.GivenOptions.{no_options};
 
-use dom_session::{
-    Filter, IterId, Move, NodeId, ObserverId, Point, RangeId, RawOptions, Rule, StaticId, Units,
-    WalkerId,
-};
+use dom_session::{Filter, Move, NodeId, Point, RawOptions, Rule, Units};
 use std::alloc::Global;
 use std::mem;
 
@@ -88,62 +85,6 @@ impl Arguments {
             course: Move::ParentNode,
             options: no_options(),
         }
-    }
-
-    /// The number at a place.
-    pub fn number(&self, place: usize) -> u32
-        requires { place < 4 }
-        ensures { result ≡ slice_index self.now.numbers place }
-    {
-        self.numbers[place]
-    }
-
-    /// The number at a place, as that of a node.
-    pub fn node(&self, place: usize) -> NodeId
-        requires { place < 4 }
-        ensures { result ≡ slice_index self.now.numbers place }
-    {
-        NodeId::new(self.numbers[place])
-    }
-
-    /// The number at a place, as that of a live range.
-    pub fn range(&self, place: usize) -> RangeId
-        requires { place < 4 }
-        ensures { result ≡ slice_index self.now.numbers place }
-    {
-        RangeId::new(self.numbers[place])
-    }
-
-    /// The number at a place, as that of a static range.
-    pub fn static_range(&self, place: usize) -> StaticId
-        requires { place < 4 }
-        ensures { result ≡ slice_index self.now.numbers place }
-    {
-        StaticId::new(self.numbers[place])
-    }
-
-    /// The number at a place, as that of an iterator.
-    pub fn iterator(&self, place: usize) -> IterId
-        requires { place < 4 }
-        ensures { result ≡ slice_index self.now.numbers place }
-    {
-        IterId::new(self.numbers[place])
-    }
-
-    /// The number at a place, as that of a walker.
-    pub fn walker(&self, place: usize) -> WalkerId
-        requires { place < 4 }
-        ensures { result ≡ slice_index self.now.numbers place }
-    {
-        WalkerId::new(self.numbers[place])
-    }
-
-    /// The number at a place, as that of an observer.
-    pub fn observer(&self, place: usize) -> ObserverId
-        requires { place < 4 }
-        ensures { result ≡ slice_index self.now.numbers place }
-    {
-        ObserverId::new(self.numbers[place])
     }
 
     /// The numbers at a place and the next, as a node and an offset in it.

@@ -3,7 +3,6 @@ use Rattle.std.proofs.Common.{◌≡◌, ℕ, ◌+◌, ◌<◌, ◌≤◌, ◌==
 use Rattle.std.proofs.lemmas.Bool.{false≢true}
 use Rattle.dom_model.specs.declared.Kind.{Kind}
 use Rattle.dom_model.specs.declared.Kind.TheVariants.{Element, Text, ProcessingInstruction, Comment, Document, DocumentType, DocumentFragment}
-use Rattle.dom_model.specs.declared.DomError.{DomError}
 use Rattle.dom_model.specs.PlainLists.Lists.{hits, among}
 use Rattle.dom_model.specs.Forests.Arena.{Entry}
 use Rattle.dom_model.specs.Forests.Kinds.{is_kind, may_be_parent}
@@ -17,7 +16,7 @@ use Rattle.dom_model.specs.MutationAlgorithms.Editing.{remove, insert, reference
 use Rattle.dom_model.specs.RangesAndContents.Ranges.{is_collapsed, range_at, with_range}
 use Rattle.dom_model.specs.DataAndCopies.Data.{data_of, tail_of, with_data, cut_count, split_off, split}
 use Rattle.dom_model.specs.RangesAndContents.Contents.{for_range}
-use Rattle.dom_model.specs.RangesAndContents.Wrapping.{Outcome, and_then, unless, try_pre_insert, is_text, reference_at, parent_at, check_start, split_at, reference_after, offset_past, end_if_collapsed, inserted_at, insert_node, selected, try_select, refusal_in}
+use Rattle.dom_model.specs.RangesAndContents.Wrapping.{and_then, try_pre_insert, is_text, reference_at, parent_at, check_start, split_at, reference_after, offset_past, end_if_collapsed, inserted_at, insert_node, selected, try_select, refusal_in}
 use Rattle.dom_model.specs.MutationAlgorithms.Insertable.{IsInsertable}
 use Rattle.dom_model.proofs.PlainLists.Numbers.{same_or, same, apart}
 use Rattle.dom_model.proofs.Forests.Changes.{seen, nothing, just}
@@ -43,7 +42,7 @@ use Rattle.dom_model.proofs.Forests.Indices.{child-parent}
 use Rattle.dom_model.proofs.BoundaryPoints.SplitEnds.{split_parts}
 use Rattle.dom_model.proofs.RangesAndContents.InsertAllowed.{insert-allowed}
 use Rattle.dom_wrap.specs.Allowing.{holder_of, is_refused_at}
-use Rattle.dom_wrap.proofs.InsertedNode.{placed-is}
+use Rattle.dom_wrap.proofs.InsertedNode.{unless-none, placed-is}
 use Rattle.dom_wrap.proofs.AllowAbove.{none-or-some, ancestors-kept}
 use Rattle.dom_wrap.proofs.AllowPlaces.{element-passes, parent-is}
 
@@ -87,10 +86,6 @@ module _ (n parent offset : ℕ) (w : World) (s : IsSound w) (hn : 0 < occurs n 
           | apart ne t ↦ rw t (parent-beside w.forest _ m h)
         ]);
   }
-
-unless-none : (c : Option DomError) (w : World) (step : World → Outcome) → c ≡ None → and_then (unless c w) step ≡ step w
-unless-none None w step i = refl
-unless-none (Some d) w step i = absurd (cc i)
 
 -- A node comes in where its first two checks pass.
 module _ (u : World) (s : IsSound u) (n : ℕ) (hn : 0 < occurs n u.forest) (r : ℕ) (range : Range) (e : range_at u r ≡ Some range) (b : IsBoundary u.forest range.start)

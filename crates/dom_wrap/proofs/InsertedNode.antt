@@ -195,7 +195,7 @@ module _ (v : World) (h : IsWhole v) (r : ℕ) (p : Point) (range : Range) (e : 
     pub whole-ended : IsWhole (record v { ranges = t })
     whole-ended =
         let covers : AreCovered v.tree t.covered = subst (AreCovered v.tree) (sym (ap (λ (x : RangeTable). x.covered) is)) h.covered in
-        whole-sound (record v { ranges = t }) (end_if_collapsed r p m.stands_for) (follows-ended.keeps m.stands_for m.keeps) m.sound h.documents h.owners covers h.statics
+        whole-sound (record v { ranges = t }) (end_if_collapsed r p m.stands_for) (follows-ended.keeps m.stands_for m.keeps) m.sound h.documents h.owners covers h.statics h.observers
 
 -- Steps that are not refused.
 
@@ -310,15 +310,15 @@ checks-passed a r n range e m =
     (sym (start-alike a p w k n) ∙ x.0, sym alike ∙ y.0)
 
 -- and one that passes both is not refused
+pub insert-passes : (a : World) → IsWhole a → (r n : ℕ) (range : Range) → range_in a.ranges r ≡ Some range → HasNode a.tree.forest n → check_start (unwatched a) range.start n ≡ None →
+    check_insert a.tree.forest (parent_at (unwatched a) range.start) n (reference_at (unwatched a) range.start) ≡ None → refusal_in (insert_node r n (unwatched a)) ≡ None
+insert-passes a h r n range e held start passes =
+    let u = unwatched a in
+    ap (λ (o : Option Range). refusal_in (for_range o (Ok u) (λ (x : Range). inserted_at r n x.start u))) e ∙ ap refusal_in (insert-done u h.forest n held range.start start passes r).1
+
 pub may-insert : (a : World) → IsWhole a → (r n : ℕ) (range : Range) → range_in a.ranges r ≡ Some range → HasNode a.tree.forest n → check_start (unwatched a) range.start n ≡ None →
     check_insert a.tree.forest (parent_at (unwatched a) range.start) n (reference_at (unwatched a) range.start) ≡ None → MayTake a (insert_node r n)
-may-insert a h r n range e held start passes =
-    let u = unwatched a in
-    record {
-      stands_for = u;
-      keeps = keeps-unwatched a;
-      passes = ap (λ (o : Option Range). refusal_in (for_range o (Ok u) (λ (x : Range). inserted_at r n x.start u))) e ∙ ap refusal_in (insert-done u h.forest n held range.start start passes r).1;
-    }
+may-insert a h r n range e held start passes = record { stands_for = unwatched a; keeps = keeps-unwatched a; passes = insert-passes a h r n range e held start passes }
 
 -- a node comes in at the start of a range
 module _ (a mid : World) (h : IsWhole a) (r n : ℕ) (p : Point) (range : Range) (e : range_in a.ranges r ≡ Some range) (at : p ≡ range.start) (held : HasNode a.tree.forest n)

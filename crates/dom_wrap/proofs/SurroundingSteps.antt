@@ -321,7 +321,7 @@ module _ (v : World) (h : IsWhole v) (r n : ℕ) (t : RangeTable) (ends : Range)
       let s = sound-unwatched v h in
       let i : IsRange v.tree.forest ends = subst (λ (o : Option Range). IfSome o (IsRange v.tree.forest)) e (range_selected s.forest n) in
       let covers : AreCovered v.tree t.covered = subst (AreCovered v.tree) (sym (ap (λ (x : RangeTable). x.covered) is)) h.covered in
-      whole-sound around_it (with_range r ends u) (follows-ends.keeps u (keeps-unwatched v)) (sound-with_range r ends u s i) h.documents h.owners covers h.statics
+      whole-sound around_it (with_range r ends u) (follows-ends.keeps u (keeps-unwatched v)) (sound-with_range r ends u s i) h.documents h.owners covers h.statics h.observers
 
 module _ (v : World) (h : IsWhole v) (r n : ℕ) (t : RangeTable) (allowed : check_parent v.tree.forest n ≡ None)
     (set : IfSome (around v.tree.forest n) (λ range. t ≡ record v.ranges { ranges = slice_set v.ranges.ranges r (Some range) })) where

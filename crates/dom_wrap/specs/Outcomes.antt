@@ -1,6 +1,8 @@
 -- A sequence of steps that may refuse, as a step that leaves the world where it refuses. DOM Standard, "Interface Range" (insertNode, surroundContents).
-use Rattle.std.specs.Prelude.{◌≡◌, ℕ, ◌<◌, true, false, Option, None, Ok, Err}
+use Rattle.std.specs.Prelude.{◌≡◌, ℕ, ◌<◌, true, false, Option, Some, None, Ok, Err}
 use Rattle.std.specs.Option.{ForSome}
+use Rattle.dom_model.specs.Forests.Forest.{index_of}
+use Rattle.dom_model.specs.Worlds.Lengths.{length_at}
 use Rattle.dom_model.specs.Worlds.World as model
 use Rattle.dom_model.specs.Worlds.World.{Point, Range}
 use Rattle.dom_model.specs.Soundness.Sound.{IsSound}
@@ -20,6 +22,11 @@ left_by (Err e) w = w
 abbrev pub LeavesSound : Outcome → Type 0
 LeavesSound (Ok next) = IsSound next
 LeavesSound (Err e) = Unit {0}
+
+-- the index before a child of a parent, or behind the last
+abbrev pub index_before : model.World → ℕ → Option ℕ → ℕ
+index_before w parent None = length_at w parent
+index_before w parent (Some c) = index_of w.forest c
 
 -- a node that is taken out may come in before the reference, and what is left is sound
 pub record IsPlaceable (v : World) (r n parent : ℕ) (reference : Option ℕ) : Type 0 where

@@ -9,20 +9,18 @@ ghost use Rattle.dom_model.specs.Soundness.Sound.{IsRange};
 ghost use Rattle.dom_model.specs.MutationAlgorithms.Checks.{has_kind};
 ghost use Rattle.dom_model.specs.Forests.Nodes.{is_of_kind};
 ghost use Rattle.dom_model.specs.RangesAndContents.Contents.{common_of};
-ghost use Rattle.dom_model.specs.RangesAndContents.Ranges.{is_before as comes_before};
 ghost use Rattle.dom_model.specs.RangesAndContents.Wrapping.{check_whole_surround};
 ghost use Rattle.dom_content.specs.dom_ranges.Tables.{range_in};
 ghost use Rattle.dom_content.specs.dom_edit.Whole.{IsWhole, unwatched};
 ghost use Rattle.dom_content.specs.dom_edit.Places.{from_optional, IsAmong};
 ghost use Rattle.dom_wrap.specs.Allowing.{is_near, is_refused_at, is_refused_between, is_refused, is_unplaceable, is_left_element, first_behind};
 
-use crate::inserting::{is_of_kind, parent_at, reference_at};
+use crate::inserting::{parent_at, reference_at};
 use dom_content::of_edit::{Content, World, check_insert};
 use dom_content::of_kinds::{DomError, Kind};
-use dom_content::of_point::{Point, common, order};
+use dom_content::of_point::{Point, common, is_before};
 use dom_content::of_ranges::RangeId;
 use dom_content::of_tree::{NodeId, Tree};
-use std::cmp::Ordering;
 
 // Whether an end stands in a node, or in a Text that is a child of it.
 fn is_near(tree: &Tree<Content>, node: NodeId, end: NodeId) -> bool
@@ -38,19 +36,6 @@ fn is_near(tree: &Tree<Content>, node: NodeId, end: NodeId) -> bool
     match tree.parent(end) {
         Some(parent) => parent == node,
         None => false,
-    }
-}
-
-// Whether the first of two points of one root comes before the second.
-fn is_before(tree: &Tree<Content>, a: Point, b: Point) -> bool
-    requires a_held { HasNode tree.now.forest a.node }
-    requires b_held { HasNode tree.now.forest b.node }
-    requires one_root { root_of tree.now.forest a.node ≡ root_of tree.now.forest b.node }
-    ensures { result ≡ comes_before tree.now.forest a b }
-{
-    match order(tree, a, b) {
-        Ordering::Less => true,
-        Ordering::Equal | Ordering::Greater => false,
     }
 }
 
@@ -86,8 +71,7 @@ fn leaves_element(world: &World, start: Point, end: Point, parent: NodeId) -> bo
     world.tree.sound();
     let mut child = world.tree.first(parent);
     while let Some(id) = child {
-        let (first, last) = (start, end);
-        if is_left_element(world, first, last, id) {
+        if is_left_element(world, start, end, id) {
             return true;
         }
         child = world.tree.next(id);
@@ -104,7 +88,7 @@ fn has_doctype_from(tree: &Tree<Content>, parent: NodeId, first: Option<NodeId>)
     tree.sound();
     let mut child = first;
     while let Some(id) = child {
-        if is_of_kind(tree, id, Kind::DocumentType) {
+        if tree.is_of_kind(id, Kind::DocumentType) {
             return true;
         }
         child = tree.next(id);
@@ -135,9 +119,8 @@ fn is_refused_at(world: &World, point: Point, node: NodeId) -> bool
     requires element { is_of_kind Element world.now.tree.forest node ≡ true }
     ensures { result ≡ is_refused_at (unwatched world.now) point node }
 {
-    let (first, second) = (point, point);
-    let parent = parent_at(world, first);
-    let reference = reference_at(world, second);
+    let parent = parent_at(world, point);
+    let reference = reference_at(world, point);
     match check_insert(&world.tree, parent, node, reference) {
         Ok(()) => false,
         Err(_) => true,
@@ -158,11 +141,10 @@ fn is_refused_between(world: &World, start: Point, end: Point, common: NodeId, n
     if world.tree.is_ancestor(node, common) {
         return true;
     }
-    if !is_of_kind(&world.tree, common, Kind::Document) {
+    if !world.tree.is_of_kind(common, Kind::Document) {
         return false;
     }
-    let (first, last) = (start, end);
-    if leaves_element(world, first, last, common) {
+    if leaves_element(world, start, end, common) {
         return true;
     }
     let behind = first_behind(world, start, end, common);
@@ -203,9 +185,9 @@ fn is_invalid_parent(tree: &Tree<Content>, node: NodeId) -> bool
     requires held { HasNode tree.now.forest node }
     ensures { result ≡ (is_of_kind Document tree.now.forest node || (is_of_kind DocumentType tree.now.forest node || is_of_kind DocumentFragment tree.now.forest node)) }
 {
-    is_of_kind(tree, node, Kind::Document)
-        || is_of_kind(tree, node, Kind::DocumentType)
-        || is_of_kind(tree, node, Kind::DocumentFragment)
+    tree.is_of_kind(node, Kind::Document)
+        || tree.is_of_kind(node, Kind::DocumentType)
+        || tree.is_of_kind(node, Kind::DocumentFragment)
 }
 
 // Whether a node is no element, or cannot come in once what lies in a range is gone.
@@ -217,7 +199,7 @@ fn is_unplaceable(world: &World, start: Point, end: Point, common: NodeId, node:
     requires node_held { HasNode world.now.tree.forest node }
     ensures { result ≡ is_unplaceable (unwatched world.now) (record { start = start; end = end }) node }
 {
-    !is_of_kind(&world.tree, node, Kind::Element) || is_refused(world, start, end, common, node)
+    !world.tree.is_of_kind(node, Kind::Element) || is_refused(world, start, end, common, node)
 }
 
 /// `Ok` where `surround` will not be refused, else the name that it is refused with.

@@ -7,7 +7,7 @@ ghost use Rattle.dom_model.specs.Forests.Forest.{HasNode};
 ghost use Rattle.dom_model.specs.Worlds.World.{World as PlainWorld};
 ghost use Rattle.dom_model.specs.MutationAlgorithms.Checks.{check_insert as insert_refusal};
 ghost use Rattle.dom_model.specs.Forests.Nodes.{is_of_kind};
-ghost use Rattle.dom_model.specs.MutationAlgorithms.Editing.{reference_child};
+ghost use Rattle.dom_model.specs.MutationAlgorithms.Editing.{reference_child, nodes_of};
 ghost use Rattle.dom_model.specs.DataAndCopies.Data.{data_of};
 ghost use Rattle.dom_model.specs.RangesAndContents.Wrapping.{insert_node, is_text, inserted_at, placed_at, refusal_in, check_start, reference_at, parent_at, reference_after, split_at, offset_past, end_if_collapsed};
 ghost use Rattle.dom_model.specs.TokenText.Edits.{insert_node_edits};
@@ -15,23 +15,15 @@ ghost use Rattle.dom_content.specs.dom_ranges.Tables.{range_in};
 ghost use Rattle.dom_content.specs.dom_edit.Whole.{IsWhole, Keeps, Follows, unwatched};
 ghost use Rattle.dom_content.specs.dom_edit.Markers.{StandByEdits};
 ghost use Rattle.dom_content.specs.dom_edit.Refusals.{IsRefused};
-ghost use Rattle.dom_wrap.specs.Outcomes.{left_by, HasRoom, IsPlaceable, MayEndAt, MayTake};
+ghost use Rattle.dom_wrap.specs.Outcomes.{left_by, index_before, HasRoom, IsPlaceable, MayEndAt, MayTake};
 
 use dom_content::of_data::split_checked;
-use dom_content::of_edit::{Content, Refusal, World, check_insert};
+use dom_content::of_edit::{Refusal, World, check_insert};
 use dom_content::of_kinds::{DomError, Kind};
 use dom_content::of_point::Point;
 use dom_content::of_ranges::RangeId;
-use dom_content::of_tree::{NodeId, Tree};
+use dom_content::of_tree::NodeId;
 use std::alloc::{AllocError, Global};
-
-// Whether a node is of that kind.
-pub(crate) fn is_of_kind(tree: &Tree<Content>, node: NodeId, kind: Kind) -> bool
-    requires { HasNode tree.now.forest node }
-    ensures { result ≡ is_of_kind kind tree.now.forest node }
-{
-    tree.label(node).kind == kind
-}
 
 // Whether something may come in at a start: not in an instruction or comment, in no Text without a parent, and not in itself.
 fn check_start(world: &World, start: Point, node: NodeId) -> Result<(), DomError>
@@ -39,12 +31,12 @@ fn check_start(world: &World, start: Point, node: NodeId) -> Result<(), DomError
     ensures { MatchResult result (λ _. check_start (unwatched world.now) start node ≡ None) (λ e. check_start (unwatched world.now) start node ≡ Some e) }
 {
     let top = start.node;
-    if is_of_kind(&world.tree, top, Kind::ProcessingInstruction)
-        || is_of_kind(&world.tree, top, Kind::Comment)
+    if world.tree.is_of_kind(top, Kind::ProcessingInstruction)
+        || world.tree.is_of_kind(top, Kind::Comment)
     {
         return Err(DomError::HierarchyRequestError);
     }
-    if is_of_kind(&world.tree, top, Kind::Text) && world.tree.parent(top).is_none() {
+    if world.tree.is_of_kind(top, Kind::Text) && world.tree.parent(top).is_none() {
         return Err(DomError::HierarchyRequestError);
     }
     if top == node {
@@ -59,7 +51,7 @@ pub(crate) fn reference_at(world: &World, point: Point) -> Option<NodeId>
     ensures { result ≡ reference_at (unwatched world.now) point }
 {
     let Point { node, offset } = point;
-    if is_of_kind(&world.tree, node, Kind::Text) {
+    if world.tree.is_of_kind(node, Kind::Text) {
         return Some(node);
     }
     world.tree.child_at(node, offset)
@@ -73,7 +65,7 @@ pub(crate) fn parent_at(world: &World, point: Point) -> NodeId
     ensures held { HasNode world.now.tree.forest result }
 {
     let node = point.node;
-    if is_of_kind(&world.tree, node, Kind::Text) {
+    if world.tree.is_of_kind(node, Kind::Text) {
         return world.tree.parent(node).unwrap_or(node);
     }
     node
@@ -88,10 +80,9 @@ fn check(world: &World, start: Point, node: NodeId) -> Result<(), DomError>
     ensures insert { OnOk result (insert_refusal world.now.tree.forest (parent_at (unwatched world.now) start) node (reference_at (unwatched world.now) start) ≡ None) }
     ensures refused { IfErr result (λ e. (r : ℕ) → refusal_in (inserted_at r node start (unwatched world.now)) ≡ Some e) }
 {
-    let (first, second, third) = (start, start, start);
-    check_start(world, first, node)?;
-    let parent = parent_at(world, second);
-    let reference = reference_at(world, third);
+    check_start(world, start, node)?;
+    let parent = parent_at(world, start);
+    let reference = reference_at(world, start);
     check_insert(&world.tree, parent, node, reference)
 }
 
@@ -110,7 +101,7 @@ fn reference_after(
     ensures whole { IsWhole world.new }
 {
     let Point { node, offset } = start;
-    if !is_of_kind(&world.tree, node, Kind::Text) {
+    if !world.tree.is_of_kind(node, Kind::Text) {
         return Ok(world.tree.child_at(node, offset));
     }
     let new = split_checked(world, alloc, node, offset)?;
@@ -122,37 +113,48 @@ fn reference_child(world: &World, node: NodeId, child: Option<NodeId>) -> Option
     requires { HasNode world.now.tree.forest node }
     ensures { result ≡ reference_child (unwatched world.now) node child }
 {
-    let given = child;
-    if let Some(reference) = given {
-        if reference == node {
-            return world.tree.next(node);
-        }
+    match child {
+        Some(reference) if reference == node => world.tree.next(node),
+        _ => child,
     }
-    child
 }
 
-// The offset behind what is to come in with a node, before a child of the parent or last.
-fn offset_past(
-    world: &World,
-    parent: NodeId,
-    reference: Option<NodeId>,
-    node: NodeId,
-) -> Result<usize, AllocError>
+// The index before a child of a parent, or behind the last.
+fn index_before(world: &World, parent: NodeId, reference: Option<NodeId>) -> usize
+    requires parent_held { HasNode world.now.tree.forest parent }
+    requires reference_held { ForSome reference (λ c. HasNode world.now.tree.forest c) }
+    ensures { result ≡ index_before (unwatched world.now) parent reference }
+{
+    match reference {
+        Some(child) => world.tree.index(child),
+        None => world.tree.length(parent),
+    }
+}
+
+// How many nodes come in with a node: the children of a fragment, or the node alone.
+fn entering_count(world: &World, node: NodeId) -> usize
+    requires { HasNode world.now.tree.forest node }
+    ensures { result ≡ length (nodes_of (unwatched world.now) node) }
+{
+    if world.tree.is_of_kind(node, Kind::DocumentFragment) {
+        return world.tree.count(node);
+    }
+    1
+}
+
+// The offset behind what is to come in with a node that may come in, before a child of the parent or last.
+fn offset_past(world: &World, parent: NodeId, reference: Option<NodeId>, node: NodeId) -> usize
+    requires whole { IsWhole world.now }
     requires parent_held { HasNode world.now.tree.forest parent }
     requires reference_held { ForSome reference (λ c. HasNode world.now.tree.forest c) }
     requires node_held { HasNode world.now.tree.forest node }
-    ensures { IfOk result (λ offset. offset ≡ offset_past (unwatched world.now) parent reference node) }
+    requires allowed { insert_refusal world.now.tree.forest parent node reference ≡ None }
+    ensures { result ≡ offset_past (unwatched world.now) parent reference node }
 {
-    let count = if is_of_kind(&world.tree, node, Kind::DocumentFragment) {
-        world.tree.count(node)
-    } else {
-        1
-    };
-    let index = match reference {
-        Some(child) => world.tree.index(child),
-        None => world.tree.length(parent),
-    };
-    index.checked_add(count).ok_or(AllocError)
+    // the children of the parent and what comes in are no more than all nodes, whose number is one of the machine
+    let _ = world.tree.live();
+    let index = index_before(world, parent, reference);
+    index + entering_count(world, node)
 }
 
 // Moves the end of a range that is collapsed.
@@ -188,10 +190,11 @@ fn place(
     ensures placed { OnOk result (Follows world.old world.new (λ w. left_by (placed_at range node parent reference w) w)) }
     ensures whole { IsWhole world.new }
 {
-    let (before, behind) = (reference, reference);
+    // the checker covers no variable of this type that is passed by value twice
+    let behind = reference;
     world.remove(alloc, node)?;
-    let offset = offset_past(world, parent, behind, node)?;
-    world.insert_checked(alloc, parent, node, before)?;
+    let offset = offset_past(world, parent, behind, node);
+    world.insert_checked(alloc, parent, node, reference)?;
     end_if_collapsed(
         world,
         range,
@@ -220,9 +223,8 @@ pub(crate) fn insert_at_start(
     ensures whole { IsWhole world.new }
 {
     let (start, _) = world.ranges.ends(range);
-    let (first, second) = (start, start);
-    let parent = parent_at(world, first);
-    let after = reference_after(world, alloc, second)?;
+    let parent = parent_at(world, start);
+    let after = reference_after(world, alloc, start)?;
     let reference = reference_child(world, node, after);
     place(world, alloc, range, node, parent, reference)?;
     Ok(())
@@ -238,7 +240,7 @@ pub fn insert_node(
     requires whole { IsWhole world.old }
     requires held { IsSome (range_in world.old.ranges range) }
     requires node_held { HasNode world.old.tree.forest node }
-    requires room { world.old.tree.made < 4294967295 }
+    requires room { refusal_in (insert_node range node (unwatched world.old)) ≡ None → HasRoom world.old range }
     ensures allowed { OnOk result (refusal_in (insert_node range node (unwatched world.old)) ≡ None) }
     ensures inserted { OnOk result (Follows world.old world.new (λ w. left_by (insert_node range node w) w)) }
     ensures markers { OnOk result (StandByEdits world.old world.new (insert_node_edits range node)) }

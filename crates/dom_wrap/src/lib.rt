@@ -39,7 +39,7 @@ pub mod of_edit {
 pub mod of_kinds {
     pub use dom_content::of_kinds::{
         DomError, Exception, Kind, Label, NodeType, is_attribute_name, is_doctype_name,
-        is_element_name,
+        is_element_name, may_be_parent,
     };
 }
 
@@ -52,7 +52,9 @@ pub mod of_observe {
 
 /// What crates above name of `dom_point`.
 pub mod of_point {
-    pub use dom_content::of_point::{Point, common, order};
+    pub use dom_content::of_point::{
+        Point, checked_point, common, is_before, order, point_after, point_before, same_root,
+    };
 }
 
 /// What crates above name of `dom_ranges`.

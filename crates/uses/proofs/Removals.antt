@@ -63,6 +63,7 @@ module _ (v : World) (text : List ℕ) (n : ℕ) (t : RangeTable) (k : Keeps v (
     statics = h.statics;
     iterators = h.iterators;
     walkers = h.walkers;
+    observers = h.observers;
   }
 
   abbrev pub shown : model.World

@@ -36,13 +36,13 @@ pub fn watch_children(observers: &mut Observers, node: NodeId) -> Result<Observe
 pub fn tell_and_take<X>(
     observers: &mut Observers,
     tree: &Tree<X>,
-    change: Mutation,
+    change: &Mutation<'_>,
     observer: ObserverId,
 ) -> Result<Vec<Record>, AllocError>
     requires watching { IsWatching observers.old }
     requires held { observer < length observers.old.queues }
-    requires target { HasNode tree.now.forest change.target }
-    ensures records { IfOk result (λ records. (x : Observing) → Watches observers.old x → records.items ≡ queue_of observer (noted (record change { standing = standing_on (ancestors change.target tree.now.forest) x.registrations }) x)) }
+    requires target { HasNode tree.now.forest change.now.target }
+    ensures records { IfOk result (λ records. (x : Observing) → Watches observers.old x → records.items ≡ queue_of observer (noted (record (change.now) { standing = standing_on (ancestors change.now.target tree.now.forest) x.registrations }) x)) }
 {
     observers.queue(tree, change)?;
     Ok(observers.take(observer))

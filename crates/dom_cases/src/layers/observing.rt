@@ -74,17 +74,18 @@ fn change(
     old: &str,
 ) -> Result<(), AllocError> {
     assert!(rt; tree.holds(target));
+    let old_value = Units::from_str(alloc, old)?;
     let mutation = Mutation {
         what: RecordType::CharacterData,
         target,
-        added: Vec::new(alloc),
-        removed: Vec::new(alloc),
+        added: &[],
+        removed: &[],
         previous: None,
         next: None,
         name: None,
-        old_value: Some(Units::from_str(alloc, old)?),
+        old_value: Some(&old_value),
     };
-    observers.queue(tree, mutation)
+    observers.queue(tree, &mutation)
 }
 
 // That this is one record, of that target and with that old value.
@@ -184,7 +185,6 @@ fn leaves(
     rt: &impl Abort,
     observers: &mut Observers,
     tree: &Tree<u8>,
-    alloc: Global,
     parent: NodeId,
     node: NodeId,
 ) -> Result<(), AllocError> {
@@ -192,14 +192,14 @@ fn leaves(
     let mutation = Mutation {
         what: RecordType::ChildList,
         target: parent,
-        added: Vec::new(alloc),
-        removed: vec![in alloc; node]?,
+        added: &[],
+        removed: &[node],
         previous: None,
         next: None,
         name: None,
         old_value: None,
     };
-    observers.queue(tree, mutation)
+    observers.queue(tree, &mutation)
 }
 
 // A registration names its node, a transient one its own node too, and a record the nodes that it tells of.
@@ -219,7 +219,7 @@ fn what_is_named(rt: HostRuntime) -> Result<(), Fail> {
     let mut given = nothing();
     given.child_list = Some(true);
     watch(&rt, &mut observers, ObserverId::new(0), top, given)?;
-    leaves(&rt, &mut observers, &tree, alloc, top, text)?;
+    leaves(&rt, &mut observers, &tree, top, text)?;
     assert!(rt; is_named(&rt, &observers, &tree, text));
     assert_eq!(rt; take(&rt, &mut observers, ObserverId::new(0)).len(), 1);
     assert!(rt; !is_named(&rt, &observers, &tree, text));

@@ -45,7 +45,7 @@ range_at-moved step w m r =
 pub moved-range : (step : World → World) (w : World) (m : MovesBy step w) → IsSound w → ((v : World) → IsSound v → v.forest ≡ w.forest → v.made ≡ w.made → IsSound (step v)) → (range : Range) → IsRange w.forest range → IsRange (step w).forest (moved_range m.moves range)
 moved-range step w m s keeps range h =
     let v : World = record w { ranges = Some range ∷ [] } in
-    let alone : IsSound v = record { forest = s.forest; ranges = All-cons (IsLive w.forest) (Some range) [] h (All-nil (IsLive w.forest)); iterators = s.iterators; walkers = s.walkers; registrations = s.registrations } in
+    let alone : IsSound v = record { forest = s.forest; ranges = All-cons (IsLive w.forest) (Some range) [] h (All-nil (IsLive w.forest)); iterators = s.iterators; walkers = s.walkers; registrations = s.registrations; statics = s.statics } in
     let after = subst IsSound (m.acts (Some range ∷ [])) (keeps v alone refl refl) in
     All-head (IsLive (step w).forest) (Some (moved_range m.moves range)) [] after.ranges
 

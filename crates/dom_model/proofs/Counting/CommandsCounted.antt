@@ -1,7 +1,7 @@
 -- Each command leaves the world where it is refused, and else takes no more numbers than it asks for.
-use Rattle.std.proofs.Common.{◌≡◌, ℕ, ◌+◌, ◌*◌, nat_lt, Bool, false, not, List, [], ◌∷◌, ◌++◌, length, Option, Some, None, refl, arith, length-append}
+use Rattle.std.proofs.Common.{◌≡◌, ℕ, ◌+◌, ◌*◌, nat_lt, Bool, false, not, List, [], ◌∷◌, ◌++◌, length, Option, Some, None, refl, ◌∙◌, arith, length-append}
 use Rattle.std.proofs.lemmas.Bool.{ltb-false}
-use Rattle.std.proofs.lemmas.List.{length-map, length-set}
+use Rattle.std.proofs.lemmas.List.{length-map, length-set, get_or_append_left}
 use Rattle.dom_model.specs.Forests.Arena.{Entry}
 use Rattle.dom_model.specs.Forests.Forest.{Node, size, entry_in, parent_of}
 use Rattle.dom_model.specs.declared.Kind.TheVariants.{Element, Text, Document}
@@ -16,7 +16,7 @@ use Rattle.dom_model.specs.Commands.Reply.{Answer, Reply, Own}
 use Rattle.dom_model.specs.MutationAlgorithms.Checks.{check_insert, check_replace}
 use Rattle.dom_model.specs.Forests.Nodes.{is_of_kind}
 use Rattle.dom_model.specs.DataAndCopies.Data.{check_offset}
-use Rattle.dom_model.specs.RangesAndContents.Ranges.{range_at, start_set, end_set, point_before, point_after, around, check_point, check_contents, check_compare, check_point_against, check_point_in, collapsed, with_range}
+use Rattle.dom_model.specs.RangesAndContents.Ranges.{range_at, start_set, end_set, point_before, point_after, around, check_point, check_contents, check_compare, check_point_against, check_point_in, collapsed, with_range, released}
 use Rattle.dom_model.specs.RangesAndContents.Contents.{check_extract}
 use Rattle.dom_model.specs.RangesAndContents.Wrapping.{insert_node, surround}
 use Rattle.dom_model.specs.RangesAndContents.StaticRanges.{check_static, static_at, made_static}
@@ -32,7 +32,8 @@ use Rattle.dom_model.specs.Commands.AnswerMaking.{closes_instruction}
 use Rattle.dom_model.specs.MutationAlgorithms.Discarding.{is_in_use}
 use Rattle.dom_model.specs.Commands.AnswerStatic.{no_static, static_told}
 use Rattle.dom_model.specs.Commands.Answer.{answer}
-use Rattle.dom_model.proofs.Counting.CountsKept.{observing-kept, forest-kept, ranges-kept, remove-kept, pre_insert-kept, append-kept, replace-kept, replace_all-kept, adopt-kept}
+use Rattle.dom_model.proofs.Counting.NumbersGone.{IsLiveAt, none-without, none-set}
+use Rattle.dom_model.proofs.Counting.CountsKept.{observing-kept, forest-kept, remove-kept, pre_insert-kept, append-kept, replace-kept, replace_all-kept, adopt-kept}
 use Rattle.dom_model.proofs.Counting.CountsOfData.{made_node-grown, replace_data-kept, set_data-kept, split-grown, normalize-kept, set_text_content-grown, set_attribute-kept, remove_attribute-kept, toggle_attribute-kept}
 use Rattle.dom_model.proofs.Counting.CountsOfContents.{clone-grown, import-grown, with_range-kept, delete_contents-kept}
 use Rattle.dom_model.proofs.Counting.CopiesGrow.{clone_contents-grows}
@@ -60,6 +61,7 @@ module _ (b : Bounds) (w : World) where
       (λ h. record { nodes = omega (arith, h.nodes); ranges = r; iterators = omega (arith, h.iterators); walkers = omega (arith, h.walkers); observers = omega (arith, h.observers); static_ranges = omega (arith, h.static_ranges) })
       (record { nodes = omega arith; ranges = omega arith; iterators = omega arith; walkers = omega arith; observers = omega arith; static_ranges = omega arith })
       (λ o. record { nodes = omega arith; ranges = omega arith; iterators = omega arith; walkers = omega arith; observers = omega arith; static_ranges = omega arith })
+      (record { nodes = λ n l e. e; ranges = λ r l e. get_or_append_left w.ranges (Some range ∷ []) None r l ∙ e })
 
   iterator-counted : {needs : Type 0} → (it : Iterator) (a : Answer) → nat_lt b.numbers (length w.iterators + 1) ≡ false → IsCounted b (record no_numbers { iterators = 1 }) needs w (answers a (record w { iterators = w.iterators ++ it ∷ [] }))
   iterator-counted it a room =
@@ -69,6 +71,7 @@ module _ (b : Bounds) (w : World) where
       (λ h. record { nodes = omega (arith, h.nodes); ranges = omega (arith, h.ranges); iterators = r; walkers = omega (arith, h.walkers); observers = omega (arith, h.observers); static_ranges = omega (arith, h.static_ranges) })
       (record { nodes = omega arith; ranges = omega arith; iterators = omega arith; walkers = omega arith; observers = omega arith; static_ranges = omega arith })
       (λ o. record { nodes = omega arith; ranges = omega arith; iterators = omega arith; walkers = omega arith; observers = omega arith; static_ranges = omega arith })
+      (record { nodes = λ n l e. e; ranges = λ r l e. e })
 
   walker-counted : {needs : Type 0} → (k : Walker) (a : Answer) → nat_lt b.numbers (length w.walkers + 1) ≡ false → IsCounted b (record no_numbers { walkers = 1 }) needs w (answers a (record w { walkers = w.walkers ++ k ∷ [] }))
   walker-counted k a room =
@@ -78,6 +81,7 @@ module _ (b : Bounds) (w : World) where
       (λ h. record { nodes = omega (arith, h.nodes); ranges = omega (arith, h.ranges); iterators = omega (arith, h.iterators); walkers = r; observers = omega (arith, h.observers); static_ranges = omega (arith, h.static_ranges) })
       (record { nodes = omega arith; ranges = omega arith; iterators = omega arith; walkers = omega arith; observers = omega arith; static_ranges = omega arith })
       (λ o. record { nodes = omega arith; ranges = omega arith; iterators = omega arith; walkers = omega arith; observers = omega arith; static_ranges = omega arith })
+      (record { nodes = λ n l e. e; ranges = λ r l e. e })
 
   observer-counted : {needs : Type 0} → (a : Answer) → nat_lt b.numbers (length w.observing.places + 1) ≡ false → IsCounted b (record no_numbers { observers = 1 }) needs w (answers a (with_observing (with_observer w.observing) w))
   observer-counted a room =
@@ -87,6 +91,7 @@ module _ (b : Bounds) (w : World) where
       (λ h. record { nodes = omega (arith, h.nodes); ranges = omega (arith, h.ranges); iterators = omega (arith, h.iterators); walkers = omega (arith, h.walkers); observers = r; static_ranges = omega (arith, h.static_ranges) })
       (record { nodes = omega arith; ranges = omega arith; iterators = omega arith; walkers = omega arith; observers = omega arith; static_ranges = omega arith })
       (λ o. record { nodes = omega arith; ranges = omega arith; iterators = omega arith; walkers = omega arith; observers = omega arith; static_ranges = omega arith })
+      (record { nodes = λ n l e. e; ranges = λ r l e. e })
 
   static-counted : {needs : Type 0} → (range : Range) (a : Answer) → nat_lt b.numbers (length w.static_ranges + 1) ≡ false → IsCounted b (record no_numbers { static_ranges = 1 }) needs w (answers a (made_static range w))
   static-counted range a room =
@@ -96,29 +101,39 @@ module _ (b : Bounds) (w : World) where
       (λ h. record { nodes = omega (arith, h.nodes); ranges = omega (arith, h.ranges); iterators = omega (arith, h.iterators); walkers = omega (arith, h.walkers); observers = omega (arith, h.observers); static_ranges = r })
       (record { nodes = omega arith; ranges = omega arith; iterators = omega arith; walkers = omega arith; observers = omega arith; static_ranges = omega arith })
       (λ o. record { nodes = omega arith; ranges = omega arith; iterators = omega arith; walkers = omega arith; observers = omega arith; static_ranges = omega arith })
+      (record { nodes = λ n l e. e; ranges = λ r l e. e })
 
   -- Changes that take no number.
 
   with_iterator-counted : {needs : Type 0} → (i : ℕ) (it : Iterator) (a : Answer) → IsCounted b no_numbers needs w (answers a (with_iterator i it w))
   with_iterator-counted i it a =
-      keeps b w (with_iterator i it w) a (record { least = omega arith; most = omega arith; ranges = refl; iterators = length-set w.iterators i it; walkers = refl; observers = refl; static_ranges = refl })
+      keeps b w (with_iterator i it w) a (record { least = omega arith; most = omega arith; ranges = refl; iterators = length-set w.iterators i it; walkers = refl; observers = refl; static_ranges = refl; gone = λ n l e. e; live = λ r. refl })
 
   with_walker-counted : {needs : Type 0} → (i : ℕ) (k : Walker) (a : Answer) → IsCounted b no_numbers needs w (answers a (with_walker i k w))
   with_walker-counted i k a =
-      keeps b w (with_walker i k w) a (record { least = omega arith; most = omega arith; ranges = refl; iterators = refl; walkers = length-set w.walkers i k; observers = refl; static_ranges = refl })
+      keeps b w (with_walker i k w) a (record { least = omega arith; most = omega arith; ranges = refl; iterators = refl; walkers = length-set w.walkers i k; observers = refl; static_ranges = refl; gone = λ n l e. e; live = λ r. refl })
 
-  sets-counted : {needs : Type 0} → (r : ℕ) (o : Option Range) (set : Range → Range) → IsCounted b no_numbers needs w (on_range o w (λ range. does (with_range r (set range) w)))
-  sets-counted r o set = on_range-counted b no_numbers o w _ (λ range. keeps b w _ _ (with_range-kept r (set range) w))
+  sets-counted : {needs : Type 0} → (r : ℕ) → IsLiveAt w.ranges r → (o : Option Range) (set : Range → Range) → IsCounted b no_numbers needs w (on_range o w (λ range. does (with_range r (set range) w)))
+  sets-counted r live o set = on_range-counted b no_numbers o w _ (λ range. keeps b w _ _ (with_range-kept r (set range) w live))
+
+  released-counted : {needs : Type 0} → (r : ℕ) → IsCounted b no_numbers needs w (does (released r w))
+  released-counted r =
+      let l = length-set w.ranges r None in
+      takes refl
+      (λ h. record { nodes = omega (arith, h.nodes); ranges = omega (arith, h.ranges); iterators = omega (arith, h.iterators); walkers = omega (arith, h.walkers); observers = omega (arith, h.observers); static_ranges = omega (arith, h.static_ranges) })
+      (record { nodes = omega arith; ranges = omega arith; iterators = omega arith; walkers = omega arith; observers = omega arith; static_ranges = omega arith })
+      (λ o. record { nodes = omega arith; ranges = omega arith; iterators = omega arith; walkers = omega arith; observers = omega arith; static_ranges = omega arith })
+      (record { nodes = λ n l e. e; ranges = λ q l e. none-set w.ranges r q e })
 
   sets_start-counted : {needs : Type 0} → (r n : ℕ) (p : Option Point) → IsCounted b no_numbers needs w (sets_start r n p w)
   sets_start-counted r n p =
       guarded-counted b no_numbers (no_range r w ∷ no_node n w ∷ []) w _
-      (λ h. at_point-counted b no_numbers p w _ (λ q. sets-counted r (range_at w r) (start_set w.forest q)))
+      (λ h. at_point-counted b no_numbers p w _ (λ q. sets-counted r h.0 (range_at w r) (start_set w.forest q)))
 
   sets_end-counted : {needs : Type 0} → (r n : ℕ) (p : Option Point) → IsCounted b no_numbers needs w (sets_end r n p w)
   sets_end-counted r n p =
       guarded-counted b no_numbers (no_range r w ∷ no_node n w ∷ []) w _
-      (λ h. at_point-counted b no_numbers p w _ (λ q. sets-counted r (range_at w r) (end_set w.forest q)))
+      (λ h. at_point-counted b no_numbers p w _ (λ q. sets-counted r h.0 (range_at w r) (end_set w.forest q)))
 
   described-counted : {needs : Type 0} → (n : ℕ) (e : Option (Entry (Node Content))) → IsCounted b no_numbers needs w (described w n e)
   described-counted n None = leaves refl
@@ -174,15 +189,15 @@ command-counted b w (AttributeNames e) = asks b w (no_node e w ∷ wrong_kind (i
 command-counted b w (CreateRange d) = guarded-counted b (record no_numbers { ranges = 1 }) (no_node d w ∷ wrong_kind (is_kind Document) d w ∷ no_room b (length w.ranges) 1 ∷ []) w _ (λ h. range-counted b w _ h.1.1.0)
 command-counted b w (CloneRange r) = guarded-counted b (record no_numbers { ranges = 1 }) (no_range r w ∷ no_room b (length w.ranges) 1 ∷ []) w _ (λ h. on_range-counted b (record no_numbers { ranges = 1 }) (range_at w r) w _ (λ range. range-counted b w range h.1.0))
 command-counted b w (DescribeRange r) = guarded-counted b no_numbers (no_range r w ∷ []) w _ (λ h. on_range-counted b no_numbers (range_at w r) w _ (λ range. leaves refl))
-command-counted b w (SetStart r n offset) = guarded-counted b no_numbers (no_range r w ∷ no_node n w ∷ []) w _ (λ h. checked-counted b no_numbers (check_point unit_count w.forest (record { node = n; offset = offset })) w _ (sets-counted b w r (range_at w r) (start_set w.forest (record { node = n; offset = offset }))))
-command-counted b w (SetEnd r n offset) = guarded-counted b no_numbers (no_range r w ∷ no_node n w ∷ []) w _ (λ h. checked-counted b no_numbers (check_point unit_count w.forest (record { node = n; offset = offset })) w _ (sets-counted b w r (range_at w r) (end_set w.forest (record { node = n; offset = offset }))))
+command-counted b w (SetStart r n offset) = guarded-counted b no_numbers (no_range r w ∷ no_node n w ∷ []) w _ (λ h. checked-counted b no_numbers (check_point unit_count w.forest (record { node = n; offset = offset })) w _ (sets-counted b w r h.0 (range_at w r) (start_set w.forest (record { node = n; offset = offset }))))
+command-counted b w (SetEnd r n offset) = guarded-counted b no_numbers (no_range r w ∷ no_node n w ∷ []) w _ (λ h. checked-counted b no_numbers (check_point unit_count w.forest (record { node = n; offset = offset })) w _ (sets-counted b w r h.0 (range_at w r) (end_set w.forest (record { node = n; offset = offset }))))
 command-counted b w (SetStartBefore r n) = sets_start-counted b w r n (point_before w.forest n)
 command-counted b w (SetStartAfter r n) = sets_start-counted b w r n (point_after w.forest n)
 command-counted b w (SetEndBefore r n) = sets_end-counted b w r n (point_before w.forest n)
 command-counted b w (SetEndAfter r n) = sets_end-counted b w r n (point_after w.forest n)
-command-counted b w (Collapse r to_start) = guarded-counted b no_numbers (no_range r w ∷ []) w _ (λ h. sets-counted b w r (range_at w r) (collapsed to_start))
-command-counted b w (SelectNode r n) = guarded-counted b no_numbers (no_range r w ∷ no_node n w ∷ []) w _ (λ h. at_ends-counted b no_numbers (around w.forest n) w _ (λ ends. keeps b w _ _ (with_range-kept r ends w)))
-command-counted b w (SelectNodeContents r n) = guarded-counted b no_numbers (no_range r w ∷ no_node n w ∷ []) w _ (λ h. checked-counted b no_numbers (check_contents w.forest n) w _ (keeps b w _ _ (with_range-kept r _ w)))
+command-counted b w (Collapse r to_start) = guarded-counted b no_numbers (no_range r w ∷ []) w _ (λ h. sets-counted b w r h.0 (range_at w r) (collapsed to_start))
+command-counted b w (SelectNode r n) = guarded-counted b no_numbers (no_range r w ∷ no_node n w ∷ []) w _ (λ h. at_ends-counted b no_numbers (around w.forest n) w _ (λ ends. keeps b w _ _ (with_range-kept r ends w h.0)))
+command-counted b w (SelectNodeContents r n) = guarded-counted b no_numbers (no_range r w ∷ no_node n w ∷ []) w _ (λ h. checked-counted b no_numbers (check_contents w.forest n) w _ (keeps b w _ _ (with_range-kept r _ w h.0)))
 command-counted b w (CompareBoundaryPoints r how s) = guarded-counted b no_numbers (no_range r w ∷ no_range s w ∷ []) w _ (λ h. on_range-counted b no_numbers (range_at w r) w _ (λ range. on_range-counted b no_numbers (range_at w s) w _ (λ source. checked-counted b no_numbers (check_compare w.forest how range source) w _ (leaves refl))))
 command-counted b w (ComparePoint r n offset) = guarded-counted b no_numbers (no_range r w ∷ no_node n w ∷ []) w _ (λ h. on_range-counted b no_numbers (range_at w r) w _ (λ range. checked-counted b no_numbers (check_point_against unit_count w.forest (record { node = n; offset = offset }) range) w _ (leaves refl)))
 command-counted b w (IsPointInRange r n offset) = guarded-counted b no_numbers (no_range r w ∷ no_node n w ∷ []) w _ (λ h. on_range-counted b no_numbers (range_at w r) w _ (λ range. checked-counted b no_numbers (check_point_in unit_count w.forest (record { node = n; offset = offset }) range) w _ (leaves refl)))
@@ -194,7 +209,7 @@ command-counted b w (ExtractContents r) = guarded-counted b (numbers_for_copies 
 command-counted b w (CloneContents r) = guarded-counted b (numbers_for_copies w) (no_range r w ∷ no_room_for_copies b w ∷ []) w _ (λ h. checked-counted b (numbers_for_copies w) (check_extract r w) w _ (let g = clone_contents-grows r w in grows-in_order b (2 * size w.forest + 8) g.0 (2 * size w.forest + 3) w _ _ h.1.0 g.1 (omega arith) (clone_contents-grown r w)))
 command-counted b w (InsertNode r n) = guarded-counted b (node_numbers 1) (no_range r w ∷ no_node n w ∷ no_room b w.made 1 ∷ []) w _ (λ h. outcome-counted b 1 1 w (insert_node r n w) h.1.1.0 (omega arith) (insert_node-to r n w))
 command-counted b w (SurroundContents r n) = guarded-counted b (numbers_for_copies w) (no_range r w ∷ no_node n w ∷ no_room_for_copies b w ∷ []) w _ (λ h. outcome-counted b (2 * size w.forest + 8) (2 * size w.forest + 4) w (surround r n w) h.1.1.0 (omega arith) (surround-to r n w))
-command-counted b w (ReleaseRange r) = guarded-counted b no_numbers (no_range r w ∷ []) w _ (λ h. keeps b w _ _ (ranges-kept w _ (length-set w.ranges r None)))
+command-counted b w (ReleaseRange r) = guarded-counted b no_numbers (no_range r w ∷ []) w _ (λ h. released-counted b w r)
 command-counted b w (CreateIterator root filter) = guarded-counted b (record no_numbers { iterators = 1 }) (no_node root w ∷ no_room b (length w.iterators) 1 ∷ []) w _ (λ h. iterator-counted b w _ _ h.1.0)
 command-counted b w (CreateWalker root filter) = guarded-counted b (record no_numbers { walkers = 1 }) (no_node root w ∷ no_room b (length w.walkers) 1 ∷ []) w _ (λ h. walker-counted b w _ _ h.1.0)
 command-counted b w (DescribeIterator i) = object-counted b no_numbers (iterator_at i w) w _ (λ x. leaves refl)
@@ -209,6 +224,6 @@ command-counted b w (Disconnect o) = guarded-counted b no_numbers (no_observer o
 command-counted b w (TakeRecords o) = guarded-counted b no_numbers (no_observer o w ∷ []) w _ (λ h. keeps b w _ _ (observing-kept w _ (length-set w.observing.places o _)))
 command-counted b w Notify = keeps b w _ _ (observing-kept w _ (length-map w.observing.places _))
 command-counted b w Pending = leaves refl
-command-counted b w (Discard n) = guarded-counted b no_numbers (no_node n w ∷ (is_in_use w n, Own InUse) ∷ []) w _ (λ h. keeps b w _ _ (forest-kept w _))
+command-counted b w (Discard n) = guarded-counted b no_numbers (no_node n w ∷ (is_in_use w n, Own InUse) ∷ []) w _ (λ h. keeps b w _ _ (forest-kept w _ (none-without n w.forest)))
 command-counted b w (CreateStaticRange start end) = guarded-counted b (record no_numbers { static_ranges = 1 }) (no_node start.node w ∷ no_node end.node w ∷ no_room b (length w.static_ranges) 1 ∷ []) w _ (λ h. checked-counted b (record no_numbers { static_ranges = 1 }) (check_static w.forest start.node end.node) w _ (static-counted b w _ _ h.1.1.0))
 command-counted b w (DescribeStaticRange u) = guarded-counted b no_numbers (no_static u w ∷ []) w _ (λ h. told-counted b w (static_at w u))

@@ -58,7 +58,7 @@ head-grows into offset (n ∷ m ∷ path) w =
     copy-grows into n _ w
     (λ inner v. grows-then (children-grow inner (up_to m (children_of w.forest n)) v) (head-grows inner offset (m ∷ path) (children_into false inner (up_to m (children_of w.forest n)) v)))
 
-parts-grow : (into : ℕ) (r : Range) (w : World) → Grows w (parts_into false into r w)
+pub parts-grow : (into : ℕ) (r : Range) (w : World) → Grows w (parts_into false into r w)
 parts-grow into r w =
     let tailed = tail_into false into r.start.offset (path_below w.forest (common_of w r) r.start.node) w in
     grows-then (grows-then (tail-grows into r.start.offset (path_below w.forest (common_of w r) r.start.node) w) (children-grow into (contained_children w r) tailed))

@@ -1,14 +1,15 @@
--- How many numbers the steps on a world give out.
-use Rattle.std.proofs.Common.{◌≡◌, ℕ, ◌+◌, ◌≤◌, Bool, true, false, if◌then◌else◌, List, [], ◌∷◌, length, Option, Some, None, refl, ◌∙◌, arith}
+-- How many numbers the steps on a world give out, and that none comes back.
+use Rattle.std.proofs.Common.{◌≡◌, ℕ, ◌+◌, ◌<◌, ◌≤◌, Bool, true, false, if◌then◌else◌, List, [], ◌∷◌, length, Option, Some, None, refl, ◌∙◌, arith}
 use Rattle.std.proofs.lemmas.List.{length-map}
 use Rattle.std.specs.Prelude.{option_map}
-use Rattle.dom_model.specs.Forests.Forest.{Forest, parent_of, children_of}
+use Rattle.dom_model.specs.Forests.Forest.{Forest, occurs, parent_of, children_of}
 use Rattle.dom_model.specs.Worlds.World.{Content, Point, Range, Observing, World}
 use Rattle.dom_model.specs.BoundaryPoints.Points.{map_ranges, moved_range}
 use Rattle.dom_model.specs.MutationAlgorithms.PreRemoval.{pre_removed}
-use Rattle.dom_model.specs.MutationAlgorithms.Editing.{tree_record_unless, taken_out, transients_made, removed_from, remove, remove_all, freed, emptied_fragment, is_fragment, put_in, put_all, gap_before, insert_all, insert_nodes, insert, pre_insert, append, replace, insert_if_any, replaced_record, replace_all, adopt, nodes_of, reference_child, added_by}
+use Rattle.dom_model.specs.MutationAlgorithms.Editing.{tree_record_unless, taken_out, transients_made, removed_from, remove, remove_all, freed, emptied_fragment, is_fragment, put_in, put_all, gap_before, insert_all, insert_nodes, insert, pre_insert, append, replace, insert_if_any, replaced_record, replace_all, adopt, nodes_of, node_document, reference_child, added_by}
+use Rattle.dom_model.proofs.Counting.NumbersGone.{NoneComes, none-cut, none-placed, none-adopted, AreLiveAlike, live-map}
 
--- v has at most `more` node numbers more than w, and as many of every other kind
+-- v has at most `more` node numbers more than w, and as many of every other kind; a node that is gone stays so, and the same ranges are live
 pub record IsGrown (more : ℕ) (w v : World) : Type 0 where
   pub least : w.made ≤ v.made
   pub most : v.made ≤ w.made + more
@@ -17,6 +18,8 @@ pub record IsGrown (more : ℕ) (w v : World) : Type 0 where
   pub walkers : length v.walkers ≡ length w.walkers
   pub observers : length v.observing.places ≡ length w.observing.places
   pub static_ranges : length v.static_ranges ≡ length w.static_ranges
+  pub gone : (n : ℕ) → n < w.made → occurs n w.forest ≡ 0 → occurs n v.forest ≡ 0
+  pub live : AreLiveAlike w.ranges v.ranges
 
 pub grown-then : {u v w : World} (j k : ℕ) → IsGrown j u v → IsGrown k v w → IsGrown (j + k) u w
 grown-then j k g h = record {
@@ -27,6 +30,8 @@ grown-then j k g h = record {
   walkers = h.walkers ∙ g.walkers;
   observers = h.observers ∙ g.observers;
   static_ranges = h.static_ranges ∙ g.static_ranges;
+  gone = λ n l e. h.gone n (omega (arith, l, g.least)) (g.gone n l e);
+  live = λ r. h.live r ∙ g.live r;
 }
 
 pub grown-more : {u v : World} (j k : ℕ) → j ≤ k → IsGrown j u v → IsGrown k u v
@@ -38,13 +43,15 @@ grown-more j k l g = record {
   walkers = g.walkers;
   observers = g.observers;
   static_ranges = g.static_ranges;
+  gone = g.gone;
+  live = g.live;
 }
 
 pub kept-then : {u v w : World} → IsGrown 0 u v → IsGrown 0 v w → IsGrown 0 u w
 kept-then g h = grown-then 0 0 g h
 
 pub kept-same : (w : World) → IsGrown 0 w w
-kept-same w = record { least = omega arith; most = omega arith; ranges = refl; iterators = refl; walkers = refl; observers = refl; static_ranges = refl }
+kept-same w = record { least = omega arith; most = omega arith; ranges = refl; iterators = refl; walkers = refl; observers = refl; static_ranges = refl; gone = λ n l e. e; live = λ r. refl }
 
 pub length-map_ranges : (move : Point → Point) (rs : List (Option Range)) → length (map_ranges move rs) ≡ length rs
 length-map_ranges move rs = length-map rs (λ (r : Option Range). option_map (moved_range move) r)
@@ -60,15 +67,18 @@ kept-if b w u v g h = grown-if 0 b w u v g h
 
 -- another observing part with as many observers
 pub observing-kept : (w : World) (x : Observing) → length x.places ≡ length w.observing.places → IsGrown 0 w (record w { observing = x })
-observing-kept w x e = record { least = omega arith; most = omega arith; ranges = refl; iterators = refl; walkers = refl; observers = e; static_ranges = refl }
+observing-kept w x e = record { least = omega arith; most = omega arith; ranges = refl; iterators = refl; walkers = refl; observers = e; static_ranges = refl; gone = λ n l d. d; live = λ r. refl }
 
--- other nodes
-pub forest-kept : (w : World) (f : Forest Content) → IsGrown 0 w (record w { forest = f })
-forest-kept w f = record { least = omega arith; most = omega arith; ranges = refl; iterators = refl; walkers = refl; observers = refl; static_ranges = refl }
+-- a forest without further numbers
+pub forest-kept : (w : World) (f : Forest Content) → NoneComes w.forest f → IsGrown 0 w (record w { forest = f })
+forest-kept w f none = record { least = omega arith; most = omega arith; ranges = refl; iterators = refl; walkers = refl; observers = refl; static_ranges = refl; gone = λ n l e. none n e; live = λ r. refl }
 
--- as many ranges
-pub ranges-kept : (w : World) (rs : List (Option Range)) → length rs ≡ length w.ranges → IsGrown 0 w (record w { ranges = rs })
-ranges-kept w rs e = record { least = omega arith; most = omega arith; ranges = e; iterators = refl; walkers = refl; observers = refl; static_ranges = refl }
+-- as many ranges, and the same ones live
+pub ranges-kept : (w : World) (rs : List (Option Range)) → length rs ≡ length w.ranges → AreLiveAlike w.ranges rs → IsGrown 0 w (record w { ranges = rs })
+ranges-kept w rs e live = record { least = omega arith; most = omega arith; ranges = e; iterators = refl; walkers = refl; observers = refl; static_ranges = refl; gone = λ n l d. d; live = live }
+
+pub moved-kept : (w : World) (move : Point → Point) → IsGrown 0 w (record w { ranges = map_ranges move w.ranges })
+moved-kept w move = ranges-kept w _ (length-map_ranges move w.ranges) (live-map move w.ranges)
 
 tree_record-kept : (b : Bool) (n : ℕ) (xs ys : List ℕ) (p q : Option ℕ) (w : World) → IsGrown 0 w (tree_record_unless b n xs ys p q w)
 tree_record-kept true n xs ys p q w = kept-same w
@@ -83,6 +93,8 @@ taken_out-kept n parent w = record {
   walkers = refl;
   observers = refl;
   static_ranges = refl;
+  gone = λ m l e. none-cut n w.forest m e;
+  live = live-map _ w.ranges;
 }
 
 transients-kept : (n parent : ℕ) (w : World) → IsGrown 0 w (transients_made n parent w)
@@ -108,7 +120,7 @@ freed-kept n nodes w =
     (remove-kept false n w)
 
 put_in-kept : (parent : ℕ) (child : Option ℕ) (n : ℕ) (w : World) → IsGrown 0 w (put_in parent child n w)
-put_in-kept parent child n w = forest-kept w _
+put_in-kept parent child n w = forest-kept w _ (none-placed parent n (node_document w parent) child w.forest)
 
 put_all-kept : (parent : ℕ) (child : Option ℕ) (ns : List ℕ) (w : World) → IsGrown 0 w (put_all parent child ns w)
 put_all-kept parent child [] w = kept-same w
@@ -116,7 +128,7 @@ put_all-kept parent child (n ∷ ns) w = kept-then (put_in-kept parent child n w
 
 gap_before-kept : (parent : ℕ) (child : Option ℕ) (count : ℕ) (w : World) → IsGrown 0 w (gap_before parent child count w)
 gap_before-kept parent None count w = kept-same w
-gap_before-kept parent (Some c) count w = ranges-kept w _ (length-map_ranges _ w.ranges)
+gap_before-kept parent (Some c) count w = moved-kept w _
 
 insert_all-kept : (b : Bool) (parent : ℕ) (child : Option ℕ) (ns : List ℕ) (w : World) → IsGrown 0 w (insert_all b parent child ns w)
 insert_all-kept b parent child ns w =
@@ -159,4 +171,4 @@ replace_all-kept n parent w =
     (replaced_record-kept parent (added_by w n) gone (insert_if_any n parent (remove_all gone w))))
 
 pub adopt-kept : (n document : ℕ) (w : World) → IsGrown 0 w (adopt n document w)
-adopt-kept n document w = kept-then (remove-kept false n w) (forest-kept (remove false n w) _)
+adopt-kept n document w = let out = remove false n w in kept-then (remove-kept false n w) (forest-kept out _ (none-adopted n document out.forest))

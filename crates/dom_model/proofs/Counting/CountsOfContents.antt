@@ -1,5 +1,5 @@
 -- How many numbers copies and the contents of a range take.
-use Rattle.std.proofs.Common.{◌≡◌, ℕ, ◌+◌, ◌*◌, ◌-◌, ◌≤◌, Bool, true, false, List, [], ◌∷◌, length, take, drop, Option, Some, None, refl, arith}
+use Rattle.std.proofs.Common.{◌≡◌, ℕ, ◌+◌, ◌*◌, ◌-◌, ◌≤◌, Bool, true, false, List, [], ◌∷◌, length, take, drop, Option, Some, None, refl, ◌∙◌, arith}
 use Rattle.std.proofs.lemmas.List.{length-set}
 use Rattle.dom_model.specs.Forests.Kinds.{is_character_data}
 use Rattle.dom_model.specs.Forests.Forest.{Node, Forest, empty, node, size, map_nodes, children_of, tree_at}
@@ -10,14 +10,26 @@ use Rattle.dom_model.specs.Forests.Nodes.{kind_passes}
 use Rattle.dom_model.specs.MutationAlgorithms.Editing.{append, node_document}
 use Rattle.dom_model.specs.RangesAndContents.Ranges.{with_range, collapsed_at, is_collapsed, range_at}
 use Rattle.dom_model.specs.DataAndCopies.Data.{data_of, with_data, remove_each}
-use Rattle.dom_model.specs.DataAndCopies.Clones.{alone_of, original, with_copies, document_of_clone, clone_node, import_node}
+use Rattle.dom_model.specs.DataAndCopies.Clones.{alone_of, original, renumbered, with_copies, document_of_clone, clone_node, import_node}
 use Rattle.dom_model.specs.RangesAndContents.Contents.{for_range, is_in_one_data, cut_from, cut_up_to, contained_tops, new_place, deleted_between, deleted, delete_contents, new_fragment, clone_with, cut_if, units_into, children_into, copy_into, tail_into, head_into}
 use Rattle.dom_model.proofs.Counting.CountsKept.{IsGrown, grown-then, grown-more, kept-then, kept-same, grown-if, kept-if, ranges-kept, append-kept}
 use Rattle.dom_model.proofs.Counting.CountsOfData.{made_node-grown, replace_data-kept, remove_each-kept}
 use Rattle.dom_model.proofs.Forests.Totals.{total-tree_at}
+use Rattle.dom_model.proofs.Soundness.SoundMaking.{once-renumbered}
+use Rattle.dom_model.proofs.Counting.NumbersGone.{IsLiveAt, none-beside, live-of, live-set}
 
 pub with_copies-grown : (document : ℕ) (copied : Forest Content) (w : World) → IsGrown (size copied) w (with_copies document copied w)
-with_copies-grown document copied w = record { least = omega arith; most = omega arith; ranges = refl; iterators = refl; walkers = refl; observers = refl; static_ranges = refl }
+with_copies-grown document copied w = record {
+  least = omega arith;
+  most = omega arith;
+  ranges = refl;
+  iterators = refl;
+  walkers = refl;
+  observers = refl;
+  static_ranges = refl;
+  gone = none-beside w.made w.forest (renumbered document w.made copied) (λ n l. (once-renumbered document w.made copied n).1 l);
+  live = λ r. refl;
+}
 
 module _ {X : Type 0} where
   pub size-alone : (f : Forest X) → size (alone_of f) ≤ 1
@@ -53,8 +65,13 @@ clone_with-grown units n w =
 
 -- Deleting makes no node. DOM Standard, "Interface Range".
 
-pub with_range-kept : (r : ℕ) (range : Range) (w : World) → IsGrown 0 w (with_range r range w)
-with_range-kept r range w = ranges-kept w _ (length-set w.ranges r (Some range))
+-- a live range is set
+pub with_range-kept : (r : ℕ) (range : Range) (w : World) → IsLiveAt w.ranges r → IsGrown 0 w (with_range r range w)
+with_range-kept r range w live = ranges-kept w _ (length-set w.ranges r (Some range)) (live-set w.ranges r range live)
+
+-- it stays one
+pub live-then : {w v : World} (more r : ℕ) → IsGrown more w v → IsLiveAt w.ranges r → IsLiveAt v.ranges r
+live-then more r g live = g.live r ∙ live
 
 cut_from-kept : (n offset : ℕ) (w : World) → IsGrown 0 w (cut_from n offset w)
 cut_from-kept n offset w = kept-if (kind_passes is_character_data w.forest n) w _ w (replace_data-kept n offset (length (data_of w n) - offset) [] w) (kept-same w)
@@ -62,25 +79,26 @@ cut_from-kept n offset w = kept-if (kind_passes is_character_data w.forest n) w 
 cut_up_to-kept : (n offset : ℕ) (w : World) → IsGrown 0 w (cut_up_to n offset w)
 cut_up_to-kept n offset w = kept-if (kind_passes is_character_data w.forest n) w _ w (replace_data-kept n 0 offset [] w) (kept-same w)
 
-deleted_between-kept : (r : ℕ) (range : Range) (w : World) → IsGrown 0 w (deleted_between r range w)
-deleted_between-kept r range w =
+deleted_between-kept : (r : ℕ) (range : Range) (w : World) → IsLiveAt w.ranges r → IsGrown 0 w (deleted_between r range w)
+deleted_between-kept r range w live =
     let first = cut_from range.start.node range.start.offset w in
     let middle = remove_each (contained_tops w range) first in
-    kept-then (cut_from-kept range.start.node range.start.offset w) (kept-then (remove_each-kept (contained_tops w range) first)
-    (kept-then (cut_up_to-kept range.end.node range.end.offset middle) (with_range-kept r (collapsed_at (new_place w.forest range)) (cut_up_to range.end.node range.end.offset middle))))
+    let last = cut_up_to range.end.node range.end.offset middle in
+    let cut : IsGrown 0 w last = kept-then (cut_from-kept range.start.node range.start.offset w) (kept-then (remove_each-kept (contained_tops w range) first) (cut_up_to-kept range.end.node range.end.offset middle)) in
+    kept-then cut (with_range-kept r (collapsed_at (new_place w.forest range)) last (live-then 0 r cut live))
 
-deleted-kept : (r : ℕ) (range : Range) (w : World) → IsGrown 0 w (deleted r range w)
-deleted-kept r range w =
+deleted-kept : (r : ℕ) (range : Range) (w : World) → IsLiveAt w.ranges r → IsGrown 0 w (deleted r range w)
+deleted-kept r range w live =
     kept-if (is_collapsed range) w w _ (kept-same w)
     (kept-if (is_in_one_data w range) w _ _ (replace_data-kept range.start.node range.start.offset (range.end.offset - range.start.offset) [] w)
-    (deleted_between-kept r range w))
+    (deleted_between-kept r range w live))
 
-pub for_range-grown : (more : ℕ) (range : Option Range) (w : World) (step : Range → World) → ((x : Range) → IsGrown more w (step x)) → IsGrown more w (for_range range w step)
+pub for_range-grown : (more : ℕ) (range : Option Range) (w : World) (step : Range → World) → ((x : Range) → range ≡ Some x → IsGrown more w (step x)) → IsGrown more w (for_range range w step)
 for_range-grown more None w step h = grown-more 0 more (omega arith) (kept-same w)
-for_range-grown more (Some x) w step h = h x
+for_range-grown more (Some x) w step h = h x refl
 
 pub delete_contents-kept : (r : ℕ) (w : World) → IsGrown 0 w (delete_contents r w)
-delete_contents-kept r w = for_range-grown 0 (range_at w r) w (λ range. deleted r range w) (λ range. deleted-kept r range w)
+delete_contents-kept r w = for_range-grown 0 (range_at w r) w (λ range. deleted r range w) (λ range e. deleted-kept r range w (live-of (range_at w r) range e))
 
 -- The parts that are moved or copied.
 

@@ -1,24 +1,37 @@
 -- How many numbers the steps on data, Texts and attributes give out: at most one, for a node.
 -- DOM Standard, "Interface CharacterData", "Interface Text", "Interface Node", "Interface Element".
-use Rattle.std.proofs.Common.{ℕ, ◌+◌, ◌==◌, Bool, true, false, List, [], ◌∷◌, length, Option, Some, None, refl, arith}
+use Rattle.std.proofs.Common.{◌≡◌, ℕ, ◌+◌, ◌<◌, ◌≤◌, ◌==◌, Bool, true, false, List, [], ◌∷◌, length, Option, Some, None, refl, arith}
 use Rattle.dom_model.specs.declared.Kind.{Kind}
 use Rattle.dom_model.specs.declared.Kind.TheVariants.{Element, Text, ProcessingInstruction, Comment, Document, DocumentType, DocumentFragment}
 use Rattle.dom_model.specs.Forests.Kinds.{Label}
 use Rattle.dom_model.specs.Forests.Arena.{Entry}
-use Rattle.dom_model.specs.Forests.Forest.{Node, parent_of, entry_in, next_of}
+use Rattle.dom_model.specs.Forests.Forest.{Node, Forest, empty, node, occurs, with_node, parent_of, entry_in, next_of}
 use Rattle.dom_model.specs.Worlds.World.{Content, World}
 use Rattle.dom_model.specs.Worlds.Making.{made_node, named, with_text}
 use Rattle.dom_model.specs.MutationAlgorithms.Editing.{remove, insert, node_document}
 use Rattle.dom_model.specs.BoundaryPoints.Points.{map_ranges, after_splice}
 use Rattle.dom_model.specs.DataAndCopies.Data.{data_of, tail_of, data_record, replace_units, replace_data, set_data, split_off, split, following_texts, joined_data, merged_ends, merge_ends, remove_each, join_following, normalize_text, is_descendant, text_descendants, normalize_each, normalize, by_kind, string_replace_all, set_text_content_by, set_text_content, attribute_record, set_attribute, has_attribute, remove_attribute_if, remove_attribute, is_toggled_on, toggled, toggle_attribute}
-use Rattle.dom_model.proofs.Counting.CountsKept.{IsGrown, grown-then, grown-more, kept-then, kept-same, kept-if, observing-kept, forest-kept, ranges-kept, length-map_ranges, remove-kept, insert-kept, replace_all-kept}
+use Rattle.dom_model.proofs.PlainLists.Numbers.{same_or, same, apart}
+use Rattle.dom_model.proofs.Worlds.SameShape.{bare_node, with_node-alike}
+use Rattle.dom_model.proofs.Counting.NumbersGone.{none-alike, none-beside}
+use Rattle.dom_model.proofs.Counting.CountsKept.{IsGrown, grown-then, grown-more, kept-then, kept-same, kept-if, observing-kept, forest-kept, moved-kept, remove-kept, insert-kept, replace_all-kept}
 
 pub made_node-grown : (document : ℕ) (label : Label) (body : Content) (w : World) → IsGrown 1 w (made_node document label body w)
-made_node-grown document label body w = record { least = omega arith; most = omega arith; ranges = refl; iterators = refl; walkers = refl; observers = refl; static_ranges = refl }
+made_node-grown document label body w = record { least = omega arith; most = omega arith; ranges = refl; iterators = refl; walkers = refl; observers = refl; static_ranges = refl; gone = none-beside w.made w.forest new later; live = λ r. refl }
+  where
+    new : Forest Content
+    new = node (record { number = w.made; document = document; label = label; body = body }) empty empty
+
+    later : (n : ℕ) → n < w.made → occurs n new ≡ 0
+    later n l = elim (same_or w.made n) [ same e t ↦ absurd (omega arith) | apart ne t ↦ rw t refl ]
+
+-- a node with other data or attributes
+changed-kept : (change : Node Content → Node Content) → ((x : Node Content) → bare_node (change x) ≡ bare_node x) → (n : ℕ) (w : World) → IsGrown 0 w (record w { forest = with_node n change w.forest })
+changed-kept change keeps n w = forest-kept w _ (none-alike (with_node-alike change keeps n w.forest))
 
 replace_units-kept : (n offset count : ℕ) (added : List ℕ) (w : World) → IsGrown 0 w (replace_units n offset count added w)
 replace_units-kept n offset count added w =
-    kept-then (ranges-kept w _ (length-map_ranges _ w.ranges)) (forest-kept (record w { ranges = map_ranges (after_splice n offset count (length added)) w.ranges }) _)
+    kept-then (moved-kept w (after_splice n offset count (length added))) (changed-kept _ (λ x. refl) n (record w { ranges = map_ranges (after_splice n offset count (length added)) w.ranges }))
 
 pub replace_data-kept : (n offset count : ℕ) (added : List ℕ) (w : World) → IsGrown 0 w (replace_data n offset count added w)
 replace_data-kept n offset count added w = kept-then (observing-kept w _ refl) (replace_units-kept n offset _ added (data_record n w))
@@ -30,17 +43,24 @@ split_off-kept : (n offset new : ℕ) (parent : Option ℕ) (w : World) → IsGr
 split_off-kept n offset new None w = kept-same w
 split_off-kept n offset new (Some parent) w =
     let after = insert false new parent (next_of w.forest n) w in
-    kept-then (insert-kept false new parent (next_of w.forest n) w) (ranges-kept after _ (length-map_ranges _ after.ranges))
+    kept-then (insert-kept false new parent (next_of w.forest n) w) (moved-kept after _)
+
+-- once the new Text is made
+parted-kept : (n offset : ℕ) (w : World) → IsGrown 0 (made_node (node_document w n) (named Text []) (with_text (tail_of w n offset)) w) (split n offset w)
+parted-kept n offset w =
+    let made = made_node (node_document w n) (named Text []) (with_text (tail_of w n offset)) w in
+    kept-then (split_off-kept n offset w.made (parent_of w.forest n) made)
+    (replace_data-kept n offset (length (tail_of w n offset)) [] (split_off n offset w.made (parent_of w.forest n) made))
 
 pub split-grown : (n offset : ℕ) (w : World) → IsGrown 1 w (split n offset w)
-split-grown n offset w =
-    let made = made_node (node_document w n) (named Text []) (with_text (tail_of w n offset)) w in
-    grown-then 1 0 (made_node-grown _ _ _ w) (kept-then (split_off-kept n offset w.made (parent_of w.forest n) made)
-    (replace_data-kept n offset (length (tail_of w n offset)) [] (split_off n offset w.made (parent_of w.forest n) made)))
+split-grown n offset w = grown-then 1 0 (made_node-grown _ _ _ w) (parted-kept n offset w)
+
+pub split-least : (n offset : ℕ) (w : World) → w.made + 1 ≤ (split n offset w).made
+split-least n offset w = (parted-kept n offset w).least
 
 merged_ends-kept : (t into base : ℕ) (parent : Option ℕ) (w : World) → IsGrown 0 w (merged_ends t into base parent w)
 merged_ends-kept t into base None w = kept-same w
-merged_ends-kept t into base (Some parent) w = ranges-kept w _ (length-map_ranges _ w.ranges)
+merged_ends-kept t into base (Some parent) w = moved-kept w _
 
 merge_ends-kept : (into base : ℕ) (ts : List ℕ) (w : World) → IsGrown 0 w (merge_ends into base ts w)
 merge_ends-kept into base [] w = kept-same w
@@ -93,11 +113,11 @@ set_text_content-grown n text w = go (entry_in w.forest n)
     go (Some e) = set_text_content_by-grown e.value.label.kind n text w
 
 pub set_attribute-kept : (n : ℕ) (name value : List ℕ) (w : World) → IsGrown 0 w (set_attribute n name value w)
-set_attribute-kept n name value w = kept-then (observing-kept w _ refl) (forest-kept (attribute_record n name w) _)
+set_attribute-kept n name value w = kept-then (observing-kept w _ refl) (changed-kept _ (λ x. refl) n (attribute_record n name w))
 
 remove_attribute_if-kept : (b : Bool) (n : ℕ) (name : List ℕ) (w : World) → IsGrown 0 w (remove_attribute_if b n name w)
 remove_attribute_if-kept false n name w = kept-same w
-remove_attribute_if-kept true n name w = kept-then (observing-kept w _ refl) (forest-kept (attribute_record n name w) _)
+remove_attribute_if-kept true n name w = kept-then (observing-kept w _ refl) (changed-kept _ (λ x. refl) n (attribute_record n name w))
 
 pub remove_attribute-kept : (n : ℕ) (name : List ℕ) (w : World) → IsGrown 0 w (remove_attribute n name w)
 remove_attribute-kept n name w = remove_attribute_if-kept (has_attribute w n name) n name w

@@ -1,15 +1,18 @@
--- A step that is refused leaves the world; any other takes no more numbers than are asked for, and where they are left.
-use Rattle.std.proofs.Common.{◌≡◌, ℕ, ◌+◌, ◌≤◌, nat_lt, Bool, true, false, if◌then◌else◌, List, [], ◌∷◌, Option, Some, None, refl, sym, ◌∙◌, arith}
+-- A step that is refused leaves the world; any other takes no more numbers than are asked for, and where they are left, and brings none back.
+use Rattle.std.proofs.Common.{◌≡◌, ℕ, ◌+◌, ◌<◌, ◌≤◌, nat_lt, Bool, true, false, if◌then◌else◌, List, [], ◌∷◌, length, Option, Some, None, is_none, refl, ap, sym, ◌∙◌, subst, arith}
 use Rattle.std.specs.Prelude.{Ok, Err}
 use Rattle.std.proofs.lemmas.Bool.{false≢true, ltb-false}
 use Rattle.dom_model.specs.declared.DomError.{DomError}
+use Rattle.dom_model.specs.Forests.Forest.{occurs}
 use Rattle.dom_model.specs.Worlds.World.{Point, Range, World}
 use Rattle.dom_model.specs.Commands.Reply.{Answer, Reply, Done, is_refusal}
 use Rattle.dom_model.specs.Commands.Counts.{Counts, counts_of, no_numbers, node_numbers, plus, of_each, AreAtMost}
 use Rattle.dom_model.specs.Commands.Guards.{Bounds, Step, refused, guarded, checked}
+use Rattle.dom_model.specs.RangesAndContents.Ranges.{range_at}
 use Rattle.dom_model.specs.RangesAndContents.Wrapping.{Outcome}
 use Rattle.dom_model.specs.Commands.AnswerRanges.{on_range, at_point, at_ends, done_or_refused}
 use Rattle.dom_model.specs.Commands.AnswerTraversal.{with_object}
+use Rattle.dom_model.proofs.Counting.NumbersGone.{none-of}
 use Rattle.dom_model.proofs.Counting.CountsKept.{IsGrown}
 use Rattle.dom_model.proofs.Counting.CountsOfExtraction.{IsGrownTo}
 
@@ -17,13 +20,18 @@ use Rattle.dom_model.proofs.Counting.CountsOfExtraction.{IsGrownTo}
 abbrev pub HasRoom : Bounds → Counts → World → Type 0
 HasRoom b asked w = AreAtMost (counts_of w) (of_each b.numbers) → AreAtMost (plus (counts_of w) asked) (of_each b.numbers)
 
+-- of the numbers given out, a node that is gone and a range that was released stay so
+pub record StaysGone (w v : World) : Type 0 where
+  pub nodes : (n : ℕ) → n < w.made → occurs n w.forest ≡ 0 → occurs n v.forest ≡ 0
+  pub ranges : (r : ℕ) → r < length w.ranges → range_at w r ≡ None → range_at v r ≡ None
+
 pub data IsCounted (b : Bounds) (asked : Counts) (needs : Type 0) (w : World) (s : Step) : Type 0 where
   leaves : s.world ≡ w → IsCounted b asked needs w s
-  takes : is_refusal s.reply ≡ false → HasRoom b asked w → AreAtMost (counts_of w) (counts_of s.world) → (needs → AreAtMost (counts_of s.world) (plus (counts_of w) asked)) → IsCounted b asked needs w s
+  takes : is_refusal s.reply ≡ false → HasRoom b asked w → AreAtMost (counts_of w) (counts_of s.world) → (needs → AreAtMost (counts_of s.world) (plus (counts_of w) asked)) → StaysGone w s.world → IsCounted b asked needs w s
 
 pub counted-leaves : {b : Bounds} {asked : Counts} {needs : Type 0} {w : World} {s : Step} → IsCounted b asked needs w s → is_refusal s.reply ≡ true → s.world ≡ w
 counted-leaves (leaves e) h = e
-counted-leaves (takes n room more most) h = absurd (false≢true (sym n ∙ h))
+counted-leaves (takes n room more most gone) h = absurd (false≢true (sym n ∙ h))
 
 pub at_most-then : {x y z : Counts} → AreAtMost x y → AreAtMost y z → AreAtMost x z
 at_most-then g h = record {
@@ -41,17 +49,22 @@ at_most-plus x y = record { nodes = omega arith; ranges = omega arith; iterators
 -- the counts never fall
 pub counted-never_fall : {b : Bounds} {asked : Counts} {needs : Type 0} {w : World} {s : Step} → IsCounted b asked needs w s → AreAtMost (counts_of w) (counts_of s.world)
 counted-never_fall {b} {asked} {needs} {w} {s} (leaves e) = rw e (record { nodes = omega arith; ranges = omega arith; iterators = omega arith; walkers = omega arith; observers = omega arith; static_ranges = omega arith })
-counted-never_fall (takes n room more most) = more
+counted-never_fall (takes n room more most gone) = more
+
+-- what is gone stays so
+pub counted-stays_gone : {b : Bounds} {asked : Counts} {needs : Type 0} {w : World} {s : Step} → IsCounted b asked needs w s → StaysGone w s.world
+counted-stays_gone {b} {asked} {needs} {w} {s} (leaves e) = subst (λ v. StaysGone w v) (sym e) (record { nodes = λ n l d. d; ranges = λ r l d. d })
+counted-stays_gone (takes n room more most gone) = gone
 
 -- they grow by at most what is asked for
 pub counted-at_most : {b : Bounds} {asked : Counts} {needs : Type 0} {w : World} {s : Step} → IsCounted b asked needs w s → needs → AreAtMost (counts_of s.world) (plus (counts_of w) asked)
 counted-at_most {b} {asked} {needs} {w} {s} (leaves e) o = rw e (at_most-plus (counts_of w) asked)
-counted-at_most (takes n room more most) o = most o
+counted-at_most (takes n room more most gone) o = most o
 
 -- and stay within the limit
 pub counted-within : {b : Bounds} {asked : Counts} {needs : Type 0} {w : World} {s : Step} → IsCounted b asked needs w s → needs → AreAtMost (counts_of w) (of_each b.numbers) → AreAtMost (counts_of s.world) (of_each b.numbers)
 counted-within {b} {asked} {needs} {w} {s} (leaves e) o h = rw e h
-counted-within (takes n room more most) o h = at_most-then (most o) (room h)
+counted-within (takes n room more most gone) o h = at_most-then (most o) (room h)
 
 -- How steps are made up.
 
@@ -100,6 +113,9 @@ never-fall more w v g = record {
   static_ranges = omega (arith, g.static_ranges);
 }
 
+pub grown-stays_gone : (more : ℕ) (w v : World) → IsGrown more w v → StaysGone w v
+grown-stays_gone more w v g = record { nodes = g.gone; ranges = λ r l e. none-of (range_at v r) (g.live r ∙ ap (λ (o : Option Range). is_none o) e) }
+
 pub grow-at_most : (more asked : ℕ) (w v : World) → more ≤ asked → IsGrown more w v → AreAtMost (counts_of v) (plus (counts_of w) (node_numbers asked))
 grow-at_most more asked w v l g = record {
   nodes = omega (arith, g.most);
@@ -122,15 +138,15 @@ has-room b asked w e h = record {
 
 -- no number
 pub keeps : {needs : Type 0} (b : Bounds) (w v : World) (a : Answer) → IsGrown 0 w v → IsCounted b no_numbers needs w (record { reply = Done a; world = v })
-keeps b w v a g = takes refl (λ h. at_most-then (record { nodes = omega arith; ranges = omega arith; iterators = omega arith; walkers = omega arith; observers = omega arith; static_ranges = omega arith }) h) (never-fall 0 w v g) (λ o. grow-at_most 0 0 w v (omega arith) g)
+keeps b w v a g = takes refl (λ h. at_most-then (record { nodes = omega arith; ranges = omega arith; iterators = omega arith; walkers = omega arith; observers = omega arith; static_ranges = omega arith }) h) (never-fall 0 w v g) (λ o. grow-at_most 0 0 w v (omega arith) g) (grown-stays_gone 0 w v g)
 
 -- numbers of nodes
 pub grows : {needs : Type 0} (b : Bounds) (asked more : ℕ) (w v : World) (a : Answer) → nat_lt b.numbers (w.made + asked) ≡ false → more ≤ asked → IsGrown more w v → IsCounted b (node_numbers asked) needs w (record { reply = Done a; world = v })
-grows b asked more w v a room l g = takes refl (has-room b asked w room) (never-fall more w v g) (λ o. grow-at_most more asked w v l g)
+grows b asked more w v a room l g = takes refl (has-room b asked w room) (never-fall more w v g) (λ o. grow-at_most more asked w v l g) (grown-stays_gone more w v g)
 
 -- the same, where something is needed to tell how many
 pub grows-in_order : {needs : Type 0} (b : Bounds) (asked most more : ℕ) (w v : World) (a : Answer) → nat_lt b.numbers (w.made + asked) ≡ false → IsGrown most w v → more ≤ asked → (needs → IsGrown more w v) → IsCounted b (node_numbers asked) needs w (record { reply = Done a; world = v })
-grows-in_order b asked most more w v a room g l h = takes refl (has-room b asked w room) (never-fall most w v g) (λ o. grow-at_most more asked w v l (h o))
+grows-in_order b asked most more w v a room g l h = takes refl (has-room b asked w room) (never-fall most w v g) (λ o. grow-at_most more asked w v l (h o)) (grown-stays_gone most w v g)
 
 pub outcome-counted : {needs : Type 0} (b : Bounds) (asked more : ℕ) (w : World) (o : Outcome) → nat_lt b.numbers (w.made + asked) ≡ false → more ≤ asked → IsGrownTo more w o → IsCounted b (node_numbers asked) needs w (done_or_refused o w)
 outcome-counted b asked more w (Ok v) room l g = grows b asked more w v _ room l g

@@ -1,15 +1,17 @@
 -- A walk to the root, told on nested lists alone.
-use Rattle.std.proofs.Common.{◌≡◌, ℕ, ◌<◌, ◌≤◌, ◌==◌, true, false, [], ◌∷◌, length, Option, Some, None, IfSome, refl, sym, ◌∙◌, arith, ⊎_elim}
-use Rattle.std.proofs.lemmas.Bool.{cases_lt}
+use Rattle.std.proofs.Common.{◌≡◌, ℕ, ◌<◌, ◌≤◌, ◌==◌, true, false, [], ◌∷◌, length, Option, Some, None, is_some, IfSome, refl, sym, ◌∙◌, arith, ⊎_elim}
+use Rattle.std.proofs.lemmas.Bool.{cases_lt, false≢true}
 use Rattle.dom_model.specs.PlainLists.Lists.{hits, among, last_of}
 use Rattle.dom_model.specs.Forests.Arena.{Entry, parent_in}
-use Rattle.dom_model.specs.Forests.Forest.{Node, Forest, empty, node, Grove, occurs, tops, entry_in, HasNode, parent_of, next_of, previous_of, ancestors, root_of, tree_at, IsForest}
+use Rattle.dom_model.specs.Forests.Forest.{Node, Forest, empty, node, Grove, occurs, one_at, tops, entry_in, HasNode, parent_of, next_of, previous_of, ancestors, root_of, tree_at, inclusive_descendants, IsForest}
 use Rattle.dom_model.proofs.PlainLists.Numbers.{same_or, same, apart}
+use Rattle.dom_model.proofs.Forests.Totals.{total-tree_at}
 use Rattle.dom_model.proofs.Forests.Tops.{hits-tops}
+use Rattle.dom_model.proofs.Forests.TreeOrder.Flattened.{hits-numbers}
 use Rattle.dom_model.proofs.Forests.Rooted.{rooted-tops, rooted, rootless}
 use Rattle.dom_model.proofs.PlainLists.Members.{hits-last_of}
-use Rattle.dom_model.proofs.Forests.Climbing.{ancestors-there, ancestors-kids, ancestors-rest, hits-ancestors, hits-among, among-hits}
-use Rattle.dom_model.proofs.Forests.Entries.{occurs-HasNode, Lies-entry_in}
+use Rattle.dom_model.proofs.Forests.Climbing.{ancestors-there, ancestors-kids, ancestors-rest, hits-ancestors, hits-among, among-hits, hits-not_among}
+use Rattle.dom_model.proofs.Forests.Entries.{occurs-HasNode, HasNode-occurs, Lies-entry_in}
 use Rattle.dom_model.proofs.BoundaryPoints.RootsKept.{last_of-behind}
 use Rattle.dom_model.proofs.Forests.Paths.{root-path}
 use Rattle.dom_model.proofs.Forests.Above.{Above}
@@ -97,6 +99,28 @@ module _ {X : Type 0} {g : Grove X} (s : IsForest g) where
 
   pub inside-among : (top n : ℕ) → 0 < occurs n (tree_at top g.forest) → among top (ancestors n g.forest) ≡ true
   inside-among top n h = hits-among top (ancestors n g.forest) (omega (arith, hits-ancestors top n g.forest s.once))
+
+  -- to stand inside is to have the node among the inclusive ancestors
+  pub inside-same : (top n : ℕ) → among top (ancestors n g.forest) ≡ among n (inclusive_descendants g.forest top)
+  inside-same top n =
+      let a = hits-ancestors top n g.forest s.once in
+      let i = hits-numbers n (tree_at top g.forest) in
+      ⊎_elim
+      (λ (lt : 0 < occurs n (tree_at top g.forest)).
+      hits-among top (ancestors n g.forest) (omega arith) ∙ sym (hits-among n (inclusive_descendants g.forest top) (omega arith)))
+      (λ (le : occurs n (tree_at top g.forest) ≤ 0).
+      hits-not_among top (ancestors n g.forest) (omega arith) ∙ sym (hits-not_among n (inclusive_descendants g.forest top) (omega arith)))
+      (cases_lt 0 (occurs n (tree_at top g.forest)))
+
+  -- a number that no node has is in no tree
+  pub none-inside : (top n : ℕ) → is_some (entry_in g.forest n) ≡ false → among n (inclusive_descendants g.forest top) ≡ false
+  none-inside top n h =
+      let i = hits-numbers n (tree_at top g.forest) in
+      let t = total-tree_at (one_at n) top g.forest in
+      hits-not_among n (inclusive_descendants g.forest top) (⊎_elim
+      (λ (lt : 0 < occurs n g.forest). absurd (false≢true (sym h ∙ HasNode-occurs g.forest n lt)))
+      (λ (le : occurs n g.forest ≤ 0). omega arith)
+      (cases_lt 0 (occurs n g.forest)))
 
   pub inside-root : (n r : ℕ) → root_of g.forest n ≡ Some r → 0 < occurs n (tree_at r g.forest)
   inside-root n r h = omega (arith, hits-ancestors r n g.forest s.once, hits-last_of (ancestors n g.forest) r h)

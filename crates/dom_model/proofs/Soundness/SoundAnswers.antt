@@ -11,7 +11,7 @@ use Rattle.dom_model.specs.Commands.Guards.{Bounds, checked, no_node, no_room, n
 use Rattle.dom_model.specs.Commands.AnswerRanges.{no_range, done_or_refused, answer_delete_contents, answer_extract_contents, answer_clone_contents, answer_insert_node, answer_surround_contents}
 use Rattle.dom_model.specs.Commands.Answer.{answer}
 use Rattle.dom_model.specs.TokenText.CommandEdits.{world_past}
-use Rattle.dom_model.specs.Soundness.Sound.{IsIterator, IsWalker, IsRegistration, IsSound}
+use Rattle.dom_model.specs.Soundness.Sound.{IsIterator, IsWalker, IsRegistration, AreHeld, IsSound}
 use Rattle.dom_model.proofs.PlainLists.Numbers.{same_or, same, apart}
 use Rattle.dom_model.proofs.Soundness.SoundWorlds.{IsLive}
 use Rattle.dom_model.proofs.Soundness.SoundGuards.{sound-guarded, sound-checked, there_unless}
@@ -155,6 +155,7 @@ sound-first =
       iterators = All-nil (IsIterator first_world.forest);
       walkers = All-nil (IsWalker first_world.forest);
       registrations = All-nil (IsRegistration first_world.forest);
+      statics = All-nil (AreHeld first_world.forest);
     }
 
 -- so is the world after each list of commands

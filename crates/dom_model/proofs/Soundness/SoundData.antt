@@ -21,7 +21,7 @@ use Rattle.dom_model.proofs.Worlds.SameShape.{IsAlike, bare_node, with_node-alik
 use Rattle.dom_model.proofs.Soundness.SoundForests.{IsWood-alike}
 use Rattle.dom_model.proofs.Worlds.Measured.{data_kind, entry-with_node}
 use Rattle.dom_model.proofs.RangesAndContents.RangesSpliced.{range-alike, iterator-alike, there-alike, range-splice}
-use Rattle.dom_model.proofs.Soundness.SoundWorlds.{IsLive, ranges-moved, ranges-kept, walkers-kept, registrations-kept}
+use Rattle.dom_model.proofs.Soundness.SoundWorlds.{IsLive, ranges-moved, ranges-kept, walkers-kept, registrations-kept, statics-kept}
 
 pub length-spliced : (at count : ℕ) (added units : List ℕ) → at + count ≤ length units → length (spliced at count added units) + count ≡ length units + length added
 length-spliced at count added units h =
@@ -69,6 +69,7 @@ module _ (change : Node Content → Node Content) (keeps : (x : Node Content) �
         iterators = All-weaker (IsIterator w.forest) (IsIterator changed) (iterator-alike alike) w.iterators s.iterators;
         walkers = walkers-kept w.forest changed (there-alike alike) w.walkers s.walkers;
         registrations = registrations-kept w.forest changed (there-alike alike) w.observing.registrations s.registrations;
+        statics = statics-kept w.forest changed (there-alike alike) w.static_ranges s.statics;
       }
 
 -- Data.
@@ -107,7 +108,7 @@ pub cut_fits : (whole offset count : ℕ) → offset ≤ whole → offset + cut_
 cut_fits whole offset count h = grind (arith, nat_tests)
 
 pub sound-data_record : (n : ℕ) (w : World) → IsSound w → IsSound (data_record n w)
-sound-data_record n w s = record { forest = s.forest; ranges = s.ranges; iterators = s.iterators; walkers = s.walkers; registrations = s.registrations }
+sound-data_record n w s = record { forest = s.forest; ranges = s.ranges; iterators = s.iterators; walkers = s.walkers; registrations = s.registrations; statics = s.statics }
 
 -- replace data, from an offset within it
 pub sound-replace_data : (n offset count : ℕ) (added : List ℕ) (w : World) → IsSound w → kind_passes is_character_data w.forest n ≡ true → offset ≤ length (data_of w n) → IsSound (replace_data n offset count added w)
@@ -136,7 +137,7 @@ sound-with_attributes n attributes w s =
         go (Some e) false = refl
 
 sound-attribute_record : (n : ℕ) (name : List ℕ) (w : World) → IsSound w → IsSound (attribute_record n name w)
-sound-attribute_record n name w s = record { forest = s.forest; ranges = s.ranges; iterators = s.iterators; walkers = s.walkers; registrations = s.registrations }
+sound-attribute_record n name w s = record { forest = s.forest; ranges = s.ranges; iterators = s.iterators; walkers = s.walkers; registrations = s.registrations; statics = s.statics }
 
 pub sound-set_attribute : (n : ℕ) (name value : List ℕ) (w : World) → IsSound w → IsSound (set_attribute n name value w)
 sound-set_attribute n name value w s = sound-with_attributes n (with_attribute name value (attributes_of w n)) (attribute_record n name w) (sound-attribute_record n name w s)

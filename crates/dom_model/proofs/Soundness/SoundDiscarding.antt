@@ -11,7 +11,7 @@ use Rattle.dom_model.specs.Commands.Reply.{Own}
 use Rattle.dom_model.specs.MutationAlgorithms.Discarding.{if_any, documents, nodes_of_range, nodes_of_live, nodes_of_iterator, nodes_of_walker, nodes_of_registration, named_nodes, is_held_outside, is_in_use, discarded}
 use Rattle.dom_model.specs.Commands.Guards.{Bounds, no_node, does}
 use Rattle.dom_model.specs.Commands.AnswerDiscard.{answer_discard}
-use Rattle.dom_model.specs.Soundness.Sound.{IsIterator, IsWalker, IsRegistration, IsSound}
+use Rattle.dom_model.specs.Soundness.Sound.{IsIterator, IsWalker, IsRegistration, AreHeld, IsSound}
 use Rattle.dom_model.proofs.Forests.Totals.{total-tree_at}
 use Rattle.dom_model.proofs.Forests.Lying.{Lies-without_root}
 use Rattle.dom_model.proofs.Forests.Climbing.{not_among-hits}
@@ -63,14 +63,14 @@ module _ (n : ℕ) (w : World) (s : IsSound w) (free : is_in_use w n ≡ false) 
         | just p e ↦ absurd (let k = (neither (is_some (parent_of w.forest n)) (list_any is_inside (documents rest)) parts.0).0 in let j = rw e at k in false≢true (sym j))
       ]
 
-  named : (list_any is_inside (flat_map nodes_of_live w.ranges) ≡ false) × (list_any is_inside (flat_map nodes_of_iterator w.iterators) ≡ false) × (list_any is_inside (flat_map nodes_of_walker w.walkers) ≡ false) × (list_any is_inside (flat_map nodes_of_registration w.observing.registrations) ≡ false)
+  named : (list_any is_inside (flat_map nodes_of_live w.ranges) ≡ false) × (list_any is_inside (flat_map nodes_of_iterator w.iterators) ≡ false) × (list_any is_inside (flat_map nodes_of_walker w.walkers) ≡ false) × (list_any is_inside (flat_map nodes_of_registration w.observing.registrations) ≡ false) × (list_any is_inside (flat_map nodes_of_range w.static_ranges) ≡ false)
   named =
       let a = none_of is_inside (flat_map nodes_of_live w.ranges) _ parts.1 in
       let b = none_of is_inside (flat_map nodes_of_range w.static_ranges) _ a.1 in
       let c = none_of is_inside (flat_map nodes_of_iterator w.iterators) _ b.1 in
       let d = none_of is_inside (flat_map nodes_of_walker w.walkers) _ c.1 in
       let e = none_of is_inside (flat_map nodes_of_registration w.observing.registrations) _ d.1 in
-      (a.0, c.0, d.0, e.0)
+      (a.0, c.0, d.0, e.0, b.0)
 
   wood : IsWood rest w.made
   wood = IsWood-without s.forest n
@@ -121,6 +121,12 @@ module _ (n : ℕ) (w : World) (s : IsSound w) (free : is_in_use w n ≡ false) 
       from None i l = tt
       from (Some m) i l = stays-node m (neither (is_inside m) false l).0 i
 
+  held : (r : Range) → AreHeld w.forest r → list_any is_inside (nodes_of_range r) ≡ false → AreHeld rest r
+  held r h k =
+      let a = neither (is_inside r.start.node) (is_inside r.end.node || false) k in
+      let b = neither (is_inside r.end.node) false a.1 in
+      record { start = stays-node r.start.node a.0 h.start; end = stays-node r.end.node b.0 h.end }
+
   pub sound-without : IsSound (discarded n w)
   sound-without =
       record {
@@ -129,6 +135,7 @@ module _ (n : ℕ) (w : World) (s : IsSound w) (free : is_in_use w n ≡ false) 
         iterators = all_both (IsIterator w.forest) (λ i. list_any is_inside (nodes_of_iterator i) ≡ false) (IsIterator rest) iterator w.iterators s.iterators (none_of_each is_inside nodes_of_iterator w.iterators named.1);
         walkers = all_both (IsWalker w.forest) (λ k. list_any is_inside (nodes_of_walker k) ≡ false) (IsWalker rest) walker w.walkers s.walkers (none_of_each is_inside nodes_of_walker w.walkers named.2);
         registrations = all_both (IsRegistration w.forest) (λ r. list_any is_inside (nodes_of_registration r) ≡ false) (IsRegistration rest) registration w.observing.registrations s.registrations (none_of_each is_inside nodes_of_registration w.observing.registrations named.3);
+        statics = all_both (AreHeld w.forest) (λ r. list_any is_inside (nodes_of_range r) ≡ false) (AreHeld rest) held w.static_ranges s.statics (none_of_each is_inside nodes_of_range w.static_ranges named.4);
       }
 
 pub sound-discard : (b : Bounds) (w : World) → IsSound w → (n : ℕ) → IsSound (answer_discard b n w).world

@@ -25,7 +25,7 @@ use Rattle.dom_model.proofs.Worlds.SameShape.{IsAlike, with_tree-alike}
 use Rattle.dom_model.proofs.Soundness.SoundForests.{IsWood-alike}
 use Rattle.dom_model.proofs.Worlds.Measured.{length-adopted}
 use Rattle.dom_model.proofs.RangesAndContents.RangesSpliced.{range-alike, iterator-alike, there-alike}
-use Rattle.dom_model.proofs.Soundness.SoundWorlds.{ranges-kept, walkers-kept, registrations-kept, child_there, sound-tree_record, sound-remove, sound-remove_all}
+use Rattle.dom_model.proofs.Soundness.SoundWorlds.{ranges-kept, walkers-kept, registrations-kept, statics-kept, child_there, sound-tree_record, sound-remove, sound-remove_all}
 use Rattle.dom_model.proofs.MutationAlgorithms.Loosened.{IsLoosened, loosened-remove, parent-remove, loosened-remove_all}
 use Rattle.dom_model.proofs.Soundness.SoundInserting.{sound-insert}
 
@@ -300,6 +300,7 @@ sound-adopted n document w s =
       iterators = All-weaker (IsIterator w.forest) (IsIterator (adopted n document w.forest)) (iterator-alike a) w.iterators s.iterators;
       walkers = walkers-kept w.forest (adopted n document w.forest) there w.walkers s.walkers;
       registrations = registrations-kept w.forest (adopted n document w.forest) there w.observing.registrations s.registrations;
+      statics = statics-kept w.forest (adopted n document w.forest) there w.static_ranges s.statics;
     }
 
 pub sound-adopt : (n document : ℕ) (w : World) → IsSound w → IsSound (adopt n document w)

@@ -180,6 +180,7 @@ module _ (v : World) (t p base first : ℕ) (ts : List ℕ) (j : AreJoinable v t
         iterators = j.sound.iterators;
         walkers = j.sound.walkers;
         registrations = j.sound.registrations;
+        statics = j.sound.statics;
       }
 
   past_ranges : Lives (ArePast first p (index_of v.forest first)) (map_ranges joins v.ranges)

@@ -17,7 +17,7 @@ use Rattle.dom_model.proofs.Forests.KindsFitting.{KindsFit-root}
 use Rattle.dom_model.proofs.Soundness.SoundForests.{IsWood, IsWood-beside}
 use Rattle.dom_model.proofs.Worlds.Measured.{entry-beside}
 use Rattle.dom_model.proofs.Worlds.Parts.{range-from_part, iterator-from_part}
-use Rattle.dom_model.proofs.Soundness.SoundWorlds.{ranges-kept, walkers-kept, registrations-kept}
+use Rattle.dom_model.proofs.Soundness.SoundWorlds.{ranges-kept, walkers-kept, registrations-kept, statics-kept}
 
 -- the reference of an iterator is in the forest
 pub reference_there : (f : Forest Content) (i : Iterator) → IsIterator f i → 0 < occurs i.reference f
@@ -40,6 +40,7 @@ sound-beside g more w s a =
       iterators = All-weaker (IsIterator f) (IsIterator h) (λ i k. iterator-from_part f h s.forest.once wood.once entries i (reference_there f i k) k) w.iterators s.iterators;
       walkers = walkers-kept f h there w.walkers s.walkers;
       registrations = registrations-kept f h there w.observing.registrations s.registrations;
+      statics = statics-kept f h there w.static_ranges s.statics;
     }
   where
     f : Forest Content

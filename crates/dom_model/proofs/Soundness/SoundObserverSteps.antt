@@ -14,7 +14,7 @@ use Rattle.dom_model.proofs.Forests.Entries.{HasNode-occurs}
 use Rattle.dom_model.proofs.Soundness.SoundGuards.{sound-guarded, sound-checked, there_unless}
 
 sound-observing : (x : Observing) (w : World) → IsSound w → All (IsRegistration w.forest) x.registrations → IsSound (with_observing x w)
-sound-observing x w s h = record { forest = s.forest; ranges = s.ranges; iterators = s.iterators; walkers = s.walkers; registrations = h }
+sound-observing x w s h = record { forest = s.forest; ranges = s.ranges; iterators = s.iterators; walkers = s.walkers; registrations = h; statics = s.statics }
 
 registered-sound : (f : Forest Content) (o n : ℕ) (options : Options) (rs : List Registration) → HasNode f n → All (IsRegistration f) rs → All (IsRegistration f) (registered o n options rs)
 registered-sound f o n options rs there h = go (list_any (is_registered o n) rs)

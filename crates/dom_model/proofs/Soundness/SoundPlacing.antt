@@ -29,7 +29,7 @@ use Rattle.dom_model.proofs.Worlds.SameShape.{IsAlike, with_tree-alike, occurs-a
 use Rattle.dom_model.proofs.Worlds.Measured.{kind-put, length-parent, length-adopted}
 use Rattle.dom_model.proofs.RangesAndContents.RangesPut.{range-put, iterator-put}
 use Rattle.dom_model.proofs.RangesAndContents.RangesSpliced.{range-alike, iterator-alike, there-alike}
-use Rattle.dom_model.proofs.Soundness.SoundWorlds.{IsLive, each-moved, each-kept, walkers-kept, registrations-kept, child_there}
+use Rattle.dom_model.proofs.Soundness.SoundWorlds.{IsLive, each-moved, each-kept, walkers-kept, registrations-kept, statics-kept, child_there}
 
 pub parent_by_fit : (f : Forest Content) (p c : ℕ) → 0 < occurs p f → 0 < occurs c f → may_stand_at f p c ≡ true → kind_passes may_be_parent f p ≡ true
 parent_by_fit f p c hp hc k =
@@ -137,6 +137,7 @@ module _ (parent n : ℕ) (child : Option ℕ) (w : World) (s : IsSound w) (hp :
         iterators = All-weaker (IsIterator w.forest) (IsIterator after_adoption) (λ i j. iterator-alike renamed i (iterator-put s.forest parent n child hp k.there k.root apart_from passes i j)) w.iterators s.iterators;
         walkers = walkers-kept w.forest after_adoption there_placed w.walkers s.walkers;
         registrations = registrations-kept w.forest after_adoption there_placed w.observing.registrations s.registrations;
+        statics = statics-kept w.forest after_adoption there_placed w.static_ranges s.statics;
       }
 
   -- What is left for the nodes that follow.

@@ -1,5 +1,6 @@
 -- The commands that only ask leave the world as it is, or, with a static range, with one range more that is never adjusted.
 use Rattle.std.proofs.Common.{◌≡◌, ℕ, Bool, List, [], ◌∷◌, length, Option, Some, None, refl, sym, subst}
+use Rattle.std.proofs.lemmas.List.Elements.{All-push}
 use Rattle.dom_model.specs.declared.Kind.TheVariants.{Element}
 use Rattle.dom_model.specs.Forests.Arena.{Entry}
 use Rattle.dom_model.specs.Forests.Kinds.{is_kind, is_character_data}
@@ -19,8 +20,9 @@ use Rattle.dom_model.specs.Commands.AnswerTree.{described, answer_node, answer_c
 use Rattle.dom_model.specs.Commands.AnswerData.{answer_data, answer_get_attribute, answer_has_attribute, answer_attribute_names}
 use Rattle.dom_model.specs.Commands.AnswerRanges.{no_range, on_range, answer_range, answer_compare_boundary_points, answer_compare_point, answer_is_point_in_range, answer_intersects_node, answer_common_ancestor, answer_range_text}
 use Rattle.dom_model.specs.Commands.AnswerStatic.{no_static, static_told, answer_create_static_range, answer_static_range}
-use Rattle.dom_model.specs.Soundness.Sound.{IsSound}
-use Rattle.dom_model.proofs.Soundness.SoundGuards.{sound-guarded, sound-checked}
+use Rattle.dom_model.specs.Soundness.Sound.{AreHeld, IsSound}
+use Rattle.dom_model.proofs.Forests.Entries.{HasNode-occurs}
+use Rattle.dom_model.proofs.Soundness.SoundGuards.{sound-guarded, sound-checked, there_unless}
 use Rattle.dom_model.proofs.Soundness.SoundRangeSteps.{live_range, sound-on_range}
 
 -- a question changes nothing
@@ -99,8 +101,16 @@ module _ (b : Bounds) (w : World) (s : IsSound w) where
   sound-create_static_range start end =
       let step : Step = record { reply = Done (Number (length w.static_ranges)); world = made_static (record { start = start; end = end }) w } in
       sound-guarded (no_node start.node w ∷ no_node end.node w ∷ no_room b (length w.static_ranges) 1 ∷ []) w (checked (check_static w.forest start.node end.node) w step) s
-      (λ _. sound-checked (check_static w.forest start.node end.node) w step s
-      (λ _. record { forest = s.forest; ranges = s.ranges; iterators = s.iterators; walkers = s.walkers; registrations = s.registrations }))
+      (λ h. sound-checked (check_static w.forest start.node end.node) w step s
+      (λ _. record {
+        forest = s.forest;
+        ranges = s.ranges;
+        iterators = s.iterators;
+        walkers = s.walkers;
+        registrations = s.registrations;
+        statics = All-push (AreHeld w.forest) w.static_ranges (record { start = start; end = end }) s.statics
+            (record { start = HasNode-occurs w.forest start.node (there_unless w.forest start.node h.0); end = HasNode-occurs w.forest end.node (there_unless w.forest end.node h.1.0) });
+      }))
 
   pub sound-static_range : (u : ℕ) → IsSound (answer_static_range b u w).world
   sound-static_range u = sound-guarded (no_static u w ∷ []) w (static_told w (static_at w u)) s (λ _. go (static_at w u))

@@ -33,15 +33,15 @@ live_range w s r =
 
 pub sound-with_range : (r : ℕ) (range : Range) (w : World) → IsSound w → IsRange w.forest range → IsSound (with_range r range w)
 sound-with_range r range w s h =
-    record { forest = s.forest; ranges = All-set (IsLive w.forest) w.ranges r (Some range) h s.ranges; iterators = s.iterators; walkers = s.walkers; registrations = s.registrations }
+    record { forest = s.forest; ranges = All-set (IsLive w.forest) w.ranges r (Some range) h s.ranges; iterators = s.iterators; walkers = s.walkers; registrations = s.registrations; statics = s.statics }
 
 pub sound-made_range : (range : Range) (w : World) → IsSound w → IsRange w.forest range → IsSound (made_range range w)
 sound-made_range range w s h =
-    record { forest = s.forest; ranges = All-push (IsLive w.forest) w.ranges (Some range) s.ranges h; iterators = s.iterators; walkers = s.walkers; registrations = s.registrations }
+    record { forest = s.forest; ranges = All-push (IsLive w.forest) w.ranges (Some range) s.ranges h; iterators = s.iterators; walkers = s.walkers; registrations = s.registrations; statics = s.statics }
 
 pub sound-released : (r : ℕ) (w : World) → IsSound w → IsSound (released r w)
 sound-released r w s =
-    record { forest = s.forest; ranges = All-set (IsLive w.forest) w.ranges r None tt s.ranges; iterators = s.iterators; walkers = s.walkers; registrations = s.registrations }
+    record { forest = s.forest; ranges = All-set (IsLive w.forest) w.ranges r None tt s.ranges; iterators = s.iterators; walkers = s.walkers; registrations = s.registrations; statics = s.statics }
 
 -- a step on a live range
 pub sound-on_range : (o : Option Range) (w : World) (step : Range → Step) → IsSound w → IsLive w.forest o → ((r : Range) → IsRange w.forest r → IsSound (step r).world) → IsSound (on_range o w step).world

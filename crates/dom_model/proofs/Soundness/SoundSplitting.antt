@@ -109,7 +109,7 @@ module _ (n parent offset : ℕ) (w : World) (s : IsSound w) (hn : 0 < occurs n 
   pub text-made : (test : Kind → Bool) → kind_passes test made.forest n ≡ kind_passes test w.forest n
   text-made test = kind-beside w.forest (node new_node empty empty) n hn test
 
-  has_data : kind_passes is_character_data w.forest n ≡ true
+  pub has_data : kind_passes is_character_data w.forest n ≡ true
   has_data = text_has_data w n text
 
   bare : children_of made.forest n ≡ []
@@ -193,7 +193,7 @@ module _ (n parent offset : ℕ) (w : World) (s : IsSound w) (hn : 0 < occurs n 
       length-adopted w.made (node_document made parent) (put parent w.made (next_of made.forest n) made.forest) m
       ∙ length-put made.forest sm.forest.once parent w.made (next_of made.forest n) (there-old parent hp) there-new root-new apart_inside m (apart-parent m e)
 
-  length-text : node_length unit_count parted n ≡ length (data_of w n)
+  pub length-text : node_length unit_count parted n ≡ length (data_of w n)
   length-text = length-parted n bare ∙ length-beside w.forest (node new_node empty empty) n hn ∙ length-data w.forest n has_data
 
   length-rest : node_length unit_count parted w.made ≡ length (data_of w n) - offset
@@ -202,7 +202,7 @@ module _ (n parent offset : ℕ) (w : World) (s : IsSound w) (hn : 0 < occurs n 
   kind-new : is_of_kind DocumentType parted w.made ≡ false
   kind-new = kind-parted (is_kind DocumentType) w.made ∙ ap (entry_has (is_kind DocumentType)) entry-new
 
-  wood : IsWood parted placed.made
+  pub wood : IsWood parted placed.made
   wood = subst (λ (g : Forest Content). IsWood g placed.made) forest_is sp.forest
 
   abbrev opened : Point → Point
@@ -256,8 +256,8 @@ module _ (n parent offset : ℕ) (w : World) (s : IsSound w) (hn : 0 < occurs n 
       let told = tree_record parent (w.made ∷ []) [] (previous_to made.forest parent (next_of made.forest n)) (next_of made.forest n) placed in
       record told { ranges = map_ranges (after_split n offset w.made parent (index_of told.forest n)) told.ranges }
 
-  sound-after_parting : IsSound after_parting
-  sound-after_parting = record { forest = sp.forest; ranges = ranges-divided; iterators = sp.iterators; walkers = sp.walkers; registrations = sp.registrations }
+  pub sound-after_parting : IsSound after_parting
+  sound-after_parting = record { forest = sp.forest; ranges = ranges-divided; iterators = sp.iterators; walkers = sp.walkers; registrations = sp.registrations; statics = sp.statics }
 
   pub split_off_is : split_off n offset w.made (Some parent) made ≡ after_parting
   split_off_is =

@@ -33,11 +33,11 @@ sound-with_object P (Some a) w step s h k = k a h
 
 sound-with_iterator : (i : ℕ) (it : Iterator) (w : World) → IsSound w → IsIterator w.forest it → IsSound (with_iterator i it w)
 sound-with_iterator i it w s h =
-    record { forest = s.forest; ranges = s.ranges; iterators = All-set (IsIterator w.forest) w.iterators i it h s.iterators; walkers = s.walkers; registrations = s.registrations }
+    record { forest = s.forest; ranges = s.ranges; iterators = All-set (IsIterator w.forest) w.iterators i it h s.iterators; walkers = s.walkers; registrations = s.registrations; statics = s.statics }
 
 sound-with_walker : (k : ℕ) (walker : Walker) (w : World) → IsSound w → IsWalker w.forest walker → IsSound (with_walker k walker w)
 sound-with_walker k walker w s h =
-    record { forest = s.forest; ranges = s.ranges; iterators = s.iterators; walkers = All-set (IsWalker w.forest) w.walkers k walker h s.walkers; registrations = s.registrations }
+    record { forest = s.forest; ranges = s.ranges; iterators = s.iterators; walkers = All-set (IsWalker w.forest) w.walkers k walker h s.walkers; registrations = s.registrations; statics = s.statics }
 
 new_iterator_sound : (f : Forest Content) (root : ℕ) (filter : Filter) → 0 < occurs root f → IsIterator f (new_iterator root filter)
 new_iterator_sound f root filter h =
@@ -83,6 +83,7 @@ module _ (b : Bounds) (w : World) (s : IsSound w) where
         iterators = All-push (IsIterator w.forest) w.iterators (new_iterator root filter) s.iterators (new_iterator_sound w.forest root filter (there_unless w.forest root h.0));
         walkers = s.walkers;
         registrations = s.registrations;
+        statics = s.statics;
       })
 
   pub sound-create_walker : (root : ℕ) (filter : Filter) → IsSound (answer_create_walker b root filter w).world
@@ -95,6 +96,7 @@ module _ (b : Bounds) (w : World) (s : IsSound w) where
         iterators = s.iterators;
         walkers = All-push (IsWalker w.forest) w.walkers (new_walker root filter) s.walkers (record { root = t; current = t });
         registrations = s.registrations;
+        statics = s.statics;
       })
 
   pub sound-iterator : (i : ℕ) → IsSound (answer_iterator b i w).world

@@ -7,7 +7,7 @@ use Rattle.dom_model.specs.BoundaryPoints.Points.{moved_range, map_ranges}
 use Rattle.dom_model.specs.MutationAlgorithms.PreRemoval.{pre_removed}
 use Rattle.dom_model.specs.MutationObservers.Observing.{registered_on, standing_on, transient_of}
 use Rattle.dom_model.specs.MutationAlgorithms.Editing.{queued, tree_record, tree_record_unless, taken_out, transients_made, removed_from, remove, remove_all}
-use Rattle.dom_model.specs.Soundness.Sound.{IsRange, IsIterator, IsWalker, IsRegistration, IsSound}
+use Rattle.dom_model.specs.Soundness.Sound.{IsRange, IsIterator, IsWalker, IsRegistration, AreHeld, IsSound}
 use Rattle.dom_model.specs.DataAndCopies.Joinable.{Lives}
 use Rattle.dom_model.proofs.Forests.Changes.{seen, nothing, just}
 use Rattle.dom_model.proofs.Forests.Totals.{total-cut}
@@ -49,12 +49,15 @@ registrations-kept f g there rs h = All-weaker (IsRegistration f) (IsRegistratio
     from None k = tt
     from (Some n) k = there n k
 
+pub statics-kept : (f g : Forest Content) → ((n : ℕ) → HasNode f n → HasNode g n) → (rs : List Range) → All (AreHeld f) rs → All (AreHeld g) rs
+statics-kept f g there rs h = All-weaker (AreHeld f) (AreHeld g) (λ r k. record { start = there r.start.node k.start; end = there r.end.node k.end }) rs h
+
 -- a change that is noted
 pub sound-queued : (m : Mutation) (w : World) → IsSound w → IsSound (queued m w)
-sound-queued m w s = record { forest = s.forest; ranges = s.ranges; iterators = s.iterators; walkers = s.walkers; registrations = s.registrations }
+sound-queued m w s = record { forest = s.forest; ranges = s.ranges; iterators = s.iterators; walkers = s.walkers; registrations = s.registrations; statics = s.statics }
 
 pub sound-tree_record : (target : ℕ) (added removed : List ℕ) (previous next : Option ℕ) (w : World) → IsSound w → IsSound (tree_record target added removed previous next w)
-sound-tree_record target added removed previous next w s = record { forest = s.forest; ranges = s.ranges; iterators = s.iterators; walkers = s.walkers; registrations = s.registrations }
+sound-tree_record target added removed previous next w s = record { forest = s.forest; ranges = s.ranges; iterators = s.iterators; walkers = s.walkers; registrations = s.registrations; statics = s.statics }
 
 pub sound-record_unless : (suppressed : Bool) (target : ℕ) (added removed : List ℕ) (previous next : Option ℕ) (w : World) → IsSound w → IsSound (tree_record_unless suppressed target added removed previous next w)
 sound-record_unless true target added removed previous next w s = s
@@ -86,6 +89,7 @@ sound-transients n parent w h s =
           (All-map (IsRegistration w.forest) (transient_of n) asked
           (All-weaker (IsRegistration w.forest) (λ r. IsRegistration w.forest (transient_of n r)) (transient-sound w.forest n h) asked
           (All-filter (λ (r : Registration). r.options.subtree) (IsRegistration w.forest) standing (standing-kept w.forest (ancestors parent w.forest) w.observing.registrations s.registrations))));
+      statics = s.statics;
     }
   where
     standing : List Registration
@@ -116,6 +120,7 @@ sound-taken_out n parent w e s =
       iterators = All-map (IsIterator (cut n w.forest)) (pre_removed w.forest n) w.iterators (All-weaker (IsIterator w.forest) (λ i. IsIterator (cut n w.forest) (pre_removed w.forest n i)) (iterator-cut s.forest parent n h e) w.iterators s.iterators);
       walkers = walkers-kept w.forest (cut n w.forest) (there_after_cut w.forest n) w.walkers s.walkers;
       registrations = registrations-kept w.forest (cut n w.forest) (there_after_cut w.forest n) w.observing.registrations s.registrations;
+      statics = statics-kept w.forest (cut n w.forest) (there_after_cut w.forest n) w.static_ranges s.statics;
     }
 
 pub sound-remove : (suppressed : Bool) (n : ℕ) (w : World) → IsSound w → IsSound (remove suppressed n w)

@@ -38,6 +38,11 @@ pub record IsRegistration (f : Forest Content) (r : Registration) : Type 0 where
   pub node : HasNode f r.node
   pub source : IfSome r.source (HasNode f)
 
+-- both nodes of a static range are there; nothing is asked of its offsets
+pub record AreHeld (f : Forest Content) (r : Range) : Type 0 where
+  pub start : HasNode f r.start.node
+  pub end : HasNode f r.end.node
+
 -- a sound world
 pub record IsSound (w : World) : Type 0 where
   pub forest : IsForest (record { forest = w.forest; made = w.made })
@@ -45,3 +50,4 @@ pub record IsSound (w : World) : Type 0 where
   pub iterators : All (IsIterator w.forest) w.iterators
   pub walkers : All (IsWalker w.forest) w.walkers
   pub registrations : All (IsRegistration w.forest) w.observing.registrations
+  pub statics : All (AreHeld w.forest) w.static_ranges

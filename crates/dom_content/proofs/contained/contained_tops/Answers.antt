@@ -8,29 +8,29 @@ use Rattle.dom_content.proofs.DrawnContents.{first-held, last-held}
 use Rattle.dom_content.proofs.TopsOfPaths.{tops-of_parts}
 use Rattle.dom_content.proofs.contained.contained_tops.Goals as goal
 
-pub tail_along-requires : goal.tail_along-requires
-tail_along-requires c =
+pub tail_nodes-requires : goal.tail_nodes-requires
+tail_nodes-requires c =
     let v = c.args.world.now in
     let r : Range = record { start = c.args.start; end = c.args.end } in
-    let parts = c.in_ok-parts.parts in
-    record { held = subst (λ (ns : List ℕ). AreThere v.tree.forest ns) (sym c.deref.ensures.value) (first-held v c.requires.whole r c.requires.range parts.first.items parts.contained.items parts.last.items c.in_ok-parts.ensures) }
+    let parts = c.args.parts.now in
+    record { held = subst (λ (ns : List ℕ). AreThere v.tree.forest ns) (sym c.deref.ensures.value) (first-held v c.requires.whole r c.requires.range parts.first.items parts.contained.items parts.last.items c.requires.parts) }
 
-pub head_along-requires : goal.head_along-requires
-head_along-requires c =
+pub head_nodes-requires : goal.head_nodes-requires
+head_nodes-requires c =
     let v = c.args.world.now in
     let r : Range = record { start = c.args.start; end = c.args.end } in
-    let parts = c.in_ok-parts.parts in
-    record { held = subst (λ (ns : List ℕ). AreThere v.tree.forest ns) (sym c.deref-2.ensures.value) (last-held v c.requires.whole r c.requires.range parts.first.items parts.contained.items parts.last.items c.in_ok-parts.ensures) }
+    let parts = c.args.parts.now in
+    record { held = subst (λ (ns : List ℕ). AreThere v.tree.forest ns) (sym c.deref-3.ensures.value) (last-held v c.requires.whole r c.requires.range parts.first.items parts.contained.items parts.last.items c.requires.parts) }
 
 pub returns : goal.returns
 returns c =
     let v = c.args.world.now in
     let w = unwatched v in
     let r : Range = record { start = c.args.start; end = c.args.end } in
-    let parts = c.in_ok-parts.parts in
+    let parts = c.args.parts.now in
     let first = c.in_ok-tops.ensures ∙ ap (λ (p : Point). tail_nodes w p.offset c.deref.result.now) c.start.view_is ∙ ap (tail_nodes w c.args.start.offset) c.deref.ensures.value in
-    let last = c.in_ok-last.ensures ∙ ap (λ (p : Point). head_nodes w p.offset c.deref-2.result.now) c.end.view_is ∙ ap (head_nodes w c.args.end.offset) c.deref-2.ensures.value in
-    tops-of_parts v c.requires.whole r c.requires.range parts.first.items parts.contained.items parts.last.items c.append-2.new.self.items c.in_ok-parts.ensures
-    (c.in_ok-append-2.ensures.items
-    ∙ ap (λ ns. ns ++ c.in_ok-last.last.items) (c.in_ok-append.ensures.items ∙ ap (λ ns. ns ++ parts.contained.items) first)
+    let last = c.in_ok-last.ensures ∙ ap (λ (p : Point). head_nodes w p.offset c.deref-3.result.now) c.end.view_is ∙ ap (head_nodes w c.args.end.offset) c.deref-3.ensures.value in
+    tops-of_parts v c.requires.whole r c.requires.range parts.first.items parts.contained.items parts.last.items c.append.new.self.items c.requires.parts
+    (c.in_ok-append.ensures.items
+    ∙ ap (λ ns. ns ++ c.in_ok-last.last.items) (c.in_ok-extend_from_slice.ensures.items ∙ ap (λ ns. c.in_ok-tops.tops.items ++ ns) c.deref-2.ensures.value ∙ ap (λ ns. ns ++ parts.contained.items) first)
     ∙ ap (λ ns. (tail_nodes w c.args.start.offset parts.first.items ++ parts.contained.items) ++ ns) last)

@@ -4,6 +4,8 @@ use Rattle.std.proofs.lemmas.Grind.{common_steps}
 use Rattle.std.specs.Prelude.{Option}
 use Rattle.dom_model.specs.Worlds.World.{Point, Range}
 use Rattle.dom_content.proofs.RangeTexts.{range-held}
+use Rattle.dom_content.proofs.ChildrenBetween.{first-way}
+use Rattle.dom_content.proofs.PartsGathered.{place-by_parts}
 use Rattle.dom_content.proofs.DeletedBetween.{tops-there, end-there, place-left, live-still, follows-deleted_between}
 use Rattle.dom_content.proofs.deleting.delete_between.Goals as goal
 
@@ -36,7 +38,7 @@ stand_at-requires-clause-within c =
     let range : Range = record { start = c.args.start; end = c.args.end } in
     let is = range-held v c.requires.whole c.args.range range c.requires.ends in
     place-left v c.requires.whole c.args.range range is c.requires.apart c.cut_from.new.world c.in_ok-cut_from.ensures.cut c.deref.result.now (c.deref.ensures.value ∙ c.in_ok-tops.ensures) c.remove_each.new.world
-    c.in_ok-remove_each.ensures.removed c.cut_up_to.new.world c.in_ok-cut_up_to.ensures.cut c.new_place-place.result c.new_place-place.ensures.place
+    c.in_ok-remove_each.ensures.removed c.cut_up_to.new.world c.in_ok-cut_up_to.ensures.cut c.new_place-place.result (c.new_place-place.ensures ∙ place-by_parts v.tree c.requires.whole.forest range is c.in_ok-parts.parts.ancestor c.in_ok-parts.ensures.ancestor c.in_ok-parts.parts.first.items c.in_ok-parts.ensures.parts.first)
 
 pub returns-clause-deleted : goal.returns-clause-deleted
 returns-clause-deleted c =
@@ -45,10 +47,21 @@ returns-clause-deleted c =
     let is = range-held v c.requires.whole c.args.range range c.requires.ends in
     let place : Point = record { node = c.new_place-place.result.node; offset = c.new_place-place.result.offset } in
     follows-deleted_between v c.requires.whole c.args.range range is c.requires.apart c.cut_from.new.world c.in_ok-cut_from.ensures.cut c.deref.result.now (c.deref.ensures.value ∙ c.in_ok-tops.ensures) c.remove_each.new.world
-    c.in_ok-remove_each.ensures.removed c.cut_up_to.new.world c.in_ok-cut_up_to.ensures.cut c.stand_at.new.world place c.new_place-place.ensures.place c.stand_at.ensures.stands
+    c.in_ok-remove_each.ensures.removed c.cut_up_to.new.world c.in_ok-cut_up_to.ensures.cut c.stand_at.new.world place (c.new_place-place.ensures ∙ place-by_parts v.tree c.requires.whole.forest range is c.in_ok-parts.parts.ancestor c.in_ok-parts.ensures.ancestor c.in_ok-parts.parts.first.items c.in_ok-parts.ensures.parts.first) c.stand_at.ensures.stands
 
-pub new_place-place-requires : goal.new_place-place-requires
-new_place-place-requires c = grind (arith, common_steps)
+pub parts_of-requires : goal.parts_of-requires
+parts_of-requires c = grind (arith, common_steps)
+
+pub new_place-place-requires-clause-held : goal.new_place-place-requires-clause-held
+new_place-place-requires-clause-held c =
+    let is = range-held c.args.world.now c.requires.whole c.args.range (record { start = c.args.start; end = c.args.end }) c.requires.ends in
+    is.starts.there
+
+pub new_place-place-requires-clause-way : goal.new_place-place-requires-clause-way
+new_place-place-requires-clause-way c =
+    let range : Range = record { start = c.args.start; end = c.args.end } in
+    let is = range-held c.args.world.now c.requires.whole c.args.range range c.requires.ends in
+    first-way c.args.world.now.tree c.requires.whole.forest range is c.in_ok-parts.parts.ancestor c.in_ok-parts.ensures.ancestor c.in_ok-parts.parts.first.items c.in_ok-parts.ensures.parts.first
 
 pub contained_tops-requires-clause-range : goal.contained_tops-requires-clause-range
 contained_tops-requires-clause-range c = grind (arith, common_steps)

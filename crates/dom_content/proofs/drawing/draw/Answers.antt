@@ -3,7 +3,8 @@ use Rattle.std.proofs.Common.{refl, ap}
 use Rattle.dom_content.specs.Drawing.{in_one_data}
 use Rattle.dom_content.proofs.RangeTexts.{ahead-of}
 use Rattle.dom_content.proofs.PieceSteps.{held-still}
-use Rattle.dom_content.proofs.DrawnContents.{list-after, document-is, document-kind, one-same, first-held, contained-held, last-held, follows-drawn, room-fragment, room-filled}
+use Rattle.dom_content.proofs.DrawnContents.{document-is, document-kind, one-same, follows-drawn, room-fragment, room-filled}
+use Rattle.dom_content.proofs.PartsComing.{may-fill}
 use Rattle.dom_content.proofs.drawing.draw.Goals as goal
 
 pub new_fragment-requires-clause-document_kind : goal.new_fragment-requires-clause-document_kind
@@ -24,20 +25,37 @@ fill-requires-clause-start_held c = held-still c.args.world.now c.new_fragment.n
 pub fill-requires-clause-ahead : goal.fill-requires-clause-ahead
 fill-requires-clause-ahead c = λ h. ahead-of c.args.world.now.tree.forest (record { start = c.args.start; end = c.args.end }) c.args.start c.args.end c.requires.range refl refl h
 
-pub fill-requires-clause-first_held : goal.fill-requires-clause-first_held
-fill-requires-clause-first_held c =
-    list-after c.args.world.now c.new_fragment.new.world c.in_ok-fragment.ensures.still_held c.args.parts.now.first.items
-    (first-held c.args.world.now c.requires.whole (record { start = c.args.start; end = c.args.end }) c.requires.range c.args.parts.now.first.items c.args.parts.now.contained.items c.args.parts.now.last.items c.requires.parts)
+pub fill-requires-clause-may : goal.fill-requires-clause-may
+fill-requires-clause-may c =
+    let m = may-fill c.args.world.now c.requires.whole (record { start = c.args.start; end = c.args.end }) c.requires.range c.requires.allowed c.args.parts.now.first.items c.args.parts.now.contained.items c.args.parts.now.last.items c.requires.parts
+    c.new_fragment.new.world c.document_of-document.result c.in_ok-fragment.fragment
+    (document-is c.args.world.now.tree.forest c.start.inside.node c.args.start.node c.document_of-document.result (ap (λ p. p.node) c.start.view_is) c.requires.range.starts.there c.document_of-document.ensures)
+    c.in_ok-fragment.ensures.number c.in_ok-fragment.ensures.made in
+    m.may
 
-pub fill-requires-clause-contained_held : goal.fill-requires-clause-contained_held
-fill-requires-clause-contained_held c =
-    list-after c.args.world.now c.new_fragment.new.world c.in_ok-fragment.ensures.still_held c.args.parts.now.contained.items
-    (contained-held c.args.world.now c.requires.whole (record { start = c.args.start; end = c.args.end }) c.requires.range c.args.parts.now.first.items c.args.parts.now.contained.items c.args.parts.now.last.items c.requires.parts)
+pub fill-requires-clause-first_way : goal.fill-requires-clause-first_way
+fill-requires-clause-first_way c =
+    let m = may-fill c.args.world.now c.requires.whole (record { start = c.args.start; end = c.args.end }) c.requires.range c.requires.allowed c.args.parts.now.first.items c.args.parts.now.contained.items c.args.parts.now.last.items c.requires.parts
+    c.new_fragment.new.world c.document_of-document.result c.in_ok-fragment.fragment
+    (document-is c.args.world.now.tree.forest c.start.inside.node c.args.start.node c.document_of-document.result (ap (λ p. p.node) c.start.view_is) c.requires.range.starts.there c.document_of-document.ensures)
+    c.in_ok-fragment.ensures.number c.in_ok-fragment.ensures.made in
+    m.first_way
 
-pub fill-requires-clause-last_held : goal.fill-requires-clause-last_held
-fill-requires-clause-last_held c =
-    list-after c.args.world.now c.new_fragment.new.world c.in_ok-fragment.ensures.still_held c.args.parts.now.last.items
-    (last-held c.args.world.now c.requires.whole (record { start = c.args.start; end = c.args.end }) c.requires.range c.args.parts.now.first.items c.args.parts.now.contained.items c.args.parts.now.last.items c.requires.parts)
+pub fill-requires-clause-last_way : goal.fill-requires-clause-last_way
+fill-requires-clause-last_way c =
+    let m = may-fill c.args.world.now c.requires.whole (record { start = c.args.start; end = c.args.end }) c.requires.range c.requires.allowed c.args.parts.now.first.items c.args.parts.now.contained.items c.args.parts.now.last.items c.requires.parts
+    c.new_fragment.new.world c.document_of-document.result c.in_ok-fragment.fragment
+    (document-is c.args.world.now.tree.forest c.start.inside.node c.args.start.node c.document_of-document.result (ap (λ p. p.node) c.start.view_is) c.requires.range.starts.there c.document_of-document.ensures)
+    c.in_ok-fragment.ensures.number c.in_ok-fragment.ensures.made in
+    m.last_way
+
+pub fill-requires-clause-within : goal.fill-requires-clause-within
+fill-requires-clause-within c =
+    let m = may-fill c.args.world.now c.requires.whole (record { start = c.args.start; end = c.args.end }) c.requires.range c.requires.allowed c.args.parts.now.first.items c.args.parts.now.contained.items c.args.parts.now.last.items c.requires.parts
+    c.new_fragment.new.world c.document_of-document.result c.in_ok-fragment.fragment
+    (document-is c.args.world.now.tree.forest c.start.inside.node c.args.start.node c.document_of-document.result (ap (λ p. p.node) c.start.view_is) c.requires.range.starts.there c.document_of-document.ensures)
+    c.in_ok-fragment.ensures.number c.in_ok-fragment.ensures.made in
+    m.within
 
 pub fill-requires-clause-room : goal.fill-requires-clause-room
 fill-requires-clause-room c =

@@ -1,23 +1,85 @@
--- Each part has its room, and what it needs is still held.
-use Rattle.std.proofs.Common.{ap}
-use Rattle.dom_content.proofs.PieceSteps.{held-still, still-then}
+-- Each part has its room, and may go in.
+use Rattle.std.proofs.Common.{◌++◌, ap, sym, subst}
+use Rattle.dom_content.specs.Coming.{AreOld, IsPathTo}
+use Rattle.dom_content.proofs.Comings.{left-old, right-old, holder-goes, old-goes, goes-then, front-goes, goes-children, goes-tail}
 use Rattle.dom_content.proofs.DrawnContents.{room-tail, room-children}
 use Rattle.dom_content.proofs.drawing.draw_parts.Goals as goal
+
+pub tail_into-requires-clause-may : goal.tail_into-requires-clause-may
+tail_into-requires-clause-may c =
+    let m = c.requires.may in
+    let f = c.args.world.now.tree.forest in
+    let path = c.deref.result.now in
+    let old : AreOld m.low f path = rw c.deref.ensures.value (left-old m.low f c.args.parts.now.first.items (c.args.parts.now.contained.items ++ c.args.parts.now.last.items) m.nodes) in
+    let way : IsPathTo f c.start.inside.offset path = subst (λ o. IsPathTo f o path) (sym (ap (λ p. p.offset) c.start.view_is)) (rw c.deref.ensures.value c.requires.first_way) in
+    record { low = m.low; rising = m.rising; holder = m.holder; nodes = old }
+
+pub tail_into-requires-clause-way : goal.tail_into-requires-clause-way
+tail_into-requires-clause-way c =
+    let m = c.requires.may in
+    let f = c.args.world.now.tree.forest in
+    let path = c.deref.result.now in
+    let old : AreOld m.low f path = rw c.deref.ensures.value (left-old m.low f c.args.parts.now.first.items (c.args.parts.now.contained.items ++ c.args.parts.now.last.items) m.nodes) in
+    let way : IsPathTo f c.start.inside.offset path = subst (λ o. IsPathTo f o path) (sym (ap (λ p. p.offset) c.start.view_is)) (rw c.deref.ensures.value c.requires.first_way) in
+    way
 
 pub tail_into-requires-clause-room : goal.tail_into-requires-clause-room
 tail_into-requires-clause-room c =
     room-tail c.args.moves c.args.into (record { start = c.args.start; end = c.args.end }) c.args.parts.now.first.items c.args.parts.now.contained.items c.args.parts.now.last.items
     c.args.world.now c.start.inside.offset c.deref.result.now (ap (λ p. p.offset) c.start.view_is) c.deref.ensures.value c.requires.room
 
-pub children_into-requires-clause-into_held : goal.children_into-requires-clause-into_held
-children_into-requires-clause-into_held c = held-still c.args.world.now c.tail_into.new.world c.in_ok-tail_into.ensures.still_held c.args.into c.requires.into_held
+pub children_into-requires-clause-may : goal.children_into-requires-clause-may
+children_into-requires-clause-may c =
+    let m = c.requires.may in
+    let f = c.args.world.now.tree.forest in
+    let path = c.deref.result.now in
+    let old : AreOld m.low f path = rw c.deref.ensures.value (left-old m.low f c.args.parts.now.first.items (c.args.parts.now.contained.items ++ c.args.parts.now.last.items) m.nodes) in
+    let way : IsPathTo f c.start.inside.offset path = subst (λ o. IsPathTo f o path) (sym (ap (λ p. p.offset) c.start.view_is)) (rw c.deref.ensures.value c.requires.first_way) in
+    let mid = c.tail_into.new.world in
+    let a = goes-tail c.args.world.now c.requires.whole m.low m.rising c.args.into m.holder c.args.moves c.start.inside.offset path old way mid c.in_ok-tail_into.ensures.drawn in
+    let more = right-old m.low f c.args.parts.now.first.items (c.args.parts.now.contained.items ++ c.args.parts.now.last.items) m.nodes in
+    let contained : AreOld m.low mid.tree.forest c.deref-2.result.now = rw c.deref-2.ensures.value (λ x i. old-goes m.low c.args.world.now mid a x (left-old m.low f c.args.parts.now.contained.items c.args.parts.now.last.items more x i)) in
+    let holder = holder-goes m.low c.args.world.now mid a c.args.into m.holder in
+    record { low = m.low; rising = a.rising; holder = holder; nodes = contained }
 
 pub children_into-requires-clause-room : goal.children_into-requires-clause-room
 children_into-requires-clause-room c =
     room-children c.args.moves c.args.into (record { start = c.args.start; end = c.args.end }) c.args.parts.now.first.items c.args.parts.now.contained.items c.args.parts.now.last.items
     c.args.world.now c.tail_into.new.world c.start.inside.offset c.deref.result.now c.deref-2.result.now (ap (λ p. p.offset) c.start.view_is) c.deref.ensures.value c.deref-2.ensures.value c.in_ok-tail_into.ensures.drawn c.requires.room
 
-pub head_into-requires-clause-into_held : goal.head_into-requires-clause-into_held
-head_into-requires-clause-into_held c =
-    held-still c.args.world.now c.children_into.new.world
-    (still-then c.args.world.now c.tail_into.new.world c.children_into.new.world c.in_ok-tail_into.ensures.still_held c.in_ok-children_into.ensures.still_held) c.args.into c.requires.into_held
+pub head_into-requires-clause-may : goal.head_into-requires-clause-may
+head_into-requires-clause-may c =
+    let m = c.requires.may in
+    let f = c.args.world.now.tree.forest in
+    let path = c.deref.result.now in
+    let old : AreOld m.low f path = rw c.deref.ensures.value (left-old m.low f c.args.parts.now.first.items (c.args.parts.now.contained.items ++ c.args.parts.now.last.items) m.nodes) in
+    let way : IsPathTo f c.start.inside.offset path = subst (λ o. IsPathTo f o path) (sym (ap (λ p. p.offset) c.start.view_is)) (rw c.deref.ensures.value c.requires.first_way) in
+    let mid = c.tail_into.new.world in
+    let a = goes-tail c.args.world.now c.requires.whole m.low m.rising c.args.into m.holder c.args.moves c.start.inside.offset path old way mid c.in_ok-tail_into.ensures.drawn in
+    let more = right-old m.low f c.args.parts.now.first.items (c.args.parts.now.contained.items ++ c.args.parts.now.last.items) m.nodes in
+    let contained : AreOld m.low mid.tree.forest c.deref-2.result.now = rw c.deref-2.ensures.value (λ x i. old-goes m.low c.args.world.now mid a x (left-old m.low f c.args.parts.now.contained.items c.args.parts.now.last.items more x i)) in
+    let holder = holder-goes m.low c.args.world.now mid a c.args.into m.holder in
+    let end = c.children_into.new.world in
+    let b = goes-children mid c.in_ok-tail_into.ensures.whole m.low a.rising c.args.into holder c.args.moves c.deref-2.result.now contained end c.in_ok-children_into.ensures.drawn in
+    let g = goes-then m.low c.args.world.now mid end a b in
+    let last = right-old m.low f c.args.parts.now.contained.items c.args.parts.now.last.items more in
+    let nodes : AreOld m.low end.tree.forest c.deref-3.result.now = rw c.deref-3.ensures.value (λ x i. old-goes m.low c.args.world.now end g x (last x i)) in
+    record { low = m.low; rising = g.rising; holder = holder-goes m.low mid end b c.args.into holder; nodes = nodes }
+
+pub head_into-requires-clause-way : goal.head_into-requires-clause-way
+head_into-requires-clause-way c =
+    let m = c.requires.may in
+    let f = c.args.world.now.tree.forest in
+    let path = c.deref.result.now in
+    let old : AreOld m.low f path = rw c.deref.ensures.value (left-old m.low f c.args.parts.now.first.items (c.args.parts.now.contained.items ++ c.args.parts.now.last.items) m.nodes) in
+    let way : IsPathTo f c.start.inside.offset path = subst (λ o. IsPathTo f o path) (sym (ap (λ p. p.offset) c.start.view_is)) (rw c.deref.ensures.value c.requires.first_way) in
+    let mid = c.tail_into.new.world in
+    let a = goes-tail c.args.world.now c.requires.whole m.low m.rising c.args.into m.holder c.args.moves c.start.inside.offset path old way mid c.in_ok-tail_into.ensures.drawn in
+    let more = right-old m.low f c.args.parts.now.first.items (c.args.parts.now.contained.items ++ c.args.parts.now.last.items) m.nodes in
+    let contained : AreOld m.low mid.tree.forest c.deref-2.result.now = rw c.deref-2.ensures.value (λ x i. old-goes m.low c.args.world.now mid a x (left-old m.low f c.args.parts.now.contained.items c.args.parts.now.last.items more x i)) in
+    let holder = holder-goes m.low c.args.world.now mid a c.args.into m.holder in
+    let end = c.children_into.new.world in
+    let b = goes-children mid c.in_ok-tail_into.ensures.whole m.low a.rising c.args.into holder c.args.moves c.deref-2.result.now contained end c.in_ok-children_into.ensures.drawn in
+    let g = goes-then m.low c.args.world.now mid end a b in
+    let last = right-old m.low f c.args.parts.now.contained.items c.args.parts.now.last.items more in
+    rw c.deref-3.ensures.value (front-goes m.low c.args.world.now end g c.args.parts.now.last.items last c.requires.last_way)

@@ -4,7 +4,9 @@ use Rattle.dom_model.specs.declared.Kind.TheVariants.{DocumentType}
 use Rattle.dom_model.specs.Worlds.World.{Range}
 use Rattle.dom_model.specs.MutationAlgorithms.Checks.{has_kind}
 use Rattle.dom_model.specs.RangesAndContents.Contents.{extracted, extract}
+use Rattle.dom_model.proofs.TokenText.EditsMade.EditsOfDrawnContents.{check-range}
 use Rattle.dom_clone.specs.dom_edit.Inserting.{AreThere}
+use Rattle.dom_clone.specs.dom_edit.Whole.{unwatched}
 use Rattle.dom_content.proofs.ContentsMarked.{may-draw, markers-extracted}
 use Rattle.dom_content.proofs.ContentsLeft.{left-extracted, held-extracted, moved-extracted}
 use Rattle.dom_content.specs.Left.{HoldsBetween, MovesBetween}
@@ -23,21 +25,34 @@ has_doctype-requires c =
       held = subst (λ ns. AreThere v.tree.forest ns) (sym c.deref.ensures.value)
           (contained-held v c.requires.whole (record { start = c.ends-start.result.0; end = c.ends-start.result.1 })
           (range-held v c.requires.whole c.args.range (record { start = c.ends-start.result.0; end = c.ends-start.result.1 }) c.ends-start.ensures.ends)
-          c.in_ok-parts.parts.first.items c.in_ok-parts.parts.contained.items c.in_ok-parts.parts.last.items c.in_ok-parts.ensures);
+          c.in_ok-parts.parts.first.items c.in_ok-parts.parts.contained.items c.in_ok-parts.parts.last.items c.in_ok-parts.ensures.parts);
     }
 
 pub extract_parts-requires-clause-range : goal.extract_parts-requires-clause-range
 extract_parts-requires-clause-range c = range-held c.args.world.now c.requires.whole c.args.range (record { start = c.ends-start.result.0; end = c.ends-start.result.1 }) c.ends-start.ensures.ends
 
 pub extract_parts-requires-clause-room : goal.extract_parts-requires-clause-room
-extract_parts-requires-clause-room c = room-extracted c.args.world.now c.args.range (record { start = c.ends-start.result.0; end = c.ends-start.result.1 }) c.ends-start.ensures.ends c.requires.room
+extract_parts-requires-clause-room c =
+    let v = c.args.world.now in
+    let range : Range = record { start = c.ends-start.result.0; end = c.ends-start.result.1 } in
+    let none = ap (has_kind DocumentType v.tree.forest) (sym c.deref.ensures.value) ∙ sym c.if-has_doctype.ensures in
+    let allowed = may-draw v c.args.range range c.in_ok-parts.parts.first.items c.in_ok-parts.parts.contained.items c.in_ok-parts.parts.last.items c.ends-start.ensures.ends c.in_ok-parts.ensures.parts none in
+    room-extracted v c.args.range range c.ends-start.ensures.ends (c.requires.room allowed)
+
+pub extract_parts-requires-clause-allowed : goal.extract_parts-requires-clause-allowed
+extract_parts-requires-clause-allowed c =
+    let v = c.args.world.now in
+    let range : Range = record { start = c.ends-start.result.0; end = c.ends-start.result.1 } in
+    let none = ap (has_kind DocumentType v.tree.forest) (sym c.deref.ensures.value) ∙ sym c.if-has_doctype.ensures in
+    let allowed = may-draw v c.args.range range c.in_ok-parts.parts.first.items c.in_ok-parts.parts.contained.items c.in_ok-parts.parts.last.items c.ends-start.ensures.ends c.in_ok-parts.ensures.parts none in
+    check-range (unwatched v) c.args.range range c.ends-start.ensures.ends allowed
 
 pub returns-clause-markers : goal.returns-clause-markers
 returns-clause-markers c =
     let v = c.args.world.now in
     let range : Range = record { start = c.ends-start.result.0; end = c.ends-start.result.1 } in
     let none = ap (has_kind DocumentType v.tree.forest) (sym c.deref.ensures.value) ∙ sym c.if-has_doctype.ensures in
-    let allowed = may-draw v c.args.range range c.in_ok-parts.parts.first.items c.in_ok-parts.parts.contained.items c.in_ok-parts.parts.last.items c.ends-start.ensures.ends c.in_ok-parts.ensures none in
+    let allowed = may-draw v c.args.range range c.in_ok-parts.parts.first.items c.in_ok-parts.parts.contained.items c.in_ok-parts.parts.last.items c.ends-start.ensures.ends c.in_ok-parts.ensures.parts none in
     markers-extracted v c.extract_parts.new.world c.args.range c.requires.whole c.in_ok-fragment.ensures.whole allowed
     (follows-alike v c.extract_parts.new.world (extracted c.args.range range) (extract c.args.range) (λ w k. range-extracted v c.args.range range c.ends-start.ensures.ends w k) c.in_ok-fragment.ensures.extracted)
 
@@ -46,7 +61,7 @@ returns-clause-left c =
     let v = c.args.world.now in
     let range : Range = record { start = c.ends-start.result.0; end = c.ends-start.result.1 } in
     let none = ap (has_kind DocumentType v.tree.forest) (sym c.deref.ensures.value) ∙ sym c.if-has_doctype.ensures in
-    let allowed = may-draw v c.args.range range c.in_ok-parts.parts.first.items c.in_ok-parts.parts.contained.items c.in_ok-parts.parts.last.items c.ends-start.ensures.ends c.in_ok-parts.ensures none in
+    let allowed = may-draw v c.args.range range c.in_ok-parts.parts.first.items c.in_ok-parts.parts.contained.items c.in_ok-parts.parts.last.items c.ends-start.ensures.ends c.in_ok-parts.ensures.parts none in
     left-extracted v c.extract_parts.new.world c.args.range c.requires.whole allowed
     (follows-alike v c.extract_parts.new.world (extracted c.args.range range) (extract c.args.range) (λ w k. range-extracted v c.args.range range c.ends-start.ensures.ends w k) c.in_ok-fragment.ensures.extracted)
 
@@ -55,7 +70,7 @@ returns-clause-held c =
     let v = c.args.world.now in
     let range : Range = record { start = c.ends-start.result.0; end = c.ends-start.result.1 } in
     let none = ap (has_kind DocumentType v.tree.forest) (sym c.deref.ensures.value) ∙ sym c.if-has_doctype.ensures in
-    let allowed = may-draw v c.args.range range c.in_ok-parts.parts.first.items c.in_ok-parts.parts.contained.items c.in_ok-parts.parts.last.items c.ends-start.ensures.ends c.in_ok-parts.ensures none in
+    let allowed = may-draw v c.args.range range c.in_ok-parts.parts.first.items c.in_ok-parts.parts.contained.items c.in_ok-parts.parts.last.items c.ends-start.ensures.ends c.in_ok-parts.ensures.parts none in
     subst (λ id. HoldsBetween v c.extract_parts.new.world c.args.range id) (sym c.in_ok-fragment.ensures.number)
     (held-extracted v c.extract_parts.new.world c.args.range c.requires.whole allowed
     (follows-alike v c.extract_parts.new.world (extracted c.args.range range) (extract c.args.range) (λ w k. range-extracted v c.args.range range c.ends-start.ensures.ends w k) c.in_ok-fragment.ensures.extracted))
@@ -65,7 +80,7 @@ returns-clause-moved c =
     let v = c.args.world.now in
     let range : Range = record { start = c.ends-start.result.0; end = c.ends-start.result.1 } in
     let none = ap (has_kind DocumentType v.tree.forest) (sym c.deref.ensures.value) ∙ sym c.if-has_doctype.ensures in
-    let allowed = may-draw v c.args.range range c.in_ok-parts.parts.first.items c.in_ok-parts.parts.contained.items c.in_ok-parts.parts.last.items c.ends-start.ensures.ends c.in_ok-parts.ensures none in
+    let allowed = may-draw v c.args.range range c.in_ok-parts.parts.first.items c.in_ok-parts.parts.contained.items c.in_ok-parts.parts.last.items c.ends-start.ensures.ends c.in_ok-parts.ensures.parts none in
     subst (λ id. MovesBetween v c.extract_parts.new.world c.args.range id) (sym c.in_ok-fragment.ensures.number)
     (moved-extracted v c.extract_parts.new.world c.args.range c.requires.whole allowed
     (follows-alike v c.extract_parts.new.world (extracted c.args.range range) (extract c.args.range) (λ w k. range-extracted v c.args.range range c.ends-start.ensures.ends w k) c.in_ok-fragment.ensures.extracted))

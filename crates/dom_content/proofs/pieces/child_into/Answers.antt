@@ -1,17 +1,30 @@
 -- The node itself, or its copy.
-use Rattle.std.proofs.Common.{subst, sym}
+use Rattle.std.proofs.Common.{[], true, subst, sym}
+use Rattle.std.specs.Prelude.{OnOk}
 use Rattle.dom_model.specs.RangesAndContents.Contents.{child_into}
 use Rattle.dom_clone.specs.dom_edit.Whole.{Follows}
 use Rattle.dom_content.specs.Paths.{HasRoom}
-use Rattle.dom_content.proofs.PieceSteps.{room-child, follows-child, still-then, held-still}
+use Rattle.dom_content.proofs.PieceSteps.{room-child, follows-child, still-then}
+use Rattle.dom_content.proofs.Comings.{first-old, may-put, may-put_copy}
 use Rattle.dom_content.proofs.pieces.child_into.Goals as goal
 
 pub copy_of-requires-clause-room : goal.copy_of-requires-clause-room
 copy_of-requires-clause-room c =
     room-child c.args.world.now c.args.into c.args.node (subst (λ b. HasRoom c.args.world.now (child_into b c.args.into c.args.node)) c.if-moves.false c.requires.room)
 
-pub put_last-requires-2-clause-parent_held : goal.put_last-requires-2-clause-parent_held
-put_last-requires-2-clause-parent_held c = held-still c.args.world.now c.copy_of.new.world c.in_ok-copy.ensures.still_held c.args.into c.requires.into_held
+pub returns-then-moves-clause-drawn : goal.returns-then-moves-clause-drawn
+returns-then-moves-clause-drawn c =
+    subst (λ b. OnOk c.put_last.result (Follows c.args.world.now c.put_last.new.world (child_into b c.args.into c.args.node))) (sym c.if-moves.true) c.put_last.ensures.appended
+
+pub put_last-requires-clause-allowed : goal.put_last-requires-clause-allowed
+put_last-requires-clause-allowed c =
+    may-put c.args.world.now c.requires.whole c.requires.may.low c.requires.may.rising c.args.into c.args.node c.requires.may.holder (first-old c.requires.may.low c.args.world.now.tree.forest c.args.node [] c.requires.may.nodes)
+
+pub put_last-requires-2-clause-allowed : goal.put_last-requires-2-clause-allowed
+put_last-requires-2-clause-allowed c =
+    rw c.in_ok-copy.ensures.number
+    (may-put_copy c.args.world.now c.requires.whole c.requires.may.low c.requires.may.rising c.args.into c.requires.may.holder true c.args.node (first-old c.requires.may.low c.args.world.now.tree.forest c.args.node [] c.requires.may.nodes)
+    c.copy_of.new.world c.in_ok-copy.ensures.whole c.in_ok-copy.ensures.copied)
 
 pub returns-clause-drawn : goal.returns-clause-drawn
 returns-clause-drawn c =

@@ -1,16 +1,17 @@
 -- Each node takes its turn.
-use Rattle.dom_content.proofs.PieceSteps.{filling-first, filling-room, filling-held, filling-next, filling-end, held-still}
+use Rattle.dom_content.proofs.PieceSteps.{filling-first, filling-may, filling-room, filling-held, filling-next, filling-end}
 use Rattle.dom_content.proofs.pieces.children_into.Goals as goal
 
 pub loop-node-init : goal.loop-node-init
-loop-node-init c = filling-first c.args.world.now c.args.moves c.args.into c.args.nodes.now c.requires.whole c.requires.room
+loop-node-init c = filling-first c.args.world.now c.args.moves c.args.into c.args.nodes.now c.requires.whole c.requires.may c.requires.room
 
-pub child_into-requires-clause-into_held : goal.child_into-requires-clause-into_held
-child_into-requires-clause-into_held c = held-still c.args.world.now c.loop-node.world c.loop-node.invariant.still c.args.into c.requires.into_held
+pub child_into-requires-clause-may : goal.child_into-requires-clause-may
+child_into-requires-clause-may c =
+    filling-may c.args.world.now c.loop-node.world c.args.moves c.args.into c.args.nodes.now c.loop-node.node-index c.loop-node.invariant c.node-item.result c.node-item.is c.loop-node-test.true
 
 pub child_into-requires-clause-held : goal.child_into-requires-clause-held
 child_into-requires-clause-held c =
-    filling-held c.args.world.now c.loop-node.world c.args.moves c.args.into c.args.nodes.now c.loop-node.node-index c.loop-node.invariant c.node-item.result c.node-item.is c.loop-node-test.true c.requires.held
+    filling-held c.args.world.now c.loop-node.world c.args.moves c.args.into c.args.nodes.now c.loop-node.node-index c.loop-node.invariant c.node-item.result c.node-item.is c.loop-node-test.true
 
 pub child_into-requires-clause-room : goal.child_into-requires-clause-room
 child_into-requires-clause-room c =

@@ -1,5 +1,5 @@
 -- A copy is there beside all others.
-use Rattle.dom_content.proofs.PieceSteps.{room-clone, still-clone, kinds-clone, clone-held}
+use Rattle.dom_content.proofs.PieceSteps.{room-clone, still-clone, kinds-clone, data-clone, clone-held}
 use Rattle.dom_content.proofs.pieces.copy_of.Goals as goal
 
 pub clone_node-requires-clause-room : goal.clone_node-requires-clause-room
@@ -13,3 +13,6 @@ returns-clause-still_held c = still-clone c.args.world.now c.clone_node.new.worl
 
 pub returns-clause-kinds : goal.returns-clause-kinds
 returns-clause-kinds c = kinds-clone c.args.world.now c.clone_node.new.world c.args.deep c.args.node c.in_ok-copy.ensures.cloned
+
+pub returns-clause-texts : goal.returns-clause-texts
+returns-clause-texts c = data-clone c.args.world.now c.clone_node.new.world c.args.deep c.args.node c.in_ok-copy.ensures.cloned

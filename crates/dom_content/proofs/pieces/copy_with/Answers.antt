@@ -1,5 +1,5 @@
 -- The copy is there beside all others.
-use Rattle.dom_content.proofs.PieceSteps.{room-copied, follows-copied, still-copied, kinds-copied, copied-held}
+use Rattle.dom_content.proofs.PieceSteps.{room-copied, follows-copied, still-copied, kinds-copied, data-copied, copied-held}
 use Rattle.dom_content.proofs.pieces.copy_with.Goals as goal
 
 pub make_copy-requires-clause-room : goal.make_copy-requires-clause-room
@@ -21,4 +21,9 @@ returns-clause-still_held c =
 pub returns-clause-kinds : goal.returns-clause-kinds
 returns-clause-kinds c =
     kinds-copied c.args.world.now c.make_copy.new.world c.args.units c.args.node
+    (follows-copied c.args.world.now c.requires.whole c.args.node c.requires.held c.args.units c.make_copy.new.world c.in_ok-copy.ensures.copied)
+
+pub returns-clause-texts : goal.returns-clause-texts
+returns-clause-texts c =
+    data-copied c.args.world.now c.make_copy.new.world c.args.units c.args.node
     (follows-copied c.args.world.now c.requires.whole c.args.node c.requires.held c.args.units c.make_copy.new.world c.in_ok-copy.ensures.copied)

@@ -2,5 +2,5 @@
 use Rattle.dom_content.proofs.PieceSteps.{still-cut}
 use Rattle.dom_content.proofs.pieces.cut_if.Goals as goal
 
-pub returns-in-Ok-clause-still_held : goal.returns-in-Ok-clause-still_held
-returns-in-Ok-clause-still_held c = still-cut c.args.world.now c.replace_data.new.world c.args.node c.args.offset c.args.count c.in-Ok.ensures.replaced
+pub returns-clause-still_held : goal.returns-clause-still_held
+returns-clause-still_held c = still-cut c.args.world.now c.replace_data_checked.new.world c.args.node c.args.offset c.args.count c.in_ok-replace_data_checked.ensures.replaced

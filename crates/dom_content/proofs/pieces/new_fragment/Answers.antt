@@ -1,5 +1,5 @@
 -- The fragment is there beside all others.
-use Rattle.dom_content.proofs.PieceSteps.{room-fragment, still-fragment, fragment-held}
+use Rattle.dom_content.proofs.PieceSteps.{room-fragment, still-fragment, data-fragment, fragment-held}
 use Rattle.dom_content.proofs.pieces.new_fragment.Goals as goal
 
 pub make_fragment-requires-clause-room : goal.make_fragment-requires-clause-room
@@ -13,3 +13,6 @@ returns-clause-made_held c = fragment-held c.args.world.now c.make_fragment.new.
 
 pub returns-clause-still_held : goal.returns-clause-still_held
 returns-clause-still_held c = still-fragment c.args.world.now c.make_fragment.new.world c.args.document c.in_ok-fragment.ensures.made
+
+pub returns-clause-texts : goal.returns-clause-texts
+returns-clause-texts c = data-fragment c.args.world.now c.make_fragment.new.world c.args.document c.in_ok-fragment.ensures.made

@@ -10,7 +10,7 @@ use Rattle.dom_clone.specs.dom_edit.Whole.{unwatched}
 use Rattle.dom_content.specs.Texts.{part_of, texts_within}
 use Rattle.dom_content.proofs.RangeTexts.{range-held, ahead-of, apart-kinds, apart-nodes, none-less, pieces-text}
 use Rattle.dom_content.proofs.texts.gather_text.Goals as goal
-use Rattle.dom_content.proofs.texts.gather_text.Goals.{else-eq-via-then-eq+else-is_text, else-eq-via-else-eq}
+use Rattle.dom_content.proofs.texts.gather_text.Goals.{else-eq-via-then-eq+else-is_of_kind, else-eq-via-else-eq}
 
 pub append_part-requires-clause-ahead : goal.append_part-requires-clause-ahead
 append_part-requires-clause-ahead c =
@@ -26,7 +26,7 @@ returns c =
     subst (λ o. IfSome o (λ r. c.append_part-2.new.text ≡ range_text (unwatched c.args.world.now) r)) (sym c.ends.ensures.ends)
     (pieces-text c.args.world.now (record { start = c.ends.result.0; end = c.ends.result.1 }) c.append_part-2.new.text
     (elim c.else-eq.branch [
-      | else-eq-via-then-eq+else-is_text w ↦ apart-kinds c.args.world.now.tree.forest (record { start = c.ends.result.0; end = c.ends.result.1 }) (record { node = c.start.inside.node; offset = c.start.inside.offset }) (record { node = c.end.inside.node; offset = c.end.inside.offset }) c.start.view_is c.end.view_is (sym w.if-is_text.ensures)
+      | else-eq-via-then-eq+else-is_of_kind w ↦ apart-kinds c.args.world.now.tree.forest (record { start = c.ends.result.0; end = c.ends.result.1 }) (record { node = c.start.inside.node; offset = c.start.inside.offset }) (record { node = c.end.inside.node; offset = c.end.inside.offset }) c.start.view_is c.end.view_is (sym w.if-is_of_kind.ensures)
       | else-eq-via-else-eq w ↦ apart-nodes c.args.world.now.tree.forest (record { start = c.ends.result.0; end = c.ends.result.1 }) (record { node = c.start.inside.node; offset = c.start.inside.offset }) (record { node = c.end.inside.node; offset = c.end.inside.offset }) c.start.view_is c.end.view_is (sym w.if-eq.ensures)
     ])
     (c.in_ok-append_part-2.ensures
@@ -38,8 +38,8 @@ returns c =
     (c.in_ok-append_tail.ensures
     ∙ ap (λ us. us ++ part_of c.args.world.now.tree.forest c.ends.result.0.node c.ends.result.0.offset (length (content_in (entry_in c.args.world.now.tree.forest c.ends.result.0.node)).text - c.ends.result.0.offset)) c.new-text.ensures))))
 
-pub is_text-requires : goal.is_text-requires
-is_text-requires c = grind (arith, common_steps)
+pub is_of_kind-requires : goal.is_of_kind-requires
+is_of_kind-requires c = grind (arith, common_steps)
 
 pub append_part-requires-clause-within : goal.append_part-requires-clause-within
 append_part-requires-clause-within c = grind (arith, common_steps)

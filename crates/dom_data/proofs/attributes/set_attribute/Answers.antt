@@ -4,7 +4,7 @@ use Rattle.std.specs.Prelude.{string_bytes}
 use Rattle.dom_edit.specs.declared.world.World.{World}
 use Rattle.dom_edit.specs.Whole.{IsWhole}
 use Rattle.dom_data.proofs.Outcomes.{either}
-use Rattle.dom_data.proofs.StaysWhole.{whole-observed, whole-set_attribute}
+use Rattle.dom_data.proofs.StaysWhole.{whole-set_attribute}
 use Rattle.dom_data.proofs.attributes.set_attribute.Goals as goal
 
 pub returns-clause-whole : goal.returns-clause-whole
@@ -13,8 +13,8 @@ returns-clause-whole c =
     let told = c.tell_attribute.new.world in
     let new : World = record told { tree = c.set_in.new.tree } in
     either c.set_in.result c.set_in.ensures.ok c.set_in.ensures.err
-    (whole-set_attribute old told new c.args.node (string_bytes c.args.name) c.requires.whole c.tell_attribute.ensures.kept refl refl refl refl c.args.value)
-    (λ e. subst (λ t. IsWhole (record told { tree = t })) (sym e) (whole-observed old told c.tell_attribute.ensures.kept c.requires.whole))
+    (whole-set_attribute old told new c.args.node (string_bytes c.args.name) c.tell_attribute.ensures.whole c.tell_attribute.ensures.kept refl refl refl refl refl c.args.value)
+    (λ e. subst (λ t. IsWhole (record told { tree = t })) (sym e) c.tell_attribute.ensures.whole)
 
 pub returns-clause-set : goal.returns-clause-set
 returns-clause-set c = search (tests, rules)

@@ -3,5 +3,5 @@ use Rattle.std.proofs.Common.{sym, ◌∙◌}
 use Rattle.dom_edit.specs.dom_tree.Beside.{forward-step}
 use Rattle.dom_data.proofs.normalizing.next_text.Goals as goal
 
-pub is_text-requires : goal.is_text-requires
-is_text-requires c = record { held = (forward-step c.sound.ensures c.args.node c.in-Some.next c.requires.held (sym c.next.ensures ∙ c.in-Some.is)).1.1 }
+pub is_of_kind-requires : goal.is_of_kind-requires
+is_of_kind-requires c = (forward-step c.sound.ensures c.args.node c.in-Some.next c.requires.held (sym c.next.ensures ∙ c.in-Some.is)).1.1

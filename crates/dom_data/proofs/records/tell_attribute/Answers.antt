@@ -1,32 +1,35 @@
--- The record of a changed attribute, where anybody is told of it.
-use Rattle.std.proofs.Common.{Some, refl, subst}
+-- The record of a changed attribute.
+use Rattle.std.proofs.Common.{◌∷◌, [], Some, refl, subst}
 use Rattle.std.proofs.lemmas.Result.{on_ok_weaker}
 use Rattle.dom_model.specs.declared.RecordType.TheVariants.{Attributes}
 use Rattle.dom_model.specs.Forests.Attributes.{attribute_value}
-use Rattle.dom_model.specs.Forests.Forest.{Forest, entry_in}
-use Rattle.dom_model.specs.Worlds.World.{Content}
+use Rattle.dom_model.specs.Forests.Forest.{Forest, entry_in, ancestors}
+use Rattle.dom_model.specs.Worlds.World.{Content, Mutation, Observing}
+use Rattle.dom_model.specs.MutationObservers.Observing.{standing_on, noted}
 use Rattle.dom_model.specs.DataAndCopies.Data.{content_in}
-use Rattle.dom_data.specs.Changes.{Tells}
-use Rattle.dom_data.proofs.Unasked.{tells-served, tells-nobody, follows-told}
+use Rattle.dom_edit.specs.declared.world.World.{World}
+use Rattle.dom_edit.proofs.NodesKept.{one-there}
+use Rattle.dom_edit.proofs.Named.{whole-named}
+use Rattle.dom_edit.specs.dom_observe.Held.{nodes_of_mutation, NamesOnly}
+use Rattle.dom_edit.specs.dom_observe.Watchers.{Watches}
+use Rattle.dom_data.proofs.Told.{follows-told}
 use Rattle.dom_data.proofs.records.tell_attribute.Goals as goal
-
-pub returns-then-not-interests-clause-told : goal.returns-then-not-interests-clause-told
-returns-then-not-interests-clause-told c =
-    let v = c.args.world.now in
-    let n = c.args.node in
-    let name = c.args.name.now in
-    follows-told v v Attributes n (Some name) (λ (f : Forest Content). attribute_value name (content_in (entry_in f n)).attributes) refl
-    (tells-nobody Attributes n (Some name) (attribute_value name (content_in (entry_in v.tree.forest n)).attributes) v.tree.forest v.observers c.if-not-interests.ensures)
 
 pub returns-clause-told : goal.returns-clause-told
 returns-clause-told c =
     let v = c.args.world.now in
     let n = c.args.node in
     let name = c.args.name.now in
-    let w = c.queue_change.new.world in
-    let given = c.in_ok-old_value.old_value in
-    on_ok_weaker c.queue_change.result (λ told.
-    follows-told v w Attributes n (Some name) (λ (f : Forest Content). attribute_value name (content_in (entry_in f n)).attributes) c.queue_change.ensures.kept
-    (tells-served Attributes n (Some name) (attribute_value name (content_in (entry_in v.tree.forest n)).attributes) given v.tree.forest v.observers w.observers c.in_ok-old_value.ensures
-    (subst (λ bytes. Tells Attributes n (Some bytes) given v.tree.forest v.observers w.observers) c.in_ok-name.ensures.ok told)))
-    c.queue_change.ensures.told
+    let new : World = record v { observers = c.queue.new.self } in
+    on_ok_weaker c.queue.result
+    (λ told. follows-told v new Attributes n (Some name) (λ (f : Forest Content). attribute_value name (content_in (entry_in f n)).attributes) refl
+    (subst (λ (m : Mutation). (x : Observing) → Watches v.observers x → Watches new.observers (noted (record m { standing = standing_on (ancestors m.target v.tree.forest) x.registrations }) x)) c.attribute_change-mutation.ensures told))
+    c.queue.ensures.queued
+
+pub returns-clause-whole : goal.returns-clause-whole
+returns-clause-whole c =
+    let v = c.args.world.now in
+    let n = c.args.node in
+    let new : World = record v { observers = c.queue.new.self } in
+    whole-named v new (n ∷ []) refl c.requires.whole
+    (subst (λ (m : Mutation). NamesOnly (nodes_of_mutation m) v.observers new.observers) c.attribute_change-mutation.ensures c.queue.ensures.names) (one-there v.tree.forest n c.requires.held)

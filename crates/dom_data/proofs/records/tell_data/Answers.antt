@@ -1,26 +1,29 @@
--- The record of changed data, where anybody is told of it.
-use Rattle.std.proofs.Common.{None, Some, refl}
+-- The record of changed data.
+use Rattle.std.proofs.Common.{◌∷◌, [], None, Some, refl, subst}
 use Rattle.std.proofs.lemmas.Result.{on_ok_weaker}
 use Rattle.dom_model.specs.declared.RecordType.TheVariants.{CharacterData}
 use Rattle.dom_model.specs.Forests.Forest.{Forest, entry_in}
 use Rattle.dom_model.specs.Worlds.World.{Content}
 use Rattle.dom_model.specs.DataAndCopies.Data.{content_in}
-use Rattle.dom_data.proofs.Unasked.{tells-served, tells-nobody, follows-told}
+use Rattle.dom_edit.specs.declared.world.World.{World}
+use Rattle.dom_edit.proofs.NodesKept.{one-there}
+use Rattle.dom_edit.proofs.Named.{whole-named}
+use Rattle.dom_data.specs.Changes.{Tells}
+use Rattle.dom_data.proofs.Told.{follows-told}
 use Rattle.dom_data.proofs.records.tell_data.Goals as goal
-
-pub returns-then-not-interests-clause-told : goal.returns-then-not-interests-clause-told
-returns-then-not-interests-clause-told c =
-    let v = c.args.world.now in
-    let n = c.args.node in
-    follows-told v v CharacterData n None (λ (f : Forest Content). Some (content_in (entry_in f n)).text) refl
-    (tells-nobody CharacterData n None (Some (content_in (entry_in v.tree.forest n)).text) v.tree.forest v.observers c.if-not-interests.ensures)
 
 pub returns-clause-told : goal.returns-clause-told
 returns-clause-told c =
     let v = c.args.world.now in
     let n = c.args.node in
-    let w = c.queue_change.new.world in
-    on_ok_weaker c.queue_change.result (λ told.
-    follows-told v w CharacterData n None (λ (f : Forest Content). Some (content_in (entry_in f n)).text) c.queue_change.ensures.kept
-    (tells-served CharacterData n None (Some (content_in (entry_in v.tree.forest n)).text) c.in_ok-old_value.old_value v.tree.forest v.observers w.observers c.in_ok-old_value.ensures told))
-    c.queue_change.ensures.told
+    let new : World = record v { observers = c.queue.new.self } in
+    on_ok_weaker c.queue.result
+    (λ told. follows-told v new CharacterData n None (λ (f : Forest Content). Some (content_in (entry_in f n)).text) refl
+    (subst (λ text. Tells CharacterData n None (Some text) v.tree.forest v.observers new.observers) c.data_in.ensures told))
+    c.queue.ensures.queued
+
+pub returns-clause-whole : goal.returns-clause-whole
+returns-clause-whole c =
+    let v = c.args.world.now in
+    let n = c.args.node in
+    whole-named v (record v { observers = c.queue.new.self }) (n ∷ []) refl c.requires.whole c.queue.ensures.names (one-there v.tree.forest n c.requires.held)

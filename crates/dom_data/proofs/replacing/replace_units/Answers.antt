@@ -8,7 +8,7 @@ use Rattle.dom_model.proofs.Soundness.SoundData.{length-spliced}
 use Rattle.dom_edit.specs.declared.world.World.{World}
 use Rattle.dom_edit.specs.Whole.{unwatched}
 use Rattle.dom_data.proofs.MovedOffsets.{splice-fits}
-use Rattle.dom_data.proofs.StaysWhole.{whole-observed, whole-replaced}
+use Rattle.dom_data.proofs.StaysWhole.{whole-replaced}
 use Rattle.dom_data.proofs.replacing.replace_units.Goals as goal
 
 pub spliced-requires : goal.spliced-requires
@@ -21,12 +21,12 @@ spliced-requires c =
     let spliced_length = length-spliced c.args.offset c.args.count c.args.added.now (data_of (unwatched told) n) within in
     let small = c.in_ok-splice_data.ensures.fits in
     splice-fits told.tree.forest n c.args.offset c.args.count (length c.args.added.now) kind within (omega (arith, spliced_length, small))
-    told.ranges.ranges (whole-observed c.args.world.now told c.tell_data.ensures.kept c.requires.whole).ranges
+    told.ranges.ranges c.tell_data.ensures.whole.ranges
 
 pub returns-clause-whole : goal.returns-clause-whole
 returns-clause-whole c =
-    whole-replaced c.args.world.now c.tell_data.new.world _ c.args.node c.args.offset c.args.count c.args.added.now c.requires.whole c.tell_data.ensures.kept c.requires.kind c.requires.within
-    c.in_ok-splice_data.ensures.ok c.spliced.ensures refl refl refl
+    whole-replaced c.args.world.now c.tell_data.new.world _ c.args.node c.args.offset c.args.count c.args.added.now c.tell_data.ensures.whole c.tell_data.ensures.kept c.requires.kind c.requires.within
+    c.in_ok-splice_data.ensures.ok c.spliced.ensures refl refl refl refl
 
 pub returns-clause-replaced : goal.returns-clause-replaced
 returns-clause-replaced c = search (tests, rules)

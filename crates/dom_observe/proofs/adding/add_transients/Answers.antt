@@ -1,10 +1,18 @@
 -- Each key gives the node one more transient registration, or none.
-use Rattle.std.proofs.Common.{◌≡◌, List, [], ◌++◌, if◌then◌else◌, ◌==◌, Bool, true, false, Some, None, option_map, ap, sym, ◌∙◌, subst, append-nil}
-use Rattle.std.specs.Prelude.{slice_index_or}
+use Rattle.std.proofs.Common.{◌≡◌, ◌<◌, ℕ, Vec, Global, length, arith, refl, List, [], ◌++◌, if◌then◌else◌, ◌==◌, Bool, true, false, Some, None, option_map, ap, sym, ◌∙◌, subst, append-nil}
+use Rattle.std.specs.Prelude.{slice_index_or, slice_set}
 use Rattle.dom_observe.specs.Registrations.{plain, at, listed, AllStand, transient_under}
+use Rattle.dom_observe.specs.Naming.{NamesNone}
+use Rattle.dom_observe.proofs.Holding.{none-added, none-made}
+use Rattle.dom_observe.specs.Kept.{keys_by, IsIndexed}
+use Rattle.dom_observe.proofs.Hearing.{last-there}
+use Rattle.dom_observe.proofs.Indexing.{indexed-pended, indexed-transient, made-transient}
+use Rattle.dom_observe.proofs.Keeping.{keys_by-set, keys_by-at, keys_by-length, set_same}
+use Rattle.dom_model.specs.PlainLists.LastOnce.{with_last}
+use Rattle.std.proofs.lemmas.List.{length-set}
 use Rattle.dom_observe.proofs.Tables.{alike_self, turn-none, turn-added, turn-alike, turn-stands, all_live-added}
 use Rattle.dom_observe.proofs.adding.add_transients.Goals as goal
-use Rattle.dom_observe.proofs.adding.add_transients.Goals.{in-Some+in_ok-add, in_default}
+use Rattle.dom_observe.proofs.adding.add_transients.Goals.{in-Some+in_ok-pend+in_ok-add, in_default}
 
 nothing_yet : {A : Type 0} (b : Bool) (rs : List A) → rs ≡ rs ++ (if b then [] else [])
 nothing_yet true rs = sym (append-nil rs)
@@ -17,6 +25,10 @@ loop-key-init c = record {
   standing = alike_self (at c.args.table.now) c.args.standing.now;
   has = λ n. nothing_yet (c.args.node == n) _;
   stands = λ made bounded all. all;
+  names = λ p here keys none. none;
+  indexed = λ lasts made bounded ix. ix;
+  len = refl;
+  full = λ full. full;
 }
 
 pub returns-in_err-add-clause-all_stand : goal.returns-in_err-add-clause-all_stand
@@ -24,8 +36,43 @@ returns-in_err-add-clause-all_stand c = λ made bounded all.
     let before = c.loop-key.invariant.stands made bounded all in
     let t = c.in_err-add.ensures.err_table in
     let l = c.in_err-add.ensures.err_nodes in
-    subst (λ slots. AllStand (λ k. option_map plain (slice_index_or slots k None)) made true (listed c.add.new.nodes.entries)) (sym t)
-    (subst (AllStand (at c.loop-key.table) made true) (sym l) before)
+    subst (λ slots. AllStand (λ k. option_map plain (slice_index_or slots k None)) made (listed c.add.new.nodes.entries)) (sym t)
+    (subst (AllStand (at c.loop-key.table) made) (sym l) before)
+
+pub returns-in_err-add-clause-names : goal.returns-in_err-add-clause-names
+returns-in_err-add-clause-names c = λ p here keys none.
+    let before = c.loop-key.invariant.names p here keys none in
+    let t = c.in_err-add.ensures.err_table in
+    let l = c.in_err-add.ensures.err_nodes in
+    subst (λ slots. NamesNone p (λ k. option_map plain (slice_index_or slots k None)) (listed c.add.new.nodes.entries)) (sym t)
+    (subst (NamesNone p (at c.loop-key.table)) (sym l) before)
+
+pub returns-in_err-add-clause-full : goal.returns-in_err-add-clause-full
+returns-in_err-add-clause-full c = λ full. c.add.ensures.full (c.loop-key.invariant.full full)
+
+pub returns-in_err-pend-clause-indexed : goal.returns-in_err-pend-clause-indexed
+returns-in_err-pend-clause-indexed c = λ lasts made bounded ix.
+    subst (λ some. IsIndexed (at c.loop-key.table) (listed c.loop-key.nodes.entries) lasts (keys_by c.loop-key.passing.items) some made) (sym c.in_err-pend.ensures.err) (c.loop-key.invariant.indexed lasts made bounded ix)
+
+pub returns-in_err-add-clause-indexed : goal.returns-in_err-add-clause-indexed
+returns-in_err-add-clause-indexed c = λ lasts made bounded ix.
+    let u0 = at c.args.table.now in
+    let u = at c.loop-key.table in
+    let inv = c.loop-key.invariant in
+    let i = c.loop-key.key-index in
+    let some : transient_under u c.args.node (slice_index_or c.args.standing.now i 0) ≡ Some (plain c.in-Some.made) = sym c.in_ok-made.ensures ∙ ap (option_map plain) c.in-Some.is in
+    let shape = made-transient u0 u c.args.node c.args.standing.now i 0 c.loop-key-test.true inv.standing (plain c.in-Some.made) some in
+    let o = c.in-Some.made.observer in
+    let ps = c.loop-key.passing.items in
+    let lt : o < length ps = subst (λ l. o < l) (sym inv.len) (shape.0 (length c.args.passing.now.items) c.requires.made) in
+    let had = ap (λ (l : Vec ℕ Global). l.items) c.index_mut-keys.ensures.value ∙ ap (λ i. (slice_index_or ps i c.index_mut-keys.result.now).items) c.number.ensures ∙ sym (keys_by-at ps o c.index_mut-keys.result.now lt) in
+    let same_keys : keys_by (slice_set ps c.number.result c.add.new.keys) ≡ keys_by ps =
+    ap (λ i. keys_by (slice_set ps i c.add.new.keys)) c.number.ensures ∙ keys_by-set ps o c.add.new.keys (slice_index_or (keys_by ps) o []) (c.in_err-add.ensures.err_own ∙ had) ∙ set_same (keys_by ps) o [] in
+    subst (λ slots. IsIndexed (λ k. option_map plain (slice_index_or slots k None)) (listed c.add.new.nodes.entries) lasts (keys_by (slice_set ps c.number.result c.add.new.keys)) c.pend.new.pending.keys made) (sym c.in_err-add.ensures.err_table)
+    (subst (λ l. IsIndexed u l lasts (keys_by (slice_set ps c.number.result c.add.new.keys)) c.pend.new.pending.keys made) (sym c.in_err-add.ensures.err_nodes)
+    (subst (λ l. IsIndexed u (listed c.loop-key.nodes.entries) lasts l c.pend.new.pending.keys made) (sym same_keys)
+    (subst (λ some. IsIndexed u (listed c.loop-key.nodes.entries) lasts (keys_by ps) some made) (sym c.in_ok-pend.ensures.ok)
+    (indexed-pended u (listed c.loop-key.nodes.entries) lasts (keys_by ps) c.loop-key.fleeting.keys made o (shape.0 made bounded) (inv.indexed lasts made bounded ix)))))
 
 pub loop-key-preserved : goal.loop-key-preserved
 loop-key-preserved c =
@@ -37,25 +84,44 @@ loop-key-preserved c =
     let keys = c.args.standing.now in
     let i = c.loop-key.key-index in
     elim c.match-branch-2.branch [
-      | in-Some+in_ok-add w ↦
+      | in-Some+in_ok-pend+in_ok-add w ↦
           let some : transient_under u c.args.node (slice_index_or keys i 0) ≡ Some (plain w.in-Some.made) = sym c.in_ok-made.ensures ∙ ap (option_map plain) w.in-Some.is in
           let a = w.in_ok-add.ensures.ok in
           let v = at w.add.new.table in
           let lists' = listed w.add.new.nodes.entries in
-          rw (w.table-is, w.nodes-is) (record {
+          rw (w.table-is, w.nodes-is, w.passing-is, w.fleeting-is) (record {
             unique = w.add.ensures.unique;
             live = all_live-added u lists (plain w.in-Some.made) v lists' a inv.live;
             standing = turn-alike u0 u lists0 lists c.args.node keys i 0 c.loop-key-test.true inv.live inv.standing inv.has (plain w.in-Some.made) some v lists' a c.requires.standing;
             has = turn-added u0 u lists0 lists c.args.node keys i 0 c.loop-key-test.true inv.live inv.standing inv.has (plain w.in-Some.made) some v lists' a;
             stands = λ made bounded all. turn-stands u0 u lists0 lists c.args.node keys i 0 c.loop-key-test.true inv.live inv.standing inv.has (plain w.in-Some.made) some v lists' a made bounded (inv.stands made bounded all);
+            names = λ p here named none.
+                none-added p u lists (plain w.in-Some.made) v lists' a inv.live
+                (none-made p u0 u c.args.node keys i 0 c.loop-key-test.true inv.standing (plain w.in-Some.made) some here named) (inv.names p here named none);
+            indexed = λ lasts made bounded ix.
+                let shape = made-transient u0 u c.args.node keys i 0 c.loop-key-test.true inv.standing (plain w.in-Some.made) some in
+                let o = w.in-Some.made.observer in
+                let ps = c.loop-key.passing.items in
+                let lt : o < length ps = subst (λ l. o < l) (sym inv.len) (shape.0 (length c.args.passing.now.items) c.requires.made) in
+                subst (λ i. IsIndexed v lists' lasts (keys_by (slice_set ps i w.add.new.keys)) w.pend.new.pending.keys made) (sym w.number.ensures)
+                (subst (λ some. IsIndexed v lists' lasts (keys_by (slice_set ps o w.add.new.keys)) some made) (sym w.in_ok-pend.ensures.ok)
+                (indexed-transient u lists (plain w.in-Some.made) v lists' a w.index_mut-keys.result.now.items w.add.new.keys.items w.in_ok-add.ensures.own lasts (keys_by ps) (with_last c.loop-key.fleeting.keys o) made
+                (indexed-pended u lists lasts (keys_by ps) c.loop-key.fleeting.keys made o (shape.0 made bounded) (inv.indexed lasts made bounded ix)) shape.1 (keys_by (slice_set ps o w.add.new.keys))
+                (omega (arith, lt, keys_by-length ps)) (ap (λ (l : Vec ℕ Global). l.items) w.index_mut-keys.ensures.value ∙ ap (λ i. (slice_index_or ps i w.index_mut-keys.result.now).items) w.number.ensures ∙ sym (keys_by-at ps o w.index_mut-keys.result.now lt)) (keys_by-set ps o w.add.new.keys w.add.new.keys.items refl) (last-there o c.loop-key.fleeting.keys)));
+            len = length-set c.loop-key.passing.items w.number.result w.add.new.keys ∙ inv.len;
+            full = λ full. w.add.ensures.full (inv.full full);
           })
       | in_default w ↦
           let none : transient_under u c.args.node (slice_index_or keys i 0) ≡ None = sym c.in_ok-made.ensures ∙ ap (option_map plain) w.in_default.is in
-          rw (w.table-is, w.nodes-is) (record {
+          rw (w.table-is, w.nodes-is, w.passing-is, w.fleeting-is) (record {
             unique = inv.unique;
             live = inv.live;
             standing = inv.standing;
             has = turn-none u0 u lists0 lists c.args.node keys i 0 c.loop-key-test.true inv.live inv.standing inv.has none;
             stands = inv.stands;
+            names = inv.names;
+            indexed = inv.indexed;
+            len = inv.len;
+            full = inv.full;
           })
     ]

@@ -2,12 +2,16 @@
 use Rattle.std.proofs.Common.{◌≡◌, ℕ, ◌<◌, ◌==◌, ◌++◌, [], ◌∷◌, Bool, true, false, if◌then◌else◌, List, Option, Some, None, length, take, nat_eq, refl, ap, sym, ◌∙◌, subst, append-nil, arith, suc, ◌+◌, option_map, Bor, tests, rules}
 use Rattle.std.proofs.lemmas.Grind.{common_steps}
 use Rattle.std.specs.Prelude.{slice_index_or, slice_get}
+use Rattle.std.specs.List.{list_any}
 use Rattle.std.specs.Map.{lookup}
 use Rattle.dom_model.specs.Worlds.World.{Mutation}
 use Rattle.dom_model.specs.MutationObservers.Record.{Record}
 use Rattle.dom_model.specs.MutationObservers.Records.{record_with}
+use Rattle.dom_model.specs.MutationAlgorithms.Discarding.{nodes_of_record}
 use Rattle.dom_observe.specs.Kept.{queues_of}
 use Rattle.dom_observe.specs.Telling.{delivered}
+use Rattle.dom_observe.specs.Naming.{TellsNone}
+use Rattle.dom_observe.proofs.Holding.{tells-delivered}
 use Rattle.dom_observe.proofs.Hearing.{lookup-take, key-at, lookup-next, take-none}
 use Rattle.dom_observe.proofs.telling.tell.Goals as goal
 use Rattle.dom_observe.proofs.telling.tell.Goals.{in-Some+in_ok-told+in_ok-deliver, in_default}
@@ -72,3 +76,20 @@ returns-clause-others c = grind (arith, common_steps)
 
 pub returns-clause-len : goal.returns-clause-len
 returns-clause-len c = search (tests, rules)
+
+-- records of those who have theirs name nothing else
+pub returns-in_err-told-clause-names : goal.returns-in_err-told-clause-names
+returns-in_err-told-clause-names c = λ p nameless none o.
+    let old = slice_index_or (queues_of c.args.queues.now.items) o [] in
+    ap (list_any (λ r. list_any p (nodes_of_record r))) (c.loop-index.invariant.told o) ∙ tells-delivered p c.args.mutation.now (lookup (nat_eq o) (take c.loop-index.index c.args.heard.now.entries)) old nameless (none o)
+
+pub returns-in_err-deliver-clause-names : goal.returns-in_err-deliver-clause-names
+returns-in_err-deliver-clause-names c = λ p nameless none o.
+    let old = slice_index_or (queues_of c.args.queues.now.items) o [] in
+    ap (list_any (λ r. list_any p (nodes_of_record r))) (ap (λ qs. slice_index_or qs o []) c.in_err-deliver.ensures.err ∙ c.loop-index.invariant.told o)
+    ∙ tells-delivered p c.args.mutation.now (lookup (nat_eq o) (take c.loop-index.index c.args.heard.now.entries)) old nameless (none o)
+
+pub returns-clause-names : goal.returns-clause-names
+returns-clause-names c = λ p nameless none o.
+    let old = slice_index_or (queues_of c.args.queues.now.items) o [] in
+    ap (list_any (λ r. list_any p (nodes_of_record r))) (c.loop-index.invariant.told o) ∙ tells-delivered p c.args.mutation.now (lookup (nat_eq o) (take c.loop-index.index c.args.heard.now.entries)) old nameless (none o)

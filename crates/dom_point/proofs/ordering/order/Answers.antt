@@ -4,7 +4,7 @@ use Rattle.std.specs.declared.cmp.Ordering.{Ordering}
 use Rattle.std.specs.declared.cmp.Ordering.TheVariants.{Less, Greater}
 use Rattle.std.proofs.lemmas.Bool.{cases_lt, lt-ltb, le-ltb}
 use Rattle.std.proofs.lemmas.Bool.Decides.{nat_tests}
-use Rattle.dom_model.specs.Forests.Forest.{Forest, HasNode}
+use Rattle.dom_model.specs.Forests.Forest.{Forest, HasNode, index_of}
 use Rattle.dom_model.specs.Worlds.World.{Point}
 use Rattle.dom_model.specs.BoundaryPoints.Points.{order_of}
 use Rattle.dom_point.proofs.Ways.{order-same, order-at_first, order-at_second, order-between}
@@ -40,10 +40,22 @@ returns-in-None-Some g c =
     let v = rw c.in-None-Some.is-0 at c.meeting-met.ensures.first in
     let w = rw c.in-None-Some.is-1 at c.meeting-met.ensures.second in
     let hq = held_at f q c.args.b c.b.view_is c.requires.b_held in
+    let z = le-ltb (index_of f c.in-None-Some.field-0-1) p.offset (omega (arith, c.if-a-eq0.true)) in
+    sym (order-at_first c.sound.ensures p q c.meeting-met.result.node c.in-None-Some.field-0-1 hq v w ∙ ap (λ t. if t then Greater else Less) z)
+    ∙ both f p q c.args.a c.args.b c.a.view_is c.b.view_is
+
+pub returns-in-None-Some-2 : goal.returns-in-None-Some-2
+returns-in-None-Some-2 g c =
+    let f = c.args.tree.now.forest in
+    let p : Point = record { node = c.a.inside.node; offset = c.a.inside.offset } in
+    let q : Point = record { node = c.b.inside.node; offset = c.b.inside.offset } in
+    let v = rw c.in-None-Some.is-0 at c.meeting-met.ensures.first in
+    let w = rw c.in-None-Some.is-1 at c.meeting-met.ensures.second in
+    let hq = held_at f q c.args.b c.b.view_is c.requires.b_held in
     c.side.ensures
     ∙ turned c.index.result p.offset
     ∙ ap (λ i. if nat_lt i p.offset then Greater else Less) c.index.ensures
-    ∙ sym (order-at_first c.sound.ensures p q c.meeting-met.result.node c.in-None-Some.child hq v w)
+    ∙ sym (order-at_first c.sound.ensures p q c.meeting-met.result.node c.in-None-Some.field-0-1 hq v w)
     ∙ both f p q c.args.a c.args.b c.a.view_is c.b.view_is
 
 pub returns-in-Some-None : goal.returns-in-Some-None
@@ -54,9 +66,21 @@ returns-in-Some-None g c =
     let v = rw c.in-Some-None.is-0 at c.meeting-met.ensures.first in
     let w = rw c.in-Some-None.is-1 at c.meeting-met.ensures.second in
     let hp = held_at f p c.args.a c.a.view_is c.requires.a_held in
-    c.side-in-Some-None.ensures
-    ∙ ap (λ i. if nat_lt i q.offset then Less else Greater) c.index-in-Some-None.ensures
-    ∙ sym (order-at_second c.sound.ensures p q c.meeting-met.result.node c.in-Some-None.child hp v w)
+    let z = le-ltb (index_of f c.in-Some-None.field-0-0) q.offset (omega (arith, c.if-b-eq0.true)) in
+    sym (order-at_second c.sound.ensures p q c.meeting-met.result.node c.in-Some-None.field-0-0 hp v w ∙ ap (λ t. if t then Less else Greater) z)
+    ∙ both f p q c.args.a c.args.b c.a.view_is c.b.view_is
+
+pub returns-in-Some-None-2 : goal.returns-in-Some-None-2
+returns-in-Some-None-2 g c =
+    let f = c.args.tree.now.forest in
+    let p : Point = record { node = c.a.inside.node; offset = c.a.inside.offset } in
+    let q : Point = record { node = c.b.inside.node; offset = c.b.inside.offset } in
+    let v = rw c.in-Some-None.is-0 at c.meeting-met.ensures.first in
+    let w = rw c.in-Some-None.is-1 at c.meeting-met.ensures.second in
+    let hp = held_at f p c.args.a c.a.view_is c.requires.a_held in
+    c.side-in-Some-None-2.ensures
+    ∙ ap (λ i. if nat_lt i q.offset then Less else Greater) c.index-in-Some-None-2.ensures
+    ∙ sym (order-at_second c.sound.ensures p q c.meeting-met.result.node c.in-Some-None.field-0-0 hp v w)
     ∙ both f p q c.args.a c.args.b c.a.view_is c.b.view_is
 
 pub returns-in-Some-Some : goal.returns-in-Some-Some

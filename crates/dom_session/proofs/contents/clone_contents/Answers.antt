@@ -17,7 +17,7 @@ pub clone_contents-requires-clause-room : goal.clone_contents-requires-clause-ro
 clone_contents-requires-clause-room c =
     let v = c.args.world.now in
     let room : nat_lt c.args.numbers (v.tree.made + (2 * size v.tree.forest + 8)) ≡ false = cc in
-    room-clone_contents v c.args.numbers c.requires.numbers room c.args.range c.requires.shown.shows.whole
+    λ _. room-clone_contents v c.args.numbers c.requires.numbers room c.args.range c.requires.shown.shows.whole
 
 pub returns-in-Ok-clause-step : goal.returns-in-Ok-clause-step
 returns-in-Ok-clause-step c =

@@ -17,7 +17,7 @@ pub extract-requires-clause-room : goal.extract-requires-clause-room
 extract-requires-clause-room c =
     let v = c.args.world.now in
     let room : nat_lt c.args.numbers (v.tree.made + (2 * size v.tree.forest + 8)) ≡ false = cc in
-    room-extract v c.args.numbers c.requires.numbers room c.args.range
+    λ _. room-extract v c.args.numbers c.requires.numbers room c.args.range
 
 pub returns-in-Ok-clause-step : goal.returns-in-Ok-clause-step
 returns-in-Ok-clause-step c =

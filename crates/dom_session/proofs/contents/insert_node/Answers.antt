@@ -1,4 +1,4 @@
-use Rattle.std.proofs.Common.{◌≡◌, ◌+◌, nat_lt, true, false, arith}
+use Rattle.std.proofs.Common.{◌≡◌, ◌+◌, ◌<◌, nat_lt, true, false, arith}
 use Rattle.std.proofs.lemmas.Bool.Decides.{nat_tests}
 use Rattle.std.specs.Prelude.{is_some}
 use Rattle.dom_model.specs.Forests.Forest.{entry_in}
@@ -39,3 +39,8 @@ returns-in-Err-Dom-clause-step c =
     let because = told c.in-Err-Dom.field-0 e (refusal_in (insert_node r n (unwatched v))) v c.insert_node.new.world c.in-Err-Dom.field-0-is c.in-Err-Dom.ensures.refused in
     step-refused v c.insert_node.new.world (numbered c.args.numbers) (InsertNode r n) e because.1
     (λ w shown. refused-insert_node v (numbered c.args.numbers) w shown r n live held e room because.0)
+
+pub insert_node-requires-clause-room : goal.insert_node-requires-clause-room
+insert_node-requires-clause-room c =
+    let room : c.args.world.now.tree.made < 4294967295 = grind (arith, nat_tests) in
+    λ _. λ range e text. room

@@ -8,4 +8,4 @@ pub returns-clause-step : goal.returns-clause-step
 returns-clause-step c = λ b.
     let v = c.args.world.now in
     let made : nat_lt c.args.observer (length v.observers.queues) ≡ true = cc in
-    step-disconnect v c.requires.shown.shows.whole b c.args.observer c.disconnect.new.self (Done Nothing) made refl c.disconnect.ensures
+    step-disconnect v c.requires.shown.shows.whole b c.args.observer c.disconnect.new.self (Done Nothing) made refl c.disconnect.ensures.ended c.disconnect.ensures.names

@@ -13,7 +13,7 @@ returns-in_ok-observe-in-Ok-clause-step c = λ b.
     let there : is_some (entry_in v.tree.forest c.args.node) ≡ true = cc in
     let options = settled-ok c.args.options c.in-Ok.options (sym c.settle.ensures ∙ c.in-Ok.is) in
     step-observe v c.requires.shown.shows.whole b c.args.observer c.args.node c.args.options c.observe.new.self (Done Nothing) made there options.0 refl
-    (rw options.1 at c.in_ok-observe-in-Ok.ensures.ok)
+    (rw options.1 at c.in_ok-observe-in-Ok.ensures.ok) c.observe.ensures.names
 
 pub returns-in-Err-clause-step : goal.returns-in-Err-clause-step
 returns-in-Err-clause-step c = λ b.

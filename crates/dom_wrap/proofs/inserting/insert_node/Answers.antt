@@ -1,7 +1,7 @@
 use Rattle.std.proofs.Common.{arith}
 use Rattle.std.proofs.lemmas.Grind.{common_steps}
 use Rattle.dom_model.specs.Worlds.World.{Range}
-use Rattle.dom_wrap.proofs.InsertedNode.{may-insert}
+use Rattle.dom_wrap.proofs.InsertedNode.{insert-passes, may-insert}
 use Rattle.dom_wrap.proofs.Marking.{stand-by_insert_node}
 use Rattle.dom_wrap.proofs.inserting.insert_node.Goals as goal
 
@@ -17,3 +17,8 @@ returns-clause-markers c =
 
 pub check-requires-clause-start_held : goal.check-requires-clause-start_held
 check-requires-clause-start_held c = grind (arith, common_steps)
+
+pub insert_at_start-requires-clause-room : goal.insert_at_start-requires-clause-room
+insert_at_start-requires-clause-room c =
+    let range : Range = record { start = c.ends-start.result.0; end = c.ends-start.result.1 } in
+    c.requires.room (insert-passes c.args.world.now c.requires.whole c.args.range c.args.node range c.ends-start.ensures.ends c.requires.node_held c.in_default.ensures.start c.in_default.ensures.insert)

@@ -24,7 +24,7 @@ returns-then-ne-clause-whole c =
     let new : World = record { tree = c.set_document.new.self; ranges = out.ranges; statics = out.statics; iters = out.iters; walkers = out.walkers; observers = out.observers } in
     let root = removed-root v out false c.args.node c.requires.whole c.requires.node_held c.in_ok-remove_node.ensures.removed in
     let document = removed-document v out false c.args.node c.requires.whole c.requires.node_held c.in_ok-remove_node.ensures.removed c.args.document c.requires.document_kind in
-    whole-adopted out new c.args.node c.args.document c.in_ok-remove_node.ensures.whole root document c.set_document.ensures refl refl refl refl
+    whole-adopted out new c.args.node c.args.document c.in_ok-remove_node.ensures.whole root document c.set_document.ensures refl refl refl refl refl
 
 pub returns-then-ne-clause-markers : goal.returns-then-ne-clause-markers
 returns-then-ne-clause-markers c =

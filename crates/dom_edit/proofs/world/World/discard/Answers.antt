@@ -4,18 +4,13 @@ use Rattle.dom_edit.proofs.Naming.{no-end-inside, whole-left}
 use Rattle.dom_edit.proofs.world.World.discard.Goals as goal
 
 pub forget-requires-clause-empty : goal.forget-requires-clause-empty
-forget-requires-clause-empty c =
-    let w = c.requires.shown.stands_for in
-    let s = c.requires.shown.shows in
-    no-end-inside c.args.self.now w c.args.top s (c.requires.unused w s)
+forget-requires-clause-empty c = no-end-inside c.args.self.now c.args.top c.requires.unused
 
 pub returns-clause-whole : goal.returns-clause-whole
 returns-clause-whole c =
     let v = c.args.self.now in
     let new : World = record { tree = c.free.new.self; ranges = c.forget.new.self; statics = v.statics; iters = v.iters; walkers = v.walkers; observers = v.observers } in
-    let w = c.requires.shown.stands_for in
-    let s = c.requires.shown.shows in
-    whole-left v new w c.args.top s (c.requires.unused w s) c.free.ensures c.forget.ensures refl refl refl
+    whole-left v new c.args.top c.requires.whole c.requires.unused c.free.ensures c.forget.ensures refl refl refl refl
 
 pub returns-clause-discarded : goal.returns-clause-discarded
 returns-clause-discarded c = search (tests, rules)

@@ -1,13 +1,31 @@
-use Rattle.std.proofs.Common.{[], sym, subst}
-use Rattle.dom_model.specs.Forests.Forest.{Forest, HasNode}
-use Rattle.dom_model.specs.Worlds.World.{Content}
-use Rattle.dom_model.specs.MutationAlgorithms.Editing.{tree_record}
+use Rattle.std.proofs.Common.{tests, rules}
 use Rattle.std.proofs.lemmas.Result.{on_ok_weaker}
-use Rattle.dom_edit.proofs.InsertedNodes.{there-placed, follows-insert_all, forest-after}
+use Rattle.dom_model.proofs.Forests.Entries.{HasNode-occurs}
+use Rattle.dom_edit.proofs.InsertedNodes.{follows-insert_all}
+use Rattle.dom_edit.proofs.NodesKept.{none-there, placeable-there, child-held, ahead-held, stay-there, stay-some, nodes-then, nodes-observed}
 use Rattle.dom_edit.proofs.world.World.insert_all.Goals as goal
 
 pub queue_tree_record-requires-clause-held : goal.queue_tree_record-requires-clause-held
-queue_tree_record-requires-clause-held c = there-placed c.args.self.now c.place.new.self c.args.parent c.args.child c.args.nodes.now c.requires.whole c.requires.ready c.place.ensures.placed
+queue_tree_record-requires-clause-held c = c.place.ensures.stays c.args.parent (HasNode-occurs c.args.self.now.tree.forest c.args.parent c.requires.ready.parent_there)
+
+pub queue_tree_record-requires-clause-added : goal.queue_tree_record-requires-clause-added
+queue_tree_record-requires-clause-added c =
+    let v = c.args.self.now in
+    stay-there v c.place.new.self c.place.ensures.stays c.args.nodes.now (placeable-there v.tree.forest c.args.parent c.args.nodes.now c.requires.ready.placeable)
+
+pub queue_tree_record-requires-clause-removed : goal.queue_tree_record-requires-clause-removed
+queue_tree_record-requires-clause-removed c = none-there c.place.new.self.tree.forest
+
+pub queue_tree_record-requires-clause-previous : goal.queue_tree_record-requires-clause-previous
+queue_tree_record-requires-clause-previous c =
+    let v = c.args.self.now in
+    stay-some v c.place.new.self c.place.ensures.stays c.previous_to-previous.result
+    (ahead-held v c.requires.whole c.args.parent c.args.child c.requires.ready.before_child c.previous_to-previous.result c.previous_to-previous.ensures)
+
+pub queue_tree_record-requires-clause-next : goal.queue_tree_record-requires-clause-next
+queue_tree_record-requires-clause-next c =
+    let v = c.args.self.now in
+    stay-some v c.place.new.self c.place.ensures.stays c.args.child (child-held v c.requires.whole c.args.parent c.args.child c.requires.ready.before_child)
 
 pub returns-clause-inserted : goal.returns-clause-inserted
 returns-clause-inserted c =
@@ -16,13 +34,11 @@ returns-clause-inserted c =
     c.if-suppressed.false c.previous_to-previous.ensures c.place.ensures.placed)
     c.queue_tree_record.ensures.queued
 
-pub returns-then-suppressed-clause-parent_held : goal.returns-then-suppressed-clause-parent_held
-returns-then-suppressed-clause-parent_held c = there-placed c.args.self.now c.place.new.self c.args.parent c.args.child c.args.nodes.now c.requires.whole c.requires.ready c.place.ensures.placed
-
-pub returns-clause-parent_held : goal.returns-clause-parent_held
-returns-clause-parent_held c =
-    let there = there-placed c.args.self.now c.place.new.self c.args.parent c.args.child c.args.nodes.now c.requires.whole c.requires.ready c.place.ensures.placed in
-    let step = tree_record c.args.parent c.args.nodes.now [] c.previous_to-previous.result c.args.child in
+pub returns-clause-stays : goal.returns-clause-stays
+returns-clause-stays c =
     on_ok_weaker c.queue_tree_record.result
-    (λ f. subst (λ (g : Forest Content). HasNode g c.args.parent) (sym (forest-after c.place.new.self c.queue_tree_record.new.self step f)) there)
+    (λ f. nodes-then c.args.self.now c.place.new.self c.queue_tree_record.new.self c.place.ensures.stays (nodes-observed c.place.new.self c.queue_tree_record.new.self c.queue_tree_record.ensures.parts))
     c.queue_tree_record.ensures.queued
+
+pub returns-then-suppressed-clause-stays : goal.returns-then-suppressed-clause-stays
+returns-then-suppressed-clause-stays c = search (tests, rules)

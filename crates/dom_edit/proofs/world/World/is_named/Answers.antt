@@ -4,12 +4,34 @@ use Rattle.std.proofs.Common.{◌≡◌, ℕ, Bool, refl, ◌∙◌}
 use Rattle.dom_model.specs.PlainLists.Lists.{among}
 use Rattle.dom_model.specs.Forests.Forest.{inclusive_descendants}
 use Rattle.dom_model.specs.MutationAlgorithms.Discarding.{nodes_of_range, nodes_of_live, nodes_of_iterator, nodes_of_walker, observed_nodes}
-use Rattle.dom_edit.proofs.Naming.{or-met, or-next, named-parts}
+use Rattle.dom_observe.specs.Held.{named}
+use Rattle.dom_edit.proofs.Naming.{or-met, or-next, named-own, named-parts}
 use Rattle.dom_edit.proofs.world.World.is_named.Goals.{then-refers, else-refers, then-refers-2, else-refers-2, then-refers-3, else-refers-3}
 use Rattle.dom_edit.proofs.world.World.is_named.Goals as goal
 
-pub returns-then-refers-4 : goal.returns-then-refers-4
-returns-then-refers-4 c w s =
+pub returns-then-refers-4-clause-own : goal.returns-then-refers-4-clause-own
+returns-then-refers-4-clause-own c =
+    let v = c.args.self.now in
+    let p : ℕ → Bool = λ m. among m (inclusive_descendants v.tree.forest c.args.top) in
+    let first : c.if-refers.value ≡ (list_any p (flat_map nodes_of_live v.ranges.ranges) || list_any p (flat_map nodes_of_range v.statics)) =
+    elim c.if-refers.branch [
+      | then-refers b ↦ or-met c.if-refers.value c.refers.result _ _ (b.value-is ∙ b.if-refers.true) b.if-refers.true c.refers.ensures
+      | else-refers b ↦ or-next c.if-refers.value c.refers.result b.refers-else-refers.result _ _ b.value-is b.if-refers.false c.refers.ensures b.refers-else-refers.ensures
+    ] in
+    let second : c.if-refers-2.value ≡ ((list_any p (flat_map nodes_of_live v.ranges.ranges) || list_any p (flat_map nodes_of_range v.statics)) || list_any p (flat_map nodes_of_iterator v.iters)) =
+    elim c.if-refers-2.branch [
+      | then-refers-2 b ↦ or-met c.if-refers-2.value c.if-refers.value _ _ (b.value-is ∙ b.if-refers-2.true) b.if-refers-2.true first
+      | else-refers-2 b ↦ or-next c.if-refers-2.value c.if-refers.value b.refers-else-refers-2.result _ _ b.value-is b.if-refers-2.false first b.refers-else-refers-2.ensures
+    ] in
+    let third : c.if-refers-3.value ≡ (((list_any p (flat_map nodes_of_live v.ranges.ranges) || list_any p (flat_map nodes_of_range v.statics)) || list_any p (flat_map nodes_of_iterator v.iters)) || list_any p (flat_map nodes_of_walker v.walkers)) =
+    elim c.if-refers-3.branch [
+      | then-refers-3 b ↦ or-met c.if-refers-3.value c.if-refers-2.value _ _ (b.value-is ∙ b.if-refers-3.true) b.if-refers-3.true second
+      | else-refers-3 b ↦ or-next c.if-refers-3.value c.if-refers-2.value b.refers-else-refers-3.result _ _ b.value-is b.if-refers-3.false second b.refers-else-refers-3.ensures
+    ] in
+    or-met c.if-refers-3.value c.if-refers-3.value _ (list_any p (named v.observers)) c.if-refers-4.true c.if-refers-4.true third ∙ named-own v p
+
+pub returns-then-refers-4-clause-shown : goal.returns-then-refers-4-clause-shown
+returns-then-refers-4-clause-shown c w s =
     let v = c.args.self.now in
     let p : ℕ → Bool = λ m. among m (inclusive_descendants v.tree.forest c.args.top) in
     let first : c.if-refers.value ≡ (list_any p (flat_map nodes_of_live v.ranges.ranges) || list_any p (flat_map nodes_of_range v.statics)) =
@@ -29,8 +51,8 @@ returns-then-refers-4 c w s =
     ] in
     or-met c.if-refers-3.value c.if-refers-3.value _ (list_any p (observed_nodes w.observing)) c.if-refers-4.true c.if-refers-4.true third ∙ named-parts v w c.args.top s.keeps p refl
 
-pub returns-else-refers-4 : goal.returns-else-refers-4
-returns-else-refers-4 c w s =
+pub returns-else-refers-4-clause-own : goal.returns-else-refers-4-clause-own
+returns-else-refers-4-clause-own c =
     let v = c.args.self.now in
     let p : ℕ → Bool = λ m. among m (inclusive_descendants v.tree.forest c.args.top) in
     let first : c.if-refers.value ≡ (list_any p (flat_map nodes_of_live v.ranges.ranges) || list_any p (flat_map nodes_of_range v.statics)) =
@@ -48,4 +70,25 @@ returns-else-refers-4 c w s =
       | then-refers-3 b ↦ or-met c.if-refers-3.value c.if-refers-2.value _ _ (b.value-is ∙ b.if-refers-3.true) b.if-refers-3.true second
       | else-refers-3 b ↦ or-next c.if-refers-3.value c.if-refers-2.value b.refers-else-refers-3.result _ _ b.value-is b.if-refers-3.false second b.refers-else-refers-3.ensures
     ] in
-    or-next c.refers-else-refers-4.result c.if-refers-3.value c.refers-else-refers-4.result _ _ refl c.if-refers-4.false third (c.refers-else-refers-4.ensures w.observing s.watched) ∙ named-parts v w c.args.top s.keeps p refl
+    or-next c.refers-else-refers-4.result c.if-refers-3.value c.refers-else-refers-4.result _ _ refl c.if-refers-4.false third c.refers-else-refers-4.ensures.named ∙ named-own v p
+
+pub returns-else-refers-4-clause-shown : goal.returns-else-refers-4-clause-shown
+returns-else-refers-4-clause-shown c w s =
+    let v = c.args.self.now in
+    let p : ℕ → Bool = λ m. among m (inclusive_descendants v.tree.forest c.args.top) in
+    let first : c.if-refers.value ≡ (list_any p (flat_map nodes_of_live v.ranges.ranges) || list_any p (flat_map nodes_of_range v.statics)) =
+    elim c.if-refers.branch [
+      | then-refers b ↦ or-met c.if-refers.value c.refers.result _ _ (b.value-is ∙ b.if-refers.true) b.if-refers.true c.refers.ensures
+      | else-refers b ↦ or-next c.if-refers.value c.refers.result b.refers-else-refers.result _ _ b.value-is b.if-refers.false c.refers.ensures b.refers-else-refers.ensures
+    ] in
+    let second : c.if-refers-2.value ≡ ((list_any p (flat_map nodes_of_live v.ranges.ranges) || list_any p (flat_map nodes_of_range v.statics)) || list_any p (flat_map nodes_of_iterator v.iters)) =
+    elim c.if-refers-2.branch [
+      | then-refers-2 b ↦ or-met c.if-refers-2.value c.if-refers.value _ _ (b.value-is ∙ b.if-refers-2.true) b.if-refers-2.true first
+      | else-refers-2 b ↦ or-next c.if-refers-2.value c.if-refers.value b.refers-else-refers-2.result _ _ b.value-is b.if-refers-2.false first b.refers-else-refers-2.ensures
+    ] in
+    let third : c.if-refers-3.value ≡ (((list_any p (flat_map nodes_of_live v.ranges.ranges) || list_any p (flat_map nodes_of_range v.statics)) || list_any p (flat_map nodes_of_iterator v.iters)) || list_any p (flat_map nodes_of_walker v.walkers)) =
+    elim c.if-refers-3.branch [
+      | then-refers-3 b ↦ or-met c.if-refers-3.value c.if-refers-2.value _ _ (b.value-is ∙ b.if-refers-3.true) b.if-refers-3.true second
+      | else-refers-3 b ↦ or-next c.if-refers-3.value c.if-refers-2.value b.refers-else-refers-3.result _ _ b.value-is b.if-refers-3.false second b.refers-else-refers-3.ensures
+    ] in
+    or-next c.refers-else-refers-4.result c.if-refers-3.value c.refers-else-refers-4.result _ _ refl c.if-refers-4.false third (c.refers-else-refers-4.ensures.observed w.observing s.watched) ∙ named-parts v w c.args.top s.keeps p refl

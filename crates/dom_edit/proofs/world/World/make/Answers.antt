@@ -13,8 +13,8 @@ returns-clause-whole c =
     let covered : c.cover.new.self.covered ≡ covered_to (v.tree.made + 1) v.ranges.covered = ap (λ r. r.covered) c.in_ok-cover.ensures.ok ∙ ap (λ m. covered_to (m + 1) v.ranges.covered) c.made.ensures in
     by_outcome c.make.result c.make.ensures.made c.make.ensures.unchanged c.make.ensures.unchanged
     (λ made. whole-made v new c.args.document c.args.label c.args.content c.requires.whole c.requires.document_kind c.requires.own_document
-    (follows-made v new c.args.document c.args.label c.args.content made ranges refl refl refl refl) covered)
-    (λ same again. whole-covered v new (v.tree.made + 1) c.requires.whole same ranges covered refl refl refl)
+    (follows-made v new c.args.document c.args.label c.args.content made ranges refl refl refl refl) covered refl)
+    (λ same again. whole-covered v new (v.tree.made + 1) c.requires.whole same ranges covered refl refl refl refl)
 
 pub returns-clause-number : goal.returns-clause-number
 returns-clause-number c = search (tests, rules)

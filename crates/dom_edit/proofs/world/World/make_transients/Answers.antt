@@ -1,6 +1,15 @@
 use Rattle.dom_edit.proofs.Leaving.{follows-idle}
+use Rattle.std.proofs.Common.{[], ◌∷◌, refl}
+use Rattle.dom_edit.proofs.NodesKept.{one-there}
+use Rattle.dom_edit.proofs.Named.{whole-named}
 use Rattle.dom_edit.proofs.world.World.make_transients.Goals as goal
 
 pub returns-then-is_idle-clause-made : goal.returns-then-is_idle-clause-made
 returns-then-is_idle-clause-made c =
-    follows-idle c.args.self.now c.args.node c.args.parent (λ x o. c.is_idle.ensures x o c.if-is_idle.true)
+    follows-idle c.args.self.now c.args.node c.args.parent (λ x o. c.is_idle.ensures.idle x o c.if-is_idle.true)
+
+pub returns-clause-whole : goal.returns-clause-whole
+returns-clause-whole c =
+    let v = c.args.self.now in
+    let n = c.args.node in
+    whole-named v (record v { observers = c.transients.new.self }) (n ∷ []) refl c.requires.whole c.transients.ensures.names (one-there v.tree.forest n c.requires.node_held)

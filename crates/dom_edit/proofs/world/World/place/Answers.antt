@@ -2,6 +2,7 @@ use Rattle.std.proofs.Common.{subst}
 use Rattle.dom_edit.specs.declared.world.World.{World}
 use Rattle.dom_edit.specs.Whole.{IsWhole, Follows}
 use Rattle.dom_edit.proofs.PlacedWorlds.{placing, follows-placing, whole-placed, placed-is}
+use Rattle.dom_edit.proofs.InsertedNodes.{nodes-placed}
 use Rattle.dom_edit.proofs.world.World.place.Goals as goal
 
 pub returns-clause-placed : goal.returns-clause-placed
@@ -13,3 +14,9 @@ pub returns-clause-whole : goal.returns-clause-whole
 returns-clause-whole c =
     let e = placed-is c.args.parent c.args.child c.args.nodes.now c.args.self.now c.make_room.new.self c.put_all.new.tree c.make_room.ensures c.put_all.ensures in
     subst IsWhole e (whole-placed c.args.parent c.args.child c.args.nodes.now c.args.self.now c.requires.whole c.requires.ready)
+
+pub returns-clause-stays : goal.returns-clause-stays
+returns-clause-stays c =
+    let v = c.args.self.now in
+    let new : World = record c.make_room.new.self { tree = c.put_all.new.tree } in
+    nodes-placed v new c.args.parent c.args.child c.args.nodes.now c.requires.whole c.requires.ready (returns-clause-placed c)

@@ -17,6 +17,12 @@ returns-clause-queued c =
           (follows-added old new c.args.parent c.args.added.now c.args.removed.now (sym c.is_empty.ensures ∙ w.if-is_empty.false)) c.queue_tree_record.ensures.queued
     ]
 
+pub queue_tree_record-requires-clause-previous : goal.queue_tree_record-requires-clause-previous
+queue_tree_record-requires-clause-previous c n e = absurd (cc e)
+
+pub queue_tree_record-requires-clause-next : goal.queue_tree_record-requires-clause-next
+queue_tree_record-requires-clause-next c n e = absurd (cc e)
+
 pub returns-then-is_empty-2-clause-queued : goal.returns-then-is_empty-2-clause-queued
 returns-then-is_empty-2-clause-queued c = search (tests, rules)
 

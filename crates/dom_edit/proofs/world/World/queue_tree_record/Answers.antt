@@ -1,7 +1,12 @@
-use Rattle.dom_edit.proofs.Queuing.{follows-unheard}
+use Rattle.std.proofs.Common.{◌∷◌, ◌++◌, refl}
+use Rattle.dom_model.specs.MutationAlgorithms.Discarding.{if_any}
+use Rattle.dom_edit.proofs.Named.{there-told, whole-named}
 use Rattle.dom_edit.proofs.world.World.queue_tree_record.Goals as goal
 
-pub returns-then-not-heard-clause-queued : goal.returns-then-not-heard-clause-queued
-returns-then-not-heard-clause-queued c =
-    follows-unheard c.args.self.now c.args.target c.args.added.now c.args.removed.now c.args.previous c.args.next
-    (λ x o m a. rw c.if-not-heard.true at c.interests-heard.ensures x o m a)
+pub returns-clause-whole : goal.returns-clause-whole
+returns-clause-whole c =
+    let v = c.args.self.now in
+    let r = c.requires in
+    let a = c.args in
+    whole-named v (record v { observers = c.queue.new.self }) (a.target ∷ (a.added.now ++ (a.removed.now ++ (if_any a.previous ++ if_any a.next)))) refl c.requires.whole c.queue.ensures.names
+    (there-told v.tree.forest a.target a.added.now a.removed.now a.previous a.next r.held r.added r.removed r.previous r.next)

@@ -1,10 +1,10 @@
 use Rattle.std.specs.Prelude.{Some}
-use Rattle.std.proofs.Common.{◌≡◌, true, false, subst, sym, ap, tests, rules}
+use Rattle.std.proofs.Common.{◌≡◌, true, false, tests, rules}
 use Rattle.std.proofs.lemmas.Result.{on_ok_weaker}
-use Rattle.dom_model.specs.Forests.Forest.{HasNode, parent_of}
-use Rattle.dom_edit.specs.declared.world.World.{World}
+use Rattle.dom_model.specs.Forests.Forest.{parent_of}
 use Rattle.dom_edit.proofs.Following.{follows-none}
 use Rattle.dom_edit.proofs.Leaving.{it_is, parent-held, held-taken, follows-removed}
+use Rattle.dom_edit.proofs.NodesKept.{none-there, one-there, stay-some, previous-held, next-held, nodes-then, nodes-observed, nodes-taken}
 use Rattle.dom_edit.proofs.world.World.remove_node.Goals as goal
 
 pub make_transients-requires-clause-held : goal.make_transients-requires-clause-held
@@ -14,6 +14,14 @@ make_transients-requires-clause-held c =
     let p = c.in-Some.parent in
     let e : parent_of v.tree.forest n ≡ Some p = cc in
     held-taken v c.take_out.new.self n p p (it_is _ (parent_of v.tree.forest n) p e c.take_out.ensures.taken) (parent-held v c.requires.whole n p e)
+
+pub make_transients-requires-clause-node_held : goal.make_transients-requires-clause-node_held
+make_transients-requires-clause-node_held c =
+    let v = c.args.self.now in
+    let n = c.args.node in
+    let p = c.in-Some.parent in
+    let e : parent_of v.tree.forest n ≡ Some p = cc in
+    nodes-taken v c.take_out.new.self n p (it_is _ (parent_of v.tree.forest n) p e c.take_out.ensures.taken) n c.requires.held
 
 pub returns-then-suppressed-clause-removed : goal.returns-then-suppressed-clause-removed
 returns-then-suppressed-clause-removed c =
@@ -30,9 +38,46 @@ queue_tree_record-requires-clause-held c =
     let n = c.args.node in
     let p = c.in-Some.parent in
     let e : parent_of v.tree.forest n ≡ Some p = cc in
-    let same_tree = ap (λ (w : World). w.tree.forest) c.make_transients.ensures.parts in
-    let held = held-taken v c.take_out.new.self n p p (it_is _ (parent_of v.tree.forest n) p e c.take_out.ensures.taken) (parent-held v c.requires.whole n p e) in
-    subst (λ f. HasNode f p) (sym same_tree) held
+    let mid = c.make_transients.new.self in
+    let stays = nodes-then v c.take_out.new.self mid (nodes-taken v c.take_out.new.self n p (it_is _ (parent_of v.tree.forest n) p e c.take_out.ensures.taken))
+    (nodes-observed c.take_out.new.self mid c.make_transients.ensures.parts) in
+    stays p (parent-held v c.requires.whole n p e)
+
+pub queue_tree_record-requires-clause-added : goal.queue_tree_record-requires-clause-added
+queue_tree_record-requires-clause-added c = none-there c.make_transients.new.self.tree.forest
+
+pub queue_tree_record-requires-clause-removed : goal.queue_tree_record-requires-clause-removed
+queue_tree_record-requires-clause-removed c =
+    let v = c.args.self.now in
+    let n = c.args.node in
+    let p = c.in-Some.parent in
+    let e : parent_of v.tree.forest n ≡ Some p = cc in
+    let mid = c.make_transients.new.self in
+    let stays = nodes-then v c.take_out.new.self mid (nodes-taken v c.take_out.new.self n p (it_is _ (parent_of v.tree.forest n) p e c.take_out.ensures.taken))
+    (nodes-observed c.take_out.new.self mid c.make_transients.ensures.parts) in
+    one-there mid.tree.forest n (stays n c.requires.held)
+
+pub queue_tree_record-requires-clause-previous : goal.queue_tree_record-requires-clause-previous
+queue_tree_record-requires-clause-previous c =
+    let v = c.args.self.now in
+    let n = c.args.node in
+    let p = c.in-Some.parent in
+    let e : parent_of v.tree.forest n ≡ Some p = cc in
+    let mid = c.make_transients.new.self in
+    let stays = nodes-then v c.take_out.new.self mid (nodes-taken v c.take_out.new.self n p (it_is _ (parent_of v.tree.forest n) p e c.take_out.ensures.taken))
+    (nodes-observed c.take_out.new.self mid c.make_transients.ensures.parts) in
+    stay-some v mid stays c.prev-previous.result (previous-held v c.requires.whole n c.requires.held c.prev-previous.result c.prev-previous.ensures)
+
+pub queue_tree_record-requires-clause-next : goal.queue_tree_record-requires-clause-next
+queue_tree_record-requires-clause-next c =
+    let v = c.args.self.now in
+    let n = c.args.node in
+    let p = c.in-Some.parent in
+    let e : parent_of v.tree.forest n ≡ Some p = cc in
+    let mid = c.make_transients.new.self in
+    let stays = nodes-then v c.take_out.new.self mid (nodes-taken v c.take_out.new.self n p (it_is _ (parent_of v.tree.forest n) p e c.take_out.ensures.taken))
+    (nodes-observed c.take_out.new.self mid c.make_transients.ensures.parts) in
+    stay-some v mid stays c.next-next.result (next-held v c.requires.whole n c.requires.held c.next-next.result c.next-next.ensures)
 
 pub returns-clause-removed : goal.returns-clause-removed
 returns-clause-removed c =

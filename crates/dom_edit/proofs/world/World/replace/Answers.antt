@@ -1,6 +1,8 @@
-use Rattle.std.proofs.Common.{ap, sym, ◌∙◌, tests, rules}
+use Rattle.std.proofs.Common.{true, ap, sym, ◌∙◌, tests, rules}
 use Rattle.dom_edit.proofs.Marking.{stand-by_replace}
 use Rattle.dom_edit.proofs.ReplacedNodes.{reference_in, insertable-instead, entering-instead, follows-replace}
+use Rattle.dom_edit.proofs.Adopting.{removed-held}
+use Rattle.dom_edit.proofs.NodesKept.{one-there, stay-there, stay-some, previous-held, next-held, entering-held, reference-held, nodes-then}
 use Rattle.dom_edit.proofs.world.World.replace.Goals as goal
 
 pub enter-requires-clause-allowed : goal.enter-requires-clause-allowed
@@ -15,6 +17,50 @@ enter-requires-clause-nodes c =
     let r = c.reference_child-reference.ensures ∙ ap (reference_in v.tree.forest c.args.node) c.next-following.ensures in
     c.as_slice.ensures ∙ c.in_ok-nodes.ensures
     ∙ sym (entering-instead v c.remove_node.new.self c.requires.whole c.args.child c.args.node c.args.parent c.reference_child-reference.result c.requires.node_held c.in_default.ensures r c.in_ok-remove_node.ensures.removed)
+
+pub queue_tree_record-requires-clause-held : goal.queue_tree_record-requires-clause-held
+queue_tree_record-requires-clause-held c =
+    let v = c.args.self.now in
+    let child = c.args.child in
+    let stays = nodes-then v c.remove_node.new.self c.enter.new.self
+    (removed-held v c.remove_node.new.self true child c.requires.whole c.requires.child_held c.in_ok-remove_node.ensures.removed) c.in_ok-enter.ensures.stays in
+    stays c.args.parent c.requires.parent_held
+
+pub queue_tree_record-requires-clause-added : goal.queue_tree_record-requires-clause-added
+queue_tree_record-requires-clause-added c =
+    let v = c.args.self.now in
+    let child = c.args.child in
+    let stays = nodes-then v c.remove_node.new.self c.enter.new.self
+    (removed-held v c.remove_node.new.self true child c.requires.whole c.requires.child_held c.in_ok-remove_node.ensures.removed) c.in_ok-enter.ensures.stays in
+    stay-there v c.enter.new.self stays c.as_slice-2.result.now
+    (entering-held v c.requires.whole c.args.node c.requires.node_held c.as_slice-2.result.now (c.as_slice-2.ensures ∙ c.in_ok-nodes.ensures))
+
+pub queue_tree_record-requires-clause-removed : goal.queue_tree_record-requires-clause-removed
+queue_tree_record-requires-clause-removed c =
+    let v = c.args.self.now in
+    let child = c.args.child in
+    let stays = nodes-then v c.remove_node.new.self c.enter.new.self
+    (removed-held v c.remove_node.new.self true child c.requires.whole c.requires.child_held c.in_ok-remove_node.ensures.removed) c.in_ok-enter.ensures.stays in
+    one-there c.enter.new.self.tree.forest child (stays child c.requires.child_held)
+
+pub queue_tree_record-requires-clause-previous : goal.queue_tree_record-requires-clause-previous
+queue_tree_record-requires-clause-previous c =
+    let v = c.args.self.now in
+    let child = c.args.child in
+    let stays = nodes-then v c.remove_node.new.self c.enter.new.self
+    (removed-held v c.remove_node.new.self true child c.requires.whole c.requires.child_held c.in_ok-remove_node.ensures.removed) c.in_ok-enter.ensures.stays in
+    stay-some v c.enter.new.self stays c.prev-previous.result
+    (previous-held v c.requires.whole child c.requires.child_held c.prev-previous.result c.prev-previous.ensures)
+
+pub queue_tree_record-requires-clause-next : goal.queue_tree_record-requires-clause-next
+queue_tree_record-requires-clause-next c =
+    let v = c.args.self.now in
+    let child = c.args.child in
+    let stays = nodes-then v c.remove_node.new.self c.enter.new.self
+    (removed-held v c.remove_node.new.self true child c.requires.whole c.requires.child_held c.in_ok-remove_node.ensures.removed) c.in_ok-enter.ensures.stays in
+    stay-some v c.enter.new.self stays c.reference_child-reference.result
+    (reference-held v c.requires.whole c.args.node c.next-following.result c.reference_child-reference.result c.requires.node_held
+    (next-held v c.requires.whole child c.requires.child_held c.next-following.result c.next-following.ensures) c.reference_child-reference.ensures)
 
 pub returns-clause-replaced : goal.returns-clause-replaced
 returns-clause-replaced c =

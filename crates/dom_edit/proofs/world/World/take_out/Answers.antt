@@ -33,5 +33,5 @@ returns-clause-whole c =
       | nothing e ↦ absurd (let k = rw e at c.requires.child in cc k)
       | just p e ↦
           let moved = it_is _ (parent_of v.tree.forest n) p e c.removing.ensures in
-          whole-taken v new n p c.requires.whole e (follows-taken v new n p c.cut.ensures moved refl c.removing-2.ensures refl refl) (ap (λ r. r.covered) moved)
+          whole-taken v new n p c.requires.whole e (follows-taken v new n p c.cut.ensures moved refl c.removing-2.ensures refl refl) (ap (λ r. r.covered) moved) refl
     ]

@@ -11,8 +11,10 @@ use Rattle.dom_model.specs.PlainLists.LastOnce.{with_all_last}
 use Rattle.dom_observe.specs.Names.{text_of}
 use Rattle.dom_observe.specs.Watchers.{Watchers, Watches, on}
 use Rattle.dom_observe.specs.Registrations.{at, listed}
-use Rattle.dom_observe.specs.Kept.{nodes_of, queues_of}
+use Rattle.dom_observe.specs.Kept.{nodes_of, queues_of, keys_by, IsIndexed}
 use Rattle.dom_observe.specs.Telling.{listeners, delivered}
+use Rattle.dom_observe.specs.Held.{nodes_of_mutation}
+use Rattle.dom_observe.proofs.Holding.{names-only, names-same}
 use Rattle.dom_observe.proofs.Outcomes.{on_ok}
 use Rattle.dom_observe.proofs.Keeping.{on-nodes_of, queues_of-length, nobody}
 use Rattle.dom_observe.proofs.Queued.{standing_on-none, standing_stands, unheard, kept-queued, told-queued, pended-queued}
@@ -23,11 +25,11 @@ none : {A : Type 0} (xs : List A) → length xs ≡ 0 → xs ≡ []
 none [] h = refl
 none (x ∷ xs) h = absurd (omega arith)
 
-pub returns-then-is_empty : goal.returns-then-is_empty
-returns-then-is_empty g c = λ x w.
+pub returns-then-is_empty-clause-queued : goal.returns-then-is_empty-clause-queued
+returns-then-is_empty-clause-queued g c = λ x w.
     let a = c.self.inside in
-    let ns = ancestors c.args.mutation.target c.args.tree.now.forest in
-    let m : Mutation = record (c.args.mutation) { standing = standing_on ns x.registrations } in
+    let ns = ancestors c.args.mutation.now.target c.args.tree.now.forest in
+    let m : Mutation = record (c.args.mutation.now) { standing = standing_on ns x.registrations } in
     let shown = subst (λ (o : Watchers). Watches o x) (sym c.self.view_is) w in
     let empty = none a.nodes.entries (c.is_empty.ensures.0 c.if-is_empty.true) in
     let gone = nobody x.registrations (λ n. sym (shown.registrations n) ∙ ap (λ es. on n (nodes_of a.table es)) empty) in
@@ -37,14 +39,14 @@ pub invariant_of-self : goal.invariant_of-self
 invariant_of-self g c =
     let a = c.self.inside in
     let qs = queues_of a.queues.items in
-    let bounded = standing_stands (at a.table) (length qs) a.transient (listed a.nodes.entries) _ c.as_slice.result.now c.self.invariant.stand (c.as_slice.ensures.value ∙ c.in_ok-standing.ensures) in
-    kept-queued a.table a.nodes.entries qs a.pending.keys a.transient c.self.invariant qs c.listen.new.pending.keys refl c.listen.ensures.stay (c.listen.ensures.made (length qs) bounded c.self.invariant.made) (λ p off. refl)
+    let bounded = standing_stands (at a.table) (length qs) (listed a.nodes.entries) _ c.as_slice.result.now c.self.invariant.0.stand (c.as_slice.ensures.value ∙ c.in_ok-standing.ensures) in
+    (kept-queued a.table a.nodes.entries qs a.pending.keys c.self.invariant.0 qs c.listen.new.pending.keys refl c.listen.ensures.stay (c.listen.ensures.made (length qs) bounded c.self.invariant.0.made) (λ p off. refl), c.self.invariant.1)
 
 pub tell-requires-clause-made : goal.tell-requires-clause-made
 tell-requires-clause-made g c =
     let a = c.self.inside in
     let qs = queues_of a.queues.items in
-    let bounded = standing_stands (at a.table) (length qs) a.transient (listed a.nodes.entries) _ c.as_slice.result.now c.self.invariant.stand (c.as_slice.ensures.value ∙ c.in_ok-standing.ensures) in
+    let bounded = standing_stands (at a.table) (length qs) (listed a.nodes.entries) _ c.as_slice.result.now c.self.invariant.0.stand (c.as_slice.ensures.value ∙ c.in_ok-standing.ensures) in
     subst (λ l. AllByRecursion (λ o. o < l) (keys_of c.in_ok-heard.heard.entries)) (queues_of-length a.queues.items) (c.in_ok-heard.ensures.known (length qs) bounded)
 
 pub invariant_of-self-2 : goal.invariant_of-self-2
@@ -54,19 +56,22 @@ invariant_of-self-2 g c =
     let qs = queues_of a.queues.items in
     let qs' = queues_of c.tell.new.queues.items in
     let ls = listeners (at a.table) q.what q.target (text_of q.name) c.as_slice.result.now in
-    let bounded = standing_stands (at a.table) (length qs) a.transient (listed a.nodes.entries) _ c.as_slice.result.now c.self.invariant.stand (c.as_slice.ensures.value ∙ c.in_ok-standing.ensures) in
-    kept-queued a.table a.nodes.entries qs a.pending.keys a.transient c.self.invariant qs' c.listen.new.pending.keys
-    (queues_of-length c.tell.new.queues.items ∙ c.tell.ensures.len ∙ sym (queues_of-length a.queues.items))
-    c.listen.ensures.stay (c.listen.ensures.made (length qs) bounded c.self.invariant.made)
-    (λ p off. c.tell.ensures.others p (c.in_ok-heard.ensures.heard p ∙ unheard p ls a.pending.keys c.listen.new.pending.keys c.in_ok-heard.ensures.pending off))
+    let bounded = standing_stands (at a.table) (length qs) (listed a.nodes.entries) _ c.as_slice.result.now c.self.invariant.0.stand (c.as_slice.ensures.value ∙ c.in_ok-standing.ensures) in
+    let same_length = queues_of-length c.tell.new.queues.items ∙ c.tell.ensures.len ∙ sym (queues_of-length a.queues.items) in (
+      kept-queued a.table a.nodes.entries qs a.pending.keys c.self.invariant.0 qs' c.listen.new.pending.keys
+          (queues_of-length c.tell.new.queues.items ∙ c.tell.ensures.len ∙ sym (queues_of-length a.queues.items))
+          c.listen.ensures.stay (c.listen.ensures.made (length qs) bounded c.self.invariant.0.made)
+          (λ p off. c.tell.ensures.others p (c.in_ok-heard.ensures.heard p ∙ unheard p ls a.pending.keys c.listen.new.pending.keys c.in_ok-heard.ensures.pending off)),
+      subst (IsIndexed (at a.table) (listed a.nodes.entries) (keys_by a.lasting.items) (keys_by a.passing.items) a.fleeting.keys) (sym same_length) c.self.invariant.1,
+    )
 
-pub returns : goal.returns
-returns g c =
+pub returns-clause-queued : goal.returns-clause-queued
+returns-clause-queued g c =
     on_ok c.tell.result c.tell.ensures.ok (λ given x w.
     let a = c.self.inside in
     let q = c.question-question.result in
-    let m = c.args.mutation in
-    let ns = ancestors c.args.mutation.target c.args.tree.now.forest in
+    let m = c.args.mutation.now in
+    let ns = ancestors c.args.mutation.now.target c.args.tree.now.forest in
     let u = at a.table in
     let lists = listed a.nodes.entries in
     let keys = c.as_slice.result.now in
@@ -79,9 +84,45 @@ returns g c =
     let heard : ls ≡ listeners u m.type m.target m.name keys = (λ i. listeners u (c.question-question.ensures.what i) (c.question-question.ensures.target i) (c.question-question.ensures.name i) keys) in
     let target = ap (λ (k : Mutation). k.target) c.mutation.view_is in
     let is : keys ≡ flat_map (λ n. on n lists) ns = c.as_slice.ensures.value ∙ c.in_ok-standing.ensures ∙ ap (λ t. flat_map (λ n. on n lists) (ancestors t c.args.tree.now.forest)) target in
-    watches-noted o x shown (record (c.args.mutation) { standing = standing_on ns x.registrations }) qs' c.listen.new.pending.keys
+    watches-noted o x shown (record (c.args.mutation.now) { standing = standing_on ns x.registrations }) qs' c.listen.new.pending.keys
     (queues_of-length c.tell.new.queues.items ∙ c.tell.ensures.len ∙ sym (queues_of-length a.queues.items))
     (λ p. given p
     ∙ ap (λ v. slice_index_or qs p [] ++ delivered m v) (c.in_ok-heard.ensures.heard p)
     ∙ ap (λ rs. slice_index_or qs p [] ++ rs) (told-queued u lists x.registrations has m ns keys is ls heard p))
     (c.in_ok-heard.ensures.pending ∙ ap (with_all_last a.pending.keys) (pended-queued u lists x.registrations has m ns keys is ls heard)))
+
+pub returns-then-is_empty-clause-names : goal.returns-then-is_empty-clause-names
+returns-then-is_empty-clause-names g c =
+    let a = c.self.inside in
+    names-same a.table a.nodes.entries (queues_of a.queues.items) a.pending.keys c.self.invariant.0 c.args.self.now c.self.view_is (nodes_of_mutation c.args.mutation.now)
+
+pub returns-in_err-heard-clause-names : goal.returns-in_err-heard-clause-names
+returns-in_err-heard-clause-names g c =
+    let a = c.self.inside in
+    let qs = queues_of a.queues.items in
+    let bounded = standing_stands (at a.table) (length qs) (listed a.nodes.entries) _ c.as_slice.result.now c.self.invariant.0.stand (c.as_slice.ensures.value ∙ c.in_ok-standing.ensures) in
+    let kept = kept-queued a.table a.nodes.entries qs a.pending.keys c.self.invariant.0 qs c.listen.new.pending.keys refl c.listen.ensures.stay (c.listen.ensures.made (length qs) bounded c.self.invariant.0.made) (λ p off. refl) in
+    names-only a.table a.nodes.entries qs a.pending.keys c.args.self.now c.self.view_is a.table a.nodes.entries qs c.listen.new.pending.keys kept (nodes_of_mutation c.args.mutation.now) (λ p _ names tells. (names, tells))
+
+pub returns-clause-names : goal.returns-clause-names
+returns-clause-names g c =
+    let a = c.self.inside in
+    let q = c.question-question.result in
+    let qs = queues_of a.queues.items in
+    let qs' = queues_of c.tell.new.queues.items in
+    let ls = listeners (at a.table) q.what q.target (text_of q.name) c.as_slice.result.now in
+    let bounded = standing_stands (at a.table) (length qs) (listed a.nodes.entries) _ c.as_slice.result.now c.self.invariant.0.stand (c.as_slice.ensures.value ∙ c.in_ok-standing.ensures) in
+    let kept = kept-queued a.table a.nodes.entries qs a.pending.keys c.self.invariant.0 qs' c.listen.new.pending.keys
+    (queues_of-length c.tell.new.queues.items ∙ c.tell.ensures.len ∙ sym (queues_of-length a.queues.items))
+    c.listen.ensures.stay (c.listen.ensures.made (length qs) bounded c.self.invariant.0.made)
+    (λ p off. c.tell.ensures.others p (c.in_ok-heard.ensures.heard p ∙ unheard p ls a.pending.keys c.listen.new.pending.keys c.in_ok-heard.ensures.pending off)) in
+    names-only a.table a.nodes.entries qs a.pending.keys c.args.self.now c.self.view_is a.table a.nodes.entries qs' c.listen.new.pending.keys kept (nodes_of_mutation c.args.mutation.now)
+    (λ p nameless names tells. (names, c.tell.ensures.names p nameless tells))
+
+pub returns-clause-made : goal.returns-clause-made
+returns-clause-made g c = queues_of-length c.tell.new.queues.items ∙ c.tell.ensures.len ∙ sym (queues_of-length c.self.inside.queues.items) ∙ ap (λ o. length o.queues) c.self.view_is
+
+pub returns-in_err-standing-clause-names : goal.returns-in_err-standing-clause-names
+returns-in_err-standing-clause-names g c =
+    let a = c.self.inside in
+    names-same a.table a.nodes.entries (queues_of a.queues.items) a.pending.keys c.self.invariant.0 c.args.self.now c.self.view_is (nodes_of_mutation c.args.mutation.now)

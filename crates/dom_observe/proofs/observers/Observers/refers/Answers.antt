@@ -1,5 +1,5 @@
 -- What the registrations and the queues name is what the definitions have as observed.
-use Rattle.std.proofs.Common.{◌≡◌, ℕ, ◌||◌, ◌+◌, ap, sym, ◌∙◌, subst, nat_eq, arith}
+use Rattle.std.proofs.Common.{◌≡◌, ℕ, ◌||◌, ◌+◌, List, Vec, Global, ap, sym, ◌∙◌, subst, nat_eq, arith}
 use Rattle.std.specs.List.{list_any, IsDistinct}
 use Rattle.dom_model.specs.PlainLists.Lists.{among}
 use Rattle.dom_model.specs.Forests.Forest.{inclusive_descendants}
@@ -9,29 +9,32 @@ use Rattle.dom_model.specs.MutationObservers.Records.{queue_of}
 use Rattle.dom_model.specs.MutationAlgorithms.Discarding.{nodes_of_registration, nodes_of_record, queued_records}
 use Rattle.dom_observe.specs.Watchers.{Watchers, Watches}
 use Rattle.dom_observe.specs.Kept.{nodes_of, queues_of}
+use Rattle.dom_observe.specs.Held.{named}
+use Rattle.dom_observe.proofs.Finding.{list_any-map}
+use Rattle.dom_observe.proofs.Holding.{named-parts}
 use Rattle.dom_observe.proofs.Named.{any-registered, queues-waiting, keys-nodes_of, any-nodes_of, any-queues_of, any-observed}
 use Rattle.dom_observe.proofs.observers.Observers.refers.Goals as goal
 
-pub returns-then-is_named : goal.returns-then-is_named
-returns-then-is_named g c = λ x w.
+pub returns-then-is_named-clause-observed : goal.returns-then-is_named-clause-observed
+returns-then-is_named-clause-observed g c = λ x w.
     let a = c.self.inside in
     let p = λ (m : ℕ). among m (inclusive_descendants c.args.tree.now.forest c.args.top) in
     let one = λ (r : Registration). list_any p (nodes_of_registration r) in
     let shown = subst (λ (o : Watchers). Watches o x) (sym c.self.view_is) w in
-    let distinct = subst (IsDistinct nat_eq) (sym (keys-nodes_of a.table a.nodes.entries)) c.self.invariant.unique in
+    let distinct = subst (IsDistinct nat_eq) (sym (keys-nodes_of a.table a.nodes.entries)) c.self.invariant.0.unique in
     let named : c.is_named.result ≡ list_any one x.registrations =
     c.is_named.ensures ∙ any-nodes_of a.table p a.nodes.entries ∙ any-registered one (nodes_of a.table a.nodes.entries) x.registrations distinct shown.registrations in
     c.if-is_named.true
     ∙ sym (any-observed p x ∙ ap (λ b. b || list_any (λ (r : Record). list_any p (nodes_of_record r)) (queued_records x)) (sym named ∙ c.if-is_named.true))
 
-pub returns-else-is_named : goal.returns-else-is_named
-returns-else-is_named g c = λ x w.
+pub returns-else-is_named-clause-observed : goal.returns-else-is_named-clause-observed
+returns-else-is_named-clause-observed g c = λ x w.
     let a = c.self.inside in
     let p = λ (m : ℕ). among m (inclusive_descendants c.args.tree.now.forest c.args.top) in
     let one = λ (r : Registration). list_any p (nodes_of_registration r) in
     let told = λ (r : Record). list_any p (nodes_of_record r) in
     let shown = subst (λ (o : Watchers). Watches o x) (sym c.self.view_is) w in
-    let distinct = subst (IsDistinct nat_eq) (sym (keys-nodes_of a.table a.nodes.entries)) c.self.invariant.unique in
+    let distinct = subst (IsDistinct nat_eq) (sym (keys-nodes_of a.table a.nodes.entries)) c.self.invariant.0.unique in
     let named : c.is_named.result ≡ list_any one x.registrations =
     c.is_named.ensures ∙ any-nodes_of a.table p a.nodes.entries ∙ any-registered one (nodes_of a.table a.nodes.entries) x.registrations distinct shown.registrations in
     let end : (i : ℕ) → i ≡ i + 0 = λ i. omega arith in
@@ -41,3 +44,24 @@ returns-else-is_named g c = λ x w.
     ∙ any-queues_of told a.queues.items
     ∙ ap (list_any told) (sym waiting)
     ∙ sym (any-observed p x ∙ ap (λ b. b || list_any told (queued_records x)) (sym named ∙ c.if-is_named.false))
+
+pub returns-then-is_named-clause-named : goal.returns-then-is_named-clause-named
+returns-then-is_named-clause-named g c =
+    let a = c.self.inside in
+    let p = λ (m : ℕ). among m (inclusive_descendants c.args.tree.now.forest c.args.top) in
+    let there = sym (c.is_named.ensures ∙ any-nodes_of a.table p a.nodes.entries) ∙ c.if-is_named.true in
+    c.if-is_named.true
+    ∙ sym (ap (λ (o : Watchers). list_any p (named o)) (sym c.self.view_is) ∙ named-parts p (record { nodes = nodes_of a.table a.nodes.entries; queues = queues_of a.queues.items; pending = a.pending.keys })
+    ∙ ap (λ b. b || list_any (λ (q : List Record). list_any (λ r. list_any p (nodes_of_record r)) q) (queues_of a.queues.items)) there)
+
+pub returns-else-is_named-clause-named : goal.returns-else-is_named-clause-named
+returns-else-is_named-clause-named g c =
+    let a = c.self.inside in
+    let p = λ (m : ℕ). among m (inclusive_descendants c.args.tree.now.forest c.args.top) in
+    let told = λ (r : Record). list_any p (nodes_of_record r) in
+    let there = sym (c.is_named.ensures ∙ any-nodes_of a.table p a.nodes.entries) ∙ c.if-is_named.false in
+    c.is_told.ensures
+    ∙ ap (list_any (λ q. list_any told q.items)) c.as_slice.ensures.value
+    ∙ sym (list_any-map (list_any told) (λ (q : Vec Record Global). q.items) a.queues.items)
+    ∙ sym (ap (λ (o : Watchers). list_any p (named o)) (sym c.self.view_is) ∙ named-parts p (record { nodes = nodes_of a.table a.nodes.entries; queues = queues_of a.queues.items; pending = a.pending.keys })
+    ∙ ap (λ b. b || list_any (λ (q : List Record). list_any told q) (queues_of a.queues.items)) there)

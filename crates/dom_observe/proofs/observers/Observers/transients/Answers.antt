@@ -1,5 +1,5 @@
 -- The registrations that stand on the ancestors leave transient ones.
-use Rattle.std.proofs.Common.{◌≡◌, ℕ, Bool, true, false, if◌then◌else◌, ◌==◌, List, [], ◌∷◌, ◌++◌, length, refl, ap, sym, ◌∙◌, subst, arith, append-nil}
+use Rattle.std.proofs.Common.{◌≡◌, ℕ, Bool, true, false, if◌then◌else◌, ◌==◌, List, [], ◌∷◌, ◌++◌, length, filter, refl, ap, sym, ◌∙◌, subst, arith, append-nil}
 use Rattle.std.specs.List.{AllByRecursion}
 use Rattle.std.proofs.lemmas.Bool.{true≢false}
 use Rattle.dom_model.proofs.PlainLists.Numbers.{same_or, same, apart}
@@ -8,10 +8,13 @@ use Rattle.dom_model.specs.Worlds.World.{Registration}
 use Rattle.dom_model.specs.MutationObservers.Observing.{standing_on}
 use Rattle.dom_observe.specs.Watchers.{Watchers, Watches, on}
 use Rattle.dom_observe.specs.Registrations.{at, found, listed, is_live, AllLive, Stands, with_added_transients}
-use Rattle.dom_observe.specs.Kept.{nodes_of, queues_of}
+use Rattle.dom_observe.specs.Kept.{nodes_of, queues_of, keys_by}
+use Rattle.dom_observe.specs.Naming.{names_one}
+use Rattle.dom_observe.proofs.Holding.{names-only, names-same}
+use Rattle.dom_observe.proofs.Named.{or-left}
 use Rattle.dom_observe.proofs.Outcomes.{on_ok}
-use Rattle.dom_observe.proofs.Tables.{live_of_stands}
-use Rattle.dom_observe.proofs.Keeping.{on-nodes_of, kept_table, stand_loosely, all_flat, stands_of, found_standing}
+use Rattle.dom_observe.proofs.Tables.{all_imply, live_of_stands}
+use Rattle.dom_observe.proofs.Keeping.{on-nodes_of, kept_table, keys_by-length, all_deep, stands_of, found_deep, deep-enough}
 use Rattle.dom_observe.proofs.Watching.{watches-transients}
 use Rattle.dom_observe.proofs.observers.Observers.transients.Goals as goal
 
@@ -26,8 +29,8 @@ same_as_before node n ss rs e = rw e (go (node == n))
     go true = sym (append-nil rs)
     go false = sym (append-nil rs)
 
-pub returns-then-is_empty : goal.returns-then-is_empty
-returns-then-is_empty g c = λ x w.
+pub returns-then-is_empty-clause-left : goal.returns-then-is_empty-clause-left
+returns-then-is_empty-clause-left g c = λ x w.
     let a = c.self.inside in
     let o = c.args.self.now in
     let ns = ancestors c.args.parent c.args.tree.now.forest in
@@ -37,40 +40,79 @@ returns-then-is_empty g c = λ x w.
     let k = c.in_ok-standing.standing.ok in
     let t : (c.in_ok-standing.standing.len == 0) ≡ true = sym c.is_empty.ensures ∙ c.if-is_empty.true in
     elim (same_or c.in_ok-standing.standing.len 0) [ same e _ ↦ omega arith | apart _ f ↦ absurd (true≢false (sym t ∙ f)) ]) in
-    let stood = found_standing (at a.table) (listed a.nodes.entries) x.registrations (λ n. sym (on-nodes_of a.table n a.nodes.entries) ∙ shown.registrations n) ns in
-    let nobody : standing_on ns x.registrations ≡ [] = sym stood ∙ ap (found a.table) (sym c.in_ok-standing.ensures ∙ nothing) in
-    watches-transients o x w c.args.node ns o.nodes (λ n. same_as_before c.args.node n (standing_on ns x.registrations) (on n o.nodes) nobody)
+    let stood = found_deep (at a.table) (listed a.nodes.entries) x.registrations (λ n. sym (on-nodes_of a.table n a.nodes.entries) ∙ shown.registrations n) ns in
+    let nobody : filter (λ (r : Registration). r.options.subtree) (standing_on ns x.registrations) ≡ [] = sym stood ∙ ap (found a.table) (sym c.in_ok-standing.ensures ∙ nothing) in
+    watches-transients o x w c.args.node ns o.nodes (λ n. same_as_before c.args.node n (filter (λ (r : Registration). r.options.subtree) (standing_on ns x.registrations)) (on n o.nodes) nobody ∙ deep-enough c.args.node n (standing_on ns x.registrations) (on n o.nodes))
 
 pub add_transients-requires-clause-live : goal.add_transients-requires-clause-live
 add_transients-requires-clause-live g c = λ n.
     let a = c.self.inside in
-    live_of_stands (at a.table) (length (queues_of a.queues.items)) a.transient n (on n (listed a.nodes.entries)) (c.self.invariant.stand n)
+    live_of_stands (at a.table) (length (queues_of a.queues.items)) n (on n (listed a.nodes.entries)) (c.self.invariant.0.stand n)
 
 pub add_transients-requires-clause-standing : goal.add_transients-requires-clause-standing
 add_transients-requires-clause-standing g c =
     let a = c.self.inside in
-    let live = λ (n : ℕ). live_of_stands (at a.table) (length (queues_of a.queues.items)) a.transient n (on n (listed a.nodes.entries)) (c.self.invariant.stand n) in
+    let live = λ (n : ℕ). live_of_stands (at a.table) (length (queues_of a.queues.items)) n (on n (listed a.nodes.entries)) (c.self.invariant.0.stand n) in
     subst (AllLive (at a.table)) (sym (c.as_slice.ensures.value ∙ c.in_ok-standing.ensures))
-    (all_flat (λ k. is_live (at a.table) k ≡ true) (listed a.nodes.entries) live (ancestors c.args.parent c.args.tree.now.forest))
+    (all_deep (at a.table) (λ k. is_live (at a.table) k ≡ true) (listed a.nodes.entries) live (ancestors c.args.parent c.args.tree.now.forest))
 
 pub invariant_of-self : goal.invariant_of-self
 invariant_of-self g c =
     let a = c.self.inside in
     let made = length (queues_of a.queues.items) in
     let bounded = subst (AllByRecursion (Stands (at a.table) made)) (sym (c.as_slice.ensures.value ∙ c.in_ok-standing.ensures))
-    (all_flat (Stands (at a.table) made) (listed a.nodes.entries) (λ n. stands_of (at a.table) made a.transient n (on n (listed a.nodes.entries)) (c.self.invariant.stand n)) (ancestors c.args.parent c.args.tree.now.forest)) in
-    let stand = c.add_transients.ensures.all_stand made bounded (stand_loosely (at a.table) made a.transient (listed a.nodes.entries) c.self.invariant.stand) in
-    kept_table a.table a.nodes.entries (queues_of a.queues.items) a.pending.keys a.transient c.self.invariant c.add_transients.new.table c.add_transients.new.nodes.entries true c.add_transients.ensures.unique stand
+    (all_deep (at a.table) (Stands (at a.table) made) (listed a.nodes.entries) (λ n. stands_of (at a.table) made n (on n (listed a.nodes.entries)) (c.self.invariant.0.stand n)) (ancestors c.args.parent c.args.tree.now.forest)) in
+    let stand = c.add_transients.ensures.all_stand made bounded c.self.invariant.0.stand in
+    (kept_table a.table a.nodes.entries (queues_of a.queues.items) a.pending.keys c.self.invariant.0 c.add_transients.new.table c.add_transients.new.nodes.entries c.add_transients.ensures.unique stand (c.add_transients.ensures.full c.self.invariant.0.full), c.add_transients.ensures.indexed (keys_by a.lasting.items) made bounded c.self.invariant.1)
 
-pub returns : goal.returns
-returns g c =
+pub returns-clause-left : goal.returns-clause-left
+returns-clause-left g c =
     on_ok c.add_transients.result c.add_transients.ensures.ok (λ added x w.
     let a = c.self.inside in
     let ns = ancestors c.args.parent c.args.tree.now.forest in
     let o : Watchers = record { nodes = nodes_of a.table a.nodes.entries; queues = queues_of a.queues.items; pending = a.pending.keys } in
     let shown = subst (λ (o : Watchers). Watches o x) (sym c.self.view_is) w in
-    let stood = found_standing (at a.table) (listed a.nodes.entries) x.registrations (λ n. sym (on-nodes_of a.table n a.nodes.entries) ∙ shown.registrations n) ns in
-    let seen : found a.table c.as_slice.result.now ≡ standing_on ns x.registrations = ap (found a.table) (c.as_slice.ensures.value ∙ c.in_ok-standing.ensures) ∙ stood in
+    let stood = found_deep (at a.table) (listed a.nodes.entries) x.registrations (λ n. sym (on-nodes_of a.table n a.nodes.entries) ∙ shown.registrations n) ns in
+    let seen : found a.table c.as_slice.result.now ≡ filter (λ (r : Registration). r.options.subtree) (standing_on ns x.registrations) = ap (found a.table) (c.as_slice.ensures.value ∙ c.in_ok-standing.ensures) ∙ stood in
     watches-transients o x shown c.args.node ns (nodes_of c.add_transients.new.table c.add_transients.new.nodes.entries)
     (λ n. on-nodes_of c.add_transients.new.table n c.add_transients.new.nodes.entries ∙ added n
-    ∙ (λ i. with_added_transients c.args.node (seen i) n (sym (on-nodes_of a.table n a.nodes.entries) i))))
+    ∙ (λ i. with_added_transients c.args.node (seen i) n (sym (on-nodes_of a.table n a.nodes.entries) i))
+    ∙ deep-enough c.args.node n (standing_on ns x.registrations) (on n o.nodes)))
+
+pub returns-clause-names : goal.returns-clause-names
+returns-clause-names g c =
+    let a = c.self.inside in
+    let qs = queues_of a.queues.items in
+    let made = length qs in
+    let ns = ancestors c.args.parent c.args.tree.now.forest in
+    let lists = listed a.nodes.entries in
+    let keys = c.as_slice.ensures.value ∙ c.in_ok-standing.ensures in
+    let bounded = subst (AllByRecursion (Stands (at a.table) made)) (sym keys)
+    (all_deep (at a.table) (Stands (at a.table) made) lists (λ n. stands_of (at a.table) made n (on n lists) (c.self.invariant.0.stand n)) ns) in
+    let stand = c.add_transients.ensures.all_stand made bounded c.self.invariant.0.stand in
+    let kept = kept_table a.table a.nodes.entries qs a.pending.keys c.self.invariant.0 c.add_transients.new.table c.add_transients.new.nodes.entries c.add_transients.ensures.unique stand (c.add_transients.ensures.full c.self.invariant.0.full) in
+    names-only a.table a.nodes.entries qs a.pending.keys c.args.self.now c.self.view_is c.add_transients.new.table c.add_transients.new.nodes.entries qs a.pending.keys kept (c.args.node ∷ [])
+    (λ p nameless names tells. (
+      c.add_transients.ensures.names p (or-left (p c.args.node) false nameless)
+          (subst (AllByRecursion (λ k. names_one p (at a.table k) ≡ false)) (sym keys) (all_deep (at a.table) (λ k. names_one p (at a.table k) ≡ false) lists names ns)) names,
+      tells,
+    ))
+
+pub returns-then-is_empty-clause-names : goal.returns-then-is_empty-clause-names
+returns-then-is_empty-clause-names g c =
+    let a = c.self.inside in
+    names-same a.table a.nodes.entries (queues_of a.queues.items) a.pending.keys c.self.invariant.0 c.args.self.now c.self.view_is (c.args.node ∷ [])
+
+pub returns-in_err-standing-clause-names : goal.returns-in_err-standing-clause-names
+returns-in_err-standing-clause-names g c =
+    let a = c.self.inside in
+    names-same a.table a.nodes.entries (queues_of a.queues.items) a.pending.keys c.self.invariant.0 c.args.self.now c.self.view_is (c.args.node ∷ [])
+
+pub add_transients-requires-clause-made : goal.add_transients-requires-clause-made
+add_transients-requires-clause-made g c =
+    let a = c.self.inside in
+    let made = length (queues_of a.queues.items) in
+    let bounded = all_deep (at a.table) (Stands (at a.table) made) (listed a.nodes.entries) (λ n. stands_of (at a.table) made n (on n (listed a.nodes.entries)) (c.self.invariant.0.stand n)) (ancestors c.args.parent c.args.tree.now.forest) in
+    subst (AllByRecursion (Stands (at a.table) (length a.passing.items))) (sym (c.as_slice.ensures.value ∙ c.in_ok-standing.ensures))
+    (all_imply (Stands (at a.table) made) (Stands (at a.table) (length a.passing.items))
+    (λ k s. record { registration = s.registration; is = s.is; observer = (let lt = s.observer in let r = c.self.invariant.1.passing_room in omega (arith, lt, r, keys_by-length a.passing.items)) }) _ bounded)

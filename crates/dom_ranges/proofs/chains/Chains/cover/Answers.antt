@@ -2,7 +2,7 @@
 use Rattle.std.proofs.Common.{true, None, Some, [], ◌∷◌, ◌++◌, refl, ap, ◌∙◌, arith, length, ◌+◌, length-append, tests, rules}
 use Rattle.std.proofs.lemmas.Grind.{common_steps}
 use Rattle.dom_ranges.specs.Chained.{cover_of}
-use Rattle.dom_ranges.proofs.Covers.{cover-length, cover-appended, covered_to-there, covered_to-next}
+use Rattle.dom_ranges.proofs.Covers.{cover-length, cover-appended, covered_to-next}
 use Rattle.dom_ranges.proofs.Steps.{HasChains-covered}
 use Rattle.dom_ranges.proofs.chains.Chains.cover.Goals as goal
 

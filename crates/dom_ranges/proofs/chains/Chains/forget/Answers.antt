@@ -1,4 +1,4 @@
-use Rattle.std.proofs.Common.{◌≡◌, Some, None, refl, Option, ℕ, false, is_some, sym, ap, ◌∙◌, arith, tests, rules}
+use Rattle.std.proofs.Common.{◌≡◌, Some, None, refl, Option, ℕ, false, is_some, sym, ◌∙◌, arith, tests, rules}
 use Rattle.std.proofs.lemmas.Bool.{false≢true}
 use Rattle.dom_ranges.specs.Chained.{cover_of, head_at}
 use Rattle.dom_ranges.proofs.Covers.{cover-cleared, cover-past, cover-length}

@@ -1,5 +1,5 @@
-use Rattle.std.proofs.Common.{ap, sym, ◌∙◌}
-use Rattle.dom_ranges.specs.Chained.{points_of, cover_of, covers}
+use Rattle.std.proofs.Common.{ap, ◌∙◌}
+use Rattle.dom_ranges.specs.Chained.{points_of}
 use Rattle.dom_ranges.proofs.Covers.{item-there}
 use Rattle.dom_ranges.proofs.Steps.{in-table, in-heads, with-points, with-cover, rechained-in, head-there-in}
 use Rattle.dom_ranges.proofs.chains.Chains.put_first.Goals as goal

@@ -1,7 +1,7 @@
-use Rattle.std.proofs.Common.{ap, sym, ◌∙◌, arith}
+use Rattle.std.proofs.Common.{ap, ◌∙◌, arith}
 use Rattle.std.proofs.lemmas.Grind.{common_steps}
 use Rattle.dom_model.specs.Worlds.World.{Point}
-use Rattle.dom_ranges.specs.Chained.{points_of, cover_of, covers, heads_without}
+use Rattle.dom_ranges.specs.Chained.{points_of}
 use Rattle.dom_ranges.proofs.Covers.{item-there}
 use Rattle.dom_ranges.proofs.Steps.{out-table, out-heads, without-points, without-cover, rechained-out, stands, node-covered, prev-there, next-there}
 use Rattle.dom_ranges.proofs.chains.Chains.take_out.Goals as goal

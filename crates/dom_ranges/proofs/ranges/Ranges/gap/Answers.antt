@@ -6,12 +6,12 @@ use Rattle.dom_ranges.proofs.ranges.Ranges.gap.Goals as goal
 
 pub shift-requires-clause-within : goal.shift-requires-clause-within
 shift-requires-clause-within c e p at there =
-    (rw (gap-splice c.args.parent c.args.at c.args.count p) (point-fits _ _ _ _ _ _ _ c.self.invariant _ c.self.view_is (after_gap c.args.parent c.args.at c.args.count) c.requires e p at), rw (splice-node c.args.parent c.args.at 0 c.args.count p) (point-covered _ _ _ _ _ _ _ c.self.invariant _ c.self.view_is e p at))
+    (rw (gap-splice c.args.parent c.args.at c.args.count p) (point-fits _ _ _ _ c.self.invariant _ c.self.view_is (after_gap c.args.parent c.args.at c.args.count) c.requires e p at), rw (splice-node c.args.parent c.args.at 0 c.args.count p) (point-covered _ _ _ _ c.self.invariant _ c.self.view_is e p at))
 
 pub invariant_of-self : goal.invariant_of-self
-invariant_of-self c = order-shifted _ _ _ _ _ _ _ c.self.invariant (on_node c.args.parent (after_splice c.args.parent c.args.at 0 c.args.count)) _ _ c.shift.ensures.points c.shift.ensures.chains
+invariant_of-self c = order-shifted _ _ _ _ c.self.invariant (on_node c.args.parent (after_splice c.args.parent c.args.at 0 c.args.count)) _ _ c.shift.ensures.points c.shift.ensures.chains
 
 pub returns : goal.returns
 returns c =
     let all = c.shift.ensures.points ∙ map-same (on_node c.args.parent (after_splice c.args.parent c.args.at 0 c.args.count)) (after_gap c.args.parent c.args.at c.args.count) (λ p. splice-elsewhere c.args.parent c.args.at 0 c.args.count p ∙ gap-splice c.args.parent c.args.at c.args.count p) (points_of c.self.inside.chains.table.items) in
-    view-shifted _ _ _ _ _ _ _ c.self.invariant (after_gap c.args.parent c.args.at c.args.count) _ _ all c.shift.ensures.chains _ c.self.view_is c.shift.ensures.covered
+    view-shifted _ _ _ _ c.self.invariant (after_gap c.args.parent c.args.at c.args.count) _ _ all c.shift.ensures.chains _ c.self.view_is c.shift.ensures.covered

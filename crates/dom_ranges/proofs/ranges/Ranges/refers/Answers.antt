@@ -29,7 +29,7 @@ returns-in-None g c =
     clear-end c.args.tree.now c.sound.ensures c.args.top (live_nodes c.args.self.now) c.loop-step.here (c.loop-step.invariant c.sound.ensures) (sym c.stands_in.ensures ∙ c.if-stands_in.false) (sym c.next_inside.ensures ∙ c.in-None.is)
 
 pub returns : goal.returns
-returns g c = c.refer.ensures ∙ referred _ _ _ _ _ _ _ c.self.invariant _ c.self.view_is (λ m. among m (inclusive_descendants c.args.tree.now.forest c.args.top))
+returns g c = c.refer.ensures ∙ referred _ _ _ _ c.self.invariant _ c.self.view_is (λ m. among m (inclusive_descendants c.args.tree.now.forest c.args.top))
 
 pub returns-then-is_idle : goal.returns-then-is_idle
 returns-then-is_idle g c = search (tests, rules)

@@ -1,57 +1,66 @@
-use Rattle.std.proofs.Common.{None, set, refl, ap, ◌∙◌, arith}
-use Rattle.std.proofs.lemmas.Grind.{common_steps}
-use Rattle.dom_ranges.specs.Chained.{unchained}
-use Rattle.dom_ranges.proofs.Steps.{has-after}
+use Rattle.std.proofs.Common.{◌≡◌, ◌+◌, None, set, length, is_some, ap, ◌∙◌, arith}
+use Rattle.dom_ranges.specs.Tables.{number_at}
 use Rattle.dom_ranges.proofs.Slots.{slot-read}
-use Rattle.dom_ranges.proofs.Pairs.{first-live, second-kept}
-use Rattle.dom_ranges.proofs.Making.{fewer, kept-released, view-released}
+use Rattle.dom_ranges.proofs.Pairs.{start-live, end-live}
+use Rattle.dom_ranges.proofs.Making.{some-number, moved-is, last-moves, numbers-left, kept-released, view-released}
 use Rattle.dom_ranges.proofs.ranges.Ranges.release.Goals as goal
 
-pub take_out-requires-clause-live : goal.take_out-requires-clause-live
-take_out-requires-clause-live c =
+pub swap_remove-requires-clause-start : goal.swap_remove-requires-clause-start
+swap_remove-requires-clause-start c =
     let slot = slot-read c.self.inside.slots.items c.args.r _ _ c.slot_of.ensures c.unwrap-slot.ensures in
-    first-live _ _ _ _ _ _ _ c.self.invariant _ c.self.view_is _ _ slot _ _ c.start.ensures refl
+    start-live _ _ _ _ c.self.invariant _ c.self.view_is _ _ slot
 
-pub take_out-requires-2-clause-live : goal.take_out-requires-2-clause-live
-take_out-requires-2-clause-live c =
+pub swap_remove-requires-clause-end : goal.swap_remove-requires-clause-end
+swap_remove-requires-clause-end c =
     let slot = slot-read c.self.inside.slots.items c.args.r _ _ c.slot_of.ensures c.unwrap-slot.ensures in
-    second-kept _ _ _ _ _ _ _ c.self.invariant _ c.self.view_is _ _ slot _ _ c.start.ensures c.end.ensures _ _ c.take_out.ensures.points
+    end-live _ _ _ _ c.self.invariant _ c.self.view_is _ _ slot
 
-pub push_reserved-requires : goal.push_reserved-requires
-push_reserved-requires c =
+pub swap_remove-requires-clause-last_start : goal.swap_remove-requires-clause-last_start
+swap_remove-requires-clause-last_start c =
     let slot = slot-read c.self.inside.slots.items c.args.r _ _ c.slot_of.ensures c.unwrap-slot.ensures in
-    let a = has-after (unchained c.start.result) _ _ _ _ c.self.invariant.ends.chains c.take_out.ensures.chains in
-    let b = has-after (unchained c.end.result) _ _ _ _ a c.take_out-2.ensures.chains in
-    let l = fewer _ _ _ _ _ _ _ c.self.invariant _ c.self.view_is _ _ _ _ slot c.start.ensures c.end.ensures _ _ _ b c.take_out.ensures.points c.take_out-2.ensures.points in
-    omega (arith, l, c.self.invariant.filled.listed)
+    let w = some-number _ _ _ _ c.self.invariant _ _ slot in
+    start-live _ _ _ _ c.self.invariant _ c.self.view_is _ _ (c.self.invariant.numbered.held c.new.result (omega (arith, w, c.new.ensures, c.len-last.ensures)))
 
-pub overflow_sub-self : goal.overflow_sub-self
-overflow_sub-self c =
+pub swap_remove-requires-clause-last_end : goal.swap_remove-requires-clause-last_end
+swap_remove-requires-clause-last_end c =
     let slot = slot-read c.self.inside.slots.items c.args.r _ _ c.slot_of.ensures c.unwrap-slot.ensures in
-    let a = has-after (unchained c.start.result) _ _ _ _ c.self.invariant.ends.chains c.take_out.ensures.chains in
-    let b = has-after (unchained c.end.result) _ _ _ _ a c.take_out-2.ensures.chains in
-    let l = fewer _ _ _ _ _ _ _ c.self.invariant _ c.self.view_is _ _ _ _ slot c.start.ensures c.end.ensures _ _ _ b c.take_out.ensures.points c.take_out-2.ensures.points in
-    omega (arith, l)
+    let w = some-number _ _ _ _ c.self.invariant _ _ slot in
+    end-live _ _ _ _ c.self.invariant _ c.self.view_is _ _ (c.self.invariant.numbered.held c.new.result (omega (arith, w, c.new.ensures, c.len-last.ensures)))
+
+pub swap_remove-requires-clause-last : goal.swap_remove-requires-clause-last
+swap_remove-requires-clause-last c =
+    let slot = slot-read c.self.inside.slots.items c.args.r _ _ c.slot_of.ensures c.unwrap-slot.ensures in
+    let w = some-number _ _ _ _ c.self.invariant _ _ slot in
+    omega (arith, w, c.new.ensures, c.len-last.ensures, c.self.invariant.long)
+
+pub set-requires : goal.set-requires
+set-requires c =
+    let slot = slot-read c.self.inside.slots.items c.args.r _ _ c.slot_of.ensures c.unwrap-slot.ensures in
+    let w = some-number _ _ _ _ c.self.invariant _ _ slot in
+    let last : c.new.result + 1 ≡ length c.self.inside.numbers.items = omega (arith, w, c.new.ensures, c.len-last.ensures) in
+    let mover : c.number.result ≡ number_at c.self.inside.numbers.items c.new.result = c.number.ensures ∙ moved-is c.self.inside.numbers.items _ _ _ _ c.index-moved.ensures (omega (arith, c.new.ensures)) (omega (arith, w, c.len-last.ensures)) in
+    ap is_some (last-moves _ _ _ _ c.self.invariant _ c.self.view_is _ _ _ _ slot last mover)
+
+pub swap_remove-requires-2 : goal.swap_remove-requires-2
+swap_remove-requires-2 c =
+    let slot = slot-read c.self.inside.slots.items c.args.r _ _ c.slot_of.ensures c.unwrap-slot.ensures in
+    omega (arith, some-number _ _ _ _ c.self.invariant _ _ slot, c.index.ensures)
 
 pub invariant_of-self : goal.invariant_of-self
 invariant_of-self c =
     let slot = slot-read c.self.inside.slots.items c.args.r _ _ c.slot_of.ensures c.unwrap-slot.ensures in
-    let a = has-after (unchained c.start.result) _ _ _ _ c.self.invariant.ends.chains c.take_out.ensures.chains in
-    let b = has-after (unchained c.end.result) _ _ _ _ a c.take_out-2.ensures.chains in
-    let l = fewer _ _ _ _ _ _ _ c.self.invariant _ c.self.view_is _ _ _ _ slot c.start.ensures c.end.ensures _ _ _ b c.take_out.ensures.points c.take_out-2.ensures.points in
-    kept-released _ _ _ _ _ _ _ c.self.invariant _ c.self.view_is _ _ _ _ slot c.start.ensures c.end.ensures _ _ _ b c.take_out.ensures.points c.take_out-2.ensures.points _ _ _ _ _
-    (c.clear.ensures.items ∙ ap (λ n. set c.self.inside.slots.items n None) c.number.ensures) c.push_reserved.ensures.items (omega (arith, l)) c.push_reserved.ensures.len c.push_reserved.ensures.capacity
+    let w = some-number _ _ _ _ c.self.invariant _ _ slot in
+    let last : c.new.result + 1 ≡ length c.self.inside.numbers.items = omega (arith, w, c.new.ensures, c.len-last.ensures) in
+    let mover : c.number.result ≡ number_at c.self.inside.numbers.items c.new.result = c.number.ensures ∙ moved-is c.self.inside.numbers.items _ _ _ _ c.index-moved.ensures (omega (arith, c.new.ensures)) (omega (arith, w, c.len-last.ensures)) in
+    kept-released _ _ _ _ c.self.invariant _ c.self.view_is _ _ _ _ slot last mover _ _ _ _ c.swap_remove.ensures.points
+    (c.clear.ensures.items ∙ ap (λ n. set c.set.new.self.items n None) c.number-2.ensures ∙ ap (λ xs. set xs c.args.r None) c.set.ensures.items) c.swap_remove.ensures.chains
+    (c.swap_remove-2.ensures.items ∙ numbers-left c.self.inside.numbers.items _ _ _ _ _ c.index.ensures last mover)
 
 pub returns : goal.returns
 returns c =
     let slot = slot-read c.self.inside.slots.items c.args.r _ _ c.slot_of.ensures c.unwrap-slot.ensures in
-    let a = has-after (unchained c.start.result) _ _ _ _ c.self.invariant.ends.chains c.take_out.ensures.chains in
-    let b = has-after (unchained c.end.result) _ _ _ _ a c.take_out-2.ensures.chains in
-    view-released _ _ _ _ _ _ _ c.self.invariant _ c.self.view_is _ _ _ _ slot c.start.ensures c.end.ensures _ _ _ b (c.take_out-2.ensures.covered ∙ c.take_out.ensures.covered) c.take_out.ensures.points c.take_out-2.ensures.points
-    _ (c.clear.ensures.items ∙ ap (λ n. set c.self.inside.slots.items n None) c.number.ensures)
-
-pub unwrap-slot-requires : goal.unwrap-slot-requires
-unwrap-slot-requires c = grind (arith, common_steps)
-
-pub clear-requires : goal.clear-requires
-clear-requires c = grind (arith, common_steps)
+    let w = some-number _ _ _ _ c.self.invariant _ _ slot in
+    let last : c.new.result + 1 ≡ length c.self.inside.numbers.items = omega (arith, w, c.new.ensures, c.len-last.ensures) in
+    let mover : c.number.result ≡ number_at c.self.inside.numbers.items c.new.result = c.number.ensures ∙ moved-is c.self.inside.numbers.items _ _ _ _ c.index-moved.ensures (omega (arith, c.new.ensures)) (omega (arith, w, c.len-last.ensures)) in
+    view-released _ _ _ _ c.self.invariant _ c.self.view_is _ _ _ _ slot last mover _ _ _ c.self.inside.numbers.items c.swap_remove.ensures.points
+    (c.clear.ensures.items ∙ ap (λ n. set c.set.new.self.items n None) c.number-2.ensures ∙ ap (λ xs. set xs c.args.r None) c.set.ensures.items) c.swap_remove.ensures.covered

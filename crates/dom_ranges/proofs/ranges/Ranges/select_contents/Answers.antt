@@ -1,14 +1,14 @@
 use Rattle.std.proofs.Common.{tests, rules}
 use Rattle.dom_ranges.proofs.ranges.Ranges.select_contents.Goals as goal
 
-pub returns-then-is_doctype-clause-refusal : goal.returns-then-is_doctype-clause-refusal
-returns-then-is_doctype-clause-refusal g c = search (tests, rules)
+pub returns-then-is_of_kind-clause-refusal : goal.returns-then-is_of_kind-clause-refusal
+returns-then-is_of_kind-clause-refusal g c = search (tests, rules)
 
-pub returns-then-is_doctype-clause-set : goal.returns-then-is_doctype-clause-set
-returns-then-is_doctype-clause-set g c = search (tests, rules)
+pub returns-then-is_of_kind-clause-set : goal.returns-then-is_of_kind-clause-set
+returns-then-is_of_kind-clause-set g c = search (tests, rules)
 
-pub returns-then-is_doctype-clause-unchanged : goal.returns-then-is_doctype-clause-unchanged
-returns-then-is_doctype-clause-unchanged g c = search (tests, rules)
+pub returns-then-is_of_kind-clause-unchanged : goal.returns-then-is_of_kind-clause-unchanged
+returns-then-is_of_kind-clause-unchanged g c = search (tests, rules)
 
 pub returns-clause-refusal : goal.returns-clause-refusal
 returns-clause-refusal g c = search (tests, rules)

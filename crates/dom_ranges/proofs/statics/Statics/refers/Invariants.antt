@@ -1,12 +1,9 @@
--- What is inside is among the ranges that are left.
-use Rattle.std.proofs.Common.{◌≡◌, ℕ, drop}
-use Rattle.std.specs.List.{list_any, flat_map}
-use Rattle.dom_model.specs.PlainLists.Lists.{among}
-use Rattle.dom_model.specs.Forests.Forest.{inclusive_descendants}
+-- No end stands in the nodes that were passed.
+use Rattle.std.specs.List.{flat_map}
+use Rattle.dom_model.specs.Forests.Forest.{IsForest}
 use Rattle.dom_model.specs.MutationAlgorithms.Discarding.{nodes_of_range}
+use Rattle.dom_ranges.proofs.Inside.{IsClear}
 use Rattle.dom_ranges.proofs.statics.Statics.refers.Given as goal
 
-abbrev pub invariant-loop-range : goal.invariant-loop-range
-invariant-loop-range g l =
-    list_any (λ (m : ℕ). among m (inclusive_descendants l.tree.forest l.top)) (flat_map nodes_of_range (drop l.range-index l.range-items))
-    ≡ list_any (λ (m : ℕ). among m (inclusive_descendants l.tree.forest l.top)) (flat_map nodes_of_range l.self)
+abbrev pub invariant-loop-step : goal.invariant-loop-step
+invariant-loop-step g l = (s : IsForest l.tree) → IsClear l.tree s l.top (flat_map nodes_of_range l.self) l.here

@@ -1,34 +1,40 @@
-use Rattle.std.proofs.Common.{false, refl, arith}
-use Rattle.std.proofs.lemmas.Grind.{common_steps}
-use Rattle.dom_serve.specs.Tells.{is_write}
+use Rattle.std.proofs.Common.{◌∷◌, [], ◌++◌, false, arith, length-append, refl}
+use Rattle.std.proofs.lemmas.Result.{err_from_is_err_and}
+use Rattle.dom_serve.specs.Tells.{is_write, is_write_fault}
 use Rattle.dom_serve.proofs.Calls.{IsWritten-more, HasAnswered-more}
-use Rattle.dom_serve.proofs.Fed.{Fed-more, Breaks-within}
+use Rattle.dom_serve.proofs.Fed.{line_ahead, Fed-line, Breaks-line, Fed-rest}
 use Rattle.dom_serve.proofs.server.Server.feed_all.Goals as goal
 
-pub loop-byte-preserved : goal.loop-byte-preserved
-loop-byte-preserved g c = record {
-  passed = HasAnswered-more g.W.Sink.is_passed_on c.args.writer.now c.loop-byte.writer c.feed.new.writer c.args.self.now.lines c.loop-byte.self.lines c.feed.new.self.lines
-      c.loop-byte.invariant.passed (c.in_default.ensures.passed refl);
-  writer = IsWritten-more g.W.Sink.works g.W.Sink.fails false c.args.writer.now c.loop-byte.writer c.feed.new.writer c.loop-byte.invariant.writer c.in_default.ensures.writer;
-  lines = omega (arith, c.in_default.ensures.lines, c.loop-byte.invariant.lines);
+pub loop-line-preserved : goal.loop-line-preserved
+loop-line-preserved g c = record {
+  passed = HasAnswered-more g.W.Sink.is_passed_on c.args.writer.now c.loop-line.writer c.feed_line.new.writer c.args.self.now.lines c.loop-line.self.lines c.feed_line.new.self.lines
+      c.loop-line.invariant.passed (c.in_ok-feed_line.ensures.passed refl);
+  writer = IsWritten-more g.W.Sink.works g.W.Sink.fails false c.args.writer.now c.loop-line.writer c.feed_line.new.writer c.loop-line.invariant.writer c.in_ok-feed_line.ensures.writer;
+  front = c.loop-line.invariant.front ++ c.in-Some.line.now ++ 10 ∷ [];
+  whole = line_ahead _ _ _ _ _ c.loop-line.invariant.whole c.in-Some.ensures.1;
+  lines = simp length-append (omega (arith, c.in_ok-feed_line.ensures.lines));
   so_far = λ b bytes h.
-      let p = c.loop-byte.invariant.so_far b bytes h in
-      Fed-more b bytes c.args.piece.now c.loop-byte.byte-index _ c.feed.new.self _ _ _ c.loop-byte-test.true refl p.1 (c.in_default.ensures.fed b _ p.0);
+      let p = c.loop-line.invariant.so_far b bytes h in
+      Fed-line b bytes c.loop-line.invariant.front c.in-Some.line.now c.feed_line.new.self _ _ _ p.1 (c.in_ok-feed_line.ensures.fed b _ p.0);
 }
 
-pub returns-in-Err-clause-fed : goal.returns-in-Err-clause-fed
-returns-in-Err-clause-fed g c = λ b bytes h.
-    let p = c.loop-byte.invariant.so_far b bytes h in
-    Breaks-within b bytes c.args.piece.now c.loop-byte.byte-index _ _ _ _ c.in-Err.fault c.loop-byte-test.true refl p.1 (c.in-Err.ensures.fed b _ p.0)
+pub returns-in_err-feed_line-clause-fed : goal.returns-in_err-feed_line-clause-fed
+returns-in_err-feed_line-clause-fed g c = λ b bytes h.
+    let p = err_from_is_err_and c.from_residual.result c.from_residual.ensures.1 in
+    let q = c.loop-line.invariant.so_far b bytes h in
+    rw (p.1, p.2) (Breaks-line b bytes c.args.piece.now c.loop-line.invariant.front c.loop-line.rest.now c.in-Some.line.now c.in-Some.after.now _ _ _ _ c.loop-line.invariant.whole
+    c.in-Some.ensures.1 q.1 (c.in_err-feed_line.ensures.fed b _ q.0))
 
-pub returns-in-Err-clause-passed : goal.returns-in-Err-clause-passed
-returns-in-Err-clause-passed g c = λ e.
-    HasAnswered-more g.W.Sink.is_passed_on c.args.writer.now c.loop-byte.writer c.feed.new.writer c.args.self.now.lines c.loop-byte.self.lines c.feed.new.self.lines
-    c.loop-byte.invariant.passed (c.in-Err.ensures.passed e)
-
-pub returns-in-Err-clause-writer : goal.returns-in-Err-clause-writer
-returns-in-Err-clause-writer g c =
-    IsWritten-more g.W.Sink.works g.W.Sink.fails (is_write c.in-Err.fault) c.args.writer.now c.loop-byte.writer c.feed.new.writer c.loop-byte.invariant.writer c.in-Err.ensures.writer
+pub returns-in_err-feed_line-clause-writer : goal.returns-in_err-feed_line-clause-writer
+returns-in_err-feed_line-clause-writer g c =
+    let p = err_from_is_err_and c.from_residual.result c.from_residual.ensures.1 in
+    rw (p.1, p.2) (IsWritten-more g.W.Sink.works g.W.Sink.fails (is_write c.in_err-feed_line.field-0.0) c.args.writer.now c.loop-line.writer c.feed_line.new.writer c.loop-line.invariant.writer c.in_err-feed_line.ensures.writer)
 
 pub returns-clause-fed : goal.returns-clause-fed
-returns-clause-fed g c = grind (arith, common_steps)
+returns-clause-fed g c = λ b bytes h.
+    let p = c.loop-line.invariant.so_far b bytes h in
+    Fed-rest b bytes c.args.piece.now c.loop-line.invariant.front c.loop-line.rest.now c.keep.new.self _ _ _ c.keep.result c.loop-line.invariant.whole p.1 (c.keep.ensures.fed b _ p.0)
+
+pub returns-clause-writer : goal.returns-clause-writer
+returns-clause-writer g c =
+    IsWritten-more g.W.Sink.works g.W.Sink.fails (is_write_fault c.keep.result) c.args.writer.now c.loop-line.writer c.keep.new.writer c.loop-line.invariant.writer c.keep.ensures.writer

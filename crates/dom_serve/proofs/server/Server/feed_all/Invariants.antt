@@ -1,4 +1,4 @@
-use Rattle.std.proofs.Common.{ℕ, ◌+◌, ◌≤◌, false, List, ◌++◌, take}
+use Rattle.std.proofs.Common.{◌≡◌, ℕ, ◌+◌, ◌≤◌, false, List, ◌++◌, length}
 use Rattle.dom_model.specs.Commands.Answer.{Bounds}
 use Rattle.dom_model.specs.Commands.Table.{whole_table}
 use Rattle.dom_model.specs.Commands.Output.{due}
@@ -6,11 +6,16 @@ use Rattle.dom_serve.specs.Calls.{HasAnswered, IsWritten}
 use Rattle.dom_serve.specs.Server.{Stands, Grows}
 use Rattle.dom_serve.proofs.server.Server.feed_all.Given as goal
 
-abbrev pub invariant-loop-byte : goal.invariant-loop-byte
-invariant-loop-byte g l = record {
+abbrev pub invariant-loop-line : goal.invariant-loop-line
+invariant-loop-line g l = record {
   passed : HasAnswered g.W.Sink.is_passed_on l.fn.writer l.fn.self.lines l.writer l.self.lines;
   writer : IsWritten g.W.Sink.works g.W.Sink.fails false l.fn.writer l.writer;
-  lines : l.self.lines ≤ l.fn.self.lines + l.byte-index;
-  so_far : (b : Bounds) (bytes : List ℕ) → Stands b bytes l.fn.self → Stands b (bytes ++ take l.byte-index l.piece) l.self
-      × Grows (due whole_table b bytes false) (due whole_table b (bytes ++ take l.byte-index l.piece) false) (g.W.Sink.taken l.fn.writer) (g.W.Sink.taken l.writer);
+  front : List ℕ;
+  whole : l.piece ≡ front ++ l.rest;
+  lines : l.self.lines ≤ l.fn.self.lines + length front;
+  so_far : (b : Bounds) (bytes : List ℕ) → Stands b bytes l.fn.self → Stands b (bytes ++ front) l.self
+      × Grows (due whole_table b bytes false) (due whole_table b (bytes ++ front) false) (g.W.Sink.taken l.fn.writer) (g.W.Sink.taken l.writer);
 }
+
+abbrev pub decreases-loop-line : goal.decreases-loop-line
+decreases-loop-line g l = length l.rest

@@ -1,28 +1,40 @@
 -- The next child is at the next index.
 use Rattle.std.proofs.Common.{◌≡◌, suc, None, sym, ap, ◌∙◌, add-one, arith}
 use Rattle.std.specs.Prelude.{slice_get}
+use Rattle.dom_model.specs.PlainLists.Lists.{head_of}
 use Rattle.dom_model.specs.Forests.Forest.{children_of}
-use Rattle.dom_model.proofs.Forests.Siblings.{child-next, child-held, get-past, get-head}
+use Rattle.dom_model.proofs.Forests.Siblings.{child-next, get-past, get-head}
+use Rattle.dom_tree.proofs.Trees.{slot-held}
+use Rattle.dom_tree.proofs.Steps.{called, begins, down, childless, on, hindmost}
 use Rattle.dom_tree.proofs.tree.Tree.child_from_first.Goals as goal
 
-pub next-requires : goal.next-requires
-next-requires g c = child-held c.sound.ensures c.args.id c.loop-passed.child c.loop-passed._passed c.requires c.loop-passed.invariant
+pub slot_of-requires : goal.slot_of-requires
+slot_of-requires g c = slot-held c.self.invariant c.self.view_is c.args.id c.requires
+
+pub returns-in_err-child : goal.returns-in_err-child
+returns-in_err-child g c =
+    let l = children_of c.args.self.now.forest c.args.id in
+    let b = begins c.self.invariant c.self.view_is c.args.id c.slot_of.result c.slot_of.ensures in
+    let z = childless c.self.invariant c.self.view_is c.sound-2.ensures c.slot_of.result b.0 (sym c.in_err-child.was ∙ c.first.ensures) in
+    let gone : slice_get l 0 ≡ None = sym (get-head l) ∙ ap (λ n. head_of (children_of c.args.self.now.forest n)) (sym b.1) ∙ z in
+    c.from_residual.ensures ∙ sym (get-past l 0 c.args.steps gone (omega arith))
+
+pub loop-passed-init : goal.loop-passed-init
+loop-passed-init g c =
+    let b = begins c.self.invariant c.self.view_is c.args.id c.slot_of.result c.slot_of.ensures in
+    let d = down c.self.invariant c.self.view_is c.sound-2.ensures c.slot_of.result b.0 c.in_ok-child.child (sym c.in_ok-child.was ∙ c.first.ensures) in
+    record { held = d.0; at = sym (get-head (children_of c.args.self.now.forest c.args.id)) ∙ ap (λ n. head_of (children_of c.args.self.now.forest n)) (sym b.1) ∙ d.1 }
 
 pub returns-in_err-child-2 : goal.returns-in_err-child-2
 returns-in_err-child-2 g c =
-    let step = child-next c.sound.ensures c.args.id c.loop-passed.child c.loop-passed._passed c.requires c.loop-passed.invariant in
-    let gone : slice_get (children_of c.args.self.now.forest c.args.id) (suc c.loop-passed._passed) ≡ None = sym step ∙ sym c.next.ensures ∙ c.in_err-child-2.was in
-    c.from_residual-in_err-child-2.ensures ∙ sym (get-past (children_of c.args.self.now.forest c.args.id) (suc c.loop-passed._passed) c.args.steps gone (omega (arith, c.loop-passed-test.true)))
-
-pub loop-passed-init : goal.loop-passed-init
-loop-passed-init g c = sym (get-head (children_of c.args.self.now.forest c.args.id)) ∙ sym c.first.ensures ∙ c.in_ok-child.was
+    let l = children_of c.args.self.now.forest c.args.id in
+    let z = hindmost c.self.invariant c.self.view_is c.sound-2.ensures c.loop-passed.child c.loop-passed.invariant.held (sym c.in_err-child-2.was ∙ c.next.ensures) in
+    let step = child-next c.sound.ensures c.args.id (called c.self.inside.links c.loop-passed.child) c.loop-passed._passed c.requires c.loop-passed.invariant.at in
+    let gone : slice_get l (suc c.loop-passed._passed) ≡ None = sym step ∙ z in
+    c.from_residual-in_err-child-2.ensures ∙ sym (get-past l (suc c.loop-passed._passed) c.args.steps gone (omega (arith, c.loop-passed-test.true)))
 
 pub loop-passed-preserved : goal.loop-passed-preserved
 loop-passed-preserved g c =
-    let step = child-next c.sound.ensures c.args.id c.loop-passed.child c.loop-passed._passed c.requires c.loop-passed.invariant in
-    ap (slice_get (children_of c.args.self.now.forest c.args.id)) (add-one c.loop-passed._passed) ∙ sym step ∙ sym c.next.ensures ∙ c.in_ok-child-2.was
-
-pub returns : goal.returns
-returns g c =
-    let e : c.loop-passed._passed ≡ c.args.steps = omega arith in
-    sym c.loop-passed.invariant ∙ ap (slice_get (children_of c.args.self.now.forest c.args.id)) e
+    let o = on c.self.invariant c.self.view_is c.sound-2.ensures c.loop-passed.child c.loop-passed.invariant.held c.in_ok-child-2.child (sym c.in_ok-child-2.was ∙ c.next.ensures) in
+    let step = child-next c.sound.ensures c.args.id (called c.self.inside.links c.loop-passed.child) c.loop-passed._passed c.requires c.loop-passed.invariant.at in
+    record { held = o.0; at = ap (slice_get (children_of c.args.self.now.forest c.args.id)) (add-one c.loop-passed._passed) ∙ sym step ∙ o.1 }

@@ -1,12 +1,19 @@
--- An inclusive ancestor, as many steps up as were made.
-use Rattle.std.proofs.Common.{◌≡◌, ◌+◌, length, true}
-use Rattle.dom_model.specs.PlainLists.Lists.{among}
-use Rattle.dom_model.specs.Forests.Forest.{HasNode, ancestors}
+-- A way up of as many steps as were made.
+use Rattle.std.proofs.Common.{◌≡◌, ◌+◌, length, None, option_map}
+use Rattle.std.specs.Option.{ForSome}
+use Rattle.dom_model.specs.Forests.Arena.{IsHeld, entry_at}
+use Rattle.dom_model.specs.Forests.Forest.{ancestors}
+use Rattle.dom_tree.specs.Slots.{nodes_of}
+use Rattle.dom_tree.specs.Spelled.{number_at}
+use Rattle.dom_tree.specs.Ways.{IsOnWay}
+use Rattle.dom_tree.proofs.Steps.{called}
 use Rattle.dom_tree.proofs.tree.Tree.climbed.Given as goal
 
-abbrev pub invariant-loop-climbed : goal.invariant-loop-climbed
-invariant-loop-climbed g l = record {
-  there : HasNode l.self.forest l.here;
-  above : among l.here (ancestors l.fn.id l.self.forest) ≡ true;
-  counted : length (ancestors l.here l.self.forest) + l._climbed ≡ length (ancestors l.fn.id l.self.forest);
+abbrev pub invariant-loop-passed : goal.invariant-loop-passed
+invariant-loop-passed g l = record {
+  held : IsHeld l.self-inside.links l.here;
+  child_held : ForSome l.child (λ s. IsHeld (nodes_of l.self-inside.links) s);
+  way : IsOnWay l.self.forest l.fn.id (called l.self-inside.links l.here) (option_map (number_at (entry_at (nodes_of l.self-inside.links))) l.child);
+  counted : length (ancestors (called l.self-inside.links l.here) l.self.forest) + l._passed ≡ length (ancestors l.fn.id l.self.forest);
+  start : (l._passed ≡ 0 → l.child ≡ None);
 }

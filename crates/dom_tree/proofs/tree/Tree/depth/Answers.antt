@@ -1,29 +1,41 @@
--- Each step up leaves one ancestor behind.
+-- Each step up leaves one ancestor behind; there are no more above than there are nodes.
 use Rattle.std.proofs.Common.{length, sym, ap, ◌∙◌, arith}
-use Rattle.dom_model.proofs.Forests.Paths.{root-path}
+use Rattle.dom_model.specs.Forests.Forest.{ancestors}
+use Rattle.dom_model.proofs.Forests.Above.{above}
 use Rattle.dom_model.proofs.Forests.Climbing.{ancestors-there}
 use Rattle.dom_model.proofs.Forests.Entries.{occurs-HasNode}
-use Rattle.dom_model.proofs.Forests.Above.{above}
-use Rattle.dom_tree.proofs.TreeOrder.{ancestors-within}
+use Rattle.dom_model.proofs.Forests.Paths.{root-path}
+use Rattle.dom_model.proofs.Forests.WaysMeeting.{depth-size}
+use Rattle.dom_tree.proofs.Trees.{slot-held, live-read}
+use Rattle.dom_tree.proofs.Steps.{called, begins, stands, up, topmost}
 use Rattle.dom_tree.proofs.tree.Tree.depth.Goals as goal
 
-pub parent-requires : goal.parent-requires
-parent-requires g c = c.loop-depth.invariant.there
+pub slot_of-here-requires : goal.slot_of-here-requires
+slot_of-here-requires g c = slot-held c.self.invariant c.self.view_is c.args.id c.requires
+
+pub loop-depth-init : goal.loop-depth-init
+loop-depth-init g c =
+    let b = begins c.self.invariant c.self.view_is c.args.id c.slot_of-here.result c.slot_of-here.ensures in
+    record { held = b.0; counted = omega (arith, ap (λ n. length (ancestors n c.args.self.now.forest)) b.1) }
 
 pub returns-in-None : goal.returns-in-None
 returns-in-None g c =
     let f = c.args.self.now.forest in
-    let r = ap length (root-path f c.sound.ensures.once c.loop-depth.here (occurs-HasNode f c.loop-depth.here c.loop-depth.invariant.there) (sym c.parent.ensures ∙ c.in-None.is)) in
+    let h = stands c.self.invariant c.self.view_is c.loop-depth.here c.loop-depth.invariant.held in
+    let t = topmost c.self.invariant c.self.view_is c.sound-2.ensures c.loop-depth.here c.loop-depth.invariant.held (sym c.in-None.is ∙ c.parent.ensures) in
+    let r = ap length (root-path f c.sound.ensures.once (called c.self.inside.links c.loop-depth.here) (occurs-HasNode f (called c.self.inside.links c.loop-depth.here) h) t) in
     omega (arith, r, c.loop-depth.invariant.counted)
 
 pub loop-depth-preserved : goal.loop-depth-preserved
 loop-depth-preserved g c =
-    let a = above c.sound.ensures c.loop-depth.here c.in-Some.parent c.loop-depth.invariant.there (sym c.parent.ensures ∙ c.in-Some.is) in
-    record { there = a.there; counted = omega (arith, ap length a.path, c.loop-depth.invariant.counted) }
+    let h = stands c.self.invariant c.self.view_is c.loop-depth.here c.loop-depth.invariant.held in
+    let u = up c.self.invariant c.self.view_is c.sound-2.ensures c.loop-depth.here c.loop-depth.invariant.held c.in-Some.parent (sym c.in-Some.is ∙ c.parent.ensures) in
+    let a = above c.sound.ensures (called c.self.inside.links c.loop-depth.here) (called c.self.inside.links c.in-Some.parent) h u.1 in
+    record { held = u.0; counted = omega (arith, ap length a.path, c.loop-depth.invariant.counted) }
 
 pub returns : goal.returns
 returns g c =
     let f = c.args.self.now.forest in
-    let i = ancestors-there c.loop-depth.here f (occurs-HasNode f c.loop-depth.here c.loop-depth.invariant.there) in
-    let e = ap length i.1 in
-    absurd (omega (arith, e, c.loop-depth.invariant.counted, ancestors-within c.args.id f, c.live-most.ensures, c.loop-depth-test.false))
+    let h = stands c.self.invariant c.self.view_is c.loop-depth.here c.loop-depth.invariant.held in
+    let e = ap length (ancestors-there (called c.self.inside.links c.loop-depth.here) f (occurs-HasNode f (called c.self.inside.links c.loop-depth.here) h)).1 in
+    absurd (omega (arith, e, c.loop-depth.invariant.counted, depth-size c.args.id f, live-read c.self.invariant c.self.view_is, c.loop-depth-test.false))

@@ -1,40 +1,83 @@
 -- Each step goes one sibling on and one back.
-use Rattle.std.proofs.Common.{refl, sym, ◌∙◌}
+use Rattle.std.proofs.Common.{◌==◌, refl, ap, sym, ◌∙◌, nat_lt}
 use Rattle.std.proofs.lemmas.Bool.{eqb-true, eqb-false}
-use Rattle.dom_tree.proofs.Beside.{forward-step, index-room, ahead-met, ahead-end, ahead-on, behind-met, behind-end, behind-on}
+use Rattle.dom_model.specs.Forests.Forest.{parent_of, index_of}
 use Rattle.dom_model.proofs.Forests.Siblings.{index-step}
+use Rattle.dom_tree.proofs.Beside.{forward-step, index-room, ahead-met, ahead-end, ahead-on, behind-met, behind-end, behind-on}
+use Rattle.dom_tree.proofs.Trees.{slot-held}
+use Rattle.dom_tree.proofs.Steps.{called, begins, stands, meets, on, hindmost, back, foremost}
 use Rattle.dom_tree.proofs.tree.Tree.is_ahead.Goals as goal
 
+pub slot_of-end-requires : goal.slot_of-end-requires
+slot_of-end-requires g c = slot-held c.self.invariant c.self.view_is c.args.b c.requires.b_held
+
+pub slot_of-forward-requires : goal.slot_of-forward-requires
+slot_of-forward-requires g c = slot-held c.self.invariant c.self.view_is c.args.a c.requires.a_held
+
 pub loop-next-init : goal.loop-next-init
-loop-next-init g c = record { forward_there = c.requires.a_held; forward_beside = refl; forward_same = refl; backward_there = c.requires.a_held; backward_beside = refl; backward_same = refl }
+loop-next-init g c =
+    let f = c.args.self.now.forest in
+    let b = begins c.self.invariant c.self.view_is c.args.a c.slot_of-forward.result c.slot_of-forward.ensures in
+    record {
+      forward_held = b.0;
+      forward_beside = ap (parent_of f) b.1;
+      forward_same = ap (λ n. nat_lt (index_of f n) (index_of f c.args.b)) b.1;
+      backward_held = b.0;
+      backward_beside = ap (parent_of f) b.1;
+      backward_same = ap (λ n. nat_lt (index_of f c.args.b) (index_of f n)) b.1;
+    }
 
 pub returns-in_default : goal.returns-in_default
-returns-in_default g c = ahead-end c.sound.ensures c.args.a c.args.b c.loop-next.forward c.loop-next.backward c.requires.b_held c.requires.one_parent c.requires.child c.requires.apart c.loop-next.invariant.forward_there c.loop-next.invariant.forward_beside c.loop-next.invariant.forward_same (sym c.next.ensures ∙ c.in_default.is)
+returns-in_default g c =
+    let i = c.loop-next.invariant in
+    let h = stands c.self.invariant c.self.view_is c.loop-next.forward i.forward_held in
+    let e = hindmost c.self.invariant c.self.view_is c.sound-2.ensures c.loop-next.forward i.forward_held (sym c.in_default.is ∙ c.next.ensures) in
+    ahead-end c.sound.ensures c.args.a c.args.b (called c.self.inside.links c.loop-next.forward) (called c.self.inside.links c.loop-next.backward) c.requires.b_held c.requires.one_parent c.requires.child c.requires.apart h i.forward_beside i.forward_same e
 
 pub returns-then-eq : goal.returns-then-eq
 returns-then-eq g c =
-    ahead-met c.sound.ensures c.args.a c.args.b c.loop-next.forward c.loop-next.backward c.requires.b_held c.requires.one_parent c.requires.child c.requires.apart c.loop-next.invariant.forward_there c.loop-next.invariant.forward_beside c.loop-next.invariant.forward_same c.in-Some.next (sym c.next.ensures ∙ c.in-Some.is) (eqb-true c.in-Some.next c.args.b (sym c.eq.ensures ∙ c.if-eq.true))
+    let i = c.loop-next.invariant in
+    let h = stands c.self.invariant c.self.view_is c.loop-next.forward i.forward_held in
+    let o = on c.self.invariant c.self.view_is c.sound-2.ensures c.loop-next.forward i.forward_held c.in-Some.next (sym c.in-Some.is ∙ c.next.ensures) in
+    let t = meets c.self.invariant c.self.view_is c.in-Some.next c.args.b c.slot_of-end.result o.0 c.slot_of-end.ensures ∙ sym c.eq.ensures ∙ c.if-eq.true in
+    ahead-met c.sound.ensures c.args.a c.args.b (called c.self.inside.links c.loop-next.forward) (called c.self.inside.links c.loop-next.backward) c.requires.b_held c.requires.one_parent c.requires.child c.requires.apart h i.forward_beside i.forward_same (called c.self.inside.links c.in-Some.next) o.1 (eqb-true (called c.self.inside.links c.in-Some.next) c.args.b t)
 
 pub returns-in_default-prev : goal.returns-in_default-prev
-returns-in_default-prev g c = behind-end c.sound.ensures c.args.a c.args.b c.loop-next.forward c.loop-next.backward c.requires.b_held c.requires.one_parent c.requires.child c.requires.apart c.loop-next.invariant.backward_there c.loop-next.invariant.backward_beside c.loop-next.invariant.backward_same c.requires.a_held (sym c.prev.ensures ∙ c.in_default-prev.is)
+returns-in_default-prev g c =
+    let i = c.loop-next.invariant in
+    let h = stands c.self.invariant c.self.view_is c.loop-next.backward i.backward_held in
+    let e = foremost c.self.invariant c.self.view_is c.sound-2.ensures c.loop-next.backward i.backward_held (sym c.in_default-prev.is ∙ c.prev.ensures) in
+    behind-end c.sound.ensures c.args.a c.args.b (called c.self.inside.links c.loop-next.forward) (called c.self.inside.links c.loop-next.backward) c.requires.b_held c.requires.one_parent c.requires.child c.requires.apart h i.backward_beside i.backward_same c.requires.a_held e
 
 pub returns-then-eq-2 : goal.returns-then-eq-2
 returns-then-eq-2 g c =
-    behind-met c.sound.ensures c.args.a c.args.b c.loop-next.forward c.loop-next.backward c.requires.b_held c.requires.one_parent c.requires.child c.requires.apart c.loop-next.invariant.backward_there c.loop-next.invariant.backward_beside c.loop-next.invariant.backward_same c.in-Some-prev.prev (sym c.prev.ensures ∙ c.in-Some-prev.is) (eqb-true c.in-Some-prev.prev c.args.b (sym c.eq-in-loop-next.ensures ∙ c.if-eq-2.true))
+    let i = c.loop-next.invariant in
+    let h = stands c.self.invariant c.self.view_is c.loop-next.backward i.backward_held in
+    let o = back c.self.invariant c.self.view_is c.sound-2.ensures c.loop-next.backward i.backward_held c.in-Some-prev.prev (sym c.in-Some-prev.is ∙ c.prev.ensures) in
+    let t = meets c.self.invariant c.self.view_is c.in-Some-prev.prev c.args.b c.slot_of-end.result o.0 c.slot_of-end.ensures ∙ sym c.eq-in-loop-next.ensures ∙ c.if-eq-2.true in
+    behind-met c.sound.ensures c.args.a c.args.b (called c.self.inside.links c.loop-next.forward) (called c.self.inside.links c.loop-next.backward) c.requires.b_held c.requires.one_parent c.requires.child c.requires.apart h i.backward_beside i.backward_same (called c.self.inside.links c.in-Some-prev.prev) o.1 (eqb-true (called c.self.inside.links c.in-Some-prev.prev) c.args.b t)
 
 pub loop-next-smaller : goal.loop-next-smaller
 loop-next-smaller g c =
-    index-room c.sound.ensures c.loop-next.forward c.in-Some.next c.args.a c.loop-next.invariant.forward_there (sym c.next.ensures ∙ c.in-Some.is) c.loop-next.invariant.forward_beside
+    let i = c.loop-next.invariant in
+    let h = stands c.self.invariant c.self.view_is c.loop-next.forward i.forward_held in
+    let o = on c.self.invariant c.self.view_is c.sound-2.ensures c.loop-next.forward i.forward_held c.in-Some.next (sym c.in-Some.is ∙ c.next.ensures) in
+    index-room c.sound.ensures (called c.self.inside.links c.loop-next.forward) (called c.self.inside.links c.in-Some.next) c.args.a h o.1 i.forward_beside
 
 pub loop-next-preserved : goal.loop-next-preserved
 loop-next-preserved g c =
-    let i = forward-step c.sound.ensures c.loop-next.forward c.in-Some.next c.loop-next.invariant.forward_there (sym c.next.ensures ∙ c.in-Some.is) in
-    let j = index-step c.sound.ensures c.loop-next.backward c.in-Some-prev.prev c.loop-next.invariant.backward_there (sym c.prev.ensures ∙ c.in-Some-prev.is) in
+    let i = c.loop-next.invariant in
+    let hf = stands c.self.invariant c.self.view_is c.loop-next.forward i.forward_held in
+    let hb = stands c.self.invariant c.self.view_is c.loop-next.backward i.backward_held in
+    let f = on c.self.invariant c.self.view_is c.sound-2.ensures c.loop-next.forward i.forward_held c.in-Some.next (sym c.in-Some.is ∙ c.next.ensures) in
+    let b = back c.self.invariant c.self.view_is c.sound-2.ensures c.loop-next.backward i.backward_held c.in-Some-prev.prev (sym c.in-Some-prev.is ∙ c.prev.ensures) in
+    let nf = meets c.self.invariant c.self.view_is c.in-Some.next c.args.b c.slot_of-end.result f.0 c.slot_of-end.ensures ∙ sym c.eq.ensures ∙ c.if-eq.false in
+    let nb = meets c.self.invariant c.self.view_is c.in-Some-prev.prev c.args.b c.slot_of-end.result b.0 c.slot_of-end.ensures ∙ sym c.eq-in-loop-next.ensures ∙ c.if-eq-2.false in
     record {
-      forward_there = i.1.1;
-      forward_beside = i.1.0 ∙ c.loop-next.invariant.forward_beside;
-      forward_same = ahead-on c.sound.ensures c.args.a c.args.b c.loop-next.forward c.loop-next.backward c.requires.b_held c.requires.one_parent c.requires.child c.requires.apart c.loop-next.invariant.forward_there c.loop-next.invariant.forward_beside c.loop-next.invariant.forward_same c.in-Some.next (sym c.next.ensures ∙ c.in-Some.is) (eqb-false c.in-Some.next c.args.b (sym c.eq.ensures ∙ c.if-eq.false));
-      backward_there = j.1.1;
-      backward_beside = j.1.0 ∙ c.loop-next.invariant.backward_beside;
-      backward_same = behind-on c.sound.ensures c.args.a c.args.b c.loop-next.forward c.loop-next.backward c.requires.b_held c.requires.one_parent c.requires.child c.requires.apart c.loop-next.invariant.backward_there c.loop-next.invariant.backward_beside c.loop-next.invariant.backward_same c.in-Some-prev.prev (sym c.prev.ensures ∙ c.in-Some-prev.is) (eqb-false c.in-Some-prev.prev c.args.b (sym c.eq-in-loop-next.ensures ∙ c.if-eq-2.false));
+      forward_held = f.0;
+      forward_beside = (forward-step c.sound.ensures (called c.self.inside.links c.loop-next.forward) (called c.self.inside.links c.in-Some.next) hf f.1).1.0 ∙ i.forward_beside;
+      forward_same = ahead-on c.sound.ensures c.args.a c.args.b (called c.self.inside.links c.loop-next.forward) (called c.self.inside.links c.loop-next.backward) c.requires.b_held c.requires.one_parent c.requires.child c.requires.apart hf i.forward_beside i.forward_same (called c.self.inside.links c.in-Some.next) f.1 (eqb-false (called c.self.inside.links c.in-Some.next) c.args.b nf);
+      backward_held = b.0;
+      backward_beside = (index-step c.sound.ensures (called c.self.inside.links c.loop-next.backward) (called c.self.inside.links c.in-Some-prev.prev) hb b.1).1.0 ∙ i.backward_beside;
+      backward_same = behind-on c.sound.ensures c.args.a c.args.b (called c.self.inside.links c.loop-next.forward) (called c.self.inside.links c.loop-next.backward) c.requires.b_held c.requires.one_parent c.requires.child c.requires.apart hb i.backward_beside i.backward_same (called c.self.inside.links c.in-Some-prev.prev) b.1 (eqb-false (called c.self.inside.links c.in-Some-prev.prev) c.args.b nb);
     }

@@ -1,32 +1,51 @@
 -- Each step goes to the parent, past a node that is not the one.
-use Rattle.std.proofs.Common.{◌≡◌, ◌==◌, refl, sym, ◌∙◌, false, true}
+use Rattle.std.proofs.Common.{◌≡◌, ◌==◌, false, true, refl, ap, sym, ◌∙◌}
 use Rattle.std.proofs.lemmas.Bool.{not-true, not-false}
+use Rattle.std.specs.Prelude.{is_some}
+use Rattle.dom_model.specs.PlainLists.Lists.{among}
+use Rattle.dom_model.specs.Forests.Forest.{ancestors}
 use Rattle.dom_model.proofs.Forests.Above.{above}
 use Rattle.dom_model.proofs.Forests.ToTheRoot.{shorter, among-above, among-here, among-top}
+use Rattle.dom_tree.proofs.Trees.{slot-held, holds-read}
+use Rattle.dom_tree.proofs.Referring.{inside-same, nothing-under}
+use Rattle.dom_tree.proofs.Steps.{called, begins, stands, meets, up, topmost}
 use Rattle.dom_tree.proofs.tree.Tree.is_ancestor.Goals as goal
 
-pub loop-above-init : goal.loop-above-init
-loop-above-init g c = record { there = c.requires; same = refl }
+pub returns-in_default : goal.returns-in_default
+returns-in_default g c =
+    let e = sym (holds-read c.self.invariant c.self.view_is c.args.above) ∙ ap is_some (sym c.slot_at.ensures ∙ c.in_default.is) in
+    sym (nothing-under c.sound.ensures c.args.above e c.args.id) ∙ inside-same c.sound.ensures c.args.above c.args.id
 
-pub parent-requires : goal.parent-requires
-parent-requires g c = c.loop-above.invariant.there
+pub slot_of-here-requires : goal.slot_of-here-requires
+slot_of-here-requires g c = slot-held c.self.invariant c.self.view_is c.args.id c.requires
 
-pub loop-above-smaller : goal.loop-above-smaller
-loop-above-smaller g c =
-    shorter c.args.self.now.forest c.loop-above.here c.in-Some.parent (above c.sound.ensures c.loop-above.here c.in-Some.parent c.loop-above.invariant.there (sym c.parent.ensures ∙ c.in-Some.is))
+pub loop-self-init : goal.loop-self-init
+loop-self-init g c =
+    let b = begins c.self.invariant c.self.view_is c.args.id c.slot_of-here.result c.slot_of-here.ensures in
+    record { held = b.0; same = ap (λ n. among c.args.above (ancestors n c.args.self.now.forest)) b.1 }
 
-pub loop-above-preserved : goal.loop-above-preserved
-loop-above-preserved g c =
-    let a = above c.sound.ensures c.loop-above.here c.in-Some.parent c.loop-above.invariant.there (sym c.parent.ensures ∙ c.in-Some.is) in
-    let ne : (c.loop-above.here == c.args.above) ≡ false = not-true (c.loop-above.here == c.args.above) (sym c.ne.ensures ∙ c.loop-above-test.true) in
-    record { there = a.there; same = among-above c.args.self.now.forest c.args.above c.loop-above.here c.in-Some.parent a ne ∙ c.loop-above.invariant.same }
+pub loop-self-smaller : goal.loop-self-smaller
+loop-self-smaller g c =
+    let h = stands c.self.invariant c.self.view_is c.loop-self.here c.loop-self.invariant.held in
+    let u = up c.self.invariant c.self.view_is c.sound-2.ensures c.loop-self.here c.loop-self.invariant.held c.in-Some-parent.parent (sym c.in-Some-parent.is ∙ c.parent.ensures) in
+    shorter c.args.self.now.forest (called c.self.inside.links c.loop-self.here) (called c.self.inside.links c.in-Some-parent.parent) (above c.sound.ensures _ _ h u.1)
+
+pub loop-self-preserved : goal.loop-self-preserved
+loop-self-preserved g c =
+    let h = stands c.self.invariant c.self.view_is c.loop-self.here c.loop-self.invariant.held in
+    let u = up c.self.invariant c.self.view_is c.sound-2.ensures c.loop-self.here c.loop-self.invariant.held c.in-Some-parent.parent (sym c.in-Some-parent.is ∙ c.parent.ensures) in
+    let ne = meets c.self.invariant c.self.view_is c.loop-self.here c.args.above c.in-Some.end c.loop-self.invariant.held (sym c.slot_at.ensures ∙ c.in-Some.is) ∙ not-true (c.loop-self.here == c.in-Some.end) (sym c.ne.ensures ∙ c.loop-self-test.true) in
+    record { held = u.0; same = among-above c.args.self.now.forest c.args.above _ _ (above c.sound.ensures _ _ h u.1) ne ∙ c.loop-self.invariant.same }
 
 pub returns-in-None : goal.returns-in-None
 returns-in-None g c =
-    let ne : (c.loop-above.here == c.args.above) ≡ false = not-true (c.loop-above.here == c.args.above) (sym c.ne.ensures ∙ c.loop-above-test.true) in
-    among-top c.sound.ensures c.args.above c.loop-above.here c.loop-above.invariant.there (sym c.parent.ensures ∙ c.in-None.is) ne ∙ c.loop-above.invariant.same
+    let h = stands c.self.invariant c.self.view_is c.loop-self.here c.loop-self.invariant.held in
+    let t = topmost c.self.invariant c.self.view_is c.sound-2.ensures c.loop-self.here c.loop-self.invariant.held (sym c.in-None.is ∙ c.parent.ensures) in
+    let ne = meets c.self.invariant c.self.view_is c.loop-self.here c.args.above c.in-Some.end c.loop-self.invariant.held (sym c.slot_at.ensures ∙ c.in-Some.is) ∙ not-true (c.loop-self.here == c.in-Some.end) (sym c.ne.ensures ∙ c.loop-self-test.true) in
+    among-top c.sound.ensures c.args.above _ h t ne ∙ c.loop-self.invariant.same
 
 pub returns : goal.returns
 returns g c =
-    let e : (c.loop-above.here == c.args.above) ≡ true = not-false (c.loop-above.here == c.args.above) (sym c.ne.ensures ∙ c.loop-above-test.false) in
-    among-here c.args.self.now.forest c.args.above c.loop-above.here c.loop-above.invariant.there e ∙ c.loop-above.invariant.same
+    let h = stands c.self.invariant c.self.view_is c.loop-self.here c.loop-self.invariant.held in
+    let e = meets c.self.invariant c.self.view_is c.loop-self.here c.args.above c.in-Some.end c.loop-self.invariant.held (sym c.slot_at.ensures ∙ c.in-Some.is) ∙ not-false (c.loop-self.here == c.in-Some.end) (sym c.ne.ensures ∙ c.loop-self-test.false) in
+    among-here c.args.self.now.forest c.args.above _ h e ∙ c.loop-self.invariant.same

@@ -1,49 +1,84 @@
 -- The first child, or else the next sibling of the nearest ancestor below the top that has one.
-use Rattle.std.proofs.Common.{◌==◌, sym, ◌∙◌}
+use Rattle.std.proofs.Common.{◌≡◌, ◌==◌, ◌<◌, None, IsSome, ap, sym, ◌∙◌, subst}
 use Rattle.std.proofs.lemmas.Bool.{not-true, not-false, eqb-true, eqb-false}
+use Rattle.dom_model.specs.PlainLists.Lists.{head_of}
+use Rattle.dom_model.specs.Forests.Forest.{children_of, parent_of, occurs, tree_at}
 use Rattle.dom_model.proofs.Forests.Above.{above}
+use Rattle.dom_model.proofs.Forests.Changes.{seen, nothing, just}
 use Rattle.dom_model.proofs.Forests.ToTheRoot.{shorter, inside}
+use Rattle.dom_model.proofs.Forests.TreeOrder.Ordering.{past}
 use Rattle.dom_model.proofs.Forests.TreeOrder.Stepping.{first-after, none-after, tree-next, tree-up, tree-top, tree-parent}
+use Rattle.dom_tree.proofs.Nodes.{held-nodes}
+use Rattle.dom_tree.proofs.Trees.{slot-held}
+use Rattle.dom_tree.proofs.TreeOrder.{top-there}
+use Rattle.dom_tree.proofs.Steps.{called, begins, stands, meets, up, parented, down, childless, on, hindmost}
 use Rattle.dom_tree.proofs.tree.Tree.next_inside.Goals as goal
+
+pub slot_of-here-requires : goal.slot_of-here-requires
+slot_of-here-requires g c = slot-held c.self.invariant c.self.view_is c.args.id c.requires.held
+
+pub first-requires : goal.first-requires
+first-requires g c = (begins c.self.invariant c.self.view_is c.args.id c.slot_of-here.result c.slot_of-here.ensures).0
+
+pub number_of-requires : goal.number_of-requires
+number_of-requires g c =
+    let b = begins c.self.invariant c.self.view_is c.args.id c.slot_of-here.result c.slot_of-here.ensures in
+    held-nodes c.self.inside.links c.in-Some.child (down c.self.invariant c.self.view_is c.sound-2.ensures c.slot_of-here.result b.0 c.in-Some.child (sym c.in-Some.is ∙ c.first.ensures)).0
 
 pub returns-in-Some : goal.returns-in-Some
 returns-in-Some g c =
-    first-after c.sound.ensures c.args.top c.args.id c.in-Some.child (inside c.sound.ensures c.args.top c.args.id c.requires.under) (sym c.first.ensures ∙ c.in-Some.is)
+    let b = begins c.self.invariant c.self.view_is c.args.id c.slot_of-here.result c.slot_of-here.ensures in
+    let d = down c.self.invariant c.self.view_is c.sound-2.ensures c.slot_of-here.result b.0 c.in-Some.child (sym c.in-Some.is ∙ c.first.ensures) in
+    rw c.number_of.ensures (first-after c.sound.ensures c.args.top c.args.id (called c.self.inside.links c.in-Some.child) (inside c.sound.ensures c.args.top c.args.id c.requires.under) (ap (λ n. head_of (children_of c.args.self.now.forest n)) (sym b.1) ∙ d.1))
 
-pub loop-top-init : goal.loop-top-init
-loop-top-init g c =
+pub slot_of-end-requires : goal.slot_of-end-requires
+slot_of-end-requires g c = slot-held c.self.invariant c.self.view_is c.args.top (top-there c.sound.ensures c.args.top c.args.id c.requires.under)
+
+pub loop-self-init : goal.loop-self-init
+loop-self-init g c =
+    let b = begins c.self.invariant c.self.view_is c.args.id c.slot_of-here.result c.slot_of-here.ensures in
+    let d = childless c.self.invariant c.self.view_is c.sound-2.ensures c.slot_of-here.result b.0 (sym c.in_default.is ∙ c.first.ensures) in
+    let i = inside c.sound.ensures c.args.top c.args.id c.requires.under in
     record {
-      there = c.requires.held;
-      within = inside c.sound.ensures c.args.top c.args.id c.requires.under;
-      same = none-after c.sound.ensures c.args.top c.args.id (inside c.sound.ensures c.args.top c.args.id c.requires.under) (sym c.first.ensures ∙ c.in_default.is);
+      held = b.0;
+      within = subst (λ n. 0 < occurs n (tree_at c.args.top c.args.self.now.forest)) (sym b.1) i;
+      same = none-after c.sound.ensures c.args.top c.args.id i (ap (λ n. head_of (children_of c.args.self.now.forest n)) (sym b.1) ∙ d) ∙ ap (λ n. past None n (tree_at c.args.top c.args.self.now.forest)) (sym b.1);
     }
 
-pub next-requires : goal.next-requires
-next-requires g c = c.loop-top.invariant.there
+pub number_of-requires-in-Some-next : goal.number_of-requires-in-Some-next
+number_of-requires-in-Some-next g c =
+    held-nodes c.self.inside.links c.in-Some-next.next (on c.self.invariant c.self.view_is c.sound-2.ensures c.loop-self.here c.loop-self.invariant.held c.in-Some-next.next (sym c.in-Some-next.is ∙ c.next.ensures)).0
 
 pub returns-in-Some-next : goal.returns-in-Some-next
 returns-in-Some-next g c =
-    sym (c.loop-top.invariant.same ∙ tree-next c.sound.ensures c.args.top c.loop-top.here c.in-Some-next.next c.loop-top.invariant.within (eqb-false c.loop-top.here c.args.top (not-true (c.loop-top.here == c.args.top) (sym c.ne.ensures ∙ c.loop-top-test.true))) (sym c.next.ensures ∙ c.in-Some-next.is))
-
-pub parent-requires : goal.parent-requires
-parent-requires g c = c.loop-top.invariant.there
+    let o = on c.self.invariant c.self.view_is c.sound-2.ensures c.loop-self.here c.loop-self.invariant.held c.in-Some-next.next (sym c.in-Some-next.is ∙ c.next.ensures) in
+    let t = meets c.self.invariant c.self.view_is c.loop-self.here c.args.top c.slot_of-end.result c.loop-self.invariant.held c.slot_of-end.ensures ∙ not-true (c.loop-self.here == c.slot_of-end.result) (sym c.ne.ensures ∙ c.loop-self-test.true) in
+    let ne = eqb-false (called c.self.inside.links c.loop-self.here) c.args.top t in
+    rw c.number_of-in-Some-next.ensures (sym (c.loop-self.invariant.same ∙ tree-next c.sound.ensures c.args.top (called c.self.inside.links c.loop-self.here) (called c.self.inside.links c.in-Some-next.next) c.loop-self.invariant.within ne o.1))
 
 pub unwrap-here-requires : goal.unwrap-here-requires
 unwrap-here-requires g c =
-    rw c.parent.ensures (tree-parent c.sound.ensures c.args.top c.loop-top.here c.loop-top.invariant.within (eqb-false c.loop-top.here c.args.top (not-true (c.loop-top.here == c.args.top) (sym c.ne.ensures ∙ c.loop-top-test.true))) (sym c.next.ensures ∙ c.in_default-next.is))
+    let n = hindmost c.self.invariant c.self.view_is c.sound-2.ensures c.loop-self.here c.loop-self.invariant.held (sym c.in_default-next.is ∙ c.next.ensures) in
+    let t = meets c.self.invariant c.self.view_is c.loop-self.here c.args.top c.slot_of-end.result c.loop-self.invariant.held c.slot_of-end.ensures ∙ not-true (c.loop-self.here == c.slot_of-end.result) (sym c.ne.ensures ∙ c.loop-self-test.true) in
+    let ne = eqb-false (called c.self.inside.links c.loop-self.here) c.args.top t in
+    let p = tree-parent c.sound.ensures c.args.top (called c.self.inside.links c.loop-self.here) c.loop-self.invariant.within ne n in
+    subst IsSome (sym c.parent.ensures) (parented c.self.invariant c.self.view_is c.sound-2.ensures c.loop-self.here c.loop-self.invariant.held p)
 
-pub loop-top-smaller : goal.loop-top-smaller
-loop-top-smaller g c = shorter c.args.self.now.forest c.loop-top.here c.unwrap-here.result (above c.sound.ensures c.loop-top.here c.unwrap-here.result c.loop-top.invariant.there (sym c.parent.ensures ∙ c.unwrap-here.ensures))
+pub loop-self-smaller : goal.loop-self-smaller
+loop-self-smaller g c =
+    let h = stands c.self.invariant c.self.view_is c.loop-self.here c.loop-self.invariant.held in
+    let u = up c.self.invariant c.self.view_is c.sound-2.ensures c.loop-self.here c.loop-self.invariant.held c.unwrap-here.result (sym c.unwrap-here.ensures ∙ c.parent.ensures) in
+    shorter c.args.self.now.forest (called c.self.inside.links c.loop-self.here) (called c.self.inside.links c.unwrap-here.result) (above c.sound.ensures _ _ h u.1)
 
-pub loop-top-preserved : goal.loop-top-preserved
-loop-top-preserved g c =
-    let k = tree-up c.sound.ensures c.args.top c.loop-top.here c.unwrap-here.result c.loop-top.invariant.within (eqb-false c.loop-top.here c.args.top (not-true (c.loop-top.here == c.args.top) (sym c.ne.ensures ∙ c.loop-top-test.true))) (sym c.next.ensures ∙ c.in_default-next.is) (sym c.parent.ensures ∙ c.unwrap-here.ensures) in
-    record {
-      there = (above c.sound.ensures c.loop-top.here c.unwrap-here.result c.loop-top.invariant.there (sym c.parent.ensures ∙ c.unwrap-here.ensures)).there;
-      within = k.0;
-      same = c.loop-top.invariant.same ∙ k.1;
-    }
+pub loop-self-preserved : goal.loop-self-preserved
+loop-self-preserved g c =
+    let n = hindmost c.self.invariant c.self.view_is c.sound-2.ensures c.loop-self.here c.loop-self.invariant.held (sym c.in_default-next.is ∙ c.next.ensures) in
+    let u = up c.self.invariant c.self.view_is c.sound-2.ensures c.loop-self.here c.loop-self.invariant.held c.unwrap-here.result (sym c.unwrap-here.ensures ∙ c.parent.ensures) in
+    let t = meets c.self.invariant c.self.view_is c.loop-self.here c.args.top c.slot_of-end.result c.loop-self.invariant.held c.slot_of-end.ensures ∙ not-true (c.loop-self.here == c.slot_of-end.result) (sym c.ne.ensures ∙ c.loop-self-test.true) in
+    let k = tree-up c.sound.ensures c.args.top (called c.self.inside.links c.loop-self.here) (called c.self.inside.links c.unwrap-here.result) c.loop-self.invariant.within (eqb-false (called c.self.inside.links c.loop-self.here) c.args.top t) n u.1 in
+    record { held = u.0; within = k.0; same = c.loop-self.invariant.same ∙ k.1 }
 
 pub returns : goal.returns
 returns g c =
-    sym (c.loop-top.invariant.same ∙ tree-top c.sound.ensures c.args.top c.loop-top.here c.loop-top.invariant.within (eqb-true c.loop-top.here c.args.top (not-false (c.loop-top.here == c.args.top) (sym c.ne.ensures ∙ c.loop-top-test.false))))
+    let t = meets c.self.invariant c.self.view_is c.loop-self.here c.args.top c.slot_of-end.result c.loop-self.invariant.held c.slot_of-end.ensures ∙ not-false (c.loop-self.here == c.slot_of-end.result) (sym c.ne.ensures ∙ c.loop-self-test.false) in
+    sym (c.loop-self.invariant.same ∙ tree-top c.sound.ensures c.args.top (called c.self.inside.links c.loop-self.here) c.loop-self.invariant.within (eqb-true (called c.self.inside.links c.loop-self.here) c.args.top t))

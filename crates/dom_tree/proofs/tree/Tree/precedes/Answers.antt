@@ -1,34 +1,37 @@
--- The higher one, or the ancestors of one depth, decide.
-use Rattle.std.proofs.Common.{◌≡◌, ◌+◌, ◌-◌, ◌≤◌, ◌<◌, length, true, sym, ap, ◌∙◌, subst, arith, ◌⊎◌, inl, inr, ⊎_elim}
-use Rattle.std.proofs.lemmas.Bool.{cases_lt, eqb-true, eqb-false}
+-- Where one node is above the other that decides, else the two children where the ways meet.
+use Rattle.std.proofs.Common.{◌≡◌, Some, true, refl, sym, ◌∙◌, subst}
 use Rattle.dom_model.specs.PlainLists.Lists.{among}
-use Rattle.dom_model.specs.Forests.Forest.{ancestors}
-use Rattle.dom_tree.proofs.TreeOrder.{root-through, settled-order, settled-above}
+use Rattle.dom_model.specs.Forests.Forest.{ancestors, parent_of}
+use Rattle.dom_tree.proofs.TreeOrder.{top-there, met-beside, met-below, met-above}
 use Rattle.dom_tree.proofs.tree.Tree.precedes.Goals as goal
 
-pub returns-then-eq : goal.returns-then-eq
-returns-then-eq g c =
-    let f = c.args.self.now.forest in
-    let d : c.climbed-left.result ≡ c.climbed-right.result = eqb-true c.climbed-left.result c.climbed-right.result (sym c.eq.ensures ∙ c.if-eq.true) in
-    let cx : length (ancestors c.climbed-left.result f) + (c.depth-a_depth.result - c.depth-b_depth.result) ≡ length (ancestors c.args.a f) = ap (λ k. length (ancestors c.climbed-left.result f) + k) (sym c.saturating_sub.ensures) ∙ c.climbed-left.ensures.steps in
-    let cy : length (ancestors c.climbed-left.result f) + (c.depth-b_depth.result - c.depth-a_depth.result) ≡ length (ancestors c.args.b f) = ap (λ m. length (ancestors m f) + (c.depth-b_depth.result - c.depth-a_depth.result)) d ∙ ap (λ k. length (ancestors c.climbed-right.result f) + k) (sym c.saturating_sub-2.ensures) ∙ c.climbed-right.ensures.steps in
-    settled-above c.sound.ensures c.args.a c.args.b c.climbed-left.result c.requires.a_held c.requires.b_held c.climbed-left.ensures.above (subst (λ m. among m (ancestors c.args.b f) ≡ true) (sym d) c.climbed-right.ensures.above) c.depth-a_depth.result c.depth-b_depth.result c.depth-a_depth.ensures c.depth-b_depth.ensures cx cy
+pub comes_before-requires : goal.comes_before-requires
+comes_before-requires g c =
+    let v = rw c.in-Some-Some.is-0 at c.meeting-met.ensures.first in
+    let w = rw c.in-Some-Some.is-1 at c.meeting-met.ensures.second in
+    record {
+      a_held = top-there c.sound.ensures c.in-Some-Some.first c.args.a v.through.1;
+      b_held = top-there c.sound.ensures c.in-Some-Some.second c.args.b w.through.1;
+      one_parent = v.through.0 ∙ sym w.through.0;
+      child = rw v.through.0 refl;
+    }
 
-pub stands_ahead-requires-clause-one_root : goal.stands_ahead-requires-clause-one_root
-stands_ahead-requires-clause-one_root g c =
-    root-through c.sound.ensures c.climbed-left.result c.args.a c.requires.a_held c.climbed-left.ensures.above
-    ∙ c.requires.one_root
-    ∙ sym (root-through c.sound.ensures c.climbed-right.result c.args.b c.requires.b_held c.climbed-right.ensures.above)
+pub returns-in-Some-Some : goal.returns-in-Some-Some
+returns-in-Some-Some g c =
+    let v = rw c.in-Some-Some.is-0 at c.meeting-met.ensures.first in
+    let w = rw c.in-Some-Some.is-1 at c.meeting-met.ensures.second in
+    let ne = rw (c.in-Some-Some.is-0, c.in-Some-Some.is-1) at c.meeting-met.ensures.apart in
+    c.comes_before.ensures ∙ met-beside c.sound.ensures c.args.a c.args.b c.meeting-met.result.node c.in-Some-Some.first c.in-Some-Some.second c.requires.a_held c.requires.b_held v.through.0 w.through.0 v.through.1 w.through.1 ne
 
-pub returns : goal.returns
-returns g c =
+pub returns-in-None-Some : goal.returns-in-None-Some
+returns-in-None-Some g c =
     let f = c.args.self.now.forest in
-    let ne = eqb-false c.climbed-left.result c.climbed-right.result (sym c.eq.ensures ∙ c.if-eq.false) in
-    let e : length (ancestors c.climbed-left.result f) ≡ length (ancestors c.climbed-right.result f) = omega (arith, c.depth-a_depth.ensures, c.depth-b_depth.ensures, c.climbed-left.ensures.steps, c.climbed-right.ensures.steps, c.saturating_sub.ensures, c.saturating_sub-2.ensures) in
-    let one : (length (ancestors c.climbed-left.result f) ≡ length (ancestors c.args.a f)) ⊎ (length (ancestors c.climbed-right.result f) ≡ length (ancestors c.args.b f)) =
-    ⊎_elim
-    (λ (lt : c.depth-a_depth.result < c.depth-b_depth.result). inl (omega (arith, c.climbed-left.ensures.steps, c.saturating_sub.ensures)))
-    (λ (le : c.depth-b_depth.result ≤ c.depth-a_depth.result). inr (omega (arith, c.climbed-right.ensures.steps, c.saturating_sub-2.ensures)))
-    (cases_lt c.depth-a_depth.result c.depth-b_depth.result) in
-    c.stands_ahead.ensures
-    ∙ settled-order c.sound.ensures c.args.a c.args.b c.climbed-left.result c.climbed-right.result c.requires.a_held c.requires.b_held c.climbed-left.ensures.held c.climbed-right.ensures.held c.climbed-left.ensures.above c.climbed-right.ensures.above e ne one
+    let v = rw c.in-None-Some.is-0 at c.meeting-met.ensures.first in
+    let w = rw c.in-None-Some.is-1 at c.meeting-met.ensures.second in
+    met-above c.sound.ensures c.args.a c.args.b c.in-None-Some.field-0-1 c.requires.b_held (subst (λ n. among n (ancestors c.args.b f) ≡ true) (sym v.through) w.above) (w.through.0 ∙ (λ i. Some (sym v.through i))) w.through.1
+
+pub returns-in_default-None : goal.returns-in_default-None
+returns-in_default-None g c =
+    let f = c.args.self.now.forest in
+    let w = rw c.in_default-None.is-1 at c.meeting-met.ensures.second in
+    met-below c.sound.ensures c.args.a c.args.b c.requires.a_held (subst (λ n. among n (ancestors c.args.a f) ≡ true) (sym w.through) c.meeting-met.ensures.first.above)

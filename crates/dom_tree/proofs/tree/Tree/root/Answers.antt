@@ -1,24 +1,33 @@
 -- Each step goes to the parent, which has the same root and fewer ancestors.
-use Rattle.std.proofs.Common.{refl, sym, ◌∙◌}
+use Rattle.std.proofs.Common.{ap, sym, ◌∙◌}
+use Rattle.dom_model.specs.Forests.Forest.{root_of}
 use Rattle.dom_model.proofs.Forests.Above.{above}
 use Rattle.dom_model.proofs.Forests.ToTheRoot.{shorter, root-above, root-is}
+use Rattle.dom_tree.proofs.Trees.{slot-held}
+use Rattle.dom_tree.proofs.Steps.{called, begins, stands, up, topmost}
 use Rattle.dom_tree.proofs.tree.Tree.root.Goals as goal
 
-pub loop-above-init : goal.loop-above-init
-loop-above-init g c = record { there = c.requires; same = refl }
+pub slot_of-top-requires : goal.slot_of-top-requires
+slot_of-top-requires g c = slot-held c.self.invariant c.self.view_is c.args.id c.requires
 
-pub parent-requires : goal.parent-requires
-parent-requires g c = c.loop-above.invariant.there
+pub loop-above-init : goal.loop-above-init
+loop-above-init g c =
+    let b = begins c.self.invariant c.self.view_is c.args.id c.slot_of-top.result c.slot_of-top.ensures in
+    record { held = b.0; same = ap (root_of c.args.self.now.forest) b.1 }
 
 pub loop-above-smaller : goal.loop-above-smaller
 loop-above-smaller g c =
-    shorter c.args.self.now.forest c.loop-above.top c.in-Some.above (above c.sound.ensures c.loop-above.top c.in-Some.above c.loop-above.invariant.there (sym c.parent.ensures ∙ c.in-Some.is))
+    let u = up c.self.invariant c.self.view_is c.sound-2.ensures c.loop-above.top c.loop-above.invariant.held c.in-Some.above (sym c.in-Some.is ∙ c.parent.ensures) in
+    shorter c.args.self.now.forest (called c.self.inside.links c.loop-above.top) (called c.self.inside.links c.in-Some.above) (above c.sound.ensures _ _ (stands c.self.invariant c.self.view_is c.loop-above.top c.loop-above.invariant.held) u.1)
 
 pub loop-above-preserved : goal.loop-above-preserved
 loop-above-preserved g c =
-    let a = above c.sound.ensures c.loop-above.top c.in-Some.above c.loop-above.invariant.there (sym c.parent.ensures ∙ c.in-Some.is) in
-    record { there = a.there; same = root-above c.args.self.now.forest c.loop-above.top c.in-Some.above a ∙ c.loop-above.invariant.same }
+    let u = up c.self.invariant c.self.view_is c.sound-2.ensures c.loop-above.top c.loop-above.invariant.held c.in-Some.above (sym c.in-Some.is ∙ c.parent.ensures) in
+    let a = above c.sound.ensures _ _ (stands c.self.invariant c.self.view_is c.loop-above.top c.loop-above.invariant.held) u.1 in
+    record { held = u.0; same = root-above c.args.self.now.forest _ _ a ∙ c.loop-above.invariant.same }
 
 pub returns : goal.returns
 returns g c =
-    sym (root-is c.sound.ensures c.loop-above.top c.loop-above.invariant.there (sym c.parent.ensures ∙ c.in_default.is)) ∙ c.loop-above.invariant.same
+    let h = stands c.self.invariant c.self.view_is c.loop-above.top c.loop-above.invariant.held in
+    let t = topmost c.self.invariant c.self.view_is c.sound-2.ensures c.loop-above.top c.loop-above.invariant.held (sym c.in_default.is ∙ c.parent.ensures) in
+    rw c.number_of.ensures (sym (root-is c.sound.ensures _ h t) ∙ c.loop-above.invariant.same)

@@ -1,0 +1,125 @@
+-- The parts of a range may go into the fragment that was just made. DOM Standard, "Interface Range" (extract, clone the contents).
+use Rattle.std.proofs.Common.{◌≡◌, ℕ, ◌+◌, ◌<◌, ◌≤◌, ◌==◌, true, List, ◌++◌, length, Some, None, ap, sym, ◌∙◌, subst, arith, ⊎_elim}
+use Rattle.std.proofs.lemmas.Bool.{cases_lt}
+use Rattle.dom_model.specs.declared.Kind.TheVariants.{DocumentType}
+use Rattle.dom_model.specs.PlainLists.Lists.{hits}
+use Rattle.dom_model.specs.Forests.Kinds.{is_kind, is_character_data, may_be_parent}
+use Rattle.dom_model.specs.Forests.Forest.{Forest, occurs, parent_of, ancestors, entry_in}
+use Rattle.dom_model.specs.Worlds.World as model
+use Rattle.dom_model.specs.Worlds.World.{Content, Range}
+use Rattle.dom_model.specs.Soundness.Sound.{IsRange, IsSound}
+use Rattle.dom_model.specs.Forests.Nodes.{kind_passes}
+use Rattle.dom_model.specs.MutationAlgorithms.Editing.{document_in, node_document}
+use Rattle.dom_model.specs.DataAndCopies.Data.{content_in, data_of}
+use Rattle.dom_model.specs.RangesAndContents.Contents.{new_fragment, path_below, common_of, check_draw}
+use Rattle.dom_model.specs.TokenText.Edits.{doing_fragment}
+use Rattle.dom_model.proofs.Forests.Entries.{occurs-HasNode}
+use Rattle.dom_model.proofs.Soundness.SoundWorlds.{child_there}
+use Rattle.dom_model.proofs.RangesAndContents.Drawing.{Draws}
+use Rattle.dom_model.proofs.RangesAndContents.DrawnPaths.{ArePath, IsWithin}
+use Rattle.dom_model.proofs.RangesAndContents.PathsToEnds.{common-above, path-down, path-within}
+use Rattle.dom_model.proofs.TokenText.EditsMade.EditsOfDrawnContents as drawn
+use Rattle.dom_clone.specs.dom_edit.declared.world.World.{World}
+use Rattle.dom_clone.specs.dom_edit.Whole.{IsWhole, Keeps, Follows, unwatched}
+use Rattle.dom_clone.specs.dom_edit.Following.{keeps-unwatched}
+use Rattle.dom_clone.specs.dom_data.StaysWhole.{sound-unwatched}
+use Rattle.dom_content.specs.Coming.{AreOld, MayDraw, IsPathTo}
+use Rattle.dom_content.specs.Drawing.{AreParts, in_one_data}
+use Rattle.dom_content.proofs.PartsBetween.{and-both}
+use Rattle.dom_content.proofs.Comings.{old-of, both-old, olds-of, way-of, front-of}
+use Rattle.dom_content.proofs.DrawnContents.{path-same, root-same}
+
+-- what may go in, and where the two ways end
+pub record MayFill (x : World) (into : ℕ) (r : Range) (first contained last : List ℕ) : Type 0 where
+  pub may : MayDraw x into (first ++ (contained ++ last))
+  pub first_way : IsPathTo x.tree.forest r.start.offset first
+  pub last_way : IsPathTo x.tree.forest 0 last
+  pub within : in_one_data x.tree.forest r ≡ true → r.start.offset ≤ length (data_of (unwatched x) r.start.node)
+
+module _ (v : World) (h : IsWhole v) (r : Range) (is : IsRange v.tree.forest r) (allowed : check_draw (unwatched v) r ≡ None) where
+  abbrev w : model.World
+  w = unwatched v
+
+  s : IsSound w
+  s = sound-unwatched v h
+
+  abbrev low : ℕ
+  low = v.tree.made
+
+  abbrev grown : model.World
+  grown = new_fragment (node_document w r.start.node) w
+
+  begun : Draws low (doing_fragment (node_document w r.start.node)) w grown
+  begun = drawn.first w s r is
+
+  hs : 0 < occurs r.start.node v.tree.forest
+  hs = occurs-HasNode v.tree.forest r.start.node is.starts.there
+
+  he : 0 < occurs r.end.node v.tree.forest
+  he = occurs-HasNode v.tree.forest r.end.node is.ends.there
+
+  -- only what was there has a parent
+  old : (c q : ℕ) → parent_of grown.forest c ≡ Some q → c < low
+  old c q e = ⊎_elim (λ (lt : c < low). lt) (λ (le : low ≤ c). absurd (further le)) (cases_lt c low)
+    where
+      further : low ≤ c → ⊥
+      further le =
+          let a = begun.drawing.rising c q le e in
+          let there = child_there grown.forest c q e in
+          ⊎_elim
+          (λ (lt : c < low + 1). let x = a.0 in let y = a.1 in omega arith)
+          (λ (ge : low + 1 ≤ c). let z = begun.drawing.sound.forest.small c ge in omega arith)
+          (cases_lt c (low + 1))
+
+  above : (0 < hits (common_of grown r) (ancestors r.start.node grown.forest)) × (0 < hits (common_of grown r) (ancestors r.end.node grown.forest))
+  above = common-above grown.forest r.start.node r.end.node (begun.extends.there r.start.node hs) (root-same v h r is)
+
+  start_path : ArePath low grown (path_below grown.forest (common_of grown r) r.start.node)
+  start_path = path-down low grown begun.drawing.sound old (common_of grown r) r.start.node (begun.extends.there r.start.node hs) (begun.extends.kinds (is_kind DocumentType) r.start.node hs ∙ is.starts.kind) above.0
+
+  end_path : ArePath low grown (path_below grown.forest (common_of grown r) r.end.node)
+  end_path = path-down low grown begun.drawing.sound old (common_of grown r) r.end.node (begun.extends.there r.end.node he) (begun.extends.kinds (is_kind DocumentType) r.end.node he ∙ is.ends.kind) above.1
+
+  start_within : IsWithin r.start.offset grown (path_below grown.forest (common_of grown r) r.start.node)
+  start_within = path-within grown (common_of grown r) r.start.node r.start.offset (begun.extends.there r.start.node hs) (drawn.start_within w s r is)
+
+  module _ (first contained last : List ℕ) (are : AreParts v.tree.forest r first contained last) where
+    first_path : ArePath low grown first
+    first_path = subst (ArePath low grown) (path-same v h r is r.start.node hs ∙ sym are.first) start_path
+
+    first_within : IsWithin r.start.offset grown first
+    first_within = subst (IsWithin r.start.offset grown) (path-same v h r is r.start.node hs ∙ sym are.first) start_within
+
+    last_path : ArePath low grown last
+    last_path = subst (ArePath low grown) (path-same v h r is r.end.node he ∙ sym are.last) end_path
+
+    contained_old : AreOld low grown.forest contained
+    contained_old c k = old-of low grown c (drawn.contained_drawable w s r is allowed c (subst (λ ns. 0 < hits c ns) (are.contained ∙ sym (drawn.contained_children-same w s r is)) k))
+
+    all_old : AreOld low grown.forest (first ++ (contained ++ last))
+    all_old = both-old low grown.forest first (contained ++ last) (olds-of low grown first first_path) (both-old low grown.forest contained last contained_old (olds-of low grown last last_path))
+
+    pub may-fill : (x : World) (d into : ℕ) → d ≡ document_in (entry_in v.tree.forest r.start.node) → into ≡ v.tree.made → Follows v x (new_fragment d) → MayFill x into r first contained last
+    may-fill x d into ed ei f =
+        let k : Keeps x grown = subst (λ (m : ℕ). Keeps x (new_fragment m w)) ed (f.keeps w (keeps-unwatched v)) in
+        let holds = drawn.holds w s r is in
+        record {
+          may = record {
+            low = low;
+            rising = record {
+              begun = (let m = k.made in let l = begun.drawing.begun in omega (arith, m, l));
+              rising = λ n q l e. begun.drawing.rising n q l (ap (λ (g : Forest Content). parent_of g n) k.forest ∙ e);
+            };
+            holder = record {
+              fresh = (omega (arith, ei));
+              kind = ap (λ (m : ℕ). kind_passes may_be_parent x.tree.forest m) ei ∙ ap (λ (g : Forest Content). kind_passes may_be_parent g low) (sym k.forest) ∙ holds.kind;
+            };
+            nodes = subst (λ (g : Forest Content). AreOld low g (first ++ (contained ++ last))) k.forest all_old;
+          };
+          first_way = subst (λ (g : Forest Content). IsPathTo g r.start.offset first) k.forest (way-of low r.start.offset grown first first_path first_within);
+          last_way = subst (λ (g : Forest Content). IsPathTo g 0 last) k.forest (front-of low grown last last_path);
+          within = λ e.
+              let b = (and-both (r.start.node == r.end.node) (kind_passes is_character_data x.tree.forest r.start.node) e).1 in
+              subst (λ (g : Forest Content). r.start.offset ≤ length (content_in (entry_in g r.start.node)).text) k.forest
+              (drawn.start_within w s r is (ap (λ (g : Forest Content). kind_passes is_character_data g r.start.node) k.forest ∙ b));
+        }

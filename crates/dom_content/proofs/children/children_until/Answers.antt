@@ -1,0 +1,24 @@
+-- From the first child on, ahead of the child at the offset.
+use Rattle.std.proofs.Common.{◌≡◌, ℕ, List, ap, ◌∙◌, subst}
+use Rattle.std.specs.Prelude.{IfOk}
+use Rattle.dom_model.specs.Forests.Forest.{children_of}
+use Rattle.dom_model.proofs.Forests.Indices.{child-once}
+use Rattle.dom_clone.specs.dom_edit.Places.{ahead_of, from_optional}
+use Rattle.dom_clone.specs.dom_edit.AmongChildren.{IsAmong-head, from_optional-head}
+use Rattle.dom_content.proofs.ChildrenBetween.{ahead-got}
+use Rattle.dom_content.proofs.children.children_until.Goals as goal
+
+pub children_between-requires-clause-child : goal.children_between-requires-clause-child
+children_between-requires-clause-child c =
+    let f = c.args.tree.now.forest in
+    rw c.first-from.ensures (IsAmong-head (children_of f c.args.parent) (λ m. child-once f c.sound.ensures.once m c.args.parent))
+
+pub returns : goal.returns
+returns c =
+    let f = c.args.tree.now.forest in
+    subst (λ (ns : List ℕ). IfOk c.children_between.result (λ list. list.items ≡ ns))
+    (ap (λ o. ahead_of c.child_at-until.result (from_optional o (children_of f c.args.parent))) c.first-from.ensures
+    ∙ ap (ahead_of c.child_at-until.result) (from_optional-head (children_of f c.args.parent))
+    ∙ ap (λ o. ahead_of o (children_of f c.args.parent)) c.child_at-until.ensures
+    ∙ ahead-got c.args.offset (children_of f c.args.parent) (λ m. child-once f c.sound.ensures.once m c.args.parent))
+    c.children_between.ensures

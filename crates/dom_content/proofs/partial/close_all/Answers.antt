@@ -1,0 +1,42 @@
+-- One after another is finished.
+use Rattle.std.proofs.Common.{◌<◌, ◌≤◌, length, arith, ⊎_elim}
+use Rattle.std.proofs.lemmas.Bool.{cases_lt, false≢true}
+use Rattle.dom_content.proofs.PathSteps.{closing-first, closing-last, closing-room, closing-next, closing-end, no_partials, fewer}
+use Rattle.dom_content.proofs.partial.close_all.Goals as goal
+
+pub loop-partial-init : goal.loop-partial-init
+loop-partial-init c = closing-first c.args.world.now c.args.moves c.args.partials.items c.requires.whole c.requires.may c.requires.room
+
+pub close_partial-requires-clause-whole : goal.close_partial-requires-clause-whole
+close_partial-requires-clause-whole c = c.loop-partial.invariant.whole
+
+pub close_partial-requires-clause-may : goal.close_partial-requires-clause-may
+close_partial-requires-clause-may c =
+    closing-last c.args.world.now c.loop-partial.world c.args.moves c.args.partials.items c.pop.new.self.items c.in-Some.partial (rw c.in-Some.ensures.items at c.loop-partial.invariant)
+
+pub close_partial-requires-clause-room : goal.close_partial-requires-clause-room
+close_partial-requires-clause-room c =
+    closing-room c.args.world.now c.loop-partial.world c.args.moves c.args.partials.items c.pop.new.self.items c.in-Some.partial (rw c.in-Some.ensures.items at c.loop-partial.invariant)
+
+pub loop-partial-smaller : goal.loop-partial-smaller
+loop-partial-smaller c = rw c.in-Some.ensures.items (fewer c.pop.new.self.items c.in-Some.partial)
+
+pub loop-partial-preserved : goal.loop-partial-preserved
+loop-partial-preserved c =
+    closing-next c.args.world.now c.loop-partial.world c.args.moves c.args.partials.items c.pop.new.self.items c.in-Some.partial (rw c.in-Some.ensures.items at c.loop-partial.invariant)
+    c.close_partial.new.world c.in_ok-close_partial.ensures.closed c.in_ok-close_partial.ensures.still_held c.in_ok-close_partial.ensures.whole
+
+pub returns-clause-closed : goal.returns-clause-closed
+returns-clause-closed c =
+    let empty =
+    ⊎_elim
+    (λ (lt : 0 < length c.loop-partial.partials.items). absurd (false≢true (c.in_default.ensures.variant.1 lt)))
+    (λ (le : length c.loop-partial.partials.items ≤ 0). no_partials c.loop-partial.partials.items (omega arith))
+    (cases_lt 0 (length c.loop-partial.partials.items)) in
+    closing-end c.args.world.now c.loop-partial.world c.args.moves c.args.partials.items (rw empty at c.loop-partial.invariant)
+
+pub returns-clause-still_held : goal.returns-clause-still_held
+returns-clause-still_held c = c.loop-partial.invariant.still
+
+pub returns-clause-whole : goal.returns-clause-whole
+returns-clause-whole c = c.loop-partial.invariant.whole

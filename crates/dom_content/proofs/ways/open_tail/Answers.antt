@@ -1,0 +1,20 @@
+-- The children behind the next node are there.
+use Rattle.std.proofs.Common.{[], ◌∙◌}
+use Rattle.dom_model.specs.PlainLists.Lists.{past}
+use Rattle.dom_model.specs.Forests.Forest.{children_of}
+use Rattle.dom_model.proofs.RangesAndContents.DrawnPaths.{hits-past}
+use Rattle.dom_content.specs.Coming.{AreOld}
+use Rattle.dom_content.proofs.Comings.{first-old, more-old, children-old}
+use Rattle.dom_content.proofs.ways.open_tail.Goals as goal
+
+pub open_partial-requires-clause-may : goal.open_partial-requires-clause-may
+open_partial-requires-clause-may c =
+    let v = c.args.world.now in
+    let m = c.requires.may in
+    let o = first-old m.low v.tree.forest c.args.node [] m.nodes in
+    let kids = children-old v c.requires.whole m.low m.rising c.args.into m.holder c.args.node o c.requires.no_data (past c.args.next (children_of v.tree.forest c.args.node)) (λ x. hits-past x c.args.next (children_of v.tree.forest c.args.node)) in
+    let listed : AreOld m.low v.tree.forest c.in_ok-behind.behind.items = rw c.in_ok-behind.ensures kids in
+    record { low = m.low; rising = m.rising; holder = m.holder; nodes = more-old m.low v.tree.forest c.args.node c.in_ok-behind.behind.items o listed }
+
+pub returns-clause-children : goal.returns-clause-children
+returns-clause-children c = c.in_ok-partial.ensures.children ∙ c.in_ok-behind.ensures

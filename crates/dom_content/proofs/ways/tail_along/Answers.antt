@@ -1,0 +1,121 @@
+-- Each node above the last is opened; then all are finished.
+use Rattle.std.proofs.Common.{[], ◌∷◌, ◌+◌, drop, arith}
+use Rattle.dom_model.specs.RangesAndContents.Contents.{tail_into}
+use Rattle.dom_content.specs.Paths.{opened}
+use Rattle.dom_model.specs.PlainLists.Lists.{past}
+use Rattle.dom_model.specs.Forests.Forest.{children_of}
+use Rattle.dom_model.proofs.RangesAndContents.DrawnPaths.{hits-past}
+use Rattle.dom_content.specs.Coming.{AreOld}
+use Rattle.dom_content.proofs.PathSteps.{down-first, down-first_old, down-held, down-may, down-next_held, down-room, down-next, down-close, down-close_room, down-end, down-more, down-last, tail-opens, tail-down}
+use Rattle.dom_content.proofs.Comings.{rest-old, children-old, way-goes, goes-opened, opened-unfinished, goes-tail}
+use Rattle.dom_content.proofs.ways.tail_along.Goals as goal
+
+pub loop-next-init : goal.loop-next-init
+loop-next-init c =
+    rw c.new-partials.ensures.items
+    (down-first c.args.world.now c.args.moves c.args.offset (λ i ns. tail_into c.args.moves i c.args.offset ns) c.args.into (c.args.first ∷ c.args.below.now) c.requires.whole c.requires.may c.requires.way c.requires.room)
+
+pub open_tail-requires-clause-whole : goal.open_tail-requires-clause-whole
+open_tail-requires-clause-whole c = c.loop-next.invariant.stays_whole
+
+pub open_tail-requires-clause-may : goal.open_tail-requires-clause-may
+open_tail-requires-clause-may c =
+    let whole = tail_into c.args.moves c.args.into c.args.offset (c.args.first ∷ c.args.below.now) in
+    down-may c.args.world.now c.loop-next.world c.args.moves c.args.offset whole (λ i ns. tail_into c.args.moves i c.args.offset ns) c.loop-next.partials.items c.loop-next.here c.loop-next.node (drop c.loop-next.next-index c.args.below.now) c.loop-next.invariant
+
+pub open_tail-requires-clause-no_data : goal.open_tail-requires-clause-no_data
+open_tail-requires-clause-no_data c =
+    let whole = tail_into c.args.moves c.args.into c.args.offset (c.args.first ∷ c.args.below.now) in
+    let t = (down-more c.args.world.now c.loop-next.world c.args.moves c.args.offset whole (λ i ns. tail_into c.args.moves i c.args.offset ns) c.loop-next.partials.items c.loop-next.here c.loop-next.node c.args.below.now c.loop-next.next-index c.loop-next.invariant c.next-item.result c.next-item.is c.loop-next-test.true) in
+    t.way.0
+
+pub open_tail-requires-clause-held : goal.open_tail-requires-clause-held
+open_tail-requires-clause-held c =
+    let whole = tail_into c.args.moves c.args.into c.args.offset (c.args.first ∷ c.args.below.now) in
+    down-held c.args.world.now c.loop-next.world c.args.moves c.args.offset whole (λ i ns. tail_into c.args.moves i c.args.offset ns) c.loop-next.partials.items c.loop-next.here c.loop-next.node (drop c.loop-next.next-index c.args.below.now) c.loop-next.invariant
+
+pub open_tail-requires-clause-next_held : goal.open_tail-requires-clause-next_held
+open_tail-requires-clause-next_held c =
+    let whole = tail_into c.args.moves c.args.into c.args.offset (c.args.first ∷ c.args.below.now) in
+    down-next_held c.args.world.now c.loop-next.world c.args.moves c.args.offset whole (λ i ns. tail_into c.args.moves i c.args.offset ns) c.loop-next.partials.items c.loop-next.here c.loop-next.node c.next-item.result (drop (c.loop-next.next-index + 1) c.args.below.now)
+    (down-more c.args.world.now c.loop-next.world c.args.moves c.args.offset whole (λ i ns. tail_into c.args.moves i c.args.offset ns) c.loop-next.partials.items c.loop-next.here c.loop-next.node c.args.below.now c.loop-next.next-index c.loop-next.invariant c.next-item.result c.next-item.is c.loop-next-test.true)
+
+pub open_tail-requires-clause-room : goal.open_tail-requires-clause-room
+open_tail-requires-clause-room c =
+    let whole = tail_into c.args.moves c.args.into c.args.offset (c.args.first ∷ c.args.below.now) in
+    let more = drop (c.loop-next.next-index + 1) c.args.below.now in
+    down-room c.args.world.now c.loop-next.world c.args.moves c.args.offset whole (λ i ns. tail_into c.args.moves i c.args.offset ns) c.loop-next.partials.items c.loop-next.here c.loop-next.node (c.next-item.result ∷ more)
+    (down-more c.args.world.now c.loop-next.world c.args.moves c.args.offset whole (λ i ns. tail_into c.args.moves i c.args.offset ns) c.loop-next.partials.items c.loop-next.here c.loop-next.node c.args.below.now c.loop-next.next-index c.loop-next.invariant c.next-item.result c.next-item.is c.loop-next-test.true)
+    (opened c.loop-next.here c.loop-next.node)
+    (λ w k. tail-opens c.args.moves c.loop-next.here c.args.offset c.loop-next.node c.next-item.result more w)
+
+pub loop-next-preserved : goal.loop-next-preserved
+loop-next-preserved c =
+    let whole = tail_into c.args.moves c.args.into c.args.offset (c.args.first ∷ c.args.below.now) in
+    let more = drop (c.loop-next.next-index + 1) c.args.below.now in
+    let v = c.loop-next.world in
+    let t = (down-more c.args.world.now c.loop-next.world c.args.moves c.args.offset whole (λ i ns. tail_into c.args.moves i c.args.offset ns) c.loop-next.partials.items c.loop-next.here c.loop-next.node c.args.below.now c.loop-next.next-index c.loop-next.invariant c.next-item.result c.next-item.is c.loop-next-test.true) in
+    let n = c.loop-next.node in
+    let o = down-first_old c.args.world.now c.loop-next.world c.args.moves c.args.offset whole (λ i ns. tail_into c.args.moves i c.args.offset ns) c.loop-next.partials.items c.loop-next.here c.loop-next.node (c.next-item.result ∷ more) t in
+    let p = c.in_ok-partial.partial in
+    let g = goes-opened v t.stays_whole t.low t.rising c.loop-next.here t.into n o t.way.0 c.open_tail.new.world c.in_ok-partial.ensures.opened in
+    let kids = children-old v t.stays_whole t.low t.rising c.loop-next.here t.into n o t.way.0 (past c.next-item.result (children_of v.tree.forest n)) (λ x. hits-past x c.next-item.result (children_of v.tree.forest n)) in
+    let listed : AreOld t.low v.tree.forest p.children.items = rw c.in_ok-partial.ensures.children kids in
+    let u = opened-unfinished v t.stays_whole t.low t.rising c.loop-next.here t.into n o t.way.0 c.open_tail.new.world p c.in_ok-partial.ensures.opened c.in_ok-partial.ensures.copy c.in_ok-partial.ensures.inner listed in
+    let way = way-goes t.low v c.open_tail.new.world g c.in_ok-partial.ensures.texts c.args.offset (c.next-item.result ∷ more) (rest-old t.low v.tree.forest n (c.next-item.result ∷ more) t.nodes) t.way.1 in
+    rw c.in_ok-push.ensures.ok
+    (down-next c.args.world.now c.loop-next.world c.args.moves c.args.offset whole (λ i ns. tail_into c.args.moves i c.args.offset ns) c.loop-next.partials.items c.loop-next.here c.loop-next.node (c.next-item.result ∷ more) t
+    c.open_tail.new.world (opened c.loop-next.here c.loop-next.node) p
+    (tail-down v c.args.moves c.loop-next.here c.args.offset n c.next-item.result more p c.in_ok-partial.ensures.copy c.in_ok-partial.ensures.inner c.in_ok-partial.ensures.children)
+    c.in_ok-partial.ensures.opened c.in_ok-partial.ensures.still_held c.in_ok-partial.ensures.whole g u way)
+
+pub tail_of_last-requires-clause-whole : goal.tail_of_last-requires-clause-whole
+tail_of_last-requires-clause-whole c = c.loop-next.invariant.stays_whole
+
+pub tail_of_last-requires-clause-may : goal.tail_of_last-requires-clause-may
+tail_of_last-requires-clause-may c =
+    let whole = tail_into c.args.moves c.args.into c.args.offset (c.args.first ∷ c.args.below.now) in
+    down-may c.args.world.now c.loop-next.world c.args.moves c.args.offset whole (λ i ns. tail_into c.args.moves i c.args.offset ns) c.loop-next.partials.items c.loop-next.here c.loop-next.node (drop c.loop-next.next-index c.args.below.now) c.loop-next.invariant
+
+pub tail_of_last-requires-clause-way : goal.tail_of_last-requires-clause-way
+tail_of_last-requires-clause-way c =
+    let whole = tail_into c.args.moves c.args.into c.args.offset (c.args.first ∷ c.args.below.now) in
+    let t = (down-last c.args.world.now c.loop-next.world c.args.moves c.args.offset whole (λ i ns. tail_into c.args.moves i c.args.offset ns) c.loop-next.partials.items c.loop-next.here c.loop-next.node c.args.below.now c.loop-next.next-index c.loop-next.invariant c.loop-next-test.false) in
+    t.way
+
+pub tail_of_last-requires-clause-held : goal.tail_of_last-requires-clause-held
+tail_of_last-requires-clause-held c =
+    let whole = tail_into c.args.moves c.args.into c.args.offset (c.args.first ∷ c.args.below.now) in
+    down-held c.args.world.now c.loop-next.world c.args.moves c.args.offset whole (λ i ns. tail_into c.args.moves i c.args.offset ns) c.loop-next.partials.items c.loop-next.here c.loop-next.node (drop c.loop-next.next-index c.args.below.now) c.loop-next.invariant
+
+pub tail_of_last-requires-clause-room : goal.tail_of_last-requires-clause-room
+tail_of_last-requires-clause-room c =
+    let whole = tail_into c.args.moves c.args.into c.args.offset (c.args.first ∷ c.args.below.now) in
+    down-room c.args.world.now c.loop-next.world c.args.moves c.args.offset whole (λ i ns. tail_into c.args.moves i c.args.offset ns) c.loop-next.partials.items c.loop-next.here c.loop-next.node []
+    (down-last c.args.world.now c.loop-next.world c.args.moves c.args.offset whole (λ i ns. tail_into c.args.moves i c.args.offset ns) c.loop-next.partials.items c.loop-next.here c.loop-next.node c.args.below.now c.loop-next.next-index c.loop-next.invariant c.loop-next-test.false)
+    (tail_into c.args.moves c.loop-next.here c.args.offset (c.loop-next.node ∷ []))
+    (λ w k. omega arith)
+
+pub close_all-requires-clause-may : goal.close_all-requires-clause-may
+close_all-requires-clause-may c =
+    let whole = tail_into c.args.moves c.args.into c.args.offset (c.args.first ∷ c.args.below.now) in
+    let t = (down-last c.args.world.now c.loop-next.world c.args.moves c.args.offset whole (λ i ns. tail_into c.args.moves i c.args.offset ns) c.loop-next.partials.items c.loop-next.here c.loop-next.node c.args.below.now c.loop-next.next-index c.loop-next.invariant c.loop-next-test.false) in
+    down-close c.args.world.now c.loop-next.world c.args.moves c.args.offset whole (λ i ns. tail_into c.args.moves i c.args.offset ns) c.loop-next.partials.items c.loop-next.here c.loop-next.node [] t
+    c.tail_of_last.new.world c.in_ok-tail_of_last.ensures.drawn (goes-tail c.loop-next.world t.stays_whole t.low t.rising c.loop-next.here t.into c.args.moves c.args.offset (c.loop-next.node ∷ []) t.nodes t.way c.tail_of_last.new.world c.in_ok-tail_of_last.ensures.drawn)
+
+pub close_all-requires-clause-room : goal.close_all-requires-clause-room
+close_all-requires-clause-room c =
+    let whole = tail_into c.args.moves c.args.into c.args.offset (c.args.first ∷ c.args.below.now) in
+    down-close_room c.args.world.now c.loop-next.world c.args.moves c.args.offset whole (λ i ns. tail_into c.args.moves i c.args.offset ns) c.loop-next.partials.items c.loop-next.here c.loop-next.node []
+    (down-last c.args.world.now c.loop-next.world c.args.moves c.args.offset whole (λ i ns. tail_into c.args.moves i c.args.offset ns) c.loop-next.partials.items c.loop-next.here c.loop-next.node c.args.below.now c.loop-next.next-index c.loop-next.invariant c.loop-next-test.false)
+    c.tail_of_last.new.world c.in_ok-tail_of_last.ensures.drawn
+
+pub returns-clause-drawn : goal.returns-clause-drawn
+returns-clause-drawn c =
+    let whole = tail_into c.args.moves c.args.into c.args.offset (c.args.first ∷ c.args.below.now) in
+    down-end c.args.world.now c.loop-next.world c.args.moves c.args.offset whole (λ i ns. tail_into c.args.moves i c.args.offset ns) c.loop-next.partials.items c.loop-next.here c.loop-next.node []
+    (down-last c.args.world.now c.loop-next.world c.args.moves c.args.offset whole (λ i ns. tail_into c.args.moves i c.args.offset ns) c.loop-next.partials.items c.loop-next.here c.loop-next.node c.args.below.now c.loop-next.next-index c.loop-next.invariant c.loop-next-test.false)
+    c.tail_of_last.new.world c.in_ok-tail_of_last.ensures.drawn c.close_all.new.world c.in_ok-close_all.ensures.closed
+
+pub returns-clause-still_held : goal.returns-clause-still_held
+returns-clause-still_held c = λ m h. c.in_ok-close_all.ensures.still_held m (c.in_ok-tail_of_last.ensures.still_held m (c.loop-next.invariant.still m h))

@@ -1,0 +1,140 @@
+//! Nodes that lie in a range in part: each is copied, and the copy is filled and finished (DOM Standard, "Interface Range", extract, clone the contents).
+
+ghost use Rattle.std.specs.Prelude.{◌≡◌, ◌∷◌, [], false, IfOk, OnOk};
+ghost use Rattle.dom_model.specs.Worlds.World as model;
+ghost use Rattle.dom_model.specs.Forests.Forest.{HasNode};
+ghost use Rattle.dom_model.specs.Forests.Kinds.{is_character_data};
+ghost use Rattle.dom_model.specs.Forests.Nodes.{kind_passes};
+ghost use Rattle.dom_model.specs.RangesAndContents.Contents.{children_into, copy_into};
+ghost use Rattle.dom_clone.specs.dom_edit.Whole.{IsWhole, Keeps, Follows};
+ghost use Rattle.dom_content.specs.Paths.{HasRoom, StillHeld, DataStays, opened, inner_of, closed_one, closed};
+ghost use Rattle.dom_content.specs.Coming.{MayDraw, MayClose};
+
+use crate::pieces::{children_into, copy_of, document_in, new_fragment, put_last};
+use dom_clone::of_edit::World;
+use dom_clone::of_tree::NodeId;
+use smallvec::SmallVec;
+use std::alloc::{AllocError, Global};
+use std::default::MadeWith;
+
+// A node that lies in a range in part: its copy, a fragment that is to fill the copy, and the children that go into the fragment last.
+#[derive(Drop)]
+pub(crate) struct Partial {
+    copy: NodeId,
+    pub inner: NodeId,
+    children: Vec<NodeId>,
+}
+
+/// The nodes on a path that lie in a range in part. Those of a short path take no memory.
+pub(crate) type Partials = SmallVec<Partial, 8>;
+
+impl MadeWith<Global> for Partial {
+    // An empty one, which stands in a place that is not taken.
+    fn made_with(alloc: Global) -> Self {
+        Partial {
+            copy: NodeId::new(0),
+            inner: NodeId::new(0),
+            children: Vec::new(alloc),
+        }
+    }
+}
+
+// Puts a copy of a node last into a fragment, and makes a further fragment.
+pub(crate) fn open_partial(
+    world: &mut World,
+    alloc: Global,
+    into: NodeId,
+    node: NodeId,
+    children: Vec<NodeId>,
+) -> Result<Partial, AllocError>
+    requires whole { IsWhole world.old }
+    requires may { MayDraw world.old into (node ∷ children.items) }
+    requires no_data { kind_passes is_character_data world.old.tree.forest node ≡ false }
+    requires held { HasNode world.old.tree.forest node }
+    requires room { HasRoom world.old (opened into node) }
+    ensures copy { IfOk result (λ p. p.copy ≡ world.old.tree.made) }
+    ensures inner { IfOk result (λ p. (w : model.World) → Keeps world.old w → p.inner ≡ inner_of into node w) }
+    ensures children { IfOk result (λ p. p.children.items ≡ children.items) }
+    ensures opened { OnOk result (Follows world.old world.new (opened into node)) }
+    ensures still_held { OnOk result (StillHeld world.old world.new) }
+    ensures texts { OnOk result (DataStays world.old world.new) }
+    ensures whole { IsWhole world.new }
+{
+    let document = document_in(&world.tree, node);
+    let copy = copy_of(world, alloc, node, false)?;
+    put_last(world, alloc, into, copy)?;
+    let inner = new_fragment(world, alloc, document)?;
+    Ok(Partial {
+        copy,
+        inner,
+        children,
+    })
+}
+
+// Puts the children that are left into the further fragment, and that into the copy.
+fn close_partial(
+    world: &mut World,
+    alloc: Global,
+    moves: bool,
+    partial: &Partial,
+) -> Result<(), AllocError>
+    requires whole { IsWhole world.old }
+    requires may { MayClose world.old (partial.now ∷ []) }
+    requires room { HasRoom world.old (closed_one moves partial.now) }
+    ensures closed { OnOk result (Follows world.old world.new (closed_one moves partial.now)) }
+    ensures still_held { OnOk result (StillHeld world.old world.new) }
+    ensures whole { IsWhole world.new }
+{
+    children_into(
+        world,
+        alloc,
+        moves,
+        partial.inner,
+        partial.children.as_slice(),
+    )?;
+    put_last(world, alloc, partial.copy, partial.inner)?;
+    Ok(())
+}
+
+// The same of several, the last one first.
+pub(crate) fn close_all(
+    world: &mut World,
+    alloc: Global,
+    moves: bool,
+    mut partials: Partials,
+) -> Result<(), AllocError>
+    requires whole { IsWhole world.old }
+    requires may { MayClose world.old partials.items }
+    requires room { HasRoom world.old (closed moves partials.items) }
+    ensures closed { OnOk result (Follows world.old world.new (closed moves partials.items)) }
+    ensures still_held { OnOk result (StillHeld world.old world.new) }
+    ensures whole { IsWhole world.new }
+{
+    while let Some(partial) = partials.pop() {
+        close_partial(world, alloc, moves, &partial)?;
+    }
+    Ok(())
+}
+
+// Puts a copy of a node into a fragment, with some of its children.
+pub(crate) fn copy_into(
+    world: &mut World,
+    alloc: Global,
+    moves: bool,
+    into: NodeId,
+    node: NodeId,
+    children: Vec<NodeId>,
+) -> Result<(), AllocError>
+    requires whole { IsWhole world.old }
+    requires may { MayDraw world.old into (node ∷ children.items) }
+    requires no_data { kind_passes is_character_data world.old.tree.forest node ≡ false }
+    requires held { HasNode world.old.tree.forest node }
+    requires room { HasRoom world.old (copy_into into node (λ inner v. children_into moves inner children.items v)) }
+    ensures copied { OnOk result (Follows world.old world.new (copy_into into node (λ inner v. children_into moves inner children.items v))) }
+    ensures still_held { OnOk result (StillHeld world.old world.new) }
+    ensures whole { IsWhole world.new }
+{
+    let partial = open_partial(world, alloc, into, node, children)?;
+    close_partial(world, alloc, moves, &partial)?;
+    Ok(())
+}

@@ -1,0 +1,103 @@
+-- Nodes that are there before a step and after it, as the record of the step names them.
+use Rattle.std.specs.Option.{ForSome}
+use Rattle.std.proofs.Common.{◌≡◌, ℕ, ◌<◌, Bool, true, false, if◌then◌else◌, List, [], ◌∷◌, Option, Some, None, refl, ap, sym, ◌∙◌, subst, arith}
+use Rattle.dom_model.specs.declared.Kind.TheVariants.{DocumentFragment}
+use Rattle.dom_model.specs.PlainLists.Lists.{hits, is_number}
+use Rattle.dom_model.specs.Forests.Forest.{Forest, HasNode, occurs, children_of, previous_of, next_of}
+use Rattle.dom_model.specs.Worlds.World.{Content}
+use Rattle.dom_model.specs.Forests.Nodes.{is_of_kind}
+use Rattle.dom_model.specs.MutationAlgorithms.Editing.{remove_all, previous_to, taken_out}
+use Rattle.dom_model.specs.MutationAlgorithms.Insertable.{IsChildOf, ArePlaceable}
+use Rattle.dom_model.proofs.PlainLists.Numbers.{same_or, same, apart}
+use Rattle.dom_model.proofs.PlainLists.Members.{hits-last_of}
+use Rattle.dom_model.proofs.Forests.Entries.{HasNode-occurs, occurs-HasNode}
+use Rattle.dom_model.proofs.Forests.Indices.{child-there}
+use Rattle.dom_model.proofs.Forests.Siblings.{index-step}
+use Rattle.dom_model.proofs.Soundness.SoundWorlds.{child_there}
+use Rattle.dom_ranges.specs.dom_tree.Beside.{forward-step}
+use Rattle.dom_edit.specs.declared.world.World.{World}
+use Rattle.dom_edit.specs.Whole.{IsWhole, Follows}
+use Rattle.dom_edit.specs.Inserting.{entering, entering_if_any, AreThere, KeepsNodes}
+use Rattle.dom_edit.proofs.Leaving.{held-taken}
+use Rattle.dom_edit.proofs.InsertedNodes.{if_not, entering-there, there-removed_all}
+use Rattle.dom_edit.proofs.ReplacedNodes.{reference_in}
+
+-- Steps that keep all nodes.
+
+pub nodes-then : (a b c : World) → KeepsNodes a b → KeepsNodes b c → KeepsNodes a c
+nodes-then a b c f s n h = s n (f n h)
+
+pub nodes-observed : (a b : World) → b ≡ record a { observers = b.observers } → KeepsNodes a b
+nodes-observed a b e n h = subst (λ (f : Forest Content). HasNode f n) (sym (ap (λ (v : World). v.tree.forest) e)) h
+
+pub nodes-taken : (a b : World) (n p : ℕ) → Follows a b (taken_out n p) → KeepsNodes a b
+nodes-taken a b n p f m h = held-taken a b n p m f h
+
+pub nodes-removed_all : (a b : World) (ns : List ℕ) → IsWhole a → AreThere a.tree.forest ns → Follows a b (remove_all ns) → KeepsNodes a b
+nodes-removed_all a b ns h i f m j = HasNode-occurs b.tree.forest m (there-removed_all a b ns h i f m (occurs-HasNode a.tree.forest m j))
+
+pub stay-there : (a b : World) → KeepsNodes a b → (ns : List ℕ) → AreThere a.tree.forest ns → AreThere b.tree.forest ns
+stay-there a b k ns h m i = occurs-HasNode b.tree.forest m (k m (HasNode-occurs a.tree.forest m (h m i)))
+
+pub stay-some : (a b : World) → KeepsNodes a b → (o : Option ℕ) → ForSome o (λ n. HasNode a.tree.forest n) → ForSome o (λ n. HasNode b.tree.forest n)
+stay-some a b k o h n e = k n (h n e)
+
+-- Nodes that are there.
+
+pub none-there : (f : Forest Content) → AreThere f []
+none-there f m i = absurd (omega arith)
+
+pub one-there : (f : Forest Content) (n : ℕ) → HasNode f n → AreThere f (n ∷ [])
+one-there f n h m i =
+    elim (same_or n m) [
+      | same e t ↦ subst (λ k. 0 < occurs k f) e (occurs-HasNode f n h)
+      | apart ne t ↦ absurd (let k = rw t at i in omega arith)
+    ]
+
+pub placeable-there : (f : Forest Content) (parent : ℕ) (ns : List ℕ) → ArePlaceable f parent ns → AreThere f ns
+placeable-there f parent [] k m i = absurd (omega arith)
+placeable-there f parent (n ∷ ns) k m i =
+    elim (same_or n m) [
+      | same e t ↦ subst (λ q. 0 < occurs q f) e k.0.there
+      | apart ne t ↦ placeable-there f parent ns k.2 m (let j = rw t at i in omega arith)
+    ]
+
+module _ (v : World) (h : IsWhole v) where
+  pub previous-held : (n : ℕ) → HasNode v.tree.forest n → (o : Option ℕ) → o ≡ previous_of v.tree.forest n → ForSome o (λ m. HasNode v.tree.forest m)
+  previous-held n held o e m i = (index-step {g = v.tree} h.forest n m held (sym e ∙ i)).1.1
+
+  pub next-held : (n : ℕ) → HasNode v.tree.forest n → (o : Option ℕ) → o ≡ next_of v.tree.forest n → ForSome o (λ m. HasNode v.tree.forest m)
+  next-held n held o e m i = (forward-step {g = v.tree} h.forest n m held (sym e ∙ i)).1.1
+
+  pub child-held : (parent : ℕ) (child : Option ℕ) → IsChildOf v.tree.forest parent child → ForSome child (λ m. HasNode v.tree.forest m)
+  child-held parent None k m i = absurd (cc i)
+  child-held parent (Some c) k m i =
+      let d : c ≡ m = cc i in
+      subst (λ q. HasNode v.tree.forest q) d (HasNode-occurs v.tree.forest c (child_there v.tree.forest c parent k))
+
+  -- what stands ahead of a place
+  pub ahead-held : (parent : ℕ) (child : Option ℕ) → IsChildOf v.tree.forest parent child → (o : Option ℕ) → o ≡ previous_to v.tree.forest parent child → ForSome o (λ m. HasNode v.tree.forest m)
+  ahead-held parent None k o e m i =
+      HasNode-occurs v.tree.forest m (child-there v.tree.forest h.forest.once m parent (hits-last_of (children_of v.tree.forest parent) m (sym e ∙ i)))
+  ahead-held parent (Some c) k o e m i =
+      previous-held c (HasNode-occurs v.tree.forest c (child_there v.tree.forest c parent k)) o e m i
+
+  -- what comes in with a node
+  pub entering-held : (n : ℕ) → HasNode v.tree.forest n → (ns : List ℕ) → ns ≡ entering v.tree.forest n → AreThere v.tree.forest ns
+  entering-held n held ns e = go (is_of_kind DocumentFragment v.tree.forest n) refl
+    where
+      go : (t : Bool) → is_of_kind DocumentFragment v.tree.forest n ≡ t → AreThere v.tree.forest ns
+      go true k = entering-there v n h k ns e
+      go false k = subst (AreThere v.tree.forest) (sym (e ∙ if_not (is_of_kind DocumentFragment v.tree.forest n) (children_of v.tree.forest n) (n ∷ []) k)) (one-there v.tree.forest n held)
+
+  pub entering_if_any-held : (node : Option ℕ) → ForSome node (λ n. HasNode v.tree.forest n) → (ns : List ℕ) → ns ≡ entering_if_any v.tree.forest node → AreThere v.tree.forest ns
+  entering_if_any-held None held ns e = subst (AreThere v.tree.forest) (sym e) (none-there v.tree.forest)
+  entering_if_any-held (Some n) held ns e = entering-held n (held n refl) ns e
+
+  -- what a node comes in before
+  pub reference-held : (n : ℕ) (child o : Option ℕ) → HasNode v.tree.forest n → ForSome child (λ m. HasNode v.tree.forest m) → o ≡ reference_in v.tree.forest n child → ForSome o (λ m. HasNode v.tree.forest m)
+  reference-held n child o held given e = go (is_number child n) (e ∙ refl)
+    where
+      go : (t : Bool) → o ≡ (if t then next_of v.tree.forest n else child) → ForSome o (λ m. HasNode v.tree.forest m)
+      go true d = next-held n held o d
+      go false d = λ m i. given m (sym d ∙ i)

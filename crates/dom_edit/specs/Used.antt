@@ -1,0 +1,21 @@
+-- The nodes that the parts of a world of the code name, and a node that something names. Ours, as discarding is.
+use Rattle.std.specs.Prelude.{ℕ, Bool, ◌||◌, List, ◌++◌, flat_map}
+use Rattle.std.specs.List.{list_any}
+use Rattle.dom_model.specs.PlainLists.Lists.{among}
+use Rattle.dom_model.specs.Forests.Forest.{inclusive_descendants}
+use Rattle.dom_model.specs.MutationAlgorithms.Discarding.{nodes_of_range, nodes_of_live, nodes_of_iterator, nodes_of_walker, is_held_outside}
+use Rattle.dom_observe.specs.Held.{named}
+use Rattle.dom_edit.specs.declared.world.World.{World}
+
+-- every node that another part than the tree names
+abbrev pub named_in : World → List ℕ
+named_in v =
+    flat_map nodes_of_live v.ranges.ranges
+    ++ (flat_map nodes_of_range v.statics
+    ++ (flat_map nodes_of_iterator v.iters
+    ++ (flat_map nodes_of_walker v.walkers
+    ++ named v.observers)))
+
+-- a node outside has the node as a child, or one of its inclusive descendants as its node document, or a part names one of these
+abbrev pub is_used : World → ℕ → Bool
+is_used v n = is_held_outside v.tree.forest n || list_any (λ m. among m (inclusive_descendants v.tree.forest n)) (named_in v)

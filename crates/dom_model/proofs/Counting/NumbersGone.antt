@@ -1,0 +1,94 @@
+-- A number that stands nowhere in a forest comes into none as trees are cut, put, changed or taken away; and a live range that is moved or
+-- set stays one, as a released one stays released.
+use Rattle.std.proofs.Common.{◌≡◌, ℕ, ◌<◌, ◌≤◌, true, false, List, length, Option, Some, None, is_none, option_map, slice_index_or, slice_set, refl, ap, sym, ◌∙◌, subst, arith, ⊎_elim}
+use Rattle.std.proofs.Math.ListN.{get_or-map}
+use Rattle.std.proofs.lemmas.Bool.{cases_lt, false≢true}
+use Rattle.std.proofs.lemmas.List.{length-set, get_or-set_same, get_or-set_other, get_or_past}
+use Rattle.dom_model.specs.Forests.Forest.{Forest, occurs, one_at, beside, tree_at, without, cut, put, adopted, in_document}
+use Rattle.dom_model.specs.Worlds.World.{Content, Point, Range}
+use Rattle.dom_model.specs.BoundaryPoints.Points.{moved_range, map_ranges}
+use Rattle.dom_model.proofs.PlainLists.Numbers.{same_or, same, apart}
+use Rattle.dom_model.proofs.Forests.Totals.{total-beside, total-tree_at, total-placed_under, total-cut}
+use Rattle.dom_model.proofs.Worlds.SameShape.{IsAlike, occurs-alike, with_tree-alike}
+
+-- the second forest has no number that the first has not
+abbrev pub NoneComes : Forest Content → Forest Content → Type 0
+NoneComes f g = (n : ℕ) → occurs n f ≡ 0 → occurs n g ≡ 0
+
+pub none-alike : {f g : Forest Content} → IsAlike f g → NoneComes f g
+none-alike a n e = occurs-alike a n ∙ e
+
+pub none-cut : (c : ℕ) (f : Forest Content) → NoneComes f (cut c f)
+none-cut c f n e = total-cut (one_at n) c f ∙ e
+
+pub none-without : (c : ℕ) (f : Forest Content) → NoneComes f (without c f)
+none-without c f n e = let t = total-tree_at (one_at n) c f in omega arith
+
+none-put : (parent c : ℕ) (before : Option ℕ) (f : Forest Content) → NoneComes f (put parent c before f)
+none-put parent c before f n e =
+    let t = total-tree_at (one_at n) c f in
+    let tree : occurs n (tree_at c f) ≡ 0 = omega arith in
+    let others : occurs n (without c f) ≡ 0 = omega arith in
+    total-placed_under (one_at n) parent before (tree_at c f) (without c f) ∙ (rw (tree, others) (omega arith))
+
+pub none-adopted : (top document : ℕ) (f : Forest Content) → NoneComes f (adopted top document f)
+none-adopted top document f = none-alike (with_tree-alike (in_document document) (λ x. refl) top f)
+
+pub none-placed : (parent c document : ℕ) (before : Option ℕ) (f : Forest Content) → NoneComes f (adopted c document (put parent c before f))
+none-placed parent c document before f n e = none-adopted c document (put parent c before f) n (none-put parent c before f n e)
+
+-- trees of later numbers come beside
+pub none-beside : (made : ℕ) (f g : Forest Content) → ((n : ℕ) → n < made → occurs n g ≡ 0) → (n : ℕ) → n < made → occurs n f ≡ 0 → occurs n (beside f g) ≡ 0
+none-beside made f g later n l e = let t = total-beside (one_at n) f g in let z = later n l in omega arith
+
+-- Live ranges.
+
+-- the same numbers are those of live ranges
+abbrev pub AreLiveAlike : List (Option Range) → List (Option Range) → Type 0
+AreLiveAlike rs ss = (r : ℕ) → is_none (slice_index_or ss r None) ≡ is_none (slice_index_or rs r None)
+
+-- a number is that of a live range
+abbrev pub IsLiveAt : List (Option Range) → ℕ → Type 0
+IsLiveAt rs r = is_none (slice_index_or rs r None) ≡ false
+
+pub none-of : (o : Option Range) → is_none o ≡ true → o ≡ None
+none-of None h = refl
+none-of (Some range) h = absurd (false≢true h)
+
+pub live-of : (o : Option Range) (range : Range) → o ≡ Some range → is_none o ≡ false
+live-of o range e = rw e refl
+
+pub live-map : (move : Point → Point) (rs : List (Option Range)) → AreLiveAlike rs (map_ranges move rs)
+live-map move rs r = ap (λ (o : Option Range). is_none o) (get_or-map (λ (o : Option Range). option_map (moved_range move) o) rs r None) ∙ go (slice_index_or rs r None)
+  where
+    go : (o : Option Range) → is_none (option_map (moved_range move) o) ≡ is_none o
+    go None = refl
+    go (Some range) = refl
+
+given : (rs : List (Option Range)) (r : ℕ) → IsLiveAt rs r → r < length rs
+given rs r live =
+    ⊎_elim
+    (λ (lt : r < length rs). lt)
+    (λ (le : length rs ≤ r). absurd (false≢true (sym live ∙ ap (λ (o : Option Range). is_none o) (get_or_past rs r None le))))
+    (cases_lt r (length rs))
+
+pub live-set : (rs : List (Option Range)) (r : ℕ) (range : Range) → IsLiveAt rs r → AreLiveAlike rs (slice_set rs r (Some range))
+live-set rs r range live q =
+    elim (same_or q r) [
+      | same e t ↦
+          subst (λ k. is_none (slice_index_or (slice_set rs r (Some range)) k None) ≡ is_none (slice_index_or rs k None)) (sym e)
+          (ap (λ (o : Option Range). is_none o) (get_or-set_same rs r (Some range) None (given rs r live)) ∙ sym live)
+      | apart ne t ↦ ap (λ (o : Option Range). is_none o) (get_or-set_other rs r q (Some range) None ne)
+    ]
+
+-- a range that is released, and every other one that was
+pub none-set : (rs : List (Option Range)) (r q : ℕ) → slice_index_or rs q None ≡ None → slice_index_or (slice_set rs r None) q None ≡ None
+none-set rs r q h =
+    elim (same_or q r) [
+      | same e t ↦
+          ⊎_elim
+          (λ (lt : r < length rs). subst (λ k. slice_index_or (slice_set rs r None) k None ≡ None) (sym e) (get_or-set_same rs r None None lt))
+          (λ (le : length rs ≤ r). get_or_past (slice_set rs r None) q None (omega (arith, length-set rs r None, e)))
+          (cases_lt r (length rs))
+      | apart ne t ↦ get_or-set_other rs r q None None ne ∙ h
+    ]

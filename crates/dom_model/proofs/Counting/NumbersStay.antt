@@ -1,0 +1,82 @@
+-- Over any list of commands the counts only rise, what is gone stays gone, and no number is given out twice.
+use Rattle.std.proofs.Common.{◌≡◌, ℕ, ◌<◌, ◌≤◌, List, [], ◌∷◌, length, Some, None, subst, arith, ⊎_elim}
+use Rattle.std.proofs.lemmas.Bool.{cases_lt}
+use Rattle.dom_model.specs.Forests.Forest.{Forest, occurs, HasNode}
+use Rattle.dom_model.specs.Worlds.World.{Content, World}
+use Rattle.dom_model.specs.RangesAndContents.Ranges.{range_at}
+use Rattle.dom_model.specs.Commands.Command.{Command}
+use Rattle.dom_model.specs.Commands.Reply.{Number, Done}
+use Rattle.dom_model.specs.Commands.Guards.{Bounds}
+use Rattle.dom_model.specs.Commands.Answer.{answer}
+use Rattle.dom_model.specs.Commands.Counts.{counts_of, AreAtMost}
+use Rattle.dom_model.specs.Commands.NewNumbers.{Numbered, Nodes, Ranges, Iterators, Walkers, Observers, StaticRanges, count_of, made_by, IsNext}
+use Rattle.dom_model.specs.TokenText.CommandEdits.{world_past}
+use Rattle.dom_model.proofs.Forests.Entries.{HasNode-occurs, occurs-HasNode}
+use Rattle.dom_model.proofs.Counting.StepsCounted.{StaysGone, at_most-then, counted-stays_gone}
+use Rattle.dom_model.proofs.Counting.CommandsCounted.{command-counted}
+use Rattle.dom_model.proofs.Counting.NewNumbers.{AnswersNext, answer-next}
+use Rattle.dom_model.proofs.Commands.RefusalsLeave.{counts-never_fall}
+
+-- the counts only rise
+pub counts-rise : (b : Bounds) (w : World) (cs : List Command) → AreAtMost (counts_of w) (counts_of (world_past b w cs))
+counts-rise b w [] = record { nodes = omega arith; ranges = omega arith; iterators = omega arith; walkers = omega arith; observers = omega arith; static_ranges = omega arith }
+counts-rise b w (c ∷ cs) = at_most-then (counts-never_fall b w c) (counts-rise b (answer b w c).world cs)
+
+-- What is gone.
+
+gone-once : (b : Bounds) (w : World) (c : Command) → StaysGone w (answer b w c).world
+gone-once b w c = counted-stays_gone (command-counted b w c)
+
+nowhere : (b : Bounds) (w : World) (cs : List Command) (n : ℕ) → n < w.made → occurs n w.forest ≡ 0 → occurs n (world_past b w cs).forest ≡ 0
+nowhere b w [] n l e = e
+nowhere b w (c ∷ cs) n l e =
+    let k = counts-never_fall b w c in
+    let g = gone-once b w c in
+    nowhere b (answer b w c).world cs n (omega (arith, l, k.nodes)) (g.nodes n l e)
+
+not-there : (f : Forest Content) (n : ℕ) → (HasNode f n → ⊥) → occurs n f ≡ 0
+not-there f n h = ⊎_elim (λ (lt : 0 < occurs n f). absurd (h (HasNode-occurs f n lt))) (λ (le : occurs n f ≤ 0). omega arith) (cases_lt 0 (occurs n f))
+
+-- a node that is gone does not come back
+pub node-stays_gone : (b : Bounds) (w : World) (cs : List Command) (n : ℕ) → n < w.made → (HasNode w.forest n → ⊥) → HasNode (world_past b w cs).forest n → ⊥
+node-stays_gone b w cs n l h there =
+    let v = world_past b w cs in
+    let e = nowhere b w cs n l (not-there w.forest n h) in
+    let k = occurs-HasNode v.forest n there in
+    absurd (omega arith)
+
+-- so a node that was not there before has a number that was not given out before
+pub node-is_new : (b : Bounds) (w : World) (cs : List Command) (n : ℕ) → (HasNode w.forest n → ⊥) → HasNode (world_past b w cs).forest n → w.made ≤ n
+node-is_new b w cs n h there =
+    ⊎_elim (λ (lt : n < w.made). absurd (node-stays_gone b w cs n lt h there)) (λ (le : w.made ≤ n). le) (cases_lt n w.made)
+
+-- a live range that was released stays so
+pub range-stays_released : (b : Bounds) (w : World) (cs : List Command) (r : ℕ) → r < length w.ranges → range_at w r ≡ None → range_at (world_past b w cs) r ≡ None
+range-stays_released b w [] r l e = e
+range-stays_released b w (c ∷ cs) r l e =
+    let k = counts-never_fall b w c in
+    let g = gone-once b w c in
+    range-stays_released b (answer b w c).world cs r (omega (arith, l, k.ranges)) (g.ranges r l e)
+
+-- What is given out.
+
+count-rises : (kind : Numbered) (w v : World) → AreAtMost (counts_of w) (counts_of v) → count_of kind w ≤ count_of kind v
+count-rises Nodes w v h = h.nodes
+count-rises Ranges w v h = h.ranges
+count-rises Iterators w v h = h.iterators
+count-rises Walkers w v h = h.walkers
+count-rises Observers w v h = h.observers
+count-rises StaticRanges w v h = h.static_ranges
+
+-- a new number is the next of its kind
+pub number-is_next : (b : Bounds) (w : World) (c : Command) (kind : Numbered) (n : ℕ) → made_by c ≡ Some kind → (answer b w c).reply ≡ Done (Number n) → IsNext kind n w (answer b w c).world
+number-is_next b w c kind n e d = (subst (λ o. AnswersNext o w (answer b w c)) e (answer-next b w c)) n d
+
+-- of two new numbers of a kind the later is greater
+pub numbers-rise : (b : Bounds) (w : World) (c : Command) (cs : List Command) (later : Command) (kind : Numbered) (n m : ℕ) → made_by c ≡ Some kind → made_by later ≡ Some kind → (answer b w c).reply ≡ Done (Number n) → (answer b (world_past b w (c ∷ cs)) later).reply ≡ Done (Number m) → n < m
+numbers-rise b w c cs later kind n m e f d g =
+    let v = (answer b w c).world in
+    let u = world_past b v cs in
+    let first = number-is_next b w c kind n e d in
+    let second = number-is_next b u later kind m f g in
+    omega (arith, first.given_out, second.next, count-rises kind v u (counts-rise b v cs))

@@ -1,0 +1,257 @@
+-- What observers name, as their registrations and queues change.
+use Rattle.std.proofs.Common.{◌≡◌, ◌≢◌, ℕ, zero, suc, ◌<◌, ◌≤◌, ◌==◌, Bool, true, false, ◌||◌, if◌then◌else◌, List, [], ◌∷◌, ◌++◌, length, map, filter, Option, None, Some, option_map, refl, ap, sym, ◌∙◌, subst, nat_eq, arith, ◌⊎◌, inl, inr}
+use Rattle.std.specs.Prelude.{Vec, slice_index_or, slice_set, flat_map, filter_map}
+use Rattle.std.specs.Map.{keys_of}
+use Rattle.std.specs.Option.{option_map_or}
+use Rattle.std.specs.List.{list_any, IsDistinct, AllByRecursion}
+use Rattle.std.proofs.lemmas.Bool.{true≢false, cases_lt}
+use Rattle.std.proofs.lemmas.List.{get_or_past, get_or-set_same, get_or-set_other, length-set, get_or_append_left, get_or-append_right}
+use Rattle.std.proofs.lemmas.List.Folds.{list_any-append}
+use Rattle.slab.specs.Slab.{Slab}
+use Rattle.dom_model.specs.PlainLists.Lists.{among}
+use Rattle.dom_model.specs.Worlds.World.{Options, Registration, Mutation}
+use Rattle.dom_model.specs.MutationObservers.Record.{Record}
+use Rattle.dom_model.specs.MutationObservers.Observing.{transient_of}
+use Rattle.dom_model.specs.MutationAlgorithms.Discarding.{nodes_of_registration, nodes_of_record}
+use Rattle.dom_model.proofs.PlainLists.Numbers.{Same, same_or, same, apart}
+use Rattle.dom_observe.specs.declared.registration.Registration as held
+use Rattle.dom_observe.specs.declared.registration.Ended.{Ended}
+use Rattle.dom_observe.specs.Watchers.{Watchers, on}
+use Rattle.dom_observe.specs.Held.{named, watching, nodes_of_mutation, NamesOnly}
+use Rattle.dom_observe.specs.Registrations.{at, found, listed, spares, left_by, is_live, AllLive, StandsOn, Added, with_new_options, transient_under}
+use Rattle.dom_observe.specs.Kept.{nodes_of, IsKept}
+use Rattle.dom_observe.specs.Naming.{names_one, NamesNone, TellsNone}
+use Rattle.dom_observe.specs.Telling.{delivered}
+use Rattle.dom_observe.proofs.Asked.{any-found}
+use Rattle.dom_observe.proofs.Finding.{list_any-map}
+use Rattle.dom_observe.proofs.Keeping.{on-nodes_of}
+use Rattle.dom_observe.proofs.Named.{or-left, or-right, neither, any-flat, none_under, some_under, keys-nodes_of}
+use Rattle.dom_observe.proofs.Tables.{all_imply, all_append, all_filter, all_at, transient_shape, alike-added}
+
+module _ {A : Type 0} (p : A → Bool) where
+  pub none_all : (xs : List A) → list_any p xs ≡ false → AllByRecursion (λ x. p x ≡ false) xs
+  none_all [] h = tt
+  none_all (x ∷ xs) h = (or-left (p x) (list_any p xs) h, none_all xs (or-right (p x) (list_any p xs) h))
+
+  pub all_none : (xs : List A) → AllByRecursion (λ x. p x ≡ false) xs → list_any p xs ≡ false
+  all_none [] h = refl
+  all_none (x ∷ xs) h = neither (p x) (list_any p xs) h.0 (all_none xs h.1)
+
+-- each queue passes a test that no queue passes that is not there
+any_tells : (t : List Record → Bool) (qs : List (List Record)) → t [] ≡ false → list_any t qs ≡ false → (o : ℕ) → t (slice_index_or qs o []) ≡ false
+any_tells t [] nothing h zero = nothing
+any_tells t [] nothing h (suc o) = nothing
+any_tells t (q ∷ qs) nothing h zero = or-left (t q) (list_any t qs) h
+any_tells t (q ∷ qs) nothing h (suc o) = any_tells t qs nothing (or-right (t q) (list_any t qs) h) o
+
+tells_any : (t : List Record → Bool) (qs : List (List Record)) → ((o : ℕ) → t (slice_index_or qs o []) ≡ false) → list_any t qs ≡ false
+tells_any t [] h = refl
+tells_any t (q ∷ qs) h = neither (t q) (list_any t qs) (h 0) (tells_any t qs (λ o. h (suc o)))
+
+pub among-any : (n : ℕ) (xs : List ℕ) → among n xs ≡ list_any (λ m. m == n) xs
+among-any n [] = refl
+among-any n (x ∷ xs) = go (x == n) (among-any n xs)
+  where
+    go : (b : Bool) → among n xs ≡ list_any (λ m. m == n) xs → (if b then true else among n xs) ≡ (b || list_any (λ m. m == n) xs)
+    go true i = refl
+    go false i = i
+
+-- what is named, by registrations and by records
+pub named-parts : (p : ℕ → Bool) (o : Watchers) → list_any p (named o)
+    ≡ (list_any (λ (e : ℕ × List Registration). list_any (λ r. list_any p (nodes_of_registration r)) e.1) o.nodes || list_any (λ (q : List Record). list_any (λ r. list_any p (nodes_of_record r)) q) o.queues)
+named-parts p o =
+    list_any-append p (flat_map (λ (e : ℕ × List Registration). flat_map nodes_of_registration e.1) o.nodes) (flat_map (λ (q : List Record). flat_map nodes_of_record q) o.queues)
+    ∙ (λ i. any-flat p (λ (e : ℕ × List Registration). flat_map nodes_of_registration e.1) o.nodes i || any-flat p (λ (q : List Record). flat_map nodes_of_record q) o.queues i)
+    ∙ (λ i. list_any (λ (e : ℕ × List Registration). any-flat p nodes_of_registration e.1 i) o.nodes || list_any (λ (q : List Record). any-flat p nodes_of_record q i) o.queues)
+
+module _ {A : Type 0} (table : Slab held.Registration) (entries : List (ℕ × Vec ℕ A)) (queues : List (List Record)) (pending : List ℕ) where
+  abbrev shown : Watchers
+  shown = record { nodes = nodes_of table entries; queues = queues; pending = pending }
+
+  pub none-named : (p : ℕ → Bool) → list_any p (named (record { nodes = nodes_of table entries; queues = queues; pending = pending })) ≡ false → NamesNone p (at table) (listed entries) × TellsNone p queues
+  none-named p none = (registered, any_tells (list_any told) queues refl (or-right (list_any (λ (e : ℕ × List Registration). list_any one e.1) (nodes_of table entries)) (list_any (list_any told) queues) parts))
+    where
+      one : Registration → Bool
+      one r = list_any p (nodes_of_registration r)
+
+      told : Record → Bool
+      told r = list_any p (nodes_of_record r)
+
+      parts : (list_any (λ (e : ℕ × List Registration). list_any one e.1) (nodes_of table entries) || list_any (list_any told) queues) ≡ false
+      parts = sym (named-parts p shown) ∙ none
+
+      registered : NamesNone p (at table) (listed entries)
+      registered n =
+          none_all (λ k. names_one p (at table k)) (on n (listed entries))
+          (any-found one (at table) (on n (listed entries))
+          ∙ ap (list_any one) (sym (on-nodes_of table n entries))
+          ∙ some_under one n (nodes_of table entries) (or-left (list_any (λ (e : ℕ × List Registration). list_any one e.1) (nodes_of table entries)) (list_any (list_any told) queues) parts))
+
+  -- no registration under a number passes, and so none does
+  none_registered : (q : Registration → Bool) → IsDistinct nat_eq (keys_of entries) → ((n : ℕ) → AllByRecursion (λ k. option_map_or q (at table k) false ≡ false) (on n (listed entries)))
+      → list_any (λ (e : ℕ × List Registration). list_any q e.1) (nodes_of table entries) ≡ false
+  none_registered q distinct all =
+      none_under q (nodes_of table entries) (subst (IsDistinct nat_eq) (sym (keys-nodes_of table entries)) distinct)
+      (λ n. ap (list_any q) (on-nodes_of table n entries) ∙ sym (any-found q (at table) (on n (listed entries))) ∙ all_none (λ k. option_map_or q (at table k) false) (on n (listed entries)) (all n))
+
+  pub named-none : (p : ℕ → Bool) → IsDistinct nat_eq (keys_of entries) → NamesNone p (at table) (listed entries) → TellsNone p queues
+      → list_any p (named (record { nodes = nodes_of table entries; queues = queues; pending = pending })) ≡ false
+  named-none p distinct names tells =
+      named-parts p shown
+      ∙ neither (list_any (λ (e : ℕ × List Registration). list_any (λ r. list_any p (nodes_of_registration r)) e.1) (nodes_of table entries)) (list_any (list_any (λ r. list_any p (nodes_of_record r))) queues)
+      (none_registered (λ r. list_any p (nodes_of_registration r)) distinct names) (tells_any (list_any (λ r. list_any p (nodes_of_record r))) queues tells)
+
+  all_among : (P : ℕ → Type 0) (xs : List ℕ) (i : ℕ) → AllByRecursion P xs → among i xs ≡ true → P i
+  all_among P [] i h t = absurd (true≢false (sym t))
+  all_among P (x ∷ xs) i h t = elim (same_or x i) [ same e u ↦ subst P e h.0 | apart ne u ↦ let k = rw u at t in all_among P xs i h.1 k ]
+
+  -- whom the registrations and the pending list name was made
+  pub watching-made : IsKept table entries queues pending → (i : ℕ) → among i (watching (record { nodes = nodes_of table entries; queues = queues; pending = pending })) ≡ true → i < length queues
+  watching-made kept i there = go (cases_lt i (length queues))
+    where
+      seen : List ℕ
+      seen = flat_map (λ (e : ℕ × List Registration). map (λ (r : Registration). r.observer) e.1) (nodes_of table entries)
+
+      other : length queues ≤ i → (n k : ℕ) → StandsOn (at table) (length queues) n k → option_map_or (λ (r : Registration). r.observer == i) (at table k) false ≡ false
+      other le n k s =
+          ap (λ o. option_map_or (λ (r : Registration). r.observer == i) o false) s.is
+          ∙ elim (same_or s.registration.observer i) [ same e t ↦ absurd (let lt = s.observer in omega arith) | apart ne t ↦ t ]
+
+      unregistered : length queues ≤ i → list_any (λ m. m == i) seen ≡ false
+      unregistered le =
+          any-flat (λ m. m == i) (λ (e : ℕ × List Registration). map (λ (r : Registration). r.observer) e.1) (nodes_of table entries)
+          ∙ (λ j. list_any (λ (e : ℕ × List Registration). list_any-map (λ m. m == i) (λ (r : Registration). r.observer) e.1 j) (nodes_of table entries))
+          ∙ none_registered (λ (r : Registration). r.observer == i) kept.unique
+          (λ n. all_imply (StandsOn (at table) (length queues) n) (λ k. option_map_or (λ (r : Registration). r.observer == i) (at table k) false ≡ false) (other le n) (on n (listed entries)) (kept.stand n))
+
+      go : ((i < length queues) ⊎ (length queues ≤ i)) → i < length queues
+      go (inl lt) = lt
+      go (inr le) =
+          all_among (λ o. o < length queues) pending i kept.made
+          (among-any i pending ∙ ap (λ b. b || list_any (λ m. m == i) pending) (sym (unregistered le)) ∙ sym (list_any-append (λ m. m == i) seen pending) ∙ sym (among-any i (seen ++ pending)) ∙ there)
+
+-- A step that lets no name in but these.
+module _ {A B : Type 0} (table : Slab held.Registration) (entries : List (ℕ × Vec ℕ A)) (queues : List (List Record)) (pending : List ℕ) (old : Watchers) (is : shown table entries queues pending ≡ old)
+    (table' : Slab held.Registration) (entries' : List (ℕ × Vec ℕ B)) (queues' : List (List Record)) (pending' : List ℕ)
+    (kept : IsKept table' entries' queues' pending') (these : List ℕ)
+    (lets : (p : ℕ → Bool) → list_any p these ≡ false → NamesNone p (at table) (listed entries) → TellsNone p queues → NamesNone p (at table') (listed entries') × TellsNone p queues') where
+  pub names-only : NamesOnly these old (record { nodes = nodes_of table' entries'; queues = queues'; pending = pending' })
+  names-only = record { nodes = nodes; observers = watching-made table' entries' queues' pending' kept }
+    where
+      nodes : (n : ℕ) → among n (named (shown table' entries' queues' pending')) ≡ true → among n (named old ++ these) ≡ true
+      nodes n there = go (among n (named old ++ these)) refl
+        where
+          go : (b : Bool) → among n (named old ++ these) ≡ b → b ≡ true
+          go true e = refl
+          go false e =
+              let split : (list_any (λ m. m == n) (named old) || list_any (λ m. m == n) these) ≡ false = sym (list_any-append (λ m. m == n) (named old) these) ∙ sym (among-any n (named old ++ these)) ∙ e in
+              let none : list_any (λ m. m == n) (named (shown table entries queues pending)) ≡ false = ap (λ o. list_any (λ m. m == n) (named o)) is ∙ or-left (list_any (λ m. m == n) (named old)) (list_any (λ m. m == n) these) split in
+              let before = none-named table entries queues pending (λ m. m == n) none in
+              let after = lets (λ m. m == n) (or-right (list_any (λ m. m == n) (named old)) (list_any (λ m. m == n) these) split) before.0 before.1 in
+              absurd (true≢false (sym there ∙ among-any n (named (shown table' entries' queues' pending')) ∙ named-none table' entries' queues' pending' (λ m. m == n) kept.unique after.0 after.1))
+
+-- nothing changes
+pub names-same : {A : Type 0} (table : Slab held.Registration) (entries : List (ℕ × Vec ℕ A)) (queues : List (List Record)) (pending : List ℕ) → IsKept table entries queues pending
+    → (old : Watchers) → record { nodes = nodes_of table entries; queues = queues; pending = pending } ≡ old → (these : List ℕ) → NamesOnly these old old
+names-same table entries queues pending kept old is these =
+    subst (NamesOnly these old) is (names-only table entries queues pending old is table entries queues pending kept these (λ p _ names tells. (names, tells)))
+
+-- Registrations end, get other options, or come in.
+
+module _ (p : ℕ → Bool) where
+  left-none : (ended : Ended) (o : Option Registration) → names_one p o ≡ false → names_one p (left_by ended o) ≡ false
+  left-none ended None h = h
+  left-none ended (Some r) h = go (spares ended r)
+    where
+      go : (b : Bool) → names_one p (if b then Some r else None) ≡ false
+      go true = h
+      go false = refl
+
+  pub none-ended : (u v : ℕ → Option Registration) (ended : Ended) (lists lists' : List (ℕ × List ℕ)) → ((k : ℕ) → v k ≡ left_by ended (u k)) → ((n : ℕ) → on n lists' ≡ filter (is_live v) (on n lists)) → NamesNone p u lists → NamesNone p v lists'
+  none-ended u v ended lists lists' left swept none n =
+      subst (AllByRecursion (λ k. names_one p (v k) ≡ false)) (sym (swept n))
+      (all_imply (λ k. (names_one p (u k) ≡ false) × (is_live v k ≡ true)) (λ k. names_one p (v k) ≡ false) (λ k h. ap (names_one p) (left k) ∙ left-none ended (u k) h.0) (filter (is_live v) (on n lists))
+      (all_filter (λ k. names_one p (u k) ≡ false) (is_live v) (on n lists) (none n)))
+
+  same_nodes : (options : Options) (o : Option Registration) → names_one p (option_map (with_new_options options) o) ≡ names_one p o
+  same_nodes options None = refl
+  same_nodes options (Some r) = refl
+
+  pub none-changed : (u v : ℕ → Option Registration) (key : ℕ) (options : Options) (lists : List (ℕ × List ℕ)) → v key ≡ option_map (with_new_options options) (u key) → ((k : ℕ) → k ≢ key → v k ≡ u k)
+      → NamesNone p u lists → NamesNone p v lists
+  none-changed u v key options lists changed others none n =
+      all_imply (λ k. names_one p (u k) ≡ false) (λ k. names_one p (v k) ≡ false) one (on n lists) (none n)
+    where
+      one : (k : ℕ) → names_one p (u k) ≡ false → names_one p (v k) ≡ false
+      one k h = elim (same_or k key) [
+        | same e t ↦ ap (λ j. names_one p (v j)) e ∙ ap (names_one p) changed ∙ same_nodes options (u key) ∙ ap (λ j. names_one p (u j)) (sym e) ∙ h
+        | apart ne t ↦ ap (names_one p) (others k ne) ∙ h
+      ]
+
+  both_same : {A : Type 0} (P Q : A → Type 0) (xs : List A) → AllByRecursion P xs → AllByRecursion Q xs → AllByRecursion (λ x. P x × Q x) xs
+  both_same P Q [] h k = tt
+  both_same P Q (x ∷ xs) h k = ((h.0, k.0), both_same P Q xs h.1 k.1)
+
+  pub none-added : (u : ℕ → Option Registration) (lists : List (ℕ × List ℕ)) (r : Registration) (v : ℕ → Option Registration) (lists' : List (ℕ × List ℕ)) → Added u lists r v lists'
+      → ((n : ℕ) → AllLive u (on n lists)) → list_any p (nodes_of_registration r) ≡ false → NamesNone p u lists → NamesNone p v lists'
+  none-added u lists r v lists' a live nameless none n =
+      subst (AllByRecursion (λ k. names_one p (v k) ≡ false)) (sym (a.keys n))
+      (all_append (λ k. names_one p (v k) ≡ false) (on n lists) (if n == r.node then a.key ∷ [] else [])
+      (all_imply (λ k. (names_one p (u k) ≡ false) × (v k ≡ u k)) (λ k. names_one p (v k) ≡ false) (λ k h. ap (names_one p) h.1 ∙ h.0) (on n lists)
+      (both_same (λ k. names_one p (u k) ≡ false) (λ k. v k ≡ u k) (on n lists) (none n) (alike-added u lists r v lists' a (on n lists) (live n))))
+      (last (n == r.node)))
+    where
+      last : (b : Bool) → AllByRecursion (λ k. names_one p (v k) ≡ false) (if b then a.key ∷ [] else [])
+      last true = (ap (names_one p) a.here ∙ nameless, tt)
+      last false = tt
+
+  -- a transient registration names its node, and the node of its source
+  none-transient : (node : ℕ) (r : Registration) → p node ≡ false → list_any p (nodes_of_registration r) ≡ false → list_any p (nodes_of_registration (transient_of node r)) ≡ false
+  none-transient node r here none = go r.source refl none
+    where
+      go : (o : Option ℕ) → r.source ≡ o → list_any p (nodes_of_registration r) ≡ false → list_any p (nodes_of_registration (transient_of node r)) ≡ false
+      go None e h = rw e (neither (p node) (p r.node || false) here (let k = rw e at h in k))
+      go (Some n) e h = rw e (neither (p node) (p n || false) here (let k = rw e at h in or-right (p r.node) (p n || false) k))
+
+  pub none-made : (u0 u : ℕ → Option Registration) (node : ℕ) (standing : List ℕ) (i d : ℕ) → i < length standing → AllByRecursion (λ k. u k ≡ u0 k) standing → (r : Registration)
+      → transient_under u node (slice_index_or standing i d) ≡ Some r → p node ≡ false → AllByRecursion (λ k. names_one p (u0 k) ≡ false) standing → list_any p (nodes_of_registration r) ≡ false
+  none-made u0 u node standing i d lt alike r some here none =
+      let s = transient_shape node (u (slice_index_or standing i d)) r some in
+      let source : names_one p (Some s.0) ≡ false = ap (names_one p) (sym s.1 ∙ all_at (λ k. u k ≡ u0 k) standing i d alike lt) ∙ all_at (λ k. names_one p (u0 k) ≡ false) standing i d none lt in
+      ap (λ t. list_any p (nodes_of_registration t)) (sym s.2) ∙ none-transient node s.0 here source
+
+  -- Records come in, or go.
+
+  tells_nothing : list_any (λ (r : Record). list_any p (nodes_of_record r)) [] ≡ false
+  tells_nothing = refl
+
+  pub tells-emptied : (queues : List (List Record)) (i : ℕ) → TellsNone p queues → TellsNone p (slice_set queues i [])
+  tells-emptied queues i none o = go (same_or o i) (cases_lt i (length queues))
+    where
+      told : List Record → Bool
+      told q = list_any (λ r. list_any p (nodes_of_record r)) q
+
+      go : Same o i → ((i < length queues) ⊎ (length queues ≤ i)) → told (slice_index_or (slice_set queues i []) o []) ≡ false
+      go (same e t) (inl lt) = ap told (ap (λ k. slice_index_or (slice_set queues i []) k []) e ∙ get_or-set_same queues i [] [] lt)
+      go (same e t) (inr le) = ap told (get_or_past (slice_set queues i []) o [] (omega (arith, length-set queues i [], e)))
+      go (apart ne t) z = ap told (get_or-set_other queues i o [] [] ne) ∙ none o
+
+  pub tells-grown : (queues : List (List Record)) → TellsNone p queues → TellsNone p (queues ++ [] ∷ [])
+  tells-grown [] none zero = refl
+  tells-grown [] none (suc o) = none o
+  tells-grown (q ∷ queues) none zero = none 0
+  tells-grown (q ∷ queues) none (suc o) = tells-grown queues (λ i. none (suc i)) o
+
+  pub tells-left : (b : Bool) (q : List Record) → list_any (λ r. list_any p (nodes_of_record r)) q ≡ false → list_any (λ r. list_any p (nodes_of_record r)) (if b then [] else q) ≡ false
+  tells-left true q h = refl
+  tells-left false q h = h
+
+  pub tells-delivered : (m : Mutation) (v : Option Bool) (q : List Record) → list_any p (nodes_of_mutation m) ≡ false → list_any (λ r. list_any p (nodes_of_record r)) q ≡ false
+      → list_any (λ r. list_any p (nodes_of_record r)) (q ++ delivered m v) ≡ false
+  tells-delivered m v q nameless none =
+      list_any-append (λ r. list_any p (nodes_of_record r)) q (delivered m v)
+      ∙ neither (list_any (λ r. list_any p (nodes_of_record r)) q) (list_any (λ r. list_any p (nodes_of_record r)) (delivered m v)) none (go v)
+    where
+      go : (w : Option Bool) → list_any (λ r. list_any p (nodes_of_record r)) (delivered m w) ≡ false
+      go None = refl
+      go (Some asks) = neither (list_any p (nodes_of_mutation m)) false nameless refl

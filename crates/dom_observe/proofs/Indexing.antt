@@ -1,0 +1,199 @@
+-- The keys of nodes and observers, as registrations come in and end.
+use Rattle.std.proofs.Common.{◌≡◌, ◌≢◌, ℕ, ◌<◌, ◌≤◌, ◌==◌, Bool, true, false, ◌&&◌, if◌then◌else◌, List, [], length, filter, Option, option_map, None, Some, refl, ap, sym, ◌∙◌, subst, arith, ◌⊎◌}
+use Rattle.std.specs.Prelude.{is_none, is_some, slice_index_or, slice_set}
+use Rattle.std.specs.List.{AllByRecursion}
+use Rattle.std.proofs.lemmas.Bool.{true≢false}
+use Rattle.std.proofs.lemmas.List.{get_or-set_same, get_or-set_other, length-set}
+use Rattle.dom_model.specs.PlainLists.Lists.{among}
+use Rattle.dom_model.specs.PlainLists.LastOnce.{with_last}
+use Rattle.dom_model.specs.Worlds.World.{Options, Registration}
+use Rattle.dom_model.specs.MutationObservers.Observing.{transient_of}
+use Rattle.dom_model.proofs.PlainLists.Numbers.{same_or, same, apart}
+use Rattle.dom_observe.specs.declared.registration.Ended.{Ended}
+use Rattle.dom_observe.specs.declared.registration.Ended.TheVariants.{Transient, Of, From}
+use Rattle.dom_observe.specs.Watchers.{on}
+use Rattle.dom_observe.specs.Registrations.{is_live, left_by, lasts_for, passes_for, Placed, Owned, Stands, Added, NewKey, transient_under, with_new_options}
+use Rattle.dom_observe.specs.Kept.{IsIndexed}
+use Rattle.dom_observe.proofs.EndedOnes.{stays_by, stays_off, swept-two}
+use Rattle.dom_observe.proofs.Hearing.{stay-last, bounded-last}
+use Rattle.dom_observe.proofs.Owning.{lasting-kind, passing-kind, not_both, not_both2, owned-ended, owned-other, owned-new, owned-beside, owned-changed, placed-added, placed-changed, left-of, left-from}
+use Rattle.dom_observe.proofs.Queued.{not_before}
+use Rattle.dom_observe.proofs.Tables.{all_at, all_imply, transient_shape}
+
+-- one more observer may have transient registrations
+pub indexed-pended : (u : ℕ → Option Registration) (lists : List (ℕ × List ℕ)) (ls ps : List (List ℕ)) (some : List ℕ) (made o : ℕ) → o < made → IsIndexed u lists ls ps some made → IsIndexed u lists ls ps (with_last some o) made
+indexed-pended u lists ls ps some made o lt ix = record {
+  placed = ix.placed;
+  lasting = ix.lasting;
+  passing = ix.passing;
+  fleeting = λ p off. ix.fleeting p (not_before p some (with_last some o) (stay-last p o some) off);
+  known = bounded-last made o some ix.known lt;
+  lasting_room = ix.lasting_room;
+  passing_room = ix.passing_room;
+}
+
+module _ (u : ℕ → Option Registration) (lists : List (ℕ × List ℕ)) (r : Registration) (v : ℕ → Option Registration) (lists' : List (ℕ × List ℕ)) (a : Added u lists r v lists')
+    (keys keys' : List ℕ) (key : NewKey u r v keys keys') (ls ps : List (List ℕ)) (some : List ℕ) (made : ℕ) (ix : IsIndexed u lists ls ps some made) where
+  -- a transient registration comes in
+  pub indexed-transient : is_some r.source ≡ true → (ps' : List (List ℕ)) → r.observer < length ps → keys ≡ slice_index_or ps r.observer [] → ps' ≡ slice_set ps r.observer keys' → among r.observer some ≡ true → IsIndexed v lists' ls ps' some made
+  indexed-transient source ps' lt had set there = record {
+    placed = placed-added u lists r v lists' a ix.placed;
+    lasting = owned-beside u v r keys keys' key lasts_for (λ j. refl) (λ j. off (r.observer == j) r.source source) ls ix.lasting;
+    passing = owned-new u v r keys keys' key passes_for passing-kind (λ j. on_its (r.observer == j) r.source source) ps ps' lt had set ix.passing;
+    fleeting = λ p out. elim (same_or p r.observer) [
+      | same e t ↦ absurd (true≢false (sym there ∙ ap (λ q. among q some) (sym e) ∙ out))
+      | apart ne t ↦ ap (λ l. slice_index_or l p []) set ∙ get_or-set_other ps r.observer p keys' [] ne ∙ ix.fleeting p out
+    ];
+    known = ix.known;
+    lasting_room = ix.lasting_room;
+    passing_room = subst (λ l. made ≤ l) (sym (ap length set ∙ length-set ps r.observer keys')) ix.passing_room;
+  }
+    where
+      off : (b : Bool) (s : Option ℕ) → is_some s ≡ true → (b && is_none s) ≡ false
+      off b None h = absurd (true≢false (sym h))
+      off true (Some n) h = refl
+      off false (Some n) h = refl
+
+      on_its : (b : Bool) (s : Option ℕ) → is_some s ≡ true → (b && is_some s) ≡ b
+      on_its b None h = absurd (true≢false (sym h))
+      on_its true (Some n) h = refl
+      on_its false (Some n) h = refl
+
+  -- a lasting one comes in
+  pub indexed-lasting : r.source ≡ None → (ls' : List (List ℕ)) → r.observer < length ls → keys ≡ slice_index_or ls r.observer [] → ls' ≡ slice_set ls r.observer keys' → IsIndexed v lists' ls' ps some made
+  indexed-lasting source ls' lt had set = record {
+    placed = placed-added u lists r v lists' a ix.placed;
+    lasting = owned-new u v r keys keys' key lasts_for lasting-kind (λ j. ap (λ s. (r.observer == j) && is_none s) source ∙ on_its (r.observer == j)) ls ls' lt had set ix.lasting;
+    passing = owned-beside u v r keys keys' key passes_for (λ j. refl) (λ j. ap (λ s. (r.observer == j) && is_some s) source ∙ off (r.observer == j)) ps ix.passing;
+    fleeting = ix.fleeting;
+    known = ix.known;
+    lasting_room = subst (λ l. made ≤ l) (sym (ap length set ∙ length-set ls r.observer keys')) ix.lasting_room;
+    passing_room = ix.passing_room;
+  }
+    where
+      off : (b : Bool) → (b && false) ≡ false
+      off true = refl
+      off false = refl
+
+      on_its : (b : Bool) → (b && true) ≡ b
+      on_its true = refl
+      on_its false = refl
+
+-- Registrations of an observer end, of those that last or of the transient ones.
+module _ (u v : ℕ → Option Registration) (lists lists' : List (ℕ × List ℕ)) (ls ps : List (List ℕ)) (some : List ℕ) (made o : ℕ) (ended : Ended) (ix : IsIndexed u lists ls ps some made) (placed : Placed v lists') where
+  pub indexed-lasting_ended : (ls' : List (List ℕ)) → o < length ls → ((k : ℕ) → v k ≡ (if among k (slice_index_or ls o []) then left_by ended (u k) else u k))
+      → ls' ≡ slice_set ls o (filter (is_live v) (slice_index_or ls o [])) → IsIndexed v lists' ls' ps some made
+  indexed-lasting_ended ls' lt left set = record {
+    placed = placed;
+    lasting = owned-ended lasts_for lasting-kind u v ls o ix.lasting (stays_by u v (slice_index_or ls o []) ended left) (stays_off u v (slice_index_or ls o []) ended left) ls' lt set;
+    passing = owned-other lasts_for lasting-kind u v ls o ix.lasting (stays_by u v (slice_index_or ls o []) ended left) (stays_off u v (slice_index_or ls o []) ended left) passes_for (λ j. refl) (not_both o) ps ix.passing;
+    fleeting = ix.fleeting;
+    known = ix.known;
+    lasting_room = subst (λ l. made ≤ l) (sym (ap length set ∙ length-set ls o (filter (is_live v) (slice_index_or ls o [])))) ix.lasting_room;
+    passing_room = ix.passing_room;
+  }
+
+  pub indexed-passing_ended : (ps' : List (List ℕ)) → o < length ps → ((k : ℕ) → v k ≡ (if among k (slice_index_or ps o []) then left_by ended (u k) else u k))
+      → ps' ≡ slice_set ps o (filter (is_live v) (slice_index_or ps o [])) → IsIndexed v lists' ls ps' some made
+  indexed-passing_ended ps' lt left set = record {
+    placed = placed;
+    lasting = owned-other passes_for passing-kind u v ps o ix.passing (stays_by u v (slice_index_or ps o []) ended left) (stays_off u v (slice_index_or ps o []) ended left) lasts_for (λ j. refl) (not_both2 o) ls ix.lasting;
+    passing = owned-ended passes_for passing-kind u v ps o ix.passing (stays_by u v (slice_index_or ps o []) ended left) (stays_off u v (slice_index_or ps o []) ended left) ps' lt set;
+    fleeting = λ p out. elim (same_or p o) [
+      | same e t ↦ ap (λ q. slice_index_or ps' q []) e ∙ ap (λ l. slice_index_or l o []) set ∙ get_or-set_same ps o (filter (is_live v) (slice_index_or ps o [])) [] lt ∙ ap (filter (is_live v)) (ap (λ q. slice_index_or ps q []) (sym e) ∙ ix.fleeting p out)
+      | apart ne t ↦ ap (λ l. slice_index_or l p []) set ∙ get_or-set_other ps o p (filter (is_live v) (slice_index_or ps o [])) [] ne ∙ ix.fleeting p out
+    ];
+    known = ix.known;
+    lasting_room = ix.lasting_room;
+    passing_room = subst (λ l. made ≤ l) (sym (ap length set ∙ length-set ps o (filter (is_live v) (slice_index_or ps o [])))) ix.passing_room;
+  }
+
+-- whom a transient registration that is made belongs to, and that it has a source
+pub made-transient : (u0 u : ℕ → Option Registration) (node : ℕ) (standing : List ℕ) (i d : ℕ) → i < length standing → AllByRecursion (λ k. u k ≡ u0 k) standing → (r : Registration) → transient_under u node (slice_index_or standing i d) ≡ Some r
+    → ((made : ℕ) → AllByRecursion (Stands u0 made) standing → r.observer < made) × (is_some r.source ≡ true)
+made-transient u0 u node standing i d lt alike r some = (
+  (λ made bounded.
+      let at_key = all_at (Stands u0 made) standing i d bounded lt in
+      let same_one : Some s.0 ≡ Some at_key.registration = sym s.1 ∙ all_at (λ k. u k ≡ u0 k) standing i d alike lt ∙ at_key.is in
+      let origin : s.0 ≡ at_key.registration = cc same_one in
+      subst (λ o. o < made) (ap (λ (t : Registration). t.observer) (sym origin) ∙ ap (λ (t : Registration). t.observer) s.2) at_key.observer),
+  ap (λ (t : Registration). is_some t.source) (sym s.2),
+)
+  where
+    s : (s : Registration) × (u (slice_index_or standing i d) ≡ Some s) × (transient_of node s ≡ r)
+    s = transient_shape node (u (slice_index_or standing i d)) r some
+
+-- An observer is disconnected: what lasts ends, and then what does not.
+module _ (u v w : ℕ → Option Registration) (lists lists1 lists2 : List (ℕ × List ℕ)) (ls ls' ps ps' : List (List ℕ)) (some : List ℕ) (made o : ℕ) (ix : IsIndexed u lists ls ps some made) (lt : o < made)
+    (placed1 : Placed v lists1) (left1 : (k : ℕ) → v k ≡ (if among k (slice_index_or ls o []) then left_by (Of o) (u k) else u k)) (set1 : ls' ≡ slice_set ls o (filter (is_live v) (slice_index_or ls o [])))
+    (placed2 : Placed w lists2) (left2 : (k : ℕ) → w k ≡ (if among k (slice_index_or ps o []) then left_by (Of o) (v k) else v k)) (set2 : ps' ≡ slice_set ps o (filter (is_live w) (slice_index_or ps o []))) where
+  first_indexed : IsIndexed v lists1 ls' ps some made
+  first_indexed = indexed-lasting_ended u v lists lists1 ls ps some made o (Of o) ix placed1 ls' (let r = ix.lasting_room in omega arith) left1 set1
+
+  pub disconnected-indexed : IsIndexed w lists2 ls' ps' some made
+  disconnected-indexed = indexed-passing_ended v w lists1 lists2 ls' ps some made o (Of o) first_indexed placed2 ps' (let r = ix.passing_room in omega arith) left2 set2
+
+  pub disconnected-left : (k : ℕ) → w k ≡ left_by (Of o) (u k)
+  disconnected-left k =
+      left-of o (u k) (v k) (w k)
+      (left1 k ∙ ap (λ b. if b then left_by (Of o) (u k) else u k) (ix.lasting o k))
+      (left2 k ∙ ap (λ b. if b then left_by (Of o) (v k) else v k) (first_indexed.passing o k))
+
+  pub disconnected-swept : ((n : ℕ) → on n lists1 ≡ filter (is_live v) (on n lists)) → ((n : ℕ) → on n lists2 ≡ filter (is_live w) (on n lists1)) → (n : ℕ) → on n lists2 ≡ filter (is_live w) (on n lists)
+  disconnected-swept swept1 swept2 n = swept-two v w (on n lists) (on n lists1) (on n lists2) (stays_by v w (slice_index_or ps o []) (Of o) left2) (swept1 n) (swept2 n)
+
+-- the transient registrations from a node end
+pub from-left : (u v : ℕ → Option Registration) (lists : List (ℕ × List ℕ)) (ls ps : List (List ℕ)) (some : List ℕ) (made o node : ℕ) → IsIndexed u lists ls ps some made
+    → ((k : ℕ) → v k ≡ (if among k (slice_index_or ps o []) then left_by (From o node) (u k) else u k)) → (k : ℕ) → v k ≡ left_by (From o node) (u k)
+from-left u v lists ls ps some made o node ix left k = left k ∙ ap (λ b. if b then left_by (From o node) (u k) else u k) (ix.passing o k) ∙ left-from o node (u k)
+
+-- a registration gets other options
+pub indexed-changed : (u v : ℕ → Option Registration) (lists : List (ℕ × List ℕ)) (ls ps : List (List ℕ)) (some : List ℕ) (made key : ℕ) (options : Options) → v key ≡ option_map (with_new_options options) (u key) → ((k : ℕ) → k ≢ key → v k ≡ u k)
+    → IsIndexed u lists ls ps some made → IsIndexed v lists ls ps some made
+indexed-changed u v lists ls ps some made key options changed others ix = record {
+  placed = placed-changed u v key options changed others lists ix.placed;
+  lasting = owned-changed u v key options changed others lasts_for lasting-kind ls ix.lasting;
+  passing = owned-changed u v key options changed others passes_for passing-kind ps ix.passing;
+  fleeting = ix.fleeting;
+  known = ix.known;
+  lasting_room = ix.lasting_room;
+  passing_room = ix.passing_room;
+}
+
+-- there is room for more observers
+pub indexed-seated : (u : ℕ → Option Registration) (lists : List (ℕ × List ℕ)) (ls ls' ps ps' : List (List ℕ)) (some : List ℕ) (made made' : ℕ) → ((i : ℕ) → slice_index_or ls' i [] ≡ slice_index_or ls i []) → ((i : ℕ) → slice_index_or ps' i [] ≡ slice_index_or ps i [])
+    → made ≤ made' → made' ≤ length ls' → made' ≤ length ps' → IsIndexed u lists ls ps some made → IsIndexed u lists ls' ps' some made'
+indexed-seated u lists ls ls' ps ps' some made made' same1 same2 le room1 room2 ix = record {
+  placed = ix.placed;
+  lasting = λ i k. ap (among k) (same1 i) ∙ ix.lasting i k;
+  passing = λ i k. ap (among k) (same2 i) ∙ ix.passing i k;
+  fleeting = λ i off. same2 i ∙ ix.fleeting i off;
+  known = all_imply (λ o. o < made) (λ o. o < made') (λ o lt. omega arith) some ix.known;
+  lasting_room = room1;
+  passing_room = room2;
+}
+
+-- everybody is notified
+pub indexed-notified : (u v : ℕ → Option Registration) (lists lists' : List (ℕ × List ℕ)) (ls ps ps' : List (List ℕ)) (some some' : List ℕ) (made : ℕ) → IsIndexed u lists ls ps some made → Placed v lists' → ((k : ℕ) → v k ≡ left_by Transient (u k))
+    → Owned passes_for v ps' → ((o : ℕ) → slice_index_or ps' o [] ≡ []) → length ps' ≡ length ps → some' ≡ [] → IsIndexed v lists' ls ps' some' made
+indexed-notified u v lists lists' ls ps ps' some some' made ix placed left owned none len gone = record {
+  placed = placed;
+  lasting = λ i k. ix.lasting i k ∙ sym (ap (lasts_for i) (left k) ∙ stays i (u k));
+  passing = owned;
+  fleeting = λ o _. none o;
+  known = subst (AllByRecursion (λ o. o < made)) (sym gone) tt;
+  lasting_room = ix.lasting_room;
+  passing_room = let r = ix.passing_room in omega (arith, len, r);
+}
+  where
+    stays : (i : ℕ) (p : Option Registration) → lasts_for i (left_by Transient p) ≡ lasts_for i p
+    stays i None = refl
+    stays i (Some r) = go (r.observer == i) r.source refl
+      where
+        off : (b : Bool) → false ≡ (b && false)
+        off true = refl
+        off false = refl
+
+        go : (b : Bool) (s : Option ℕ) → r.source ≡ s → lasts_for i (if is_none r.source then Some r else None) ≡ ((r.observer == i) && is_none r.source)
+        go b None e = ap (λ t. lasts_for i (if is_none t then Some r else None)) e
+        go b (Some n) e = ap (λ t. lasts_for i (if is_none t then Some r else None)) e ∙ off (r.observer == i) ∙ sym (ap (λ t. (r.observer == i) && is_none t) e)

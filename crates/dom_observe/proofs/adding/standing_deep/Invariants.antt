@@ -1,0 +1,17 @@
+-- The keys so far and the keys with subtree of the nodes from here on are those of all the ancestors.
+use Rattle.std.proofs.Common.{◌≡◌, ◌++◌, filter, length}
+use Rattle.std.specs.Prelude.{flat_map}
+use Rattle.dom_model.specs.Forests.Forest.{HasNode, ancestors}
+use Rattle.dom_observe.specs.Watchers.{on}
+use Rattle.dom_observe.specs.Registrations.{at, listed, deep_at}
+use Rattle.dom_observe.proofs.adding.standing_deep.Given as goal
+
+abbrev pub invariant-loop-keys : goal.invariant-loop-keys
+invariant-loop-keys g l = record {
+  there : HasNode l.tree.forest l.here;
+  so_far : l.keys.items ++ flat_map (λ n. filter (deep_at (at l.table)) (on n (listed l.nodes.entries))) (ancestors l.here l.tree.forest)
+      ≡ flat_map (λ n. filter (deep_at (at l.table)) (on n (listed l.nodes.entries))) (ancestors l.fn.node l.tree.forest);
+}
+
+abbrev pub decreases-loop-keys : goal.decreases-loop-keys
+decreases-loop-keys g l = length (ancestors l.here l.tree.forest)

@@ -1,0 +1,49 @@
+-- The node has its other keys.
+use Rattle.std.proofs.Common.{◌≡◌, ℕ, ◌==◌, not, option_map, if◌then◌else◌, List, [], Some, None, filter, ap, sym, ◌∙◌, subst, nat_eq}
+use Rattle.std.specs.Map.{lookup}
+use Rattle.dom_observe.specs.Watchers.{on}
+use Rattle.dom_observe.specs.Registrations.{listed}
+use Rattle.dom_observe.proofs.Keys.{looked-listed, taken-on, taken-others, taken-bare, taken-some, taken-absent}
+use Rattle.dom_observe.proofs.ending.take_key_on.Goals as goal
+
+pub returns-in-Some-clause-kept : goal.returns-in-Some-clause-kept
+returns-in-Some-clause-kept c = λ n.
+    let written = c.get_mut.follows.holds c.take_key.new.keys in
+    ap (λ es. on n (listed es)) written.0
+    ∙ taken-on c.number.result c.args.key c.args.nodes.now.entries c.in-Some.keys.now c.take_key.new.keys (sym c.in-Some.ensures.value) c.take_key.ensures.kept n
+    ∙ ap (λ k. if n == k then filter (λ j. not (j == c.args.key)) (on n (listed c.args.nodes.now.entries)) else on n (listed c.args.nodes.now.entries)) c.number.ensures
+
+pub returns-in-Some-clause-others : goal.returns-in-Some-clause-others
+returns-in-Some-clause-others c = λ n ne.
+    let written = c.get_mut.follows.holds c.take_key.new.keys in
+    ap (λ es. lookup (nat_eq n) (listed es)) written.0
+    ∙ taken-others c.number.result c.args.key c.args.nodes.now.entries c.in-Some.keys.now c.take_key.new.keys (sym c.in-Some.ensures.value) c.take_key.ensures.kept n (λ e. ne (e ∙ c.number.ensures))
+
+pub returns-in-Some-clause-bare : goal.returns-in-Some-clause-bare
+returns-in-Some-clause-bare c = λ yes.
+    let written = c.get_mut.follows.holds c.take_key.new.keys in
+    ap (λ k. on k (listed (c.get_mut.follows.lender c.take_key.new.keys).entries)) (sym c.number.ensures)
+    ∙ ap (λ es. on c.number.result (listed es)) written.0
+    ∙ taken-bare c.number.result c.args.key c.args.nodes.now.entries c.in-Some.keys.now c.take_key.new.keys (sym c.in-Some.ensures.value) c.take_key.ensures.kept (sym c.take_key.ensures.bare ∙ yes)
+
+pub returns-in-Some-clause-some : goal.returns-in-Some-clause-some
+returns-in-Some-clause-some c = λ no keys found.
+    let written = c.get_mut.follows.holds c.take_key.new.keys in
+    taken-some c.number.result c.args.key c.args.nodes.now.entries c.in-Some.keys.now c.take_key.new.keys (sym c.in-Some.ensures.value) c.take_key.ensures.kept (sym c.take_key.ensures.bare ∙ no) keys
+    (ap (λ es. lookup (nat_eq c.number.result) (listed es)) (sym written.0) ∙ ap (λ k. lookup (nat_eq k) (listed (c.get_mut.follows.lender c.take_key.new.keys).entries)) c.number.ensures ∙ found)
+
+pub returns-in-None-clause-kept : goal.returns-in-None-clause-kept
+returns-in-None-clause-kept c = λ n.
+    let same = c.get_mut.follows.holds-at-none in
+    ap (λ m. on n (listed m.entries)) same
+    ∙ taken-absent c.number.result c.args.key c.args.nodes.now.entries (sym c.in-None.ensures.value) n
+    ∙ ap (λ k. if n == k then filter (λ j. not (j == c.args.key)) (on n (listed c.args.nodes.now.entries)) else on n (listed c.args.nodes.now.entries)) c.number.ensures
+
+pub returns-in-None-clause-some : goal.returns-in-None-clause-some
+returns-in-None-clause-some c = λ no keys found.
+    let same = c.get_mut.follows.holds-at-none in
+    let none : lookup (nat_eq c.args.node) (listed c.get_mut.follows.lender-at-none.entries) ≡ None =
+    ap (λ m. lookup (nat_eq c.args.node) (listed m.entries)) same ∙ ap (λ k. lookup (nat_eq k) (listed c.args.nodes.now.entries)) (sym c.number.ensures)
+    ∙ looked-listed c.number.result c.args.nodes.now.entries ∙ ap (λ v. option_map (λ v. v.items) v) (sym c.in-None.ensures.value) in
+    let d : None ≡ Some keys = sym none ∙ found in
+    cc d

@@ -1,0 +1,32 @@
+-- What observers name: the nodes of registrations and of the records that wait, and the observers of registrations and of the pending list.
+use Rattle.std.specs.Prelude.{◌≡◌, ℕ, ◌<◌, true, List, ◌∷◌, ◌++◌, length, map, flat_map}
+use Rattle.dom_model.specs.PlainLists.Lists.{among}
+use Rattle.dom_model.specs.Forests.Forest.{Forest, HasNode}
+use Rattle.dom_model.specs.Worlds.World.{Registration, Mutation}
+use Rattle.dom_model.specs.MutationObservers.Record.{Record}
+use Rattle.dom_model.specs.MutationAlgorithms.Discarding.{if_any, nodes_of_registration, nodes_of_record}
+use Rattle.dom_observe.specs.Watchers.{Watchers}
+
+-- the nodes of registrations, with the sources of transient ones, and those of the records that wait
+abbrev pub named : Watchers → List ℕ
+named o =
+    flat_map (λ (e : ℕ × List Registration). flat_map nodes_of_registration e.1) o.nodes
+    ++ flat_map (λ (queue : List Record). flat_map nodes_of_record queue) o.queues
+
+-- the observers of registrations, and the pending ones
+abbrev pub watching : Watchers → List ℕ
+watching o = flat_map (λ (e : ℕ × List Registration). map (λ (r : Registration). r.observer) e.1) o.nodes ++ o.pending
+
+-- the nodes that a record of a mutation has
+abbrev pub nodes_of_mutation : Mutation → List ℕ
+nodes_of_mutation m = m.target ∷ (m.added ++ (m.removed ++ (if_any m.previous ++ if_any m.next)))
+
+-- each node that is named is held, and each observer was made
+pub record NamesHeld {X : Type 0} (f : Forest X) (o : Watchers) : Type 0 where
+  pub nodes : (n : ℕ) → among n (named o) ≡ true → HasNode f n
+  pub observers : (i : ℕ) → among i (watching o) ≡ true → i < length o.queues
+
+-- after a step only those nodes are named that were named before, and these; and each observer was made
+pub record NamesOnly (these : List ℕ) (old new : Watchers) : Type 0 where
+  pub nodes : (n : ℕ) → among n (named new) ≡ true → among n (named old ++ these) ≡ true
+  pub observers : (i : ℕ) → among i (watching new) ≡ true → i < length new.queues

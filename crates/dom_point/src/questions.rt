@@ -1,0 +1,76 @@
+//! What is asked of boundary points and of nodes beside them (DOM Standard, "Boundary points", "Interface Range").
+
+ghost use Rattle.std.specs.Prelude.{◌≡◌};
+ghost use Rattle.dom_model.specs.Forests.Forest.{HasNode, root_of};
+ghost use Rattle.dom_model.specs.Forests.Nodes.{same_root as has_same_root};
+ghost use Rattle.dom_model.specs.RangesAndContents.Ranges.{is_before as comes_before, check_point, point_before as place_before, point_after as place_after};
+ghost use Rattle.dom_point.specs.Refusals.{refused};
+
+use crate::ordering::order;
+use crate::point::Point;
+use dom_tree::of_kinds::{DomError, Kind};
+use dom_tree::{Body, NodeId, Tree};
+use std::cmp::Ordering;
+
+/// Whether two nodes have one root.
+pub fn same_root<X>(tree: &Tree<X>, a: NodeId, b: NodeId) -> bool
+    requires a_held { HasNode tree.now.forest a }
+    requires b_held { HasNode tree.now.forest b }
+    ensures { result ≡ has_same_root tree.now.forest a b }
+{
+    tree.root(a) == tree.root(b)
+}
+
+/// Whether the first of two points of one root comes before the second.
+pub fn is_before<X>(tree: &Tree<X>, a: Point, b: Point) -> bool
+    requires a_held { HasNode tree.now.forest a.node }
+    requires b_held { HasNode tree.now.forest b.node }
+    requires one_root { root_of tree.now.forest a.node ≡ root_of tree.now.forest b.node }
+    ensures { result ≡ comes_before tree.now.forest a b }
+{
+    match order(tree, a, b) {
+        Ordering::Less => true,
+        Ordering::Equal | Ordering::Greater => false,
+    }
+}
+
+/// The refusal of a node and an offset to be a boundary point: a doctype has none, and an offset is at most the length.
+pub fn checked_point<X: Body>(tree: &Tree<X>, node: NodeId, offset: usize) -> Result<(), DomError>
+    requires { HasNode tree.now.forest node }
+    ensures { result ≡ refused (check_point X.length tree.now.forest (record { node = node; offset = offset })) }
+{
+    if tree.label(node).kind == Kind::DocumentType {
+        return Err(DomError::InvalidNodeTypeError);
+    }
+    if tree.length(node) < offset {
+        return Err(DomError::IndexSizeError);
+    }
+    Ok(())
+}
+
+/// The point ahead of a node in its parent; none without a parent.
+pub fn point_before<X>(tree: &Tree<X>, node: NodeId) -> Option<Point>
+    requires { HasNode tree.now.forest node }
+    ensures { result ≡ place_before tree.now.forest node }
+{
+    let parent = tree.parent(node)?;
+    Some(Point {
+        node: parent,
+        offset: tree.index(node),
+    })
+}
+
+/// The point behind a node in its parent; none without a parent.
+pub fn point_after<X>(tree: &Tree<X>, node: NodeId) -> Option<Point>
+    requires { HasNode tree.now.forest node }
+    ensures { result ≡ place_after tree.now.forest node }
+{
+    tree.sound();
+    let parent = tree.parent(node)?;
+    // an index is below the count, so the offset behind the node is a number of the machine too
+    let _ = tree.count(parent);
+    Some(Point {
+        node: parent,
+        offset: tree.index(node) + 1,
+    })
+}

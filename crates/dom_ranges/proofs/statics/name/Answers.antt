@@ -1,0 +1,1 @@
+use Rattle.dom_ranges.proofs.statics.name.Goals as goal

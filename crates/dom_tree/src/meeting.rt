@@ -1,0 +1,138 @@
+//! Where the ways up from two nodes meet (DOM Standard, "Trees", "Ranges").
+
+ghost use Rattle.std.specs.Prelude.{◌≡◌, ◌+◌, ◌<◌, length, Some, None};
+ghost use Rattle.dom_model.specs.Forests.Forest.{HasNode, ancestors, root_of};
+ghost use Rattle.dom_tree.specs.Ways.{CameThrough, IsOnWay, AreApart};
+
+use crate::node_id::NodeId;
+use crate::tree::{Tree, named, number_of, slot_of};
+
+/// The deepest node on the ways up from two nodes, and its child on the way to each; none where the way begins there.
+#[derive(Clone, Copy, Debug)]
+pub struct Meeting {
+    pub node: NodeId,
+    pub first: Option<NodeId>,
+    pub second: Option<NodeId>,
+}
+
+/// A node that a way up has come to, and its child through which it came; none where the way begins there.
+#[derive(Clone, Copy)]
+struct Step {
+    node: NodeId,
+    child: Option<NodeId>,
+}
+
+/// A node, and its children on the ways up from two others.
+#[derive(Clone, Copy)]
+struct Fork {
+    node: NodeId,
+    left: NodeId,
+    right: NodeId,
+}
+
+impl<X> Tree<X> {
+    /// Where the ways up from two nodes of one root meet.
+    pub fn meeting(&self, a: NodeId, b: NodeId) -> Meeting
+        requires a_held { HasNode self.now.forest a }
+        requires b_held { HasNode self.now.forest b }
+        requires one_root { root_of self.now.forest a ≡ root_of self.now.forest b }
+        ensures first { IsOnWay self.now.forest a result.node result.first }
+        ensures second { IsOnWay self.now.forest b result.node result.second }
+        ensures apart { AreApart result.first result.second }
+    {
+        self.sound();
+        if a == b {
+            return Meeting {
+                node: a,
+                first: None,
+                second: None,
+            };
+        }
+        let (a_depth, b_depth) = (self.depth(a), self.depth(b));
+        let first = self.climbed(a, a_depth.saturating_sub(b_depth));
+        let second = self.climbed(b, b_depth.saturating_sub(a_depth));
+        if first.node == second.node {
+            return Meeting {
+                node: first.node,
+                first: first.child,
+                second: second.child,
+            };
+        }
+        let fork = self.fork(first.node, second.node);
+        Meeting {
+            node: fork.node,
+            first: Some(fork.left),
+            second: Some(fork.right),
+        }
+    }
+
+    // How many nodes stand above a node.
+    fn depth(&self, id: NodeId) -> u64
+        requires { HasNode self.now.forest id }
+        ensures { result + 1 ≡ length (ancestors id self.now.forest) }
+    {
+        self.sound();
+        self.links.sound();
+        let mut here = slot_of(&self.table, id);
+        for depth in 0..self.live {
+            match self.links.parent(here) {
+                Some(parent) => here = parent,
+                None => return depth,
+            }
+        }
+        self.live
+    }
+
+    // So many steps up from a node.
+    fn climbed(&self, id: NodeId, steps: u64) -> Step
+        requires held { HasNode self.now.forest id }
+        requires within { steps < length (ancestors id self.now.forest) }
+        ensures way { IsOnWay self.now.forest id result.node result.child }
+        ensures height { length (ancestors result.node self.now.forest) + steps ≡ length (ancestors id self.now.forest) }
+        ensures start { steps ≡ 0 → result.child ≡ None }
+    {
+        self.sound();
+        self.links.sound();
+        let mut here = slot_of(&self.table, id);
+        let mut child = None;
+        for _passed in 0..steps {
+            let above = self.links.parent(here).unwrap();
+            child = Some(here);
+            here = above;
+        }
+        Step {
+            node: number_of(&self.links, here),
+            child: named(&self.links, child),
+        }
+    }
+
+    // Where the ways up from two nodes of one depth meet, which are not one.
+    fn fork(&self, a: NodeId, b: NodeId) -> Fork
+        requires a_held { HasNode self.now.forest a }
+        requires b_held { HasNode self.now.forest b }
+        requires apart { ¬ (a ≡ b) }
+        requires one_root { root_of self.now.forest a ≡ root_of self.now.forest b }
+        requires one_depth { length (ancestors a self.now.forest) ≡ length (ancestors b self.now.forest) }
+        ensures left { CameThrough self.now.forest a result.node (Some result.left) }
+        ensures right { CameThrough self.now.forest b result.node (Some result.right) }
+        ensures apart { ¬ (result.left ≡ result.right) }
+    {
+        self.sound();
+        self.links.sound();
+        let mut left = slot_of(&self.table, a);
+        let mut right = slot_of(&self.table, b);
+        loop {
+            let left_parent = self.links.parent(left).unwrap();
+            let right_parent = self.links.parent(right).unwrap();
+            if left_parent == right_parent {
+                return Fork {
+                    node: number_of(&self.links, left_parent),
+                    left: number_of(&self.links, left),
+                    right: number_of(&self.links, right),
+                };
+            }
+            left = left_parent;
+            right = right_parent;
+        }
+    }
+}
