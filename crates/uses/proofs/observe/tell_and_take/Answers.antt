@@ -5,15 +5,13 @@ use Rattle.uses.proofs.observe.tell_and_take.Goals as goal
 
 pub take-requires : goal.take-requires
 take-requires g c =
-    let w = c.requires.watching in
-    let made = (c.in_ok-queue.ensures w.stands_for w.watches).made in
-    let old = w.watches.made in
+    let made = c.in_ok-queue.ensures.made in
     let held = c.requires.held in
     omega arith
 
 pub returns : goal.returns
 returns g c = record {
   records = λ x w. c.take.ensures.records
-      (noted (record c.args.change { standing = standing_on (ancestors c.args.change.target c.args.tree.now.forest) x.registrations }) x)
-      (c.in_ok-queue.ensures x w);
+      (noted (record (c.args.change.now) { standing = standing_on (ancestors c.args.change.now.target c.args.tree.now.forest) x.registrations }) x)
+      (c.in_ok-queue.ensures.queued x w);
 }
