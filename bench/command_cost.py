@@ -334,7 +334,7 @@ def main():
             for size in sizes:
                 making, commands, count = scene(size)
                 counts.append(instructions(given.program, making, commands, work) / count)
-            is_apart = max(counts) > 1.1 * min(counts)
+            is_apart = counts[1] > 1.1 * counts[0]
             apart = apart or is_apart
             print(f"{name}: {counts[0]:.0f} {sides[0]}, {counts[1]:.0f} {sides[1]}{': more than a tenth apart' if is_apart else ''}", flush=True)
     sys.exit(apart)

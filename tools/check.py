@@ -2,7 +2,7 @@
 """Checks a crate, or some of its functions, over what a start has proved (`./domserve`, `tools/start.py`).
 
 `rt check` would first build every crate below it again, over all their proofs. This loads their statements alone, as the gate does. What is
-proved here is kept in crates/NAME/out/check for the next time, and is no verdict: that is the gate's.
+proved here is kept in crates/NAME/out/check for the next time, with tests in out/check_tests, and is no verdict: that is the gate's.
 """
 import argparse
 import os
@@ -15,11 +15,11 @@ from start import ROOT, below, graph, is_fresh, kit
 SAID = ("statements ", "library ")
 
 
-def check(rt, crate, functions, jobs):
-    """Proves functions of a crate, or all of it, over what was kept; returns the status."""
-    kept = f"{crate.folder}/out/check"
+def check(rt, crate, functions, jobs, tests):
+    """Proves functions of a crate, or all of it, over what was kept, and its tests where they are asked for; returns the status."""
+    kept = f"{crate.folder}/out/{'check_tests' if tests else 'check'}"
     os.makedirs(kept, exist_ok=True)
-    words = [rt.rtlib.RATTLE, "check", *crate.words(["--jobs", str(jobs)], keeps=False), "--incremental", kept]
+    words = [rt.rtlib.RATTLE, "check", *crate.words(["--jobs", str(jobs)], tests=tests, keeps=False), "--incremental", kept]
     words += [word for it in functions for word in ("--only", it)]
     how = {"cwd": crate.folder, "stdin": subprocess.DEVNULL, "stdout": subprocess.PIPE, "stderr": subprocess.STDOUT, "errors": "replace"}
     ran = subprocess.run([*rt.rtlib.guarded(), *words], **how)
@@ -54,6 +54,7 @@ def main():
     words.add_argument("crate", metavar="CRATE", help="a crate of crates.txt")
     words.add_argument("functions", nargs="*", metavar="MODULE::FUNCTION", help="only these functions, as `rt check --only` takes them; with --edits, names of edits")
     words.add_argument("--edits", action="store_true", help="try the edits that must fail, or those that are named, each over what the crate's check proves")
+    words.add_argument("--tests", action="store_true", help="read and prove the test functions too, and what only they call")
     words.add_argument("--jobs", type=int, default=2, help="how many modules are checked side by side (2)")
     given = words.parse_intermixed_args()
     crates, known = graph(), {}
@@ -66,7 +67,7 @@ def main():
     crate = {it.name: it for it in rt.rtlib.crates_below(ROOT)}[given.crate]
     if given.edits:
         return 1 if try_edits(rt, crate, given.functions) else 0
-    return check(rt, crate, given.functions, given.jobs)
+    return check(rt, crate, given.functions, given.jobs, given.tests)
 
 
 if __name__ == "__main__":

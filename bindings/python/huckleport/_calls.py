@@ -303,8 +303,8 @@ class Calls(Handle):
     def set_current(self, walker: int, node: int) -> None:
         self._say("hp_set_current", uint32(walker), uint32(node))
 
-    def walk(self, walker: int, course: int) -> int:
-        return self._number(c_uint32(), "hp_walk", uint32(walker), uint8(course))
+    def walk(self, walker: int, direction: int) -> int:
+        return self._number(c_uint32(), "hp_walk", uint32(walker), uint8(direction))
 
     def create_observer(self) -> int:
         return self._number(c_uint32(), "hp_create_observer")

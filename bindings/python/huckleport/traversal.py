@@ -89,8 +89,8 @@ class TreeWalker(SessionObject):
     def _place(self) -> made.hp_walker_at:
         return self._calls.walker(self.number)
 
-    def _walk(self, course: int) -> Optional[Node]:
-        found = maybe(self._calls.walk(self.number, course))
+    def _walk(self, direction: int) -> Optional[Node]:
+        found = maybe(self._calls.walk(self.number, direction))
         return None if found is None else self.session._node(found)
 
     @property
@@ -105,7 +105,7 @@ class TreeWalker(SessionObject):
     def current_node(self, node: Node) -> None:
         self._calls.set_current(self.number, self._of(node, Node))
 
-    # The courses by the numbers of hp_walk.
+    # The directions by the numbers of hp_walk.
 
     def parent_node(self) -> Optional[Node]:
         return self._walk(0)

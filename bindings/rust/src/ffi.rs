@@ -272,7 +272,7 @@ extern "C" {
     fn hp_previous_node(session: *mut hp_session, iterator: u32, node: *mut u32) -> u8;
     fn hp_walker(session: *mut hp_session, walker: u32, place: *mut hp_walker_at) -> u8;
     fn hp_set_current(session: *mut hp_session, walker: u32, node: u32) -> u8;
-    fn hp_walk(session: *mut hp_session, walker: u32, course: u8, node: *mut u32) -> u8;
+    fn hp_walk(session: *mut hp_session, walker: u32, direction: u8, node: *mut u32) -> u8;
     fn hp_create_observer(session: *mut hp_session, observer: *mut u32) -> u8;
     fn hp_observe(session: *mut hp_session, observer: u32, node: u32, options: *const hp_options, names: *const u8, names_length: usize, lengths: *const u32, lengths_length: usize) -> u8;
     fn hp_disconnect(session: *mut hp_session, observer: u32) -> u8;
@@ -973,10 +973,10 @@ impl Handle {
         if status == HP_OK { Ok(()) } else { Err(status) }
     }
 
-    pub(crate) fn walk(&mut self, walker: u32, course: u8) -> Result<u32, u8> {
+    pub(crate) fn walk(&mut self, walker: u32, direction: u8) -> Result<u32, u8> {
         let mut out = 0;
         // SAFETY: as at the head of the file.
-        let status = unsafe { hp_walk(self.session.get(), walker, course, &mut out) };
+        let status = unsafe { hp_walk(self.session.get(), walker, direction, &mut out) };
         if status == HP_OK { Ok(out) } else { Err(status) }
     }
 

@@ -88,7 +88,7 @@ impl Session {
     }
 
     /// Moves a walker. Answers the node; none where there is none, and then the walker stays.
-    pub fn walk(&mut self, walker: TreeWalker, course: Move) -> Result<Option<Node>> {
-        self.handle.walk(walker.number(), course as u8).map(Node::told).map_err(Exception::of)
+    pub fn walk(&mut self, walker: TreeWalker, direction: Move) -> Result<Option<Node>> {
+        self.handle.walk(walker.number(), direction as u8).map(Node::told).map_err(Exception::of)
     }
 }

@@ -55,7 +55,7 @@ pub(crate) fn choice_of(number: u8) -> Result<Option<bool>, Fault>
 
 /// The move of a walker.
 pub(crate) fn move_of(number: u8) -> Result<Move, Fault>
-    ensures { Reads (λ course. course) result (move_in number) }
+    ensures { Reads (λ direction. direction) result (move_in number) }
 {
     match number {
         0 => Ok(Move::ParentNode),

@@ -14,7 +14,7 @@ use crate::filters::rules_of;
 use crate::handle::Handle;
 use crate::places::{IteratorAt, WalkerAt};
 use crate::reading::move_of;
-use dom_session::{Filter, IterId, NodeId, Traversing, WalkerId};
+use dom_session::{Filter, IteratorId, NodeId, Traversing, WalkerId};
 use dom_wire::Command;
 use std::alloc::Global;
 
@@ -101,7 +101,7 @@ pub extern "C" fn hp_iterator(handle: &mut Handle, iterator: u32, place: &mut It
     ensures told { place.new ≡ iterator_at_told (told handle.new result) place.old }
 {
     handle.take_iterator_at(
-        Ok(Command::Traversing(Traversing::DescribeIterator(IterId::new(iterator)))),
+        Ok(Command::Traversing(Traversing::DescribeIterator(IteratorId::new(iterator)))),
         place,
     )
 }
@@ -113,7 +113,7 @@ pub extern "C" fn hp_next_node(handle: &mut Handle, iterator: u32, node: &mut u3
     ensures told { node.new ≡ maybe_number_told (told handle.new result) node.old }
 {
     handle.take_maybe_number(
-        Ok(Command::Traversing(Traversing::NextNode(IterId::new(iterator)))),
+        Ok(Command::Traversing(Traversing::NextNode(IteratorId::new(iterator)))),
         node,
     )
 }
@@ -125,7 +125,7 @@ pub extern "C" fn hp_previous_node(handle: &mut Handle, iterator: u32, node: &mu
     ensures told { node.new ≡ maybe_number_told (told handle.new result) node.old }
 {
     handle.take_maybe_number(
-        Ok(Command::Traversing(Traversing::PreviousNode(IterId::new(iterator)))),
+        Ok(Command::Traversing(Traversing::PreviousNode(IteratorId::new(iterator)))),
         node,
     )
 }
@@ -154,20 +154,20 @@ pub extern "C" fn hp_set_current(handle: &mut Handle, walker: u32, node: u32) ->
 }
 
 // Reads the arguments of `hp_walk`.
-fn read_walk(walker: u32, course: u8) -> Result<Command, Fault>
+fn read_walk(walker: u32, direction: u8) -> Result<Command, Fault>
     ensures { Reads command_view result
-        (then_make (move_in course) (λ course. Ok (Walk walker course))) }
+        (then_make (move_in direction) (λ direction. Ok (Walk walker direction))) }
 {
-    let course = move_of(course)?;
-    Ok(Command::Traversing(Traversing::Walk(WalkerId::new(walker), course)))
+    let direction = move_of(direction)?;
+    Ok(Command::Traversing(Traversing::Walk(WalkerId::new(walker), direction)))
 }
 
 /// Moves a walker, and tells the node, or `HP_NONE`. The courses are numbered in the order of the standard: parentNode 0, firstChild 1, lastChild 2, previousSibling 3, nextSibling 4, previousNode 5, nextNode 6.
 #[unsafe(no_mangle)]
-pub extern "C" fn hp_walk(handle: &mut Handle, walker: u32, course: u8, node: &mut u32) -> u8
+pub extern "C" fn hp_walk(handle: &mut Handle, walker: u32, direction: u8, node: &mut u32) -> u8
     ensures answers { Answers handle.old handle.new
-        (then_make (move_in course) (λ course. Ok (Walk walker course))) result }
+        (then_make (move_in direction) (λ direction. Ok (Walk walker direction))) result }
     ensures told { node.new ≡ maybe_number_told (told handle.new result) node.old }
 {
-    handle.take_maybe_number(read_walk(walker, course), node)
+    handle.take_maybe_number(read_walk(walker, direction), node)
 }

@@ -1,9 +1,13 @@
 //! Single layers, by their public calls. They stand here and not in the crates that they test, since a crate with tests of its own is
 //! proved twice.
 
+mod attributes;
+mod building;
 mod copies;
+mod editing;
 mod lines;
 mod observing;
+mod replies;
 mod sessions;
 mod streams;
 mod worlds;

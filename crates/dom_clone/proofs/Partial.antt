@@ -26,8 +26,9 @@ use Rattle.dom_data.specs.dom_tree.Standing.{MayStand}
 use Rattle.dom_data.specs.dom_edit.declared.world.World.{World}
 use Rattle.dom_data.specs.dom_edit.Whole.{IsWhole, Follows, unwatched}
 use Rattle.dom_data.specs.dom_edit.Following.{follows-then, keeps-unwatched}
-use Rattle.dom_clone.specs.declared.copying.Waiting.{Waiting}
-use Rattle.dom_clone.specs.Growing.{made_under, waiting_for}
+use Rattle.dom_clone.specs.declared.waiting.Waiting.{Waiting}
+use Rattle.dom_clone.specs.Growing.{made_under}
+use Rattle.dom_clone.specs.Waits.{waiting_for}
 use Rattle.dom_clone.proofs.Under.{each-entry, follows-same}
 use Rattle.dom_clone.proofs.Grown.{Part, sizes, completed, part_if, sizes-push, sizes-wait, completed-wait, completed-step, put-grown}
 
@@ -40,24 +41,24 @@ abbrev pub HasKind : ℕ → Kind → Forest Content → Type 0
 HasKind n kind f = EachNode (λ x. x.number ≡ n → x.label.kind ≡ kind) f
 
 -- one that waits stands for a part: siblings of the trees that were there, which are to stand under a copy
-pub record IsPart (f copies : Forest Content) (w : Waiting) (t : Part) : Type 0 where
+pub record IsPart (f copies : Forest Content) (w : Waiting ℕ) (t : Part) : Type 0 where
   pub above : ℕ
   pub passed : Option ℕ
   pub kind : Kind
-  pub parent : t.parent ≡ w.parent
-  pub first : head_of (tops t.trees) ≡ Some w.original
+  pub parent : t.parent ≡ w.place
+  pub first : head_of (tops t.trees) ≡ Some w.first
   pub stands : Stands (entry_in f) above passed t.trees
   pub fits : KindsFit (Some kind) t.trees
   pub parent_there : 0 < occurs t.parent copies
   pub parent_kind : HasKind t.parent kind copies
 
-abbrev pub Match : Forest Content → Forest Content → List Waiting → List Part → Type 0
+abbrev pub Match : Forest Content → Forest Content → List (Waiting ℕ) → List Part → Type 0
 Match f copies [] [] = Unit {0}
 Match f copies [] (t ∷ ts) = ⊥
 Match f copies (w ∷ ws) [] = ⊥
 Match f copies (w ∷ ws) (t ∷ ts) = IsPart f copies w t × Match f copies ws ts
 
-pub record IsCopying (old : World) (n d : ℕ) (now : World) (ws : List Waiting) : Type 0 where
+pub record IsCopying (old : World) (n d : ℕ) (now : World) (ws : List (Waiting ℕ)) : Type 0 where
   pub copies : Forest Content
   pub parts : List Part
   pub follows : Follows old now (with_trees copies now.tree.made)
@@ -70,21 +71,21 @@ pub record IsCopying (old : World) (n d : ℕ) (now : World) (ws : List Waiting)
 
 -- What waits.
 
-Match-push : (f g : Forest Content) (ws : List Waiting) (ts : List Part) (w : Waiting) (t : Part) → Match f g ws ts → IsPart f g w t → Match f g (ws ++ w ∷ []) (ts ++ t ∷ [])
+Match-push : (f g : Forest Content) (ws : List (Waiting ℕ)) (ts : List Part) (w : Waiting ℕ) (t : Part) → Match f g ws ts → IsPart f g w t → Match f g (ws ++ w ∷ []) (ts ++ t ∷ [])
 Match-push f g [] [] w t m p = (p, tt)
 Match-push f g [] (u ∷ ts) w t m p = absurd m
 Match-push f g (v ∷ ws) [] w t m p = absurd m
 Match-push f g (v ∷ ws) (u ∷ ts) w t m p = (m.0, Match-push f g ws ts w t m.1 p)
 
 -- the last that waits, and its part
-record Popped (f g : Forest Content) (ws : List Waiting) (w : Waiting) (ts : List Part) : Type 0 where
+record Popped (f g : Forest Content) (ws : List (Waiting ℕ)) (w : Waiting ℕ) (ts : List Part) : Type 0 where
   others : List Part
   part : Part
   are : ts ≡ others ++ part ∷ []
   matched : Match f g ws others
   last : IsPart f g w part
 
-Match-pop : (f g : Forest Content) (ws : List Waiting) (w : Waiting) (ts : List Part) → Match f g (ws ++ w ∷ []) ts → Popped f g ws w ts
+Match-pop : (f g : Forest Content) (ws : List (Waiting ℕ)) (w : Waiting ℕ) (ts : List Part) → Match f g (ws ++ w ∷ []) ts → Popped f g ws w ts
 Match-pop f g [] w [] m = absurd m
 Match-pop f g [] w (t ∷ []) m = record { others = []; part = t; are = refl; matched = tt; last = m.0 }
 Match-pop f g [] w (t ∷ u ∷ ts) m = absurd m.1
@@ -94,15 +95,15 @@ Match-pop f g (v ∷ ws) w (t ∷ ts) m =
     record { others = t ∷ p.others; part = p.part; are = ap (λ us. t ∷ us) p.are; matched = (m.0, p.matched); last = p.last }
 
 -- trees wait, where there are any
-Match-wait : (f g : Forest Content) (ws : List Waiting) (ts : List Part) (parent above : ℕ) (passed : Option ℕ) (kind : Kind) (k : Forest Content) → Match f g ws ts → Stands (entry_in f) above passed k → KindsFit (Some kind) k → 0 < occurs parent g → HasKind parent kind g →
+Match-wait : (f g : Forest Content) (ws : List (Waiting ℕ)) (ts : List Part) (parent above : ℕ) (passed : Option ℕ) (kind : Kind) (k : Forest Content) → Match f g ws ts → Stands (entry_in f) above passed k → KindsFit (Some kind) k → 0 < occurs parent g → HasKind parent kind g →
     Match f g (ws ++ waiting_for (head_of (tops k)) parent) (ts ++ part_if parent k)
 Match-wait f g ws ts parent above passed kind empty m s fit there kinds = rw (append-nil ws, append-nil ts) m
 Match-wait f g ws ts parent above passed kind (node x kids rest) m s fit there kinds =
-    Match-push f g ws ts (record { original = x.number; parent = parent }) (record { parent = parent; trees = node x kids rest }) m
+    Match-push f g ws ts (record { first = x.number; place = parent }) (record { parent = parent; trees = node x kids rest }) m
     (record { above = above; passed = passed; kind = kind; parent = refl; first = refl; stands = s; fits = fit; parent_there = there; parent_kind = kinds })
 
 -- more copies keep the parents that are waited for
-Match-more : (f g h : Forest Content) → ((n : ℕ) → 0 < occurs n g → 0 < occurs n h) → ((n : ℕ) (kind : Kind) → 0 < occurs n g → HasKind n kind g → HasKind n kind h) → (ws : List Waiting) (ts : List Part) → Match f g ws ts → Match f h ws ts
+Match-more : (f g h : Forest Content) → ((n : ℕ) → 0 < occurs n g → 0 < occurs n h) → ((n : ℕ) (kind : Kind) → 0 < occurs n g → HasKind n kind g → HasKind n kind h) → (ws : List (Waiting ℕ)) (ts : List Part) → Match f g ws ts → Match f h ws ts
 Match-more f g h there kinds [] [] m = tt
 Match-more f g h there kinds [] (t ∷ ts) m = m
 Match-more f g h there kinds (w ∷ ws) [] m = m
@@ -113,25 +114,25 @@ Match-more f g h there kinds (w ∷ ws) (t ∷ ts) m =
     )
 
 -- the first node of a part, the trees below it and the trees after it
-record Front (f g : Forest Content) (w : Waiting) (t : Part) : Type 0 where
+record Front (f g : Forest Content) (w : Waiting ℕ) (t : Part) : Type 0 where
   x : Node Content
   kids : Forest Content
   rest : Forest Content
   above : ℕ
   passed : Option ℕ
   kind : Kind
-  are : t ≡ record { parent = w.parent; trees = node x kids rest }
-  number : x.number ≡ w.original
+  are : t ≡ record { parent = w.place; trees = node x kids rest }
+  number : x.number ≡ w.first
   stands : Stands (entry_in f) above passed (node x kids rest)
   fits : KindsFit (Some kind) (node x kids rest)
-  parent_there : 0 < occurs w.parent g
-  parent_kind : HasKind w.parent kind g
+  parent_there : 0 < occurs w.place g
+  parent_kind : HasKind w.place kind g
 
-front : (f g : Forest Content) (w : Waiting) (t : Part) → IsPart f g w t → Front f g w t
+front : (f g : Forest Content) (w : Waiting ℕ) (t : Part) → IsPart f g w t → Front f g w t
 front f g w t p = go t.trees refl p.first p.stands p.fits
   where
-    go : (k : Forest Content) → t.trees ≡ k → head_of (tops k) ≡ Some w.original → Stands (entry_in f) p.above p.passed k → KindsFit (Some p.kind) k → Front f g w t
-    go empty e h s fit = absurd (let z : None ≡ Some w.original = h in cc)
+    go : (k : Forest Content) → t.trees ≡ k → head_of (tops k) ≡ Some w.first → Stands (entry_in f) p.above p.passed k → KindsFit (Some p.kind) k → Front f g w t
+    go empty e h s fit = absurd (let z : None ≡ Some w.first = h in cc)
     go (node x kids rest) e h s fit = record {
       x = x;
       kids = kids;
@@ -139,7 +140,7 @@ front f g w t p = go t.trees refl p.first p.stands p.fits
       above = p.above;
       passed = p.passed;
       kind = p.kind;
-      are = ap (λ (n : ℕ). record { parent = n; trees = t.trees }) p.parent ∙ ap (λ k. record { parent = w.parent; trees = k }) e;
+      are = ap (λ (n : ℕ). record { parent = n; trees = t.trees }) p.parent ∙ ap (λ k. record { parent = w.place; trees = k }) e;
       number = cc;
       stands = s;
       fits = fit;
@@ -265,70 +266,70 @@ record Above (now : World) (parent d : ℕ) (kind : Kind) : Type 0 where
   document : entry.value.document ≡ d
   is_kind : entry.value.label.kind ≡ kind
 
-module _ (old : World) (h : IsWhole old) (n d : ℕ) (now : World) (ws : List Waiting) (w : Waiting) (i : IsCopying old n d now (ws ++ w ∷ [])) where
+module _ (old : World) (h : IsWhole old) (n d : ℕ) (now : World) (ws : List (Waiting ℕ)) (w : Waiting ℕ) (i : IsCopying old n d now (ws ++ w ∷ [])) where
   popped : Popped old.tree.forest i.copies ws w i.parts
   popped = Match-pop old.tree.forest i.copies ws w i.parts i.matched
 
   fr : Front old.tree.forest i.copies w popped.part
   fr = front old.tree.forest i.copies w popped.part popped.last
 
-  are : i.parts ≡ popped.others ++ record { parent = w.parent; trees = node fr.x fr.kids fr.rest } ∷ []
+  are : i.parts ≡ popped.others ++ record { parent = w.place; trees = node fr.x fr.kids fr.rest } ∷ []
   are = popped.are ∙ ap (λ t. popped.others ++ t ∷ []) fr.are
 
   spelled : beside old.tree.forest i.copies ≡ now.tree.forest
   spelled = (i.follows.keeps (unwatched old) (keeps-unwatched old)).forest
 
-  entry_old : entry_in old.tree.forest w.original ≡ Some (record { value = fr.x; parent = Some fr.above; children = tops fr.kids })
+  entry_old : entry_in old.tree.forest w.first ≡ Some (record { value = fr.x; parent = Some fr.above; children = tops fr.kids })
   entry_old = subst (λ m. entry_in old.tree.forest m ≡ Some (record { value = fr.x; parent = Some fr.above; children = tops fr.kids })) fr.number fr.stands.0
 
-  original_there : 0 < occurs w.original old.tree.forest
-  original_there = occurs-HasNode old.tree.forest w.original (rw entry_old refl)
+  original_there : 0 < occurs w.first old.tree.forest
+  original_there = occurs-HasNode old.tree.forest w.first (rw entry_old refl)
 
-  entry_now : entry_in now.tree.forest w.original ≡ Some (record { value = fr.x; parent = Some fr.above; children = tops fr.kids })
-  entry_now = ap (λ (g : Forest Content). entry_in g w.original) (sym spelled) ∙ entry-beside old.tree.forest i.copies w.original original_there ∙ entry_old
+  entry_now : entry_in now.tree.forest w.first ≡ Some (record { value = fr.x; parent = Some fr.above; children = tops fr.kids })
+  entry_now = ap (λ (g : Forest Content). entry_in g w.first) (sym spelled) ∙ entry-beside old.tree.forest i.copies w.first original_there ∙ entry_old
 
-  pub next-held : HasNode now.tree.forest w.original
+  pub next-held : HasNode now.tree.forest w.first
   next-held = rw entry_now refl
 
-  parent_low : old.tree.made ≤ w.parent
+  parent_low : old.tree.made ≤ w.place
   parent_low =
       ⊎_elim
-      (λ (lt : w.parent < old.tree.made). absurd (let z = absent-from old.tree.made w.parent i.copies i.from lt in omega (arith, z, fr.parent_there)))
-      (λ (le : old.tree.made ≤ w.parent). le)
-      (cases_lt w.parent old.tree.made)
+      (λ (lt : w.place < old.tree.made). absurd (let z = absent-from old.tree.made w.place i.copies i.from lt in omega (arith, z, fr.parent_there)))
+      (λ (le : old.tree.made ≤ w.place). le)
+      (cases_lt w.place old.tree.made)
 
   in_both : (m : ℕ) → occurs m now.tree.forest ≡ occurs m old.tree.forest + occurs m i.copies
   in_both m = ap (λ (g : Forest Content). occurs m g) (sym spelled) ∙ total-beside (one_at m) old.tree.forest i.copies
 
-  parent_high : w.parent < now.tree.made
+  parent_high : w.place < now.tree.made
   parent_high =
       ⊎_elim
-      (λ (lt : w.parent < now.tree.made). lt)
-      (λ (le : now.tree.made ≤ w.parent). absurd (let z = i.whole.forest.small w.parent le in omega (arith, z, in_both w.parent, fr.parent_there)))
-      (cases_lt w.parent now.tree.made)
+      (λ (lt : w.place < now.tree.made). lt)
+      (λ (le : now.tree.made ≤ w.place). absurd (let z = i.whole.forest.small w.place le in omega (arith, z, in_both w.place, fr.parent_there)))
+      (cases_lt w.place now.tree.made)
 
   new : occurs now.tree.made i.copies ≡ 0
   new = omega (arith, i.whole.forest.small now.tree.made (omega arith), in_both now.tree.made)
 
-  entry_parent : entry_in now.tree.forest w.parent ≡ entry_in i.copies w.parent
-  entry_parent = ap (λ (g : Forest Content). entry_in g w.parent) (sym spelled) ∙ entry-younger w.parent old.tree.forest i.copies (h.forest.small w.parent parent_low)
+  entry_parent : entry_in now.tree.forest w.place ≡ entry_in i.copies w.place
+  entry_parent = ap (λ (g : Forest Content). entry_in g w.place) (sym spelled) ∙ entry-younger w.place old.tree.forest i.copies (h.forest.small w.place parent_low)
 
-  above_it : Above now w.parent d fr.kind
+  above_it : Above now w.place d fr.kind
   above_it =
-      elim (seen (entry_in i.copies w.parent)) [
-        | nothing e ↦ absurd (let k : is_some (entry_in i.copies w.parent) ≡ true = HasNode-occurs i.copies w.parent fr.parent_there in let j = rw e at k in false≢true j)
+      elim (seen (entry_in i.copies w.place)) [
+        | nothing e ↦ absurd (let k : is_some (entry_in i.copies w.place) ≡ true = HasNode-occurs i.copies w.place fr.parent_there in let j = rw e at k in false≢true j)
         | just a e ↦
-            let j = each-entry (λ x. x.document ≡ d) None w.parent i.copies i.owned in
-            let k = each-entry (λ x. x.number ≡ w.parent → x.label.kind ≡ fr.kind) None w.parent i.copies fr.parent_kind in
+            let j = each-entry (λ x. x.document ≡ d) None w.place i.copies i.owned in
+            let k = each-entry (λ x. x.number ≡ w.place → x.label.kind ≡ fr.kind) None w.place i.copies fr.parent_kind in
             let j2 = rw e at j in
             let k2 = rw e at k in
             record { entry = a; is = entry_parent ∙ e; document = j2.0; is_kind = k2.0 k2.1 }
       ]
 
-  pub parent-held : HasNode now.tree.forest w.parent
+  pub parent-held : HasNode now.tree.forest w.place
   parent-held = let a = above_it in rw a.is refl
 
-  pub may-stand : MayStand now.tree.forest w.parent w.original
+  pub may-stand : MayStand now.tree.forest w.place w.first
   may-stand =
       let a = above_it in
       let k : may_stand_in a.entry.value.label.kind fr.x.label.kind ≡ true = ap (λ q. may_stand_in q fr.x.label.kind) a.is_kind ∙ fr.fits.0 in
@@ -336,57 +337,57 @@ module _ (old : World) (h : IsWhole old) (n d : ℕ) (now : World) (ws : List Wa
 
   -- while one waits, copies are still to come
   pub more-to_come : now.tree.made < old.tree.made + size (tree_at n old.tree.forest)
-  more-to_come = omega (arith, i.counted, ap (λ ts. sizes ts) are, sizes-push popped.others (record { parent = w.parent; trees = node fr.x fr.kids fr.rest }))
+  more-to_come = omega (arith, i.counted, ap (λ ts. sizes ts) are, sizes-push popped.others (record { parent = w.place; trees = node fr.x fr.kids fr.rest }))
 
-  module _ (next : World) (copied : IfSome (entry_in now.tree.forest w.parent) (λ p. IfSome (entry_in now.tree.forest w.original) (λ e. Follows now next (made_under w.parent p.value.document e.value)))) where
+  module _ (next : World) (copied : IfSome (entry_in now.tree.forest w.place) (λ p. IfSome (entry_in now.tree.forest w.first) (λ e. Follows now next (made_under w.place p.value.document e.value)))) where
     abbrev copy_here : Node Content
     copy_here = record { number = now.tree.made; document = d; label = fr.x.label; body = fr.x.body }
 
     abbrev more : Forest Content
-    more = placed_under w.parent None (node copy_here empty empty) i.copies
+    more = placed_under w.place None (node copy_here empty empty) i.copies
 
-    told_next : Follows now next (made_under w.parent d fr.x)
+    told_next : Follows now next (made_under w.place d fr.x)
     told_next =
         let a = above_it in
-        let k : Follows now next (made_under w.parent a.entry.value.document fr.x) = rw (a.is, entry_now) at copied in
-        subst (λ m. Follows now next (made_under w.parent m fr.x)) a.document k
+        let k : Follows now next (made_under w.place a.entry.value.document fr.x) = rw (a.is, entry_now) at copied in
+        subst (λ m. Follows now next (made_under w.place m fr.x)) a.document k
 
     pub next-made : now.tree.made + 1 ≡ next.tree.made
     next-made = (told_next.keeps (unwatched now) (keeps-unwatched now)).made
 
     follows_next : Follows old next (with_trees more next.tree.made)
     follows_next =
-        follows-same old next (λ v. made_under w.parent d fr.x (with_trees i.copies now.tree.made v)) (with_trees more next.tree.made)
+        follows-same old next (λ v. made_under w.place d fr.x (with_trees i.copies now.tree.made v)) (with_trees more next.tree.made)
         (λ v k.
         ap (λ (g : Forest Content). record v { forest = g; made = now.tree.made + 1 })
-        (put-grown old.tree.made w.parent copy_here v.forest i.copies parent_low (omega (arith, parent_low, parent_high)) (λ m l. ap (λ (g : Forest Content). occurs m g) k.forest ∙ h.forest.small m l) new)
+        (put-grown old.tree.made w.place copy_here v.forest i.copies parent_low (omega (arith, parent_low, parent_high)) (λ m l. ap (λ (g : Forest Content). occurs m g) k.forest ∙ h.forest.small m l) new)
         ∙ ap (λ (c : ℕ). with_trees more c v) next-made)
-        (follows-then old now next (with_trees i.copies now.tree.made) (made_under w.parent d fr.x) i.follows told_next)
+        (follows-then old now next (with_trees i.copies now.tree.made) (made_under w.place d fr.x) i.follows told_next)
 
     spelled_next : beside old.tree.forest more ≡ next.tree.forest
     spelled_next = (follows_next.keeps (unwatched old) (keeps-unwatched old)).forest
 
-    next-told : next_of next.tree.forest w.original ≡ head_of (tops fr.rest)
+    next-told : next_of next.tree.forest w.first ≡ head_of (tops fr.rest)
     next-told =
-        ap (λ (g : Forest Content). next_of g w.original) (sym spelled_next)
-        ∙ next-older old.tree.forest more h.forest.once w.original original_there
+        ap (λ (g : Forest Content). next_of g w.first) (sym spelled_next)
+        ∙ next-older old.tree.forest more h.forest.once w.first original_there
         ∙ subst (λ k. next_of old.tree.forest k ≡ head_of (tops fr.rest)) fr.number fr.stands.1
 
-    entry_next : entry_in next.tree.forest w.original ≡ Some (record { value = fr.x; parent = Some fr.above; children = tops fr.kids })
-    entry_next = ap (λ (g : Forest Content). entry_in g w.original) (sym spelled_next) ∙ entry-beside old.tree.forest more w.original original_there ∙ entry_old
+    entry_next : entry_in next.tree.forest w.first ≡ Some (record { value = fr.x; parent = Some fr.above; children = tops fr.kids })
+    entry_next = ap (λ (g : Forest Content). entry_in g w.first) (sym spelled_next) ∙ entry-beside old.tree.forest more w.first original_there ∙ entry_old
 
-    pub original-held : HasNode next.tree.forest w.original
+    pub original-held : HasNode next.tree.forest w.first
     original-held = rw entry_next refl
 
-    counts : (m : ℕ) → occurs m more ≡ occurs m i.copies + occurs w.parent i.copies * occurs m (node copy_here empty empty)
-    counts m = total-placed_under (one_at m) w.parent None (node copy_here empty empty) i.copies
+    counts : (m : ℕ) → occurs m more ≡ occurs m i.copies + occurs w.place i.copies * occurs m (node copy_here empty empty)
+    counts m = total-placed_under (one_at m) w.place None (node copy_here empty empty) i.copies
 
     stay : (m : ℕ) → 0 < occurs m i.copies → 0 < occurs m more
     stay m l = omega (arith, counts m, l)
 
     kinds_stay : (m : ℕ) (kind : Kind) → 0 < occurs m i.copies → HasKind m kind i.copies → HasKind m kind more
     kinds_stay m kind l k =
-        EachNode-placed_under (λ x. x.number ≡ m → x.label.kind ≡ kind) w.parent None (node copy_here empty empty) i.copies
+        EachNode-placed_under (λ x. x.number ≡ m → x.label.kind ≡ kind) w.place None (node copy_here empty empty) i.copies
         (λ e. absurd (let z : occurs m i.copies ≡ 0 = ap (λ c. occurs c i.copies) (sym e) ∙ new in omega (arith, z, l)), tt, tt)
         k
 
@@ -399,27 +400,27 @@ module _ (old : World) (h : IsWhole old) (n d : ℕ) (now : World) (ws : List Wa
 
     new_kind : HasKind now.tree.made fr.x.label.kind more
     new_kind =
-        EachNode-placed_under (λ x. x.number ≡ now.tree.made → x.label.kind ≡ fr.x.label.kind) w.parent None (node copy_here empty empty) i.copies
+        EachNode-placed_under (λ x. x.number ≡ now.tree.made → x.label.kind ≡ fr.x.label.kind) w.place None (node copy_here empty empty) i.copies
         (λ e. refl, tt, tt) (has_kind-absent now.tree.made fr.x.label.kind i.copies new)
 
-    matched_next : Match old.tree.forest more ((ws ++ waiting_for (head_of (tops fr.rest)) w.parent) ++ waiting_for (head_of (tops fr.kids)) now.tree.made) ((popped.others ++ part_if w.parent fr.rest) ++ part_if now.tree.made fr.kids)
+    matched_next : Match old.tree.forest more ((ws ++ waiting_for (head_of (tops fr.rest)) w.place) ++ waiting_for (head_of (tops fr.kids)) now.tree.made) ((popped.others ++ part_if w.place fr.rest) ++ part_if now.tree.made fr.kids)
     matched_next =
         let f = old.tree.forest in
         let others = Match-more f i.copies more stay kinds_stay ws popped.others popped.matched in
-        let beside_it = Match-wait f more ws popped.others w.parent fr.above (Some fr.x.number) fr.kind fr.rest others fr.stands.4 fr.fits.2 (stay w.parent fr.parent_there) (kinds_stay w.parent fr.kind fr.parent_there fr.parent_kind) in
-        Match-wait f more (ws ++ waiting_for (head_of (tops fr.rest)) w.parent) (popped.others ++ part_if w.parent fr.rest) now.tree.made fr.x.number None fr.x.label.kind fr.kids beside_it fr.stands.3 fr.fits.1 new_there new_kind
+        let beside_it = Match-wait f more ws popped.others w.place fr.above (Some fr.x.number) fr.kind fr.rest others fr.stands.4 fr.fits.2 (stay w.place fr.parent_there) (kinds_stay w.place fr.kind fr.parent_there fr.parent_kind) in
+        Match-wait f more (ws ++ waiting_for (head_of (tops fr.rest)) w.place) (popped.others ++ part_if w.place fr.rest) now.tree.made fr.x.number None fr.x.label.kind fr.kids beside_it fr.stands.3 fr.fits.1 new_there new_kind
 
-    pub copying-goes_on : IsWhole next → IsCopying old n d next ((ws ++ waiting_for (next_of next.tree.forest w.original) w.parent) ++ waiting_for (head_of (children_of next.tree.forest w.original)) now.tree.made)
+    pub copying-goes_on : IsWhole next → IsCopying old n d next ((ws ++ waiting_for (next_of next.tree.forest w.first) w.place) ++ waiting_for (head_of (children_of next.tree.forest w.first)) now.tree.made)
     copying-goes_on whole = record {
       copies = more;
-      parts = (popped.others ++ part_if w.parent fr.rest) ++ part_if now.tree.made fr.kids;
+      parts = (popped.others ++ part_if w.place fr.rest) ++ part_if now.tree.made fr.kids;
       follows = follows_next;
       whole = whole;
-      from = EachNode-placed_under (IsFrom old.tree.made) w.parent None (node copy_here empty empty) i.copies (omega (arith, parent_low, parent_high), tt, tt) i.from;
-      owned = EachNode-placed_under (λ x. x.document ≡ d) w.parent None (node copy_here empty empty) i.copies (refl, tt, tt) i.owned;
+      from = EachNode-placed_under (IsFrom old.tree.made) w.place None (node copy_here empty empty) i.copies (omega (arith, parent_low, parent_high), tt, tt) i.from;
+      owned = EachNode-placed_under (λ x. x.document ≡ d) w.place None (node copy_here empty empty) i.copies (refl, tt, tt) i.owned;
       matched = rw (next-told, ap (λ e. head_of (children_in e)) entry_next) matched_next;
-      complete = ap (completed d ((popped.others ++ part_if w.parent fr.rest) ++ part_if now.tree.made fr.kids) more) (sym next-made)
-          ∙ completed-step d w.parent now.tree.made fr.x fr.kids fr.rest popped.others i.copies new parent_high
+      complete = ap (completed d ((popped.others ++ part_if w.place fr.rest) ++ part_if now.tree.made fr.kids) more) (sym next-made)
+          ∙ completed-step d w.place now.tree.made fr.x fr.kids fr.rest popped.others i.copies new parent_high
           ∙ ap (λ ts. completed d ts i.copies now.tree.made) (sym are)
           ∙ i.complete;
       counted =
@@ -428,8 +429,8 @@ module _ (old : World) (h : IsWhole old) (n d : ℕ) (now : World) (ws : List Wa
             next-made,
             i.counted,
             ap (λ ts. sizes ts) are,
-            sizes-push popped.others (record { parent = w.parent; trees = node fr.x fr.kids fr.rest }),
-            sizes-wait (popped.others ++ part_if w.parent fr.rest) now.tree.made fr.kids,
-            sizes-wait popped.others w.parent fr.rest,
+            sizes-push popped.others (record { parent = w.place; trees = node fr.x fr.kids fr.rest }),
+            sizes-wait (popped.others ++ part_if w.place fr.rest) now.tree.made fr.kids,
+            sizes-wait popped.others w.place fr.rest,
           );
     }

@@ -9,7 +9,7 @@ use Rattle.dom_model.specs.Forests.Documents.{HasDocument}
 use Rattle.dom_model.specs.Forests.Forest.{Node, Forest, empty, node, occurs, one_at, beside, tree_at, without, put, adopted, entry_under, entry_in, HasNode, parent_of, ancestors}
 use Rattle.dom_model.specs.Forests.EachNode.{EachNode}
 use Rattle.dom_model.specs.declared.Kind.TheVariants.{Document}
-use Rattle.dom_model.specs.Worlds.World.{Content, Range}
+use Rattle.dom_model.specs.Worlds.World.{Content}
 use Rattle.dom_model.specs.Worlds.World as model
 use Rattle.dom_model.specs.Soundness.Sound.{IsSound}
 use Rattle.dom_model.specs.Worlds.Making.{made_node}
@@ -19,7 +19,7 @@ use Rattle.dom_model.specs.Soundness.Owners.{IsOwned}
 use Rattle.dom_model.specs.MutationAlgorithms.Insertable.{may_stand_at, IsPlaceable}
 use Rattle.dom_model.proofs.PlainLists.Numbers.{same_or, same, apart}
 use Rattle.dom_model.proofs.Forests.Changes.{seen, nothing, just}
-use Rattle.dom_model.proofs.Forests.Totals.{IsOnce, total-tree_at, total-put, tree_at-absent}
+use Rattle.dom_model.proofs.Forests.Totals.{total-tree_at, total-put, tree_at-absent}
 use Rattle.dom_model.proofs.Forests.Entries.{occurs-HasNode, HasNode-occurs}
 use Rattle.dom_model.proofs.Forests.Climbing.{hits-ancestors, hits-not_among, not_among-hits}
 use Rattle.dom_model.proofs.Forests.Documents.{HasDocument-entry, HasOneDocument-put, adopted-put_same}
@@ -201,7 +201,7 @@ module _ (v mid : World) (h : IsWhole v) (n parent d : ℕ) (p e : Entry (Node C
 
 -- the same, as the calls tell it
 module _ (v mid : World) (h : IsWhole v) (n parent d : ℕ) (held : HasNode v.tree.forest n) (above : HasNode v.tree.forest parent) (may : MayStand v.tree.forest parent n)
-    (document : IfSome (entry_in v.tree.forest parent) (λ e. d ≡ e.value.document)) (made : IfSome (entry_in v.tree.forest n) (λ e. Follows v mid (made_node d e.value.label e.value.body))) where
+    (document : d ≡ document_in (entry_in v.tree.forest parent)) (made : IfSome (entry_in v.tree.forest n) (λ e. Follows v mid (made_node d e.value.label e.value.body))) where
   told : (A : Type 0) → ((p e : Entry (Node Content)) → entry_in v.tree.forest parent ≡ Some p → entry_in v.tree.forest n ≡ Some e → d ≡ p.value.document → may_stand_in p.value.label.kind e.value.label.kind ≡ true → Follows v mid (made_node d e.value.label e.value.body) → A) → A
   told A answer =
       elim (seen (entry_in v.tree.forest parent)) [
@@ -220,17 +220,6 @@ module _ (v mid : World) (h : IsWhole v) (n parent d : ℕ) (held : HasNode v.tr
   copy-follows =
       told (IfSome (entry_in v.tree.forest parent) (λ p. IfSome (entry_in v.tree.forest n) (λ e. Follows v (put_last parent v.tree.made mid) (made_under parent p.value.document e.value))))
       (λ p e ep ee document fit fo. rw (ep, ee) (made-follows v mid h n parent d p e ep ee document fit fo))
-
--- the node document of a node is a Document
-pub document-kind : (f : Forest Content) → EachNode (IsOwned f) f → IsOnce f → (n d : ℕ) → IfSome (entry_in f n) (λ e. d ≡ e.value.document) → HasNode f n → is_of_kind Document f d ≡ true
-document-kind f owners o n d told held =
-    elim (seen (entry_in f n)) [
-      | nothing a ↦ absurd (let k : is_some (entry_in f n) ≡ true = held in let j = rw a at k in false≢true j)
-      | just e ee ↦
-          let owned : is_of_kind Document f e.value.document ≡ true = (let j = each-entry (IsOwned f) None n f owners in let i = rw ee at j in i.0) in
-          let s : d ≡ e.value.document = rw ee at told in
-          ap (is_of_kind Document f) s ∙ owned
-    ]
 
 -- The node document of copies, as it is told of a node.
 

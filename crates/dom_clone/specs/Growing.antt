@@ -1,9 +1,8 @@
--- A copy that grows: a node made under another, and what waits to be copied. DOM Standard, "Interface Node" (clone).
-use Rattle.std.specs.Prelude.{ℕ, ◌+◌, List, [], ◌∷◌, Option, Some, None}
+-- A copy that grows: a node made under another. DOM Standard, "Interface Node" (clone).
+use Rattle.std.specs.Prelude.{ℕ, ◌+◌, None}
 use Rattle.dom_model.specs.Forests.Forest.{Node, put}
 use Rattle.dom_model.specs.Worlds.World.{Content, World}
 use Rattle.dom_model.specs.Worlds.Making.{made_node}
-use Rattle.dom_clone.specs.declared.copying.Waiting.{Waiting}
 
 -- a copy of a node in a document, as the last child of a parent
 abbrev pub made_under : ℕ → ℕ → Node Content → World → World
@@ -11,8 +10,3 @@ made_under parent document x w = record w {
   forest = put parent w.made None (made_node document x.label x.body w).forest;
   made = w.made + 1;
 }
-
--- the one that waits, where there is one
-abbrev pub waiting_for : Option ℕ → ℕ → List Waiting
-waiting_for None parent = []
-waiting_for (Some original) parent = record { original = original; parent = parent } ∷ []

@@ -1,5 +1,6 @@
 pub mod Growing
 pub mod Meeting
+pub mod Waits
 -- what crates above name of those below
 pub mod dom_attrs
 pub mod dom_data

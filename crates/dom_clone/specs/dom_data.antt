@@ -1,4 +1,3 @@
 -- What crates above name of dom_data.
 pub use Rattle.dom_data.specs.Reading
-pub use Rattle.dom_data.proofs.NewTexts
 pub use Rattle.dom_data.proofs.StaysWhole

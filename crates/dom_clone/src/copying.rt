@@ -12,9 +12,10 @@ ghost use Rattle.dom_model.specs.DataAndCopies.Clones.{original, with_copies, cl
 ghost use Rattle.dom_data.specs.dom_tree.Standing.{MayStand};
 ghost use Rattle.dom_data.specs.dom_edit.Whole.{IsWhole, Follows};
 ghost use Rattle.dom_data.specs.dom_edit.Refusals.{check_adopt, IsRefused};
-ghost use Rattle.dom_clone.specs.Growing.{made_under, waiting_for};
+ghost use Rattle.dom_clone.specs.Growing.{made_under};
 
-use dom_data::of_edit::{Content, Refusal, World};
+use crate::waiting::{Waiting, wait_for};
+use dom_data::of_edit::{Content, Refusal, World, document_in};
 use dom_data::of_kinds::{DomError, Kind};
 use dom_data::of_tree::{NodeId, Tree};
 use std::alloc::{AllocError, Global};
@@ -52,7 +53,7 @@ pub fn import(
     requires whole { IsWhole world.old }
     requires document_kind { is_of_kind Document world.old.tree.forest document ≡ true }
     requires held { HasNode world.old.tree.forest node }
-    requires room { world.old.tree.made + size (original deep node world.old.tree.forest) ≤ 4294967295 }
+    requires room { check_adopt world.old.tree.forest node ≡ None → world.old.tree.made + size (original deep node world.old.tree.forest) ≤ 4294967295 }
     ensures allowed { OnOk result (check_adopt world.old.tree.forest node ≡ None) }
     ensures number { IfOk result (λ id. id ≡ world.old.tree.made) }
     ensures imported { OnOk result (Follows world.old world.new (import_node document deep node)) }
@@ -78,27 +79,6 @@ fn document_of_copies(tree: &Tree<Content>, node: NodeId) -> Option<NodeId>
     }
 }
 
-// A node that waits to be copied, with its following siblings and all that stands below them, and the copy that they are to stand under.
-#[derive(Drop)]
-struct Waiting {
-    original: NodeId,
-    parent: NodeId,
-}
-
-// Lets a node wait, where there is one.
-fn wait_for(
-    waiting: &mut Vec<Waiting>,
-    original: Option<NodeId>,
-    parent: NodeId,
-) -> Result<(), AllocError>
-    ensures { OnOk result (waiting.new.items ≡ waiting.old.items ++ waiting_for original parent) }
-{
-    if let Some(original) = original {
-        waiting.push(Waiting { original, parent })?;
-    }
-    Ok(())
-}
-
 // Copies a node, with its descendants where the copy is deep, into a document or, where there is none, into the first copy.
 fn copy_tree(
     world: &mut World,
@@ -120,12 +100,12 @@ fn copy_tree(
     if !deep {
         return Ok(top);
     }
-    let mut waiting: Vec<Waiting> = Vec::new(alloc);
+    let mut waiting: Vec<Waiting<NodeId>> = Vec::new(alloc);
     wait_for(&mut waiting, world.tree.first(node), top)?;
     while let Some(next) = waiting.pop() {
-        let copy = copy_under(world, alloc, next.original, next.parent)?;
-        wait_for(&mut waiting, world.tree.next(next.original), next.parent)?;
-        wait_for(&mut waiting, world.tree.first(next.original), copy)?;
+        let copy = copy_under(world, alloc, next.first, next.place)?;
+        wait_for(&mut waiting, world.tree.next(next.first), next.place)?;
+        wait_for(&mut waiting, world.tree.first(next.first), copy)?;
     }
     Ok(top)
 }
@@ -167,7 +147,7 @@ fn copy_under(
     ensures copied { IfSome (entry_in world.old.tree.forest parent) (λ p. IfSome (entry_in world.old.tree.forest node) (λ e. OnOk result (Follows world.old world.new (made_under parent p.value.document e.value)))) }
     ensures whole { IsWhole world.new }
 {
-    let document = world.tree.document_of(parent);
+    let document = document_in(&world.tree, parent);
     let copy = copy_node(world, alloc, node, Some(document))?;
     world.tree.put(parent, copy, None);
     Ok(copy)

@@ -4,10 +4,12 @@
 mod copying;
 mod equality;
 mod standing;
+mod waiting;
 
 pub use copying::{clone_node, import};
 pub use equality::is_equal;
 pub use standing::{contains, position};
+pub use waiting::{Waiting, wait_for};
 
 /// What crates above name of `dom_attrs`.
 pub mod of_attrs {
@@ -24,7 +26,9 @@ pub mod of_data {
 
 /// What crates above name of `dom_edit`.
 pub mod of_edit {
-    pub use dom_data::of_edit::{Content, Refusal, World, check_insert};
+    pub use dom_data::of_edit::{
+        Content, Refusal, World, check_insert, data_in, document_in, reference_child,
+    };
 }
 
 /// What crates above name of `dom_kinds`.
@@ -56,7 +60,7 @@ pub mod of_ranges {
 
 /// What crates above name of `dom_traverse`.
 pub mod of_traverse {
-    pub use dom_data::of_traverse::{Filter, IterId, Rule, WalkerId};
+    pub use dom_data::of_traverse::{Filter, IteratorId, Rule, WalkerId};
 }
 
 /// What crates above name of `dom_tree`.

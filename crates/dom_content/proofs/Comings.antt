@@ -1,12 +1,11 @@
 -- What may go into a fragment still may after each step of drawing contents, and so no step is refused. DOM Standard, "Interface Range" (extract,
 -- clone the contents).
-use Rattle.std.proofs.Common.{◌≡◌, ℕ, ◌<◌, ◌≤◌, Bool, true, false, List, [], ◌∷◌, ◌++◌, length, None, refl, ap, sym, ◌∙◌, subst, arith, inl, inr, ⊎_elim}
-use Rattle.std.proofs.lemmas.Bool.{cases_lt, false≢true}
-use Rattle.dom_model.specs.declared.Kind.{Kind}
-use Rattle.dom_model.specs.declared.Kind.TheVariants.{Element, Text, ProcessingInstruction, Comment, Document, DocumentType, DocumentFragment}
+use Rattle.std.proofs.Common.{◌≡◌, ℕ, ◌<◌, ◌≤◌, Bool, true, false, List, [], ◌∷◌, ◌++◌, length, None, IsSome, refl, ap, sym, ◌∙◌, subst, arith, inl, inr, ⊎_elim}
+use Rattle.std.proofs.lemmas.Bool.{cases_lt}
+use Rattle.dom_model.specs.declared.Kind.TheVariants.{Document, DocumentType, DocumentFragment}
 use Rattle.dom_model.specs.PlainLists.Lists.{hits, up_to}
 use Rattle.dom_model.specs.Forests.Kinds.{is_kind, is_character_data, may_be_parent}
-use Rattle.dom_model.specs.Forests.Forest.{Forest, occurs, parent_of, children_of}
+use Rattle.dom_model.specs.Forests.Forest.{Forest, HasNode, occurs, parent_of, children_of}
 use Rattle.dom_model.specs.Worlds.World as model
 use Rattle.dom_model.specs.Worlds.World.{Content}
 use Rattle.dom_model.specs.MutationAlgorithms.Editing.{node_document}
@@ -18,6 +17,8 @@ use Rattle.dom_model.specs.RangesAndContents.Contents.{clone_with, child_into, c
 use Rattle.dom_model.specs.TokenText.Edits.{doing_children}
 use Rattle.dom_model.proofs.PlainLists.Numbers.{same_or, same, apart}
 use Rattle.dom_model.proofs.Forests.Climbing.{hits-append, hits-first}
+use Rattle.dom_model.proofs.Forests.Entries.{occurs-HasNode}
+use Rattle.dom_model.proofs.Forests.Indices.{child-parent}
 use Rattle.dom_model.proofs.DataAndCopies.CopiesPlaced.{kind-clone, kind-copy}
 use Rattle.dom_model.proofs.RangesAndContents.Drawing.{IsDrawing, Extends, extends-then, Draws, passes_there, passes_too, IsComing, may_come, draws-append}
 use Rattle.dom_model.proofs.RangesAndContents.Drawing as model_drawing
@@ -28,57 +29,15 @@ use Rattle.dom_model.proofs.RangesAndContents.DrawnPaths.{child-drawable, draws-
 use Rattle.dom_clone.specs.dom_edit.declared.world.World.{World}
 use Rattle.dom_clone.specs.dom_edit.Whole.{IsWhole, Keeps, Follows, unwatched}
 use Rattle.dom_clone.specs.dom_edit.Following.{keeps-unwatched}
+use Rattle.dom_clone.specs.dom_edit.Inserting.{IsUnreferred}
 use Rattle.dom_clone.specs.dom_edit.PlacedWorlds.{sound-unwatched}
 use Rattle.dom_content.specs.declared.partial.Partial.{Partial}
-use Rattle.dom_content.specs.Paths.{StillHeld, KindsStay, DataStays, opened, inner_of, entered, closed_one}
+use Rattle.dom_content.specs.Paths.{StillHeld, EndsStayOut, Stays, KindsStay, DataStays, opened, inner_of, entered, closed_one}
 use Rattle.dom_content.specs.Coming.{IsRising, IsHolder, may_go_in, IsOld, AreOld, IsUnfinished, AreUnfinished, IsPathTo}
+use Rattle.dom_content.proofs.KindsComing.{goes-drawn, drawn-goes, fragment-holds, fragment-document, fragment-doctype}
+use Rattle.dom_content.proofs.StaysOf.{stays-clone, stays-copied, new-unreferred}
 
 -- The same of the definitions.
-
-goes-drawn : (k : Kind) → may_go_in k ≡ true → is_drawn k ≡ true
-goes-drawn Element h = refl
-goes-drawn Text h = refl
-goes-drawn ProcessingInstruction h = refl
-goes-drawn Comment h = refl
-goes-drawn Document h = absurd (false≢true h)
-goes-drawn DocumentType h = absurd (false≢true h)
-goes-drawn DocumentFragment h = absurd (false≢true h)
-
-drawn-goes : (k : Kind) → is_drawn k ≡ true → may_go_in k ≡ true
-drawn-goes Element h = refl
-drawn-goes Text h = refl
-drawn-goes ProcessingInstruction h = refl
-drawn-goes Comment h = refl
-drawn-goes Document h = absurd (false≢true h)
-drawn-goes DocumentType h = absurd (false≢true h)
-drawn-goes DocumentFragment h = absurd (false≢true h)
-
-fragment-holds : (k : Kind) → is_kind DocumentFragment k ≡ true → may_be_parent k ≡ true
-fragment-holds Element h = absurd (false≢true h)
-fragment-holds Text h = absurd (false≢true h)
-fragment-holds ProcessingInstruction h = absurd (false≢true h)
-fragment-holds Comment h = absurd (false≢true h)
-fragment-holds Document h = absurd (false≢true h)
-fragment-holds DocumentType h = absurd (false≢true h)
-fragment-holds DocumentFragment h = refl
-
-fragment-document : (k : Kind) → is_kind DocumentFragment k ≡ true → is_kind Document k ≡ false
-fragment-document Element h = refl
-fragment-document Text h = refl
-fragment-document ProcessingInstruction h = refl
-fragment-document Comment h = refl
-fragment-document Document h = absurd (false≢true h)
-fragment-document DocumentType h = refl
-fragment-document DocumentFragment h = refl
-
-fragment-doctype : (k : Kind) → is_kind DocumentFragment k ≡ true → is_kind DocumentType k ≡ false
-fragment-doctype Element h = refl
-fragment-doctype Text h = refl
-fragment-doctype ProcessingInstruction h = refl
-fragment-doctype Comment h = refl
-fragment-doctype Document h = refl
-fragment-doctype DocumentType h = absurd (false≢true h)
-fragment-doctype DocumentFragment h = refl
 
 drawing : (low : ℕ) (v : World) → IsWhole v → IsRising low v → IsDrawing low (unwatched v)
 drawing low v h r = record { sound = sound-unwatched v h; begun = r.begun; rising = r.rising }
@@ -89,8 +48,8 @@ holder low v into k = record { fresh = k.fresh; kind = k.kind }
 drawable : (low : ℕ) (v : World) (n : ℕ) → IsOld low v.tree.forest n → IsDrawable low (unwatched v) n
 drawable low v n o = record { old = o.old; kind = passes_too may_go_in is_drawn true goes-drawn v.tree.forest n o.kind }
 
-pub old-of : (low : ℕ) (w : model.World) (n : ℕ) → IsDrawable low w n → IsOld low w.forest n
-old-of low w n d = record { old = d.old; kind = passes_too is_drawn may_go_in true drawn-goes w.forest n d.kind }
+pub old-of : (low : ℕ) (w : model.World) (n : ℕ) → IsDrawable low w n → IsSome (parent_of w.forest n) → IsOld low w.forest n
+old-of low w n d child = record { old = d.old; kind = passes_too is_drawn may_go_in true drawn-goes w.forest n d.kind; child = child }
 
 pub old-there : (low : ℕ) (f : Forest Content) (n : ℕ) → IsOld low f n → 0 < occurs n f
 old-there low f n o = passes_there may_go_in f n o.kind
@@ -107,28 +66,32 @@ pub record Goes (low : ℕ) (a b : World) : Type 0 where
   pub rising : IsRising low b
   pub there : StillHeld a b
   pub kinds : KindsStay a b
+  pub children : (m : ℕ) → IsSome (parent_of a.tree.forest m) → IsSome (parent_of b.tree.forest m)
 
-goes : (low : ℕ) (a b : World) (step : model.World → model.World) → Follows a b step → IsDrawing low (step (unwatched a)) → Extends (unwatched a) (step (unwatched a)) → Goes low a b
-goes low a b step f d x =
+goes : (low : ℕ) (a b : World) (step : model.World → model.World) → Follows a b step → IsDrawing low (step (unwatched a)) → Extends (unwatched a) (step (unwatched a)) → EndsStayOut low a → Stays a b → Goes low a b
+goes low a b step f d x out s =
     let k = f.keeps (unwatched a) (keeps-unwatched a) in
     record {
       rising = record {
         begun = (let m = k.made in let l = d.begun in omega (arith, m, l));
         rising = λ n q l e. d.rising n q l (ap (λ (g : Forest Content). parent_of g n) k.forest ∙ e);
+        ends = s.ends low out;
       };
-      there = λ m h. subst (λ (g : Forest Content). 0 < occurs m g) k.forest (x.there m h);
+      there = s.held;
       kinds = λ test m h. ap (λ (g : Forest Content). kind_passes test g m) (sym k.forest) ∙ x.kinds test m h;
+      children = s.children;
     }
 
 pub goes-then : (low : ℕ) (a b c : World) → Goes low a b → Goes low b c → Goes low a c
-goes-then low a b c g h = record { rising = h.rising; there = λ m k. h.there m (g.there m k); kinds = λ test m k. h.kinds test m (g.there m k) ∙ g.kinds test m k }
+goes-then low a b c g h =
+    record { rising = h.rising; there = λ m k. h.there m (g.there m k); kinds = λ test m k. h.kinds test m (g.there m k) ∙ g.kinds test m k; children = λ m k. h.children m (g.children m k) }
 
 module _ (low : ℕ) (a b : World) (g : Goes low a b) where
   pub holder-goes : (into : ℕ) → IsHolder low a.tree.forest into → IsHolder low b.tree.forest into
   holder-goes into k = record { fresh = k.fresh; kind = g.kinds may_be_parent into (passes_there may_be_parent a.tree.forest into k.kind) ∙ k.kind }
 
   pub old-goes : (n : ℕ) → IsOld low a.tree.forest n → IsOld low b.tree.forest n
-  old-goes n o = record { old = o.old; kind = g.kinds may_go_in n (passes_there may_go_in a.tree.forest n o.kind) ∙ o.kind }
+  old-goes n o = record { old = o.old; kind = g.kinds may_go_in n (passes_there may_go_in a.tree.forest n o.kind) ∙ o.kind; child = g.children n o.child }
 
   pub unfinished-goes : (p : Partial) → IsUnfinished low a.tree.forest p → IsUnfinished low b.tree.forest p
   unfinished-goes p u = record {
@@ -202,10 +165,12 @@ within-path v offset [] h = tt
 within-path v offset (n ∷ []) h = h
 within-path v offset (n ∷ m ∷ path) h = within-path v offset (m ∷ path) h.1
 
-pub olds-of : (low : ℕ) (w : model.World) (path : List ℕ) → paths.ArePath low w path → AreOld low w.forest path
-olds-of low w [] p = none-old low w.forest
-olds-of low w (n ∷ []) p = one-old low w.forest n (old-of low w n p)
-olds-of low w (n ∷ m ∷ path) p = more-old low w.forest n (m ∷ path) (old-of low w n p.0) (olds-of low w (m ∷ path) p.2)
+pub olds-of : (low : ℕ) (w : model.World) (path : List ℕ) → paths.ArePath low w path → ((c : ℕ) → 0 < hits c path → IsSome (parent_of w.forest c)) → AreOld low w.forest path
+olds-of low w [] p under = none-old low w.forest
+olds-of low w (n ∷ []) p under = one-old low w.forest n (old-of low w n p (under n (hits-first n [])))
+olds-of low w (n ∷ m ∷ path) p under =
+    more-old low w.forest n (m ∷ path) (old-of low w n p.0 (under n (hits-first n (m ∷ path))))
+    (olds-of low w (m ∷ path) p.2 (λ c k. under c (let i = hits-append c (n ∷ []) (m ∷ path) in omega arith)))
 
 pub way-of : (low offset : ℕ) (w : model.World) (path : List ℕ) → paths.ArePath low w path → paths.IsWithin offset w path → IsPathTo w.forest offset path
 way-of low offset w [] p h = tt
@@ -241,14 +206,31 @@ module _ (v : World) (h : IsWhole v) (low : ℕ) (r : IsRising low v) where
   pub may-finish : (p : Partial) → IsUnfinished low v.tree.forest p → IsInsertable v.tree.forest p.inner p.copy None
   may-finish p u = may_come low w (drawing low v h r) p.copy p.inner (holder low v p.copy u.copy) (fragment-coming low w p u.inner u.order)
 
-  pub goes-closed : (moves : Bool) (p : Partial) → IsUnfinished low v.tree.forest p → (b : World) → Follows v b (closed_one moves p) → Goes low v b
-  goes-closed moves p u b f =
+  -- inside of which no end stands
+  pub finish-unreferred : (p : Partial) → IsUnfinished low v.tree.forest p → IsUnreferred v p.inner
+  finish-unreferred p u = new-unreferred low v h r p.inner (inner-holder low v.tree.forest p u).fresh (passes_there (is_kind DocumentFragment) v.tree.forest p.inner u.inner)
+
+  -- nor inside of a copy that was just made
+  pub copy-unreferred : (deep : Bool) (n : ℕ) (mid : World) → IsWhole mid → Follows v mid (clone_node deep n) → HasNode mid.tree.forest v.tree.made → IsUnreferred mid v.tree.made
+  copy-unreferred deep n mid hm f held =
+      let a = draws-clone low w (drawing low v h r) deep n in
+      let g = goes low v mid (clone_node deep n) f a.drawing a.extends r.ends (stays-clone v mid deep n f) in
+      new-unreferred low mid hm g.rising v.tree.made r.begun (occurs-HasNode mid.tree.forest v.tree.made held)
+
+  pub part-unreferred : (units : List ℕ) (n : ℕ) (mid : World) → IsWhole mid → Follows v mid (clone_with units n) → HasNode mid.tree.forest v.tree.made → IsUnreferred mid v.tree.made
+  part-unreferred units n mid hm f held =
+      let a = draws-clone_with low w (drawing low v h r) units n in
+      let g = goes low v mid (clone_with units n) f a.drawing a.extends r.ends (stays-copied v mid units n f) in
+      new-unreferred low mid hm g.rising v.tree.made r.begun (occurs-HasNode mid.tree.forest v.tree.made held)
+
+  pub goes-closed : (moves : Bool) (p : Partial) → IsUnfinished low v.tree.forest p → (b : World) → Follows v b (closed_one moves p) → Stays v b → Goes low v b
+  goes-closed moves p u b f s =
       let k = inner-holder low v.tree.forest p u in
       let x = children_into moves p.inner p.children.items w in
       let a = draws-children low moves p.inner p.children.items w (drawing low v h r) (holder low v p.inner k) (λ c i. drawable low v c (u.children c i)) in
       let kind = a.extends.kinds (is_kind DocumentFragment) p.inner (passes_there (is_kind DocumentFragment) v.tree.forest p.inner u.inner) ∙ u.inner in
       let c = draws-append low x a.drawing p.copy p.inner (model_drawing.holder-extends low w x p.copy a.extends (holder low v p.copy u.copy)) (fragment-coming low x p kind u.order) in
-      goes low v b (closed_one moves p) f c.drawing (extends-then w x (closed_one moves p w) a.extends c.extends)
+      goes low v b (closed_one moves p) f c.drawing (extends-then w x (closed_one moves p w) a.extends c.extends) r.ends s
 
   module _ (into : ℕ) (k : IsHolder low v.tree.forest into) where
     new-place : into < v.tree.made
@@ -260,7 +242,7 @@ module _ (v : World) (h : IsWhole v) (low : ℕ) (r : IsRising low v) where
         let first = clone_node deep n w in
         let d = drawable low v n o in
         let a = draws-clone low w (drawing low v h r) deep n in
-        let g = goes low v mid (clone_node deep n) f a.drawing a.extends in
+        let g = goes low v mid (clone_node deep n) f a.drawing a.extends r.ends (stays-clone v mid deep n f) in
         let e = (f.keeps w (keeps-unwatched v)).forest in
         let s = sound-unwatched v h in
         let kind : kind_passes is_drawn first.forest v.tree.made ≡ true =
@@ -272,7 +254,7 @@ module _ (v : World) (h : IsWhole v) (low : ℕ) (r : IsRising low v) where
     may-put_part units n is_data mid hm f =
         let first = clone_with units n w in
         let a = draws-clone_with low w (drawing low v h r) units n in
-        let g = goes low v mid (clone_with units n) f a.drawing a.extends in
+        let g = goes low v mid (clone_with units n) f a.drawing a.extends r.ends (stays-copied v mid units n f) in
         let e = (f.keeps w (keeps-unwatched v)).forest in
         let s = sound-unwatched v h in
         let kind : kind_passes is_drawn first.forest v.tree.made ≡ true =
@@ -283,35 +265,38 @@ module _ (v : World) (h : IsWhole v) (low : ℕ) (r : IsRising low v) where
 
     -- The steps.
 
-    pub goes-children : (moves : Bool) (ns : List ℕ) → AreOld low v.tree.forest ns → (b : World) → Follows v b (children_into moves into ns) → Goes low v b
-    goes-children moves ns o b f =
+    pub goes-children : (moves : Bool) (ns : List ℕ) → AreOld low v.tree.forest ns → (b : World) → Follows v b (children_into moves into ns) → Stays v b → Goes low v b
+    goes-children moves ns o b f s =
         let d = draws-children low moves into ns w (drawing low v h r) (holder low v into k) (λ c i. drawable low v c (o c i)) in
-        goes low v b (children_into moves into ns) f d.drawing d.extends
+        goes low v b (children_into moves into ns) f d.drawing d.extends r.ends s
 
-    pub goes-child : (moves : Bool) (n : ℕ) → IsOld low v.tree.forest n → (b : World) → Follows v b (child_into moves into n) → Goes low v b
-    goes-child moves n o b f = goes-children moves (n ∷ []) (one-old low v.tree.forest n o) b f
+    pub goes-child : (moves : Bool) (n : ℕ) → IsOld low v.tree.forest n → (b : World) → Follows v b (child_into moves into n) → Stays v b → Goes low v b
+    goes-child moves n o b f s = goes-children moves (n ∷ []) (one-old low v.tree.forest n o) b f s
 
-    pub goes-tail : (moves : Bool) (offset : ℕ) (path : List ℕ) → AreOld low v.tree.forest path → IsPathTo v.tree.forest offset path → (b : World) → Follows v b (tail_into moves into offset path) → Goes low v b
-    goes-tail moves offset path o way b f =
+    pub goes-tail : (moves : Bool) (offset : ℕ) (path : List ℕ) → AreOld low v.tree.forest path → IsPathTo v.tree.forest offset path → (b : World) → Follows v b (tail_into moves into offset path) → Stays v b → Goes low v b
+    goes-tail moves offset path o way b f s =
         let d = draws-tail low moves into offset path w (drawing low v h r) (holder low v into k) (drawables low v offset path o way) (within-path v offset path way) in
-        goes low v b (tail_into moves into offset path) f d.drawing d.extends
+        goes low v b (tail_into moves into offset path) f d.drawing d.extends r.ends s
 
-    pub goes-head : (moves : Bool) (offset : ℕ) (path : List ℕ) → AreOld low v.tree.forest path → IsPathTo v.tree.forest 0 path → (b : World) → Follows v b (head_into moves into offset path) → Goes low v b
-    goes-head moves offset path o way b f =
+    pub goes-head : (moves : Bool) (offset : ℕ) (path : List ℕ) → AreOld low v.tree.forest path → IsPathTo v.tree.forest 0 path → (b : World) → Follows v b (head_into moves into offset path) → Stays v b → Goes low v b
+    goes-head moves offset path o way b f s =
         let d = draws-head low moves into offset path w (drawing low v h r) (holder low v into k) (drawables low v 0 path o way) in
-        goes low v b (head_into moves into offset path) f d.drawing d.extends
+        goes low v b (head_into moves into offset path) f d.drawing d.extends r.ends s
 
     -- A copy is opened.
 
     module _ (n : ℕ) (o : IsOld low v.tree.forest n) (no_data : kind_passes is_character_data v.tree.forest n ≡ false) where
       pub children-old : (ns : List ℕ) → ((c : ℕ) → hits c ns ≤ hits c (children_of v.tree.forest n)) → AreOld low v.tree.forest ns
-      children-old ns fewer c i = old-of low w c (child-drawable low w (drawing low v h r) n c (drawable low v n o) (let j = fewer c in omega arith))
+      children-old ns fewer c i =
+          let k : 0 < hits c (children_of v.tree.forest n) = (let j = fewer c in omega arith) in
+          old-of low w c (child-drawable low w (drawing low v h r) n c (drawable low v n o) k) (rw (child-parent v.tree.forest h.forest.once c n k) refl)
 
-      pub goes-opened : (b : World) → Follows v b (opened into n) → Goes low v b
-      goes-opened b f =
+      pub goes-opened : (b : World) → Follows v b (opened into n) → Stays v b → Goes low v b
+      goes-opened b f s =
           goes low v b (opened into n) f
           (paths.third low into n w (drawing low v h r) (holder low v into k) (drawable low v n o) no_data).drawing
           (paths.extended low into n w (drawing low v h r) (holder low v into k) (drawable low v n o) no_data)
+          r.ends s
 
       -- the copy and the further fragment, in a world that goes on from there
       unfinished-in : (b : World) (x : model.World) (p : Partial) → x.forest ≡ b.tree.forest → Extends (opened into n w) x → p.copy ≡ v.tree.made → ((y : model.World) → Keeps v y → p.inner ≡ inner_of into n y) → AreOld low b.tree.forest p.children.items → IsUnfinished low b.tree.forest p
@@ -336,9 +321,9 @@ module _ (v : World) (h : IsWhole v) (low : ℕ) (r : IsRising low v) where
             children = kids;
           }
 
-      pub opened-unfinished : (b : World) (p : Partial) → Follows v b (opened into n) → p.copy ≡ v.tree.made → ((x : model.World) → Keeps v x → p.inner ≡ inner_of into n x) → AreOld low v.tree.forest p.children.items → IsUnfinished low b.tree.forest p
-      opened-unfinished b p f ec ei kids =
-          unfinished-in b (opened into n w) p (f.keeps w (keeps-unwatched v)).forest (model_drawing.extends-same (opened into n w)) ec ei (λ c i. old-goes low v b (goes-opened b f) c (kids c i))
+      pub opened-unfinished : (b : World) (p : Partial) → Follows v b (opened into n) → Stays v b → p.copy ≡ v.tree.made → ((x : model.World) → Keeps v x → p.inner ≡ inner_of into n x) → AreOld low v.tree.forest p.children.items → IsUnfinished low b.tree.forest p
+      opened-unfinished b p f s ec ei kids =
+          unfinished-in b (opened into n w) p (f.keeps w (keeps-unwatched v)).forest (model_drawing.extends-same (opened into n w)) ec ei (λ c i. old-goes low v b (goes-opened b f s) c (kids c i))
 
       module _ (moves : Bool) (next : ℕ) where
         enters : Draws low (doing_children moves (inner_of into n w) (up_to next (children_of v.tree.forest n))) (opened into n w) (entered moves into n next w)
@@ -351,10 +336,11 @@ module _ (v : World) (h : IsWhole v) (low : ℕ) (r : IsRising low v) where
             draws-children low moves (inner_of into n w) ns (opened into n w) (paths.third low into n w d hk dn no_data).drawing (paths.inner_holds low into n w d hk dn no_data)
             (λ c i. model_pieces.drawable-extends low w (opened into n w) c (paths.extended low into n w d hk dn no_data) (drawable low v c (kids c i)))
 
-        pub goes-entered : (b : World) → Follows v b (entered moves into n next) → Goes low v b
-        goes-entered b f =
+        pub goes-entered : (b : World) → Follows v b (entered moves into n next) → Stays v b → Goes low v b
+        goes-entered b f s =
             goes low v b (entered moves into n next) f enters.drawing
             (extends-then w (opened into n w) (entered moves into n next w) (paths.extended low into n w (drawing low v h r) (holder low v into k) (drawable low v n o) no_data) enters.extends)
+            r.ends s
 
         pub entered-unfinished : (b : World) (p : Partial) → Follows v b (entered moves into n next) → p.copy ≡ v.tree.made → ((x : model.World) → Keeps v x → p.inner ≡ inner_of into n x) → p.children.items ≡ [] → IsUnfinished low b.tree.forest p
         entered-unfinished b p f ec ei none =

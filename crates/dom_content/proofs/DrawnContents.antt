@@ -1,13 +1,11 @@
 -- A range's contents that go into a new fragment by their parts, on every world that a world of the code keeps. DOM Standard, "Interface Range".
 use Rattle.std.proofs.Common.{◌≡◌, ℕ, ◌+◌, ◌<◌, ◌≤◌, ◌==◌, Bool, true, false, ◌&&◌, ◌||◌, if◌then◌else◌, List, [], ◌∷◌, drop, length, filter, reverse, slice_index_or, Option, Some, None, refl, ap, sym, ◌∙◌, subst, arith, length-drop}
-use Rattle.std.specs.Prelude.{IsSome, IfSome, is_some}
-use Rattle.std.proofs.lemmas.Bool.{false≢true}
+use Rattle.std.specs.Prelude.{IsSome, is_some}
 use Rattle.std.proofs.lemmas.List.{drop_more}
 use Rattle.dom_model.specs.declared.Kind.{Kind}
-use Rattle.dom_model.specs.declared.Kind.TheVariants.{Document, DocumentType, DocumentFragment}
+use Rattle.dom_model.specs.declared.Kind.TheVariants.{DocumentType, DocumentFragment}
 use Rattle.dom_model.specs.PlainLists.Lists.{hits, is_same, up_to}
 use Rattle.dom_model.specs.Forests.Kinds.{is_character_data}
-use Rattle.dom_model.specs.Forests.Arena.{Entry}
 use Rattle.dom_model.specs.Forests.Forest.{Node, Forest, empty, node, occurs, beside, HasNode, entry_in, children_of, ancestors, root_of}
 use Rattle.dom_model.specs.Worlds.Lengths.{unit_count, node_length}
 use Rattle.dom_model.specs.Worlds.World as model
@@ -39,7 +37,6 @@ use Rattle.dom_clone.specs.dom_edit.Inserting.{AreThere}
 use Rattle.dom_clone.specs.dom_edit.Whole.{IsWhole, Keeps, Follows, unwatched}
 use Rattle.dom_clone.specs.dom_edit.Following.{follows-then, keeps-unwatched}
 use Rattle.dom_clone.specs.dom_edit.InsertedNodes.{item-hit}
-use Rattle.dom_clone.specs.dom_data.NewTexts.{owner-kind}
 use Rattle.dom_clone.specs.dom_data.StaysWhole.{sound-unwatched}
 use Rattle.dom_content.specs.Paths.{HasRoom}
 use Rattle.dom_content.specs.Drawing.{AreParts, in_one_data, parts_drawn, filled}
@@ -69,6 +66,14 @@ module _ (moves : Bool) (into : ℕ) (r : Range) (first contained last : List �
       subst (λ ns. HasRoom b (children_into moves into ns)) (sym dc)
       (room-before b (λ w. head_into moves into r.end.offset last (children_into moves into contained w)) (children_into moves into contained) (head_into moves into r.end.offset last) (λ w k. refl) (head-rises moves into r.end.offset last) rest)
 
+  pub follows-parts : (a b e z : World) (o i : ℕ) (p c l : List ℕ) → o ≡ r.start.offset → p ≡ first → c ≡ contained → i ≡ r.end.offset → l ≡ last →
+      Follows a b (tail_into moves into o p) → Follows b e (children_into moves into c) → Follows e z (head_into moves into i l) → Follows a z (parts_drawn moves into r first contained last)
+  follows-parts a b e z o i p c l d dp dc di dl f g h =
+      let middle = subst (λ ns. Follows b e (children_into moves into ns)) dc g in
+      let end = subst (λ ns. Follows e z (head_into moves into r.end.offset ns)) dl (subst (λ x. Follows e z (head_into moves into x l)) di h) in
+      follows-then a b z (tail_into moves into r.start.offset first) (λ w. head_into moves into r.end.offset last (children_into moves into contained w)) (tailed a b o p d dp f)
+      (follows-then b e z (children_into moves into contained) (head_into moves into r.end.offset last) middle end)
+
 -- A fragment beside the trees of a whole world.
 
 abbrev all : Bool → Range → model.World → ℕ → ℕ → Bool → List ℕ → List ℕ → List ℕ → model.World
@@ -80,15 +85,8 @@ path r g n = path_below g (common_ancestor g r.start.node r.end.node) n
 abbrev whole : Range → Forest Content → List ℕ
 whole r g = filter (is_contained unit_count g r) (children_of g (common_ancestor g r.start.node r.end.node))
 
-pub document-is : (f : Forest Content) (n m d : ℕ) → n ≡ m → HasNode f m → IfSome (entry_in f n) (λ e. d ≡ e.value.document) → d ≡ document_in (entry_in f m)
-document-is f n m d i h e = go (entry_in f m) h (subst (λ k. IfSome (entry_in f k) (λ e. d ≡ e.value.document)) i e)
-  where
-    go : (o : Option (Entry (Node Content))) → IsSome o → IfSome o (λ e. d ≡ e.value.document) → d ≡ document_in o
-    go None s k = absurd (false≢true s)
-    go (Some e) s k = k
-
-pub document-kind : (v : World) → IsWhole v → (n m d : ℕ) → n ≡ m → HasNode v.tree.forest m → IfSome (entry_in v.tree.forest n) (λ e. d ≡ e.value.document) → is_of_kind Document v.tree.forest d ≡ true
-document-kind v h n m d i held e = owner-kind v.tree.forest n d (subst (λ k. HasNode v.tree.forest k) (sym i) held) h.owners e
+pub document-is : (f : Forest Content) (n m d : ℕ) → n ≡ m → d ≡ document_in (entry_in f n) → d ≡ document_in (entry_in f m)
+document-is f n m d i e = e ∙ ap (λ (k : ℕ). document_in (entry_in f k)) i
 
 module _ (v : World) (h : IsWhole v) (r : Range) (is : IsRange v.tree.forest r) where
   abbrev w0 : model.World

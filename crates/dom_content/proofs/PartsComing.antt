@@ -1,31 +1,41 @@
 -- The parts of a range may go into the fragment that was just made. DOM Standard, "Interface Range" (extract, clone the contents).
-use Rattle.std.proofs.Common.{◌≡◌, ℕ, ◌+◌, ◌<◌, ◌≤◌, ◌==◌, true, List, ◌++◌, length, Some, None, ap, sym, ◌∙◌, subst, arith, ⊎_elim}
+use Rattle.std.proofs.Common.{◌≡◌, ℕ, ◌+◌, ◌<◌, ◌≤◌, ◌==◌, true, List, [], ◌∷◌, ◌++◌, length, Some, None, IsSome, refl, ap, sym, ◌∙◌, subst, arith, ⊎_elim}
 use Rattle.std.proofs.lemmas.Bool.{cases_lt}
 use Rattle.dom_model.specs.declared.Kind.TheVariants.{DocumentType}
 use Rattle.dom_model.specs.PlainLists.Lists.{hits}
 use Rattle.dom_model.specs.Forests.Kinds.{is_kind, is_character_data, may_be_parent}
-use Rattle.dom_model.specs.Forests.Forest.{Forest, occurs, parent_of, ancestors, entry_in}
+use Rattle.dom_model.specs.Forests.Forest.{Forest, occurs, parent_of, children_of, ancestors, entry_in}
+use Rattle.dom_model.specs.Forests.Ways.{IsWay}
+use Rattle.dom_model.specs.Worlds.Lengths.{unit_count}
 use Rattle.dom_model.specs.Worlds.World as model
 use Rattle.dom_model.specs.Worlds.World.{Content, Range}
 use Rattle.dom_model.specs.Soundness.Sound.{IsRange, IsSound}
 use Rattle.dom_model.specs.Forests.Nodes.{kind_passes}
 use Rattle.dom_model.specs.MutationAlgorithms.Editing.{document_in, node_document}
 use Rattle.dom_model.specs.DataAndCopies.Data.{content_in, data_of}
+use Rattle.dom_model.specs.RangesAndContents.Ranges.{is_contained, common_ancestor}
 use Rattle.dom_model.specs.RangesAndContents.Contents.{new_fragment, path_below, common_of, check_draw}
 use Rattle.dom_model.specs.TokenText.Edits.{doing_fragment}
+use Rattle.dom_model.proofs.PlainLists.Numbers.{same_or, same, apart}
 use Rattle.dom_model.proofs.Forests.Entries.{occurs-HasNode}
+use Rattle.dom_model.proofs.Forests.Indices.{child-parent, parent-there}
+use Rattle.dom_model.proofs.MutationAlgorithms.Extending.{extends-beside}
+use Rattle.dom_model.proofs.MutationAlgorithms.Extending as extending
 use Rattle.dom_model.proofs.Soundness.SoundWorlds.{child_there}
 use Rattle.dom_model.proofs.RangesAndContents.Drawing.{Draws}
-use Rattle.dom_model.proofs.RangesAndContents.DrawnPaths.{ArePath, IsWithin}
+use Rattle.dom_model.proofs.RangesAndContents.DrawnPaths.{ArePath, IsWithin, hits-filter}
 use Rattle.dom_model.proofs.RangesAndContents.PathsToEnds.{common-above, path-down, path-within}
+use Rattle.dom_model.proofs.RangesAndContents.WaysBelow.{IsFork, fork}
 use Rattle.dom_model.proofs.TokenText.EditsMade.EditsOfDrawnContents as drawn
 use Rattle.dom_clone.specs.dom_edit.declared.world.World.{World}
 use Rattle.dom_clone.specs.dom_edit.Whole.{IsWhole, Keeps, Follows, unwatched}
 use Rattle.dom_clone.specs.dom_edit.Following.{keeps-unwatched}
 use Rattle.dom_clone.specs.dom_data.StaysWhole.{sound-unwatched}
+use Rattle.dom_content.specs.Paths.{Stays}
 use Rattle.dom_content.specs.Coming.{AreOld, MayDraw, IsPathTo}
 use Rattle.dom_content.specs.Drawing.{AreParts, in_one_data}
 use Rattle.dom_content.proofs.PartsBetween.{and-both}
+use Rattle.dom_content.proofs.StaysOf.{ends-old}
 use Rattle.dom_content.proofs.Comings.{old-of, both-old, olds-of, way-of, front-of}
 use Rattle.dom_content.proofs.DrawnContents.{path-same, root-same}
 
@@ -93,14 +103,44 @@ module _ (v : World) (h : IsWhole v) (r : Range) (is : IsRange v.tree.forest r) 
     last_path : ArePath low grown last
     last_path = subst (ArePath low grown) (path-same v h r is r.end.node he ∙ sym are.last) end_path
 
+    -- each of them stands under a parent
+    under-grown : (c q : ℕ) → parent_of v.tree.forest c ≡ Some q → IsSome (parent_of grown.forest c)
+    under-grown c q e =
+        let x : extending.Extends v.tree.forest grown.forest [] = extends-beside v.tree.forest _ in
+        rw (x.parents c (parent-there v.tree.forest c q e) refl ∙ e) refl
+
+    on-way : (top n : ℕ) (path : List ℕ) → IsWay v.tree.forest top path n → (c : ℕ) → 0 < hits c path → IsSome (parent_of grown.forest c)
+    on-way top n [] way c k = absurd (omega arith)
+    on-way top n (m ∷ path) way c k =
+        elim (same_or m c) [
+          | same e t ↦ subst (λ x. IsSome (parent_of grown.forest x)) e (under-grown m top way.1)
+          | apart ne t ↦ (let j = rw t at k in on-way m n path way.2 c (omega arith))
+        ]
+
+    ways : IsFork v.tree.forest h.forest.once r.start.node r.end.node (common_ancestor v.tree.forest r.start.node r.end.node)
+    ways = fork v.tree.forest h.forest.once r.start.node r.end.node hs he is.one_root
+
+    contained_under : (c : ℕ) → 0 < hits c contained → IsSome (parent_of grown.forest c)
+    contained_under c k =
+        let top = common_ancestor v.tree.forest r.start.node r.end.node in
+        let i = subst (λ ns. 0 < hits c ns) are.contained k in
+        let j = hits-filter c (is_contained unit_count v.tree.forest r) (children_of v.tree.forest top) in
+        under-grown c top (child-parent v.tree.forest h.forest.once c top (omega arith))
+
     contained_old : AreOld low grown.forest contained
-    contained_old c k = old-of low grown c (drawn.contained_drawable w s r is allowed c (subst (λ ns. 0 < hits c ns) (are.contained ∙ sym (drawn.contained_children-same w s r is)) k))
+    contained_old c k = old-of low grown c (drawn.contained_drawable w s r is allowed c (subst (λ ns. 0 < hits c ns) (are.contained ∙ sym (drawn.contained_children-same w s r is)) k)) (contained_under c k)
+
+    first_old : AreOld low grown.forest first
+    first_old = olds-of low grown first first_path (on-way (common_ancestor v.tree.forest r.start.node r.end.node) r.start.node first (subst (λ path. IsWay v.tree.forest (common_ancestor v.tree.forest r.start.node r.end.node) path r.start.node) (sym are.first) ways.first))
+
+    last_old : AreOld low grown.forest last
+    last_old = olds-of low grown last last_path (on-way (common_ancestor v.tree.forest r.start.node r.end.node) r.end.node last (subst (λ path. IsWay v.tree.forest (common_ancestor v.tree.forest r.start.node r.end.node) path r.end.node) (sym are.last) ways.second))
 
     all_old : AreOld low grown.forest (first ++ (contained ++ last))
-    all_old = both-old low grown.forest first (contained ++ last) (olds-of low grown first first_path) (both-old low grown.forest contained last contained_old (olds-of low grown last last_path))
+    all_old = both-old low grown.forest first (contained ++ last) first_old (both-old low grown.forest contained last contained_old last_old)
 
-    pub may-fill : (x : World) (d into : ℕ) → d ≡ document_in (entry_in v.tree.forest r.start.node) → into ≡ v.tree.made → Follows v x (new_fragment d) → MayFill x into r first contained last
-    may-fill x d into ed ei f =
+    pub may-fill : (x : World) (d into : ℕ) → d ≡ document_in (entry_in v.tree.forest r.start.node) → into ≡ v.tree.made → Follows v x (new_fragment d) → Stays v x → MayFill x into r first contained last
+    may-fill x d into ed ei f st =
         let k : Keeps x grown = subst (λ (m : ℕ). Keeps x (new_fragment m w)) ed (f.keeps w (keeps-unwatched v)) in
         let holds = drawn.holds w s r is in
         record {
@@ -109,6 +149,7 @@ module _ (v : World) (h : IsWhole v) (r : Range) (is : IsRange v.tree.forest r) 
             rising = record {
               begun = (let m = k.made in let l = begun.drawing.begun in omega (arith, m, l));
               rising = λ n q l e. begun.drawing.rising n q l (ap (λ (g : Forest Content). parent_of g n) k.forest ∙ e);
+              ends = st.ends low (ends-old v h);
             };
             holder = record {
               fresh = (omega (arith, ei));

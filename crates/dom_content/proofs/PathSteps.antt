@@ -1,7 +1,5 @@
 -- Going down a path with copies that are finished on the way back. DOM Standard, "Interface Range" (extract, clone the contents).
 use Rattle.std.proofs.Common.{◌≡◌, ℕ, ◌+◌, ◌-◌, ◌<◌, ◌≤◌, Bool, true, false, if◌then◌else◌, List, [], ◌∷◌, ◌++◌, drop, length, slice_index_or, refl, ap, sym, ◌∙◌, subst, arith, Some, None, Option, is_some, length-append}
-use Rattle.std.specs.Prelude.{IfSome}
-use Rattle.std.proofs.lemmas.Bool.{false≢true}
 use Rattle.dom_model.specs.declared.Kind.TheVariants.{Document}
 use Rattle.dom_model.specs.Forests.Kinds.{is_kind, is_character_data}
 use Rattle.dom_model.specs.Forests.Arena.{Entry}
@@ -14,7 +12,6 @@ use Rattle.dom_model.specs.MutationAlgorithms.Editing.{append, document_in, node
 use Rattle.dom_model.specs.DataAndCopies.Data.{content_in, data_of}
 use Rattle.dom_model.specs.DataAndCopies.Clones.{clone_node}
 use Rattle.dom_model.specs.RangesAndContents.Contents.{new_fragment, units_into, children_into, copy_into, tail_into}
-use Rattle.dom_model.proofs.Forests.Changes.{seen, nothing, just}
 use Rattle.dom_model.proofs.Forests.Entries.{occurs-HasNode, HasNode-occurs}
 use Rattle.dom_model.proofs.Counting.CountsKept.{append-kept}
 use Rattle.dom_model.proofs.Counting.CountsOfContents.{units_into-grown}
@@ -23,8 +20,9 @@ use Rattle.dom_clone.specs.dom_edit.Whole.{IsWhole, Keeps, Follows}
 use Rattle.dom_clone.specs.dom_edit.Following.{follows-none, follows-then}
 use Rattle.dom_clone.specs.dom_edit.InsertedNodes.{follows-as}
 use Rattle.dom_content.specs.declared.partial.Partial.{Partial}
-use Rattle.dom_content.specs.Paths.{HasRoom, StillHeld, KindsStay, opened, inner_of, closed_one, closed}
+use Rattle.dom_content.specs.Paths.{HasRoom, StillHeld, Stays, KindsStay, opened, inner_of, closed_one, closed}
 use Rattle.dom_content.specs.Coming.{IsRising, IsHolder, IsOld, AreOld, MayDraw, IsUnfinished, AreUnfinished, MayClose, IsPathTo}
+use Rattle.dom_content.proofs.StaysOf.{stays-none, stays-then}
 use Rattle.dom_content.proofs.Comings.{Goes, first-old, rest-old, one-old, old-there, old-goes, all_unfinished-go, inner-holder, goes-closed}
 use Rattle.dom_content.proofs.PathLists.{listed, none-left}
 use Rattle.dom_content.proofs.PieceSteps.{room-before, room-after, room-as, children-grow}
@@ -109,21 +107,14 @@ document-stays a b c d s i j k =
     let h = document-there a.tree.forest d k in
     j (is_kind Document) d (s d h) ∙ i (is_kind Document) d h ∙ k
 
-module _ (v : World) (into n d copy : ℕ) (ec : copy ≡ v.tree.made) (held : HasNode v.tree.forest n) (ed : IfSome (entry_in v.tree.forest n) (λ e. d ≡ e.value.document)) where
-  document-is : d ≡ document_in (entry_in v.tree.forest n)
-  document-is =
-      elim (seen (entry_in v.tree.forest n)) [
-        | nothing e ↦ absurd (let k : is_some (entry_in v.tree.forest n) ≡ true = held in let j = rw e at k in false≢true j)
-        | just x e ↦ (let k = rw e at ed in rw e k)
-      ]
-
+module _ (v : World) (into n d copy : ℕ) (ec : copy ≡ v.tree.made) (ed : d ≡ document_in (entry_in v.tree.forest n)) where
   abbrev copy_put : model.World → model.World
   copy_put w = append copy into (clone_node false n w)
 
   opened-as : (w : model.World) → Keeps v w → opened into n w ≡ new_fragment d (copy_put w)
   opened-as w k =
       ap (λ (m : ℕ). new_fragment (node_document w n) (append m into (clone_node false n w))) (k.made ∙ sym ec)
-      ∙ ap (λ (x : ℕ). new_fragment x (copy_put w)) (ap (λ (g : Forest Content). document_in (entry_in g n)) k.forest ∙ sym document-is)
+      ∙ ap (λ (x : ℕ). new_fragment x (copy_put w)) (ap (λ (g : Forest Content). document_in (entry_in g n)) k.forest ∙ sym ed)
 
   module _ (mid put : World) (f : Follows v mid (clone_node false n)) (g : Follows mid put (append copy into)) where
     follows-put : Follows v put copy_put
@@ -170,13 +161,13 @@ unfinished-front low f (q ∷ ps) p h = (h.0, unfinished-front low f ps p h.1)
 
 pub record IsClosing (initial now : World) (moves : Bool) (all parts : List Partial) : Type 0 where
   pub whole : IsWhole now
-  pub still : StillHeld initial now
+  pub still : Stays initial now
   pub may : MayClose now parts
   pub room : HasRoom now (closed moves parts)
   pub rest : (final : World) → Follows now final (closed moves parts) → Follows initial final (closed moves all)
 
 pub closing-first : (v : World) (moves : Bool) (all : List Partial) → IsWhole v → MayClose v all → HasRoom v (closed moves all) → IsClosing v v moves all all
-closing-first v moves all h m r = record { whole = h; still = λ m x. x; may = m; room = r; rest = λ final f. f }
+closing-first v moves all h m r = record { whole = h; still = stays-none v; may = m; room = r; rest = λ final f. f }
 
 module _ (initial now : World) (moves : Bool) (all parts : List Partial) (p : Partial) (t : IsClosing initial now moves all (parts ++ p ∷ [])) where
   last : IsUnfinished t.may.low now.tree.forest p
@@ -188,12 +179,12 @@ module _ (initial now : World) (moves : Bool) (all parts : List Partial) (p : Pa
   pub closing-room : HasRoom now (closed_one moves p)
   closing-room = room-before now (closed moves (parts ++ p ∷ [])) (closed_one moves p) (closed moves parts) (λ w k. closed-push moves parts p w) (closed-grows moves parts) t.room
 
-  pub closing-next : (next : World) → Follows now next (closed_one moves p) → StillHeld now next → IsWhole next → IsClosing initial next moves all parts
+  pub closing-next : (next : World) → Follows now next (closed_one moves p) → Stays now next → IsWhole next → IsClosing initial next moves all parts
   closing-next next f s h =
-      let g = goes-closed now t.whole t.may.low t.may.rising moves p last next f in
+      let g = goes-closed now t.whole t.may.low t.may.rising moves p last next f s in
       record {
         whole = h;
-        still = λ m x. s m (t.still m x);
+        still = stays-then initial now next t.still s;
         may = record { low = t.may.low; rising = g.rising; parts = all_unfinished-go t.may.low now next g parts (unfinished-front t.may.low now.tree.forest parts p t.may.parts) };
         room = room-after now next (closed moves (parts ++ p ∷ [])) (closed_one moves p) (closed moves parts) (λ w k. closed-push moves parts p w) f t.room;
         rest = λ final g.
@@ -261,7 +252,7 @@ module _ (v : World) (moves : Bool) (into offset n : ℕ) where
 
 pub record IsGoingDown (initial now : World) (moves : Bool) (offset : ℕ) (whole : model.World → model.World) (walk : ℕ → List ℕ → model.World → model.World) (parts : List Partial) (here : ℕ) (path : List ℕ) : Type 0 where
   pub stays_whole : IsWhole now
-  pub still : StillHeld initial now
+  pub still : Stays initial now
   pub low : ℕ
   pub rising : IsRising low now
   pub into : IsHolder low now.tree.forest here
@@ -272,7 +263,7 @@ pub record IsGoingDown (initial now : World) (moves : Bool) (offset : ℕ) (whol
   pub rest : (final : World) → Follows now final (λ w. closed moves parts (walk here path w)) → Follows initial final whole
 
 pub down-first : (v : World) (moves : Bool) (offset : ℕ) (walk : ℕ → List ℕ → model.World → model.World) (into : ℕ) (path : List ℕ) → IsWhole v → MayDraw v into path → IsPathTo v.tree.forest offset path → HasRoom v (walk into path) → IsGoingDown v v moves offset (walk into path) walk [] into path
-down-first v moves offset walk into path h m p r = record { stays_whole = h; still = λ m x. x; low = m.low; rising = m.rising; into = m.holder; nodes = m.nodes; way = p; unfinished = tt; room = r; rest = λ final f. f }
+down-first v moves offset walk into path h m p r = record { stays_whole = h; still = stays-none v; low = m.low; rising = m.rising; into = m.holder; nodes = m.nodes; way = p; unfinished = tt; room = r; rest = λ final f. f }
 
 module _ (initial now : World) (moves : Bool) (offset : ℕ) (whole : model.World → model.World) (walk : ℕ → List ℕ → model.World → model.World) (parts : List Partial) (here n : ℕ) (path : List ℕ) (t : IsGoingDown initial now moves offset whole walk parts here (n ∷ path)) where
   pub down-first_old : IsOld t.low now.tree.forest n
@@ -289,11 +280,11 @@ module _ (initial now : World) (moves : Bool) (offset : ℕ) (whole : model.Worl
       room-within now (λ w. closed moves parts (walk here (n ∷ path) w)) step
       (λ w k. let a = less w k in let b = closed-grows moves parts (walk here (n ∷ path) w) in omega (arith, a, b)) t.room
 
-  pub down-next : (next : World) (step : model.World → model.World) (p : Partial) → ((w : model.World) → Keeps now w → walk here (n ∷ path) w ≡ closed_one moves p (walk p.inner path (step w))) → Follows now next step → StillHeld now next → IsWhole next → Goes t.low now next → IsUnfinished t.low next.tree.forest p → IsPathTo next.tree.forest offset path →
+  pub down-next : (next : World) (step : model.World → model.World) (p : Partial) → ((w : model.World) → Keeps now w → walk here (n ∷ path) w ≡ closed_one moves p (walk p.inner path (step w))) → Follows now next step → Stays now next → IsWhole next → Goes t.low now next → IsUnfinished t.low next.tree.forest p → IsPathTo next.tree.forest offset path →
       IsGoingDown initial next moves offset whole walk (parts ++ p ∷ []) p.inner path
   down-next next step p same f s h g u e = record {
     stays_whole = h;
-    still = λ m x. s m (t.still m x);
+    still = stays-then initial now next t.still s;
     low = t.low;
     rising = g.rising;
     into = inner-holder t.low next.tree.forest p u;
@@ -327,9 +318,6 @@ tail-down v moves into offset n m path p ec ei ek w k =
     ∙ ap (λ (i : ℕ). append i w.made (children_into moves i p.children.items (tail_into moves i offset (m ∷ path) (opened into n w)))) (ei w k)
     ∙ ap (λ (ks : List ℕ). append (inner_of into n w) w.made (children_into moves (inner_of into n w) ks (tail_into moves (inner_of into n w) offset (m ∷ path) (opened into n w))))
     (ek ∙ ap (λ (g : Forest Content). past m (children_of g n)) (sym k.forest)))
-
-pub still-twice : (a b c : World) → StillHeld a b → StillHeld b c → StillHeld a c
-still-twice a b c s t m h = t m (s m h)
 
 -- The list of the nodes below, from an index on.
 module _ (initial now : World) (moves : Bool) (offset : ℕ) (whole : model.World → model.World) (walk : ℕ → List ℕ → model.World → model.World) (parts : List Partial) (here n : ℕ) (below : List ℕ) (i : ℕ) (t : IsGoingDown initial now moves offset whole walk parts here (n ∷ drop i below)) where

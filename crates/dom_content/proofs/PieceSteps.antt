@@ -2,7 +2,6 @@
 use Rattle.std.proofs.Common.{◌≡◌, ℕ, ◌+◌, ◌-◌, ◌<◌, ◌≤◌, Bool, true, false, List, [], ◌∷◌, take, drop, length, min, slice_index_or, refl, ap, sym, ◌∙◌, subst, arith, length-drop, Some, None, IsSome, Option}
 use Rattle.std.specs.Prelude.{IfSome}
 use Rattle.dom_model.specs.Forests.Arena.{Entry}
-use Rattle.std.proofs.lemmas.Bool.{false≢true}
 use Rattle.std.proofs.lemmas.List.{drop_more, take_min}
 use Rattle.dom_model.specs.Forests.Kinds.{is_character_data}
 use Rattle.dom_model.specs.Forests.Forest.{Node, Forest, empty, node, occurs, size, tree_at, map_nodes, entry_in, HasNode}
@@ -28,8 +27,9 @@ use Rattle.dom_clone.specs.dom_edit.Whole.{IsWhole, Keeps, Follows, unwatched}
 use Rattle.dom_clone.specs.dom_edit.Following.{follows-none, follows-then}
 use Rattle.dom_clone.specs.dom_edit.InsertedNodes.{follows-as, forest-after}
 use Rattle.dom_clone.specs.dom_edit.PlacedWorlds.{sound-unwatched}
-use Rattle.dom_content.specs.Paths.{HasRoom, StillHeld, KindsStay, DataStays}
+use Rattle.dom_content.specs.Paths.{HasRoom, StillHeld, Stays, KindsStay, DataStays}
 use Rattle.dom_content.specs.Coming.{AreOld, MayDraw}
+use Rattle.dom_content.proofs.StaysOf.{stays-none, stays-then}
 use Rattle.dom_content.proofs.Comings.{first-old, rest-old, one-old, old-there, holder-goes, old-goes, goes-child}
 
 -- Room.
@@ -69,9 +69,6 @@ room-clone v deep n r =
 
 -- What is still held.
 
-still-extended : (a b : World) (step : model.World → model.World) (moved : List ℕ) → Follows a b step → Extends a.tree.forest (step (unwatched a)).forest moved → StillHeld a b
-still-extended a b step moved f e m h = subst (λ (g : Forest Content). 0 < occurs m g) (sym (forest-after a b step f)) (e.there m h)
-
 kinds-extended : (a b : World) (step : model.World → model.World) (moved : List ℕ) → Follows a b step → Extends a.tree.forest (step (unwatched a)).forest moved → KindsStay a b
 kinds-extended a b step moved f e test m h = ap (λ (g : Forest Content). kind_passes test g m) (forest-after a b step f) ∙ e.kinds test m h
 
@@ -84,17 +81,11 @@ held-new a b step n f h = HasNode-occurs b.tree.forest n (subst (λ (g : Forest 
 pub held-still : (a b : World) → StillHeld a b → (n : ℕ) → HasNode a.tree.forest n → HasNode b.tree.forest n
 held-still a b s n h = HasNode-occurs b.tree.forest n (s n (occurs-HasNode a.tree.forest n h))
 
-pub still-fragment : (a b : World) (d : ℕ) → Follows a b (new_fragment d) → StillHeld a b
-still-fragment a b d f = still-extended a b (new_fragment d) [] f (extends-beside a.tree.forest _)
-
 pub data-fragment : (a b : World) (d : ℕ) → Follows a b (new_fragment d) → DataStays a b
 data-fragment a b d f = data-extended a b (new_fragment d) [] f (extends-beside a.tree.forest _)
 
 pub fragment-held : (a b : World) (d : ℕ) → IsWhole a → Follows a b (new_fragment d) → HasNode b.tree.forest a.tree.made
 fragment-held a b d h f = held-new a b (new_fragment d) a.tree.made f (fragment_made d (unwatched a) (sound-unwatched a h)).holder.there
-
-pub still-clone : (a b : World) (deep : Bool) (n : ℕ) → Follows a b (clone_node deep n) → StillHeld a b
-still-clone a b deep n f = still-extended a b (clone_node deep n) [] f (extends-beside a.tree.forest _)
 
 pub kinds-clone : (a b : World) (deep : Bool) (n : ℕ) → Follows a b (clone_node deep n) → KindsStay a b
 kinds-clone a b deep n f = kinds-extended a b (clone_node deep n) [] f (extends-beside a.tree.forest _)
@@ -105,9 +96,6 @@ data-clone a b deep n f = data-extended a b (clone_node deep n) [] f (extends-be
 pub clone-held : (a b : World) (deep : Bool) (n : ℕ) → IsWhole a → HasNode a.tree.forest n → Follows a b (clone_node deep n) → HasNode b.tree.forest a.tree.made
 clone-held a b deep n h held f =
     held-new a b (clone_node deep n) a.tree.made f (clone_copy deep n (unwatched a) (sound-unwatched a h) (occurs-HasNode a.tree.forest n held)).there
-
-pub still-copied : (a b : World) (units : List ℕ) (n : ℕ) → Follows a b (clone_with units n) → StillHeld a b
-still-copied a b units n f = still-extended a b (clone_with units n) [] f (extends-beside a.tree.forest _)
 
 pub kinds-copied : (a b : World) (units : List ℕ) (n : ℕ) → Follows a b (clone_with units n) → KindsStay a b
 kinds-copied a b units n f = kinds-extended a b (clone_with units n) [] f (extends-beside a.tree.forest _)
@@ -122,9 +110,6 @@ copied-held a b units n h held f =
 module _ (a b : World) (h : IsWhole a) (parent n : ℕ) (c : IsInsertable a.tree.forest n parent None) (f : Follows a b (append n parent)) where
   put : Extends a.tree.forest (append n parent (unwatched a)).forest (nodes_of (unwatched a) n)
   put = (put_by_insert false n parent None (unwatched a) (sound-unwatched a h) c).extends
-
-  pub still-appended : StillHeld a b
-  still-appended = still-extended a b (append n parent) (nodes_of (unwatched a) n) f put
 
   pub kinds-appended : KindsStay a b
   kinds-appended = kinds-extended a b (append n parent) (nodes_of (unwatched a) n) f put
@@ -163,9 +148,6 @@ still-within a b c n offset s d e k l =
 
 pub data-then : (a b c : World) → StillHeld a b → DataStays a b → DataStays b c → DataStays a c
 data-then a b c s d e m h = e m (s m h) ∙ d m h
-
-pub still-then : (a b c : World) → StillHeld a b → StillHeld b c → StillHeld a c
-still-then a b c s t m h = t m (s m h)
 
 -- Room is never taken back.
 
@@ -246,14 +228,6 @@ module _ (v : World) (moves : Bool) (into n offset count : ℕ) (units : List �
       follows-as v cut (λ w. cut_if moves n offset count (append v.tree.made into (clone_with units n w))) (units_into moves into n offset count) units-as
       (follows-then v put cut (λ w. append v.tree.made into (clone_with units n w)) (cut_if moves n offset count) (follows-then v mid put (clone_with units n) (append v.tree.made into) f g) c)
 
--- what a node holds
-pub content-of : (f : Forest Content) (n : ℕ) (b : Content) → HasNode f n → IfSome (entry_in f n) (λ e. b ≡ e.value.body) → b ≡ content_in (entry_in f n)
-content-of f n b held e = go (entry_in f n) held e
-  where
-    go : (o : Option (Entry (Node Content))) → IsSome o → IfSome o (λ e. b ≡ e.value.body) → b ≡ content_in o
-    go None s k = absurd (false≢true s)
-    go (Some x) s k = k
-
 -- as many units as there are
 pub substring-within : (offset count k : ℕ) (xs : List ℕ) → k ≡ min count (length xs - offset) → substring offset k xs ≡ substring offset count xs
 substring-within offset count k xs e = ap (λ i. take i (drop offset xs)) (e ∙ ap (λ l. min count l) (sym (length-drop offset xs))) ∙ take_min count (drop offset xs)
@@ -273,13 +247,13 @@ follows-child v mid new into n f g = follows-as v new (λ w. append v.tree.made 
 
 pub record IsFilling (initial here : World) (moves : Bool) (into : ℕ) (nodes : List ℕ) (i : ℕ) : Type 0 where
   pub whole : IsWhole here
-  pub still : StillHeld initial here
+  pub still : Stays initial here
   pub may : MayDraw here into (drop i nodes)
   pub room : HasRoom here (children_into moves into (drop i nodes))
   pub rest : (final : World) → Follows here final (children_into moves into (drop i nodes)) → Follows initial final (children_into moves into nodes)
 
 pub filling-first : (v : World) (moves : Bool) (into : ℕ) (nodes : List ℕ) → IsWhole v → MayDraw v into nodes → HasRoom v (children_into moves into nodes) → IsFilling v v moves into nodes 0
-filling-first v moves into nodes h d r = record { whole = h; still = λ m x. x; may = d; room = r; rest = λ final f. f }
+filling-first v moves into nodes h d r = record { whole = h; still = stays-none v; may = d; room = r; rest = λ final f. f }
 
 module _ (initial here : World) (moves : Bool) (into : ℕ) (nodes : List ℕ) (i : ℕ) (t : IsFilling initial here moves into nodes i) where
   module _ (x : ℕ) (is : x ≡ slice_index_or nodes i x) (lt : i < length nodes) where
@@ -301,12 +275,12 @@ module _ (initial here : World) (moves : Bool) (into : ℕ) (nodes : List ℕ) (
     pub filling-held : HasNode here.tree.forest x
     filling-held = HasNode-occurs here.tree.forest x (old-there t.may.low here.tree.forest x (first-old t.may.low here.tree.forest x (drop (i + 1) nodes) these))
 
-    pub filling-next : (next : World) → Follows here next (child_into moves into x) → StillHeld here next → IsWhole next → IsFilling initial next moves into nodes (i + 1)
+    pub filling-next : (next : World) → Follows here next (child_into moves into x) → Stays here next → IsWhole next → IsFilling initial next moves into nodes (i + 1)
     filling-next next f s h = record {
       whole = h;
-      still = still-then initial here next t.still s;
+      still = stays-then initial here next t.still s;
       may = (let low = t.may.low in
-          let g = goes-child here t.whole low t.may.rising into t.may.holder moves x (first-old low here.tree.forest x (drop (i + 1) nodes) these) next f in
+          let g = goes-child here t.whole low t.may.rising into t.may.holder moves x (first-old low here.tree.forest x (drop (i + 1) nodes) these) next f s in
           record { low = low; rising = g.rising; holder = holder-goes low here next g into t.may.holder; nodes = λ m k. old-goes low here next g m (rest-old low here.tree.forest x (drop (i + 1) nodes) these m k) });
       room = room-after here next (children_into moves into (drop i nodes)) (child_into moves into x) (children_into moves into (drop (i + 1) nodes)) step-is f t.room;
       rest = λ final g.

@@ -1,6 +1,6 @@
 -- What may go into a fragment while contents are drawn, and what may take it: what was there before the first of it goes into what was made since,
 -- so that nothing comes to stand inside itself. DOM Standard, "Interface Range" (extract, clone the contents).
-use Rattle.std.specs.Prelude.{◌≡◌, ℕ, ◌<◌, ◌≤◌, Bool, true, false, List, [], ◌∷◌, length, Some}
+use Rattle.std.specs.Prelude.{◌≡◌, ℕ, ◌<◌, ◌≤◌, Bool, true, false, List, [], ◌∷◌, length, Some, IsSome}
 use Rattle.dom_model.specs.declared.Kind.{Kind}
 use Rattle.dom_model.specs.declared.Kind.TheVariants.{Element, Text, ProcessingInstruction, Comment, Document, DocumentType, DocumentFragment}
 use Rattle.dom_model.specs.PlainLists.Lists.{hits}
@@ -11,11 +11,14 @@ use Rattle.dom_model.specs.Forests.Nodes.{kind_passes, is_of_kind}
 use Rattle.dom_model.specs.DataAndCopies.Data.{content_in}
 use Rattle.dom_clone.specs.dom_edit.declared.world.World.{World}
 use Rattle.dom_content.specs.declared.partial.Partial.{Partial}
+use Rattle.dom_content.specs.Paths.{EndsStayOut}
 
--- of the nodes from a number on, each stands under one of them with a smaller number, or under none
+-- of the nodes from a number on, each stands under one of them with a smaller number, or under none; and no end of a live range stands in a tree
+-- of one of them
 pub record IsRising (low : ℕ) (v : World) : Type 0 where
   pub begun : low ≤ v.tree.made
   pub rising : (n q : ℕ) → low ≤ n → parent_of v.tree.forest n ≡ Some q → (low ≤ q) × (q < n)
+  pub ends : EndsStayOut low v
 
 -- one of them that may have children
 pub record IsHolder (low : ℕ) (f : Forest Content) (into : ℕ) : Type 0 where
@@ -32,10 +35,11 @@ may_go_in Document = false
 may_go_in DocumentType = false
 may_go_in DocumentFragment = false
 
--- an older node of such a kind
+-- an older node of such a kind, that stands under a parent
 pub record IsOld (low : ℕ) (f : Forest Content) (n : ℕ) : Type 0 where
   pub old : n < low
   pub kind : kind_passes may_go_in f n ≡ true
+  pub child : IsSome (parent_of f n)
 
 abbrev pub AreOld : ℕ → Forest Content → List ℕ → Type 0
 AreOld low f ns = (n : ℕ) → 0 < hits n ns → IsOld low f n

@@ -1,15 +1,17 @@
 -- Room for the numbers that a step gives out, nodes that are still held after it, and how copies along a path are opened and closed.
 -- DOM Standard, "Interface Range" (extract, clone the contents).
-use Rattle.std.specs.Prelude.{◌≡◌, ℕ, ◌<◌, ◌≤◌, Bool, false, List, [], ◌∷◌}
+use Rattle.std.specs.Prelude.{◌≡◌, ℕ, ◌<◌, ◌≤◌, Bool, false, List, [], ◌∷◌, Some, IsSome}
 use Rattle.dom_model.specs.declared.Kind.{Kind}
-use Rattle.dom_model.specs.Forests.Forest.{occurs, children_of}
+use Rattle.dom_model.specs.Forests.Forest.{Forest, occurs, parent_of, children_of, root_of}
 use Rattle.dom_model.specs.Worlds.World as model
+use Rattle.dom_model.specs.Worlds.World.{Content}
 use Rattle.dom_model.specs.Forests.Nodes.{kind_passes}
-use Rattle.dom_model.specs.PlainLists.Lists.{up_to}
+use Rattle.dom_model.specs.PlainLists.Lists.{hits, up_to}
 use Rattle.dom_model.specs.MutationAlgorithms.Editing.{append, node_document}
 use Rattle.dom_model.specs.DataAndCopies.Data.{data_of}
 use Rattle.dom_model.specs.DataAndCopies.Clones.{clone_node}
 use Rattle.dom_model.specs.RangesAndContents.Contents.{new_fragment, children_into}
+use Rattle.dom_clone.specs.dom_ranges.Tables.{live_nodes}
 use Rattle.dom_clone.specs.dom_edit.declared.world.World.{World}
 use Rattle.dom_clone.specs.dom_edit.Whole.{Keeps, unwatched}
 use Rattle.dom_content.specs.declared.partial.Partial.{Partial}
@@ -31,6 +33,22 @@ KindsStay old new = (test : Kind → Bool) (m : ℕ) → 0 < occurs m old.tree.f
 -- and have the data that they had
 abbrev pub DataStays : World → World → Type 0
 DataStays old new = (m : ℕ) → 0 < occurs m old.tree.forest → data_of (unwatched new) m ≡ data_of (unwatched old) m
+
+-- a node stands in a tree of which the root passes
+pub record StandsUnder (passes : ℕ → Type 0) (f : Forest Content) (n : ℕ) : Type 0 where
+  pub root : ℕ
+  pub under : root_of f n ≡ Some root
+  pub passed : passes root
+
+-- each end of a live range stands in a tree of an older root than a number, so none in the trees that were made since
+abbrev pub EndsStayOut : ℕ → World → Type 0
+EndsStayOut low v = (m : ℕ) → 0 < hits m (live_nodes v.ranges) → StandsUnder (λ root. root < low) v.tree.forest m
+
+-- what each step leaves: the nodes are held still, each under a parent where it was under one, and ends that stay out of new trees still do
+pub record Stays (old new : World) : Type 0 where
+  pub held : StillHeld old new
+  pub children : (m : ℕ) → IsSome (parent_of old.tree.forest m) → IsSome (parent_of new.tree.forest m)
+  pub ends : (low : ℕ) → EndsStayOut low old → EndsStayOut low new
 
 -- a copy of a node goes into a fragment, and a further fragment is made
 abbrev pub opened : ℕ → ℕ → model.World → model.World

@@ -23,13 +23,11 @@ pub(crate) fn children_between(
 {
     tree.sound();
     let mut list = Vec::new(alloc);
-    let mut child = from;
-    while let Some(id) = child {
-        if until == Some(id) {
+    for child in tree.children_from(parent, from) {
+        if until == Some(child) {
             break;
         }
-        list.push(id)?;
-        child = tree.next(id);
+        list.push(child)?;
     }
     Ok(list)
 }

@@ -21,7 +21,7 @@ use crate::contained::contained_tops;
 use crate::data::is_in_one_data;
 use crate::parts::{Parts, head, parts_of};
 use dom_clone::of_data::replace_data_checked;
-use dom_clone::of_edit::{Content, World};
+use dom_clone::of_edit::{Content, World, data_in};
 use dom_clone::of_point::Point;
 use dom_clone::of_ranges::RangeId;
 use dom_clone::of_tree::{NodeId, Tree};
@@ -90,7 +90,7 @@ fn cut_from(world: &mut World, alloc: Global, start: Point) -> Result<(), AllocE
     if !world.tree.has_data(node) {
         return Ok(());
     }
-    let length = world.tree.body(node).text.len();
+    let length = data_in(&world.tree, node).len();
     cut_units(world, alloc, node, offset, length - offset)
 }
 

@@ -17,7 +17,7 @@ ghost use Rattle.dom_clone.specs.dom_edit.Whole.{IsWhole, Follows, unwatched};
 ghost use Rattle.dom_clone.specs.dom_edit.Markers.{StandByEdits};
 ghost use Rattle.dom_clone.specs.dom_edit.Refusals.{IsRefused};
 ghost use Rattle.dom_content.specs.Left.{IsLeftOf, HoldsBetween, MovesBetween, CopiesBetween};
-ghost use Rattle.dom_content.specs.Paths.{HasRoom, StillHeld};
+ghost use Rattle.dom_content.specs.Paths.{HasRoom, Stays};
 ghost use Rattle.dom_content.specs.Coming.{MayDraw, IsPathTo};
 ghost use Rattle.dom_model.specs.DataAndCopies.Data.{data_of};
 ghost use Rattle.dom_content.specs.Drawing.{AreParts, in_one_data, parts_drawn, filled};
@@ -27,7 +27,7 @@ use crate::deleting::{new_place, stand_at};
 use crate::parts::{Parts, parts_of};
 use crate::pieces::{children_into, new_fragment, units_into};
 use crate::ways::{head_into, tail_into};
-use dom_clone::of_edit::{Content, Refusal, World};
+use dom_clone::of_edit::{Content, Refusal, World, document_in};
 use dom_clone::of_kinds::{DomError, Kind};
 use dom_clone::of_point::Point;
 use dom_clone::of_ranges::RangeId;
@@ -78,7 +78,7 @@ fn draw_units(
     requires ahead { start.offset ≤ end.offset }
     requires room { HasRoom world.old (units_into moves into start.node start.offset (end.offset - start.offset)) }
     ensures drawn { OnOk result (Follows world.old world.new (units_into moves into start.node start.offset (end.offset - start.offset))) }
-    ensures still_held { OnOk result (StillHeld world.old world.new) }
+    ensures stays { OnOk result (Stays world.old world.new) }
     ensures whole { IsWhole world.new }
 {
     let count = end.offset - start.offset;
@@ -101,7 +101,7 @@ fn draw_parts(
     requires last_way { IsPathTo world.old.tree.forest 0 parts.now.last.items }
     requires room { HasRoom world.old (parts_drawn moves into (record { start = start; end = end }) parts.now.first.items parts.now.contained.items parts.now.last.items) }
     ensures drawn { OnOk result (Follows world.old world.new (parts_drawn moves into (record { start = start; end = end }) parts.now.first.items parts.now.contained.items parts.now.last.items)) }
-    ensures still_held { OnOk result (StillHeld world.old world.new) }
+    ensures stays { OnOk result (Stays world.old world.new) }
     ensures whole { IsWhole world.new }
 {
     tail_into(world, alloc, moves, into, start.offset, &parts.first)?;
@@ -128,7 +128,7 @@ fn fill(
     requires last_way { IsPathTo world.old.tree.forest 0 parts.now.last.items }
     requires room { HasRoom world.old (filled moves (in_one_data world.old.tree.forest (record { start = start; end = end })) into (record { start = start; end = end }) parts.now.first.items parts.now.contained.items parts.now.last.items) }
     ensures drawn { OnOk result (Follows world.old world.new (filled moves (in_one_data world.old.tree.forest (record { start = start; end = end })) into (record { start = start; end = end }) parts.now.first.items parts.now.contained.items parts.now.last.items)) }
-    ensures still_held { OnOk result (StillHeld world.old world.new) }
+    ensures stays { OnOk result (Stays world.old world.new) }
     ensures whole { IsWhole world.new }
 {
     if is_collapsed(start, end) {
@@ -156,10 +156,10 @@ fn draw(
     requires room { HasRoom world.old (contents_drawn moves (record { start = start; end = end })) }
     ensures number { IfOk result (λ id. id ≡ world.old.tree.made) }
     ensures drawn { OnOk result (Follows world.old world.new (contents_drawn moves (record { start = start; end = end }))) }
-    ensures still_held { OnOk result (StillHeld world.old world.new) }
+    ensures stays { OnOk result (Stays world.old world.new) }
     ensures whole { IsWhole world.new }
 {
-    let document = world.tree.document_of(start.node);
+    let document = document_in(&world.tree, start.node);
     let fragment = new_fragment(world, alloc, document)?;
     fill(world, alloc, moves, fragment, start, end, parts)?;
     Ok(fragment)

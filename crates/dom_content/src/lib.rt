@@ -23,7 +23,7 @@ pub mod of_attrs {
 
 /// What crates above name of `dom_clone`.
 pub mod of_clone {
-    pub use dom_clone::{clone_node, contains, import, is_equal, position};
+    pub use dom_clone::{Waiting, clone_node, contains, import, is_equal, position, wait_for};
 }
 
 /// What crates above name of `dom_data`.
@@ -36,7 +36,7 @@ pub mod of_data {
 
 /// What crates above name of `dom_edit`.
 pub mod of_edit {
-    pub use dom_clone::of_edit::{Content, Refusal, World, check_insert};
+    pub use dom_clone::of_edit::{Content, Refusal, World, check_insert, data_in, reference_child};
 }
 
 /// What crates above name of `dom_kinds`.
@@ -68,7 +68,7 @@ pub mod of_ranges {
 
 /// What crates above name of `dom_traverse`.
 pub mod of_traverse {
-    pub use dom_clone::of_traverse::{Filter, IterId, Rule, WalkerId};
+    pub use dom_clone::of_traverse::{Filter, IteratorId, Rule, WalkerId};
 }
 
 /// What crates above name of `dom_tree`.

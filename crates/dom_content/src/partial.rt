@@ -7,11 +7,11 @@ ghost use Rattle.dom_model.specs.Forests.Kinds.{is_character_data};
 ghost use Rattle.dom_model.specs.Forests.Nodes.{kind_passes};
 ghost use Rattle.dom_model.specs.RangesAndContents.Contents.{children_into, copy_into};
 ghost use Rattle.dom_clone.specs.dom_edit.Whole.{IsWhole, Keeps, Follows};
-ghost use Rattle.dom_content.specs.Paths.{HasRoom, StillHeld, DataStays, opened, inner_of, closed_one, closed};
+ghost use Rattle.dom_content.specs.Paths.{HasRoom, Stays, DataStays, opened, inner_of, closed_one, closed};
 ghost use Rattle.dom_content.specs.Coming.{MayDraw, MayClose};
 
-use crate::pieces::{children_into, copy_of, document_in, new_fragment, put_last};
-use dom_clone::of_edit::World;
+use crate::pieces::{children_into, copy_of, new_fragment, put_last};
+use dom_clone::of_edit::{World, document_in};
 use dom_clone::of_tree::NodeId;
 use smallvec::SmallVec;
 use std::alloc::{AllocError, Global};
@@ -56,7 +56,7 @@ pub(crate) fn open_partial(
     ensures inner { IfOk result (λ p. (w : model.World) → Keeps world.old w → p.inner ≡ inner_of into node w) }
     ensures children { IfOk result (λ p. p.children.items ≡ children.items) }
     ensures opened { OnOk result (Follows world.old world.new (opened into node)) }
-    ensures still_held { OnOk result (StillHeld world.old world.new) }
+    ensures stays { OnOk result (Stays world.old world.new) }
     ensures texts { OnOk result (DataStays world.old world.new) }
     ensures whole { IsWhole world.new }
 {
@@ -82,7 +82,7 @@ fn close_partial(
     requires may { MayClose world.old (partial.now ∷ []) }
     requires room { HasRoom world.old (closed_one moves partial.now) }
     ensures closed { OnOk result (Follows world.old world.new (closed_one moves partial.now)) }
-    ensures still_held { OnOk result (StillHeld world.old world.new) }
+    ensures stays { OnOk result (Stays world.old world.new) }
     ensures whole { IsWhole world.new }
 {
     children_into(
@@ -107,7 +107,7 @@ pub(crate) fn close_all(
     requires may { MayClose world.old partials.items }
     requires room { HasRoom world.old (closed moves partials.items) }
     ensures closed { OnOk result (Follows world.old world.new (closed moves partials.items)) }
-    ensures still_held { OnOk result (StillHeld world.old world.new) }
+    ensures stays { OnOk result (Stays world.old world.new) }
     ensures whole { IsWhole world.new }
 {
     while let Some(partial) = partials.pop() {
@@ -131,7 +131,7 @@ pub(crate) fn copy_into(
     requires held { HasNode world.old.tree.forest node }
     requires room { HasRoom world.old (copy_into into node (λ inner v. children_into moves inner children.items v)) }
     ensures copied { OnOk result (Follows world.old world.new (copy_into into node (λ inner v. children_into moves inner children.items v))) }
-    ensures still_held { OnOk result (StillHeld world.old world.new) }
+    ensures stays { OnOk result (Stays world.old world.new) }
     ensures whole { IsWhole world.new }
 {
     let partial = open_partial(world, alloc, into, node, children)?;

@@ -1,10 +1,10 @@
 //! The pieces of contents that go into a fragment: units of a node, and children, moved or copied (DOM Standard, "Interface Range").
 
-ghost use Rattle.std.specs.Prelude.{◌≡◌, ◌<◌, ◌≤◌, ◌∷◌, [], length, true, None, IfSome, IfOk, OnOk};
+ghost use Rattle.std.specs.Prelude.{◌≡◌, ◌<◌, ◌≤◌, ◌∷◌, [], length, true, None, IsSome, IfSome, IfOk, OnOk};
 ghost use Rattle.dom_model.specs.declared.Kind.TheVariants.{Document, DocumentFragment};
 ghost use Rattle.dom_model.specs.Worlds.World.{no_content};
 ghost use Rattle.dom_model.specs.Worlds.Making.{made_node, named};
-ghost use Rattle.dom_model.specs.Forests.Forest.{HasNode, entry_in};
+ghost use Rattle.dom_model.specs.Forests.Forest.{HasNode, entry_in, parent_of};
 ghost use Rattle.dom_model.specs.Forests.Kinds.{is_character_data};
 ghost use Rattle.dom_model.specs.Forests.Texts.{substring};
 ghost use Rattle.dom_model.specs.Forests.Nodes.{is_of_kind, kind_passes};
@@ -13,29 +13,19 @@ ghost use Rattle.dom_model.specs.MutationAlgorithms.Insertable.{IsInsertable};
 ghost use Rattle.dom_model.specs.DataAndCopies.Data.{content_in, data_of};
 ghost use Rattle.dom_model.specs.DataAndCopies.Clones.{clone_node};
 ghost use Rattle.dom_model.specs.RangesAndContents.Contents.{new_fragment, clone_with, cut_if, units_into, child_into, children_into};
-ghost use Rattle.dom_model.specs.Soundness.Owners.{HasOwners};
+ghost use Rattle.dom_clone.specs.dom_edit.Inserting.{IsUnreferred};
 ghost use Rattle.dom_clone.specs.dom_edit.Whole.{IsWhole, Follows, unwatched};
-ghost use Rattle.dom_content.specs.Paths.{HasRoom, StillHeld, KindsStay, DataStays};
+ghost use Rattle.dom_content.specs.Paths.{HasRoom, Stays, KindsStay, DataStays};
 ghost use Rattle.dom_content.specs.Coming.{MayDraw};
 
 use dom_clone::clone_node;
 use dom_clone::of_attrs::Attrs;
 use dom_clone::of_data::replace_data_checked;
-use dom_clone::of_edit::{Content, World};
+use dom_clone::of_edit::{Content, World, data_in, document_in};
 use dom_clone::of_kinds::{Kind, Label};
 use dom_clone::of_tree::{NodeId, Tree};
 use dom_clone::of_units::Units;
 use std::alloc::{AllocError, Global};
-
-// The node document of a node.
-pub(crate) fn document_in(tree: &Tree<Content>, node: NodeId) -> NodeId
-    requires held { HasNode tree.now.forest node }
-    requires owners { HasOwners tree.now.forest }
-    ensures document { IfSome (entry_in tree.now.forest node) (λ e. result ≡ e.value.document) }
-    ensures kind { is_of_kind Document tree.now.forest result ≡ true }
-{
-    tree.document_of(node)
-}
 
 // Makes a node of the kind of fragments.
 fn make_fragment(world: &mut World, alloc: Global, document: NodeId) -> Result<NodeId, AllocError>
@@ -71,7 +61,7 @@ pub(crate) fn new_fragment(
     ensures number { IfOk result (λ id. id ≡ world.old.tree.made) }
     ensures made { OnOk result (Follows world.old world.new (new_fragment document)) }
     ensures made_held { OnOk result (HasNode world.new.tree.forest world.old.tree.made) }
-    ensures still_held { OnOk result (StillHeld world.old world.new) }
+    ensures stays { OnOk result (Stays world.old world.new) }
     ensures texts { OnOk result (DataStays world.old world.new) }
     ensures whole { IsWhole world.new }
 {
@@ -79,7 +69,7 @@ pub(crate) fn new_fragment(
     Ok(fragment)
 }
 
-// Puts a node, or the children of a fragment, last under a parent that may have it.
+// Puts a new node, or the children of a new fragment, last under a parent that may have it: no end of a live range stands inside it.
 pub(crate) fn put_last(
     world: &mut World,
     alloc: Global,
@@ -88,10 +78,29 @@ pub(crate) fn put_last(
 ) -> Result<(), AllocError>
     requires whole { IsWhole world.old }
     requires allowed { IsInsertable world.old.tree.forest node parent None }
+    requires unreferred { IsUnreferred world.old node }
     ensures appended { OnOk result (Follows world.old world.new (append node parent)) }
-    ensures still_held { OnOk result (StillHeld world.old world.new) }
+    ensures stays { OnOk result (Stays world.old world.new) }
     ensures kinds { OnOk result (KindsStay world.old world.new) }
     ensures texts { OnOk result (DataStays world.old world.new) }
+    ensures whole { IsWhole world.new }
+{
+    world.insert_unreferred(alloc, parent, node, None)?;
+    Ok(())
+}
+
+// Moves a node from its parent last under another that may have it.
+fn move_last(
+    world: &mut World,
+    alloc: Global,
+    parent: NodeId,
+    node: NodeId,
+) -> Result<(), AllocError>
+    requires whole { IsWhole world.old }
+    requires allowed { IsInsertable world.old.tree.forest node parent None }
+    requires child { IsSome (parent_of world.old.tree.forest node) }
+    ensures moved { OnOk result (Follows world.old world.new (append node parent)) }
+    ensures stays { OnOk result (Stays world.old world.new) }
     ensures whole { IsWhole world.new }
 {
     world.insert(alloc, parent, node, None)?;
@@ -111,7 +120,7 @@ pub(crate) fn copy_of(
     ensures number { IfOk result (λ id. id ≡ world.old.tree.made) }
     ensures copied { OnOk result (Follows world.old world.new (clone_node deep node)) }
     ensures copy_held { OnOk result (HasNode world.new.tree.forest world.old.tree.made) }
-    ensures still_held { OnOk result (StillHeld world.old world.new) }
+    ensures stays { OnOk result (Stays world.old world.new) }
     ensures kinds { OnOk result (KindsStay world.old world.new) }
     ensures texts { OnOk result (DataStays world.old world.new) }
     ensures whole { IsWhole world.new }
@@ -132,7 +141,7 @@ fn part_of(
     requires within { offset ≤ length (content_in (entry_in tree.now.forest node)).text }
     ensures { IfOk result (λ units. units ≡ substring offset count (content_in (entry_in tree.now.forest node)).text) }
 {
-    let data = &tree.body(node).text;
+    let data = data_in(tree, node);
     let count = count.min(data.len() - offset);
     Units::from_units(alloc, data.slice(offset, count))
 }
@@ -171,7 +180,7 @@ fn copy_with(
     ensures number { IfOk result (λ id. id ≡ world.old.tree.made) }
     ensures copied { OnOk result (Follows world.old world.new (clone_with units node)) }
     ensures copy_held { OnOk result (HasNode world.new.tree.forest world.old.tree.made) }
-    ensures still_held { OnOk result (StillHeld world.old world.new) }
+    ensures stays { OnOk result (Stays world.old world.new) }
     ensures kinds { OnOk result (KindsStay world.old world.new) }
     ensures texts { OnOk result (DataStays world.old world.new) }
     ensures whole { IsWhole world.new }
@@ -193,7 +202,7 @@ fn cut_if(
     requires kind { kind_passes is_character_data world.old.tree.forest node ≡ true }
     requires within { offset ≤ length (data_of (unwatched world.old) node) }
     ensures cut { OnOk result (Follows world.old world.new (cut_if moves node offset count)) }
-    ensures still_held { OnOk result (StillHeld world.old world.new) }
+    ensures stays { OnOk result (Stays world.old world.new) }
     ensures whole { IsWhole world.new }
 {
     if !moves {
@@ -219,7 +228,7 @@ pub(crate) fn units_into(
     requires within { offset ≤ length (data_of (unwatched world.old) node) }
     requires room { HasRoom world.old (units_into moves into node offset count) }
     ensures drawn { OnOk result (Follows world.old world.new (units_into moves into node offset count)) }
-    ensures still_held { OnOk result (StillHeld world.old world.new) }
+    ensures stays { OnOk result (Stays world.old world.new) }
     ensures whole { IsWhole world.new }
 {
     let units = part_of(&world.tree, alloc, node, offset, count)?;
@@ -242,11 +251,11 @@ pub(crate) fn child_into(
     requires held { HasNode world.old.tree.forest node }
     requires room { HasRoom world.old (child_into moves into node) }
     ensures drawn { OnOk result (Follows world.old world.new (child_into moves into node)) }
-    ensures still_held { OnOk result (StillHeld world.old world.new) }
+    ensures stays { OnOk result (Stays world.old world.new) }
     ensures whole { IsWhole world.new }
 {
     if moves {
-        return put_last(world, alloc, into, node);
+        return move_last(world, alloc, into, node);
     }
     let copy = copy_of(world, alloc, node, true)?;
     put_last(world, alloc, into, copy)?;
@@ -265,7 +274,7 @@ pub(crate) fn children_into(
     requires may { MayDraw world.old into nodes.now }
     requires room { HasRoom world.old (children_into moves into nodes.now) }
     ensures drawn { OnOk result (Follows world.old world.new (children_into moves into nodes.now)) }
-    ensures still_held { OnOk result (StillHeld world.old world.new) }
+    ensures stays { OnOk result (Stays world.old world.new) }
     ensures whole { IsWhole world.new }
 {
     for node in nodes {

@@ -17,7 +17,7 @@ ghost use Rattle.dom_clone.specs.dom_edit.Whole.{IsWhole, unwatched};
 ghost use Rattle.dom_content.specs.Texts.{part_of, text_within, texts_within};
 
 use crate::contained::last_ahead;
-use dom_clone::of_edit::{Content, World};
+use dom_clone::of_edit::{Content, World, data_in};
 use dom_clone::of_kinds::Kind;
 use dom_clone::of_point::Point;
 use dom_clone::of_ranges::RangeId;
@@ -42,7 +42,7 @@ fn append_part(
         return Ok(());
     }
     let end = text.len();
-    text.splice(end, 0, tree.body(node).text.slice(from, to - from))
+    text.splice(end, 0, data_in(tree, node).slice(from, to - from))
 }
 
 // Puts the data of a node from a point on behind a text, where the node is a Text.
@@ -52,7 +52,7 @@ fn append_tail(tree: &Tree<Content>, from: Point, text: &mut Units) -> Result<()
     ensures { OnOk result (text.new ≡ text.old ++ part_of tree.now.forest from.node from.offset (length (content_in (entry_in tree.now.forest from.node)).text - from.offset)) }
 {
     let Point { node, offset } = from;
-    let length = tree.body(node).text.len();
+    let length = data_in(tree, node).len();
     append_part(tree, node, offset, length, text)
 }
 

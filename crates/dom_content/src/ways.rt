@@ -10,13 +10,13 @@ ghost use Rattle.dom_model.specs.Forests.Nodes.{kind_passes};
 ghost use Rattle.dom_model.specs.DataAndCopies.Data.{content_in};
 ghost use Rattle.dom_model.specs.RangesAndContents.Contents.{tail_into, head_into};
 ghost use Rattle.dom_clone.specs.dom_edit.Whole.{IsWhole, Keeps, Follows};
-ghost use Rattle.dom_content.specs.Paths.{HasRoom, StillHeld, DataStays, opened, inner_of, entered};
+ghost use Rattle.dom_content.specs.Paths.{HasRoom, Stays, DataStays, opened, inner_of, entered};
 ghost use Rattle.dom_content.specs.Coming.{MayDraw, IsPathTo};
 
 use crate::children::{children_ahead, children_from, children_past, children_until};
 use crate::partial::{Partial, Partials, close_all, copy_into, open_partial};
 use crate::pieces::{children_into, units_into};
-use dom_clone::of_edit::{Content, World};
+use dom_clone::of_edit::{Content, World, data_in};
 use dom_clone::of_tree::{NodeId, Tree};
 use smallvec::SmallVec;
 use std::alloc::{AllocError, Global};
@@ -26,7 +26,7 @@ fn units_past(tree: &Tree<Content>, node: NodeId, offset: usize) -> usize
     requires held { HasNode tree.now.forest node }
     ensures { result ≡ length (content_in (entry_in tree.now.forest node)).text - offset }
 {
-    tree.body(node).text.len().saturating_sub(offset)
+    data_in(tree, node).len().saturating_sub(offset)
 }
 
 // Opens a node on the path; the children behind the next one are left for later.
@@ -47,7 +47,7 @@ fn open_tail(
     ensures inner { IfOk result (λ p. (w : model.World) → Keeps world.old w → p.inner ≡ inner_of into node w) }
     ensures children { IfOk result (λ p. p.children.items ≡ past next (children_of world.old.tree.forest node)) }
     ensures opened { OnOk result (Follows world.old world.new (opened into node)) }
-    ensures still_held { OnOk result (StillHeld world.old world.new) }
+    ensures stays { OnOk result (Stays world.old world.new) }
     ensures texts { OnOk result (DataStays world.old world.new) }
     ensures whole { IsWhole world.new }
 {
@@ -71,7 +71,7 @@ fn tail_of_last(
     requires held { HasNode world.old.tree.forest node }
     requires room { HasRoom world.old (tail_into moves into offset (node ∷ [])) }
     ensures drawn { OnOk result (Follows world.old world.new (tail_into moves into offset (node ∷ []))) }
-    ensures still_held { OnOk result (StillHeld world.old world.new) }
+    ensures stays { OnOk result (Stays world.old world.new) }
     ensures whole { IsWhole world.new }
 {
     let is_data = world.tree.has_data(node);
@@ -100,7 +100,7 @@ fn tail_along(
     requires way { IsPathTo world.old.tree.forest offset (first ∷ below.now) }
     requires room { HasRoom world.old (tail_into moves into offset (first ∷ below.now)) }
     ensures drawn { OnOk result (Follows world.old world.new (tail_into moves into offset (first ∷ below.now))) }
-    ensures still_held { OnOk result (StillHeld world.old world.new) }
+    ensures stays { OnOk result (Stays world.old world.new) }
     ensures whole { IsWhole world.new }
 {
     let mut partials: Partials = SmallVec::new(alloc);
@@ -131,7 +131,7 @@ pub(crate) fn tail_into(
     requires way { IsPathTo world.old.tree.forest offset path.now }
     requires room { HasRoom world.old (tail_into moves into offset path.now) }
     ensures drawn { OnOk result (Follows world.old world.new (tail_into moves into offset path.now)) }
-    ensures still_held { OnOk result (StillHeld world.old world.new) }
+    ensures stays { OnOk result (Stays world.old world.new) }
     ensures whole { IsWhole world.new }
 {
     match path.split_first() {
@@ -158,7 +158,7 @@ fn open_head(
     ensures inner { IfOk result (λ p. (w : model.World) → Keeps world.old w → p.inner ≡ inner_of into node w) }
     ensures children { IfOk result (λ p. p.children.items ≡ []) }
     ensures entered { OnOk result (Follows world.old world.new (entered moves into node next)) }
-    ensures still_held { OnOk result (StillHeld world.old world.new) }
+    ensures stays { OnOk result (Stays world.old world.new) }
     ensures whole { IsWhole world.new }
 {
     let ahead = children_ahead(&world.tree, alloc, node, next)?;
@@ -182,7 +182,7 @@ fn head_of_last(
     requires held { HasNode world.old.tree.forest node }
     requires room { HasRoom world.old (head_into moves into offset (node ∷ [])) }
     ensures drawn { OnOk result (Follows world.old world.new (head_into moves into offset (node ∷ []))) }
-    ensures still_held { OnOk result (StillHeld world.old world.new) }
+    ensures stays { OnOk result (Stays world.old world.new) }
     ensures whole { IsWhole world.new }
 {
     let is_data = world.tree.has_data(node);
@@ -210,7 +210,7 @@ fn head_along(
     requires way { IsPathTo world.old.tree.forest 0 (first ∷ below.now) }
     requires room { HasRoom world.old (head_into moves into offset (first ∷ below.now)) }
     ensures drawn { OnOk result (Follows world.old world.new (head_into moves into offset (first ∷ below.now))) }
-    ensures still_held { OnOk result (StillHeld world.old world.new) }
+    ensures stays { OnOk result (Stays world.old world.new) }
     ensures whole { IsWhole world.new }
 {
     let mut partials: Partials = SmallVec::new(alloc);
@@ -241,7 +241,7 @@ pub(crate) fn head_into(
     requires way { IsPathTo world.old.tree.forest 0 path.now }
     requires room { HasRoom world.old (head_into moves into offset path.now) }
     ensures drawn { OnOk result (Follows world.old world.new (head_into moves into offset path.now)) }
-    ensures still_held { OnOk result (StillHeld world.old world.new) }
+    ensures stays { OnOk result (Stays world.old world.new) }
     ensures whole { IsWhole world.new }
 {
     match path.split_first() {

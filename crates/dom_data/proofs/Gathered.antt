@@ -14,7 +14,8 @@ use Rattle.dom_edit.specs.dom_ranges.Inside.{IsAt, from-top, at-top, at-next, he
 use Rattle.dom_model.proofs.PlainLists.Numbers.{same_or, same, apart}
 use Rattle.dom_edit.specs.declared.world.World.{World}
 use Rattle.dom_edit.specs.Whole.{unwatched}
-use Rattle.dom_data.specs.Gathering.{text_at, gathered, may_hold_text}
+use Rattle.dom_data.specs.Gathering.{text_at, gathered}
+use Rattle.dom_data.specs.TextContent.{may_hold_text}
 
 -- the walk has come to a node, and the text is what was gathered up to it
 pub record IsGathering (g : Grove Content) (top here : ℕ) (text : List ℕ) : Type 0 where

@@ -1,23 +1,15 @@
 -- A new Text, a root behind all others.
-use Rattle.std.proofs.Common.{◌≡◌, Bool, ℕ, true, false, List, [], ◌∷◌, Option, Some, None, IsSome, refl, ap, sym, ◌∙◌, subst}
-use Rattle.std.specs.Prelude.{IfSome}
-use Rattle.std.proofs.lemmas.Bool.{false≢true}
+use Rattle.std.proofs.Common.{◌≡◌, Bool, ℕ, true, false, List, [], ◌∷◌, Some, None, refl, ap, sym, ◌∙◌, subst}
 use Rattle.dom_model.specs.declared.Kind.{Kind}
 use Rattle.dom_model.specs.declared.Kind.TheVariants.{Document, Text}
-use Rattle.dom_model.specs.Forests.Arena.{Entry}
-use Rattle.dom_model.specs.Forests.Forest.{Node, Forest, empty, node, HasNode, entry_in, entry_under}
-use Rattle.dom_model.specs.PlainLists.Lists.{or_else}
+use Rattle.dom_model.specs.Forests.Forest.{empty, node, HasNode, entry_in}
 use Rattle.dom_model.specs.Forests.Kinds.{is_kind, may_be_parent}
-use Rattle.dom_model.specs.Forests.EachNode.{EachNode}
 use Rattle.dom_model.specs.Worlds.World as model
-use Rattle.dom_model.specs.Worlds.World.{Content}
 use Rattle.dom_model.specs.MutationAlgorithms.Checks.{check_insert}
 use Rattle.dom_model.specs.Forests.Nodes.{kind_passes, is_of_kind}
 use Rattle.dom_model.specs.MutationAlgorithms.Editing.{document_in, node_document, replace_all}
 use Rattle.dom_model.specs.Worlds.Making.{made_node, named, with_text}
 use Rattle.dom_model.specs.DataAndCopies.Data.{string_replace_all}
-use Rattle.dom_model.specs.Soundness.Owners.{HasOwners, IsOwned}
-use Rattle.dom_model.proofs.PlainLists.Numbers.{same_or, same, apart}
 use Rattle.dom_model.proofs.Forests.Entries.{occurs-HasNode, HasNode-occurs}
 use Rattle.dom_model.proofs.Worlds.Measured.{kind-beside}
 use Rattle.dom_model.proofs.Soundness.SoundTextContent.{made-there, made-old, made-insertable}
@@ -27,27 +19,6 @@ use Rattle.dom_edit.specs.Whole.{IsWhole, Follows, unwatched}
 use Rattle.dom_edit.proofs.Following.{follows-then, keeps-unwatched}
 use Rattle.dom_edit.proofs.Unrefused.{unrefused}
 use Rattle.dom_data.proofs.StaysWhole.{sound-unwatched, follows-alike}
-
-either : {X : Type 0} (P : Node X → Type 0) (a b : Option (Entry (Node X))) → IfSome a (λ e. P e.value) → IfSome b (λ e. P e.value) → IfSome (or_else a b) (λ e. P e.value)
-either P None b k l = l
-either P (Some e) b k l = k
-
--- what holds of each node holds of the one with a number
-pub EachNode-entry : {X : Type 0} (P : Node X → Type 0) (q : Option ℕ) (f : Forest X) → EachNode P f → (n : ℕ) → IfSome (entry_under q n f) (λ e. P e.value)
-EachNode-entry P q empty h n = tt
-EachNode-entry P q (node x kids rest) h n =
-    elim (same_or x.number n) [
-      | same e t ↦ rw t h.0
-      | apart ne t ↦ rw t (either P (entry_under (Some x.number) n kids) (entry_under q n rest) (EachNode-entry P (Some x.number) kids h.1 n) (EachNode-entry P q rest h.2 n))
-    ]
-
--- a node document is a Document
-pub owner-kind : (f : Forest Content) (n d : ℕ) → HasNode f n → HasOwners f → IfSome (entry_in f n) (λ e. d ≡ e.value.document) → is_of_kind Document f d ≡ true
-owner-kind f n d held owners h = go (entry_in f n) held (EachNode-entry (IsOwned f) None f owners n) h
-  where
-    go : (o : Option (Entry (Node Content))) → IsSome o → IfSome o (λ e. IsOwned f e.value) → IfSome o (λ e. d ≡ e.value.document) → is_of_kind Document f d ≡ true
-    go None s k l = absurd (false≢true s)
-    go (Some e) s k l = subst (λ m. is_of_kind Document f m ≡ true) (sym l) k
 
 -- The world with the new Text.
 module _ (old new : World) (h : IsWhole old) (document : ℕ) (text : List ℕ) (f : Follows old new (made_node document (named Text []) (with_text text))) where

@@ -64,8 +64,8 @@ pub whole-replaced : (old told new : World) (n offset count : ℕ) (added : List
     → kind_passes is_character_data old.tree.forest n ≡ true → offset + count ≤ length (data_of (unwatched old) n)
     → new.tree ≡ record told.tree { forest = with_node n (with_data (spliced offset count added (data_of (unwatched told) n))) told.tree.forest }
     → new.ranges ≡ record told.ranges { ranges = map_ranges (after_splice n offset count (length added)) told.ranges.ranges }
-    → new.statics ≡ told.statics → new.iters ≡ told.iters → new.walkers ≡ told.walkers → new.observers ≡ told.observers → IsWhole new
-whole-replaced old told new n offset count added whole e kind within tree ranges statics iters walkers observers =
+    → new.statics ≡ told.statics → new.iterators ≡ told.iterators → new.walkers ≡ told.walkers → new.observers ≡ told.observers → IsWhole new
+whole-replaced old told new n offset count added whole e kind within tree ranges statics iterators walkers observers =
     let forests = ap (λ (v : World). v.tree.forest) e in
     let kind2 = subst (λ f. kind_passes is_character_data f n ≡ true) (sym forests) kind in
     let within2 = subst (λ f. offset + count ≤ length (content_in (entry_in f n)).text) (sym forests) within in
@@ -76,7 +76,7 @@ whole-replaced old told new n offset count added whole e kind within tree ranges
       made = sym (ap (λ (g : Grove Content). g.made) tree);
       ranges = sym (ap (λ (t : RangeTable). t.ranges) ranges);
       static_ranges = sym statics;
-      iterators = sym iters;
+      iterators = sym iterators;
       walkers = sym walkers;
     })
     (sound-replace_units n offset count added (unwatched told) (sound-unwatched told whole) kind2 within2)
@@ -114,17 +114,17 @@ follows-set old new n whole text e f =
 
 -- Attributes change, and nothing else.
 
-module _ (old told new : World) (n : ℕ) (name : List ℕ) (h : IsWhole told) (e : told ≡ record old { observers = told.observers }) (ranges : new.ranges ≡ told.ranges) (statics : new.statics ≡ told.statics) (iters : new.iters ≡ told.iters) (walkers : new.walkers ≡ told.walkers) (observers : new.observers ≡ told.observers) where
-  whole-attributes : (attributes : List Attribute) (w : model.World) → IsSound w → w.forest ≡ with_node n (with_attributes attributes) told.tree.forest → w.made ≡ told.tree.made → w.ranges ≡ told.ranges.ranges → w.static_ranges ≡ told.statics → w.iterators ≡ told.iters → w.walkers ≡ told.walkers
+module _ (old told new : World) (n : ℕ) (name : List ℕ) (h : IsWhole told) (e : told ≡ record old { observers = told.observers }) (ranges : new.ranges ≡ told.ranges) (statics : new.statics ≡ told.statics) (iterators : new.iterators ≡ told.iterators) (walkers : new.walkers ≡ told.walkers) (observers : new.observers ≡ told.observers) where
+  whole-attributes : (attributes : List Attribute) (w : model.World) → IsSound w → w.forest ≡ with_node n (with_attributes attributes) told.tree.forest → w.made ≡ told.tree.made → w.ranges ≡ told.ranges.ranges → w.static_ranges ≡ told.statics → w.iterators ≡ told.iterators → w.walkers ≡ told.walkers
       → new.tree ≡ record told.tree { forest = with_node n (with_attributes attributes) told.tree.forest } → IsWhole new
-  whole-attributes attributes w s forest made live fixed iterators marks tree =
+  whole-attributes attributes w s forest made live fixed references marks tree =
       whole-with_node n (with_attributes attributes) (λ x. refl) (λ x. refl) told new w h
       (record {
         forest = forest ∙ sym (ap (λ (g : Grove Content). g.forest) tree);
         made = made ∙ sym (ap (λ (g : Grove Content). g.made) tree);
         ranges = live ∙ sym (ap (λ (t : RangeTable). t.ranges) ranges);
         static_ranges = fixed ∙ sym statics;
-        iterators = iterators ∙ sym iters;
+        iterators = references ∙ sym iterators;
         walkers = marks ∙ sym walkers;
       })
       s (ap (λ (g : Grove Content). g.forest) tree) (ap (λ (g : Grove Content). g.made) tree) (ap (λ (t : RangeTable). t.covered) ranges) statics observers

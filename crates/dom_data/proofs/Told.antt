@@ -21,7 +21,7 @@ follows-told old new what target name value e tells = record {
     made = k.made ∙ ap (λ (v : World). v.tree.made) (sym e);
     ranges = k.ranges ∙ ap (λ (v : World). v.ranges.ranges) (sym e);
     static_ranges = k.static_ranges ∙ ap (λ (v : World). v.statics) (sym e);
-    iterators = k.iterators ∙ ap (λ (v : World). v.iters) (sym e);
+    iterators = k.iterators ∙ ap (λ (v : World). v.iterators) (sym e);
     walkers = k.walkers ∙ ap (λ (v : World). v.walkers) (sym e);
   };
   watches = λ w k o. subst (λ f. Watches new.observers (noted (record (change_of what target name (value f)) { standing = standing_on (ancestors target f) w.observing.registrations }) w.observing)) (sym k.forest) (tells w.observing o);

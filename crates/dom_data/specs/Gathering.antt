@@ -1,8 +1,6 @@
 -- The data of the Texts among nodes, one after another.
-use Rattle.std.specs.Prelude.{ℕ, Bool, ◌||◌, if◌then◌else◌, List, [], flat_map}
-use Rattle.dom_model.specs.declared.Kind.TheVariants.{Element, Text, DocumentFragment}
-use Rattle.dom_model.specs.declared.Kind.{Kind}
-use Rattle.dom_model.specs.Forests.Kinds.{is_kind}
+use Rattle.std.specs.Prelude.{ℕ, if◌then◌else◌, List, [], flat_map}
+use Rattle.dom_model.specs.declared.Kind.TheVariants.{Text}
 use Rattle.dom_model.specs.Forests.Forest.{Forest, entry_in}
 use Rattle.dom_model.specs.Worlds.World.{Content}
 use Rattle.dom_model.specs.Forests.Nodes.{is_of_kind}
@@ -14,7 +12,3 @@ text_at f n = if is_of_kind Text f n then (content_in (entry_in f n)).text else 
 
 abbrev pub gathered : Forest Content → List ℕ → List ℕ
 gathered f ns = flat_map (text_at f) ns
-
--- an element or a fragment
-abbrev pub may_hold_text : Kind → Bool
-may_hold_text k = is_kind Element k || is_kind DocumentFragment k

@@ -1,6 +1,7 @@
 pub mod Reading
 pub mod Changes
 pub mod Gathering
+pub mod TextContent
 pub mod Tails
 pub mod TextsAlone
 pub mod Joining

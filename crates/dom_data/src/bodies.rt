@@ -20,14 +20,6 @@ pub(crate) fn kind_in(tree: &Tree<Content>, node: NodeId) -> Kind
     tree.label(node).kind
 }
 
-// The data of a node.
-pub(crate) fn data_in(tree: &Tree<Content>, node: NodeId) -> &Units
-    requires held { HasNode tree.now.forest node }
-    ensures { result.now ≡ (content_in (entry_in tree.now.forest node)).text }
-{
-    &tree.body(node).text
-}
-
 // The value of an attribute of a node.
 pub(crate) fn value_in<'a>(tree: &'a Tree<Content>, node: NodeId, name: &str) -> Option<&'a Units>
     requires held { HasNode tree.now.forest node }

@@ -1,6 +1,6 @@
 //! The text content of a node (DOM Standard, "Interface Node", textContent).
 
-ghost use Rattle.std.specs.Prelude.{◌≡◌, ◌<◌, true, false, ◌++◌, drop, IfOk, OnOk};
+ghost use Rattle.std.specs.Prelude.{◌≡◌, ◌≢◌, ◌<◌, true, false, [], ◌++◌, drop, IfOk, OnOk};
 ghost use Rattle.dom_model.specs.declared.Kind.TheVariants.{Document};
 ghost use Rattle.dom_model.specs.Forests.Forest.{HasNode, inclusive_descendants};
 ghost use Rattle.dom_model.specs.DataAndCopies.Data.{text_content, string_replace_all, set_text_content};
@@ -10,14 +10,15 @@ ghost use Rattle.dom_model.specs.TokenText.Edits.{set_text_content_edits};
 ghost use Rattle.dom_edit.specs.Whole.{IsWhole, Follows, unwatched};
 ghost use Rattle.dom_edit.specs.Markers.{StandByEdits};
 ghost use Rattle.dom_data.specs.Gathering.{text_at, gathered};
+ghost use Rattle.dom_data.specs.TextContent.{makes_text};
 
-use crate::bodies::{data_in, kind_in};
-use crate::making::{document_in, make_text};
+use crate::bodies::kind_in;
+use crate::making::make_text;
 use crate::replacing::set_data;
 use dom_edit::of_kinds::Kind;
 use dom_edit::of_tree::{NodeId, Tree};
 use dom_edit::of_units::Units;
-use dom_edit::{Content, World};
+use dom_edit::{Content, World, data_in, document_in};
 use std::alloc::{AllocError, Global};
 
 // Puts the data of a node behind a text, where the node is a Text.
@@ -77,7 +78,7 @@ fn string_replace_all(
     requires held { HasNode world.old.tree.forest parent }
     requires kind { kind_passes may_be_parent world.old.tree.forest parent ≡ true }
     requires no_document { is_of_kind Document world.old.tree.forest parent ≡ false }
-    requires room { world.old.tree.made < 4294967295 }
+    requires room { text ≢ [] → world.old.tree.made < 4294967295 }
     ensures replaced { OnOk result (Follows world.old world.new (string_replace_all text parent)) }
     ensures whole { IsWhole world.new }
 {
@@ -98,7 +99,7 @@ pub fn set_text_content(
 ) -> Result<(), AllocError>
     requires whole { IsWhole world.old }
     requires held { HasNode world.old.tree.forest node }
-    requires room { world.old.tree.made < 4294967295 }
+    requires room { makes_text (unwatched world.old) node text ≡ true → world.old.tree.made < 4294967295 }
     ensures set { OnOk result (Follows world.old world.new (set_text_content node text)) }
     ensures markers { OnOk result (StandByEdits world.old world.new (set_text_content_edits node text)) }
     ensures whole { IsWhole world.new }

@@ -24,7 +24,9 @@ pub mod of_attrs {
 
 /// What crates above name of `dom_edit`.
 pub mod of_edit {
-    pub use dom_edit::{Content, Refusal, World, check_insert};
+    pub use dom_edit::{
+        Content, Refusal, World, check_insert, data_in, document_in, reference_child,
+    };
 }
 
 /// What crates above name of `dom_kinds`.
@@ -56,7 +58,7 @@ pub mod of_ranges {
 
 /// What crates above name of `dom_traverse`.
 pub mod of_traverse {
-    pub use dom_edit::of_traverse::{Filter, IterId, Rule, WalkerId};
+    pub use dom_edit::of_traverse::{Filter, IteratorId, Rule, WalkerId};
 }
 
 /// What crates above name of `dom_tree`.

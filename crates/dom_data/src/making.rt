@@ -3,28 +3,15 @@
 ghost use Rattle.std.specs.Prelude.{◌≡◌, ◌<◌, [], true, IfOk, OnOk};
 ghost use Rattle.dom_model.specs.declared.Kind.TheVariants.{Document, Text};
 ghost use Rattle.dom_model.specs.Worlds.Making.{made_node, named, with_text};
-ghost use Rattle.dom_model.specs.Forests.Forest.{HasNode, entry_in};
 ghost use Rattle.dom_model.specs.Forests.Nodes.{is_of_kind};
-ghost use Rattle.dom_model.specs.MutationAlgorithms.Editing.{document_in};
-ghost use Rattle.dom_model.specs.Soundness.Owners.{HasOwners};
 ghost use Rattle.dom_edit.specs.Whole.{IsWhole, Follows};
 
 use dom_edit::of_attrs::Attrs;
 use dom_edit::of_kinds::{Kind, Label};
-use dom_edit::of_tree::{NodeId, Tree};
+use dom_edit::of_tree::NodeId;
 use dom_edit::of_units::Units;
 use dom_edit::{Content, World};
 use std::alloc::{AllocError, Global};
-
-// The node document of a node.
-pub(crate) fn document_in(tree: &Tree<Content>, node: NodeId) -> NodeId
-    requires held { HasNode tree.now.forest node }
-    requires owners { HasOwners tree.now.forest }
-    ensures document { result ≡ document_in (entry_in tree.now.forest node) }
-    ensures kind { is_of_kind Document tree.now.forest result ≡ true }
-{
-    tree.document_of(node)
-}
 
 // Makes a Text with these units in a document, a root.
 pub(crate) fn make_text(

@@ -14,12 +14,12 @@ ghost use Rattle.dom_edit.specs.Markers.{StandByEdits};
 ghost use Rattle.dom_data.specs.TextsAlone.{alone, texts_among};
 ghost use Rattle.dom_data.specs.Joining.{next_text, texts_behind, data_among, IsNextTaken, taken_in, each_taken_in};
 
-use crate::bodies::{data_in, kind_in};
+use crate::bodies::kind_in;
 use crate::replacing::replace_units;
 use dom_edit::of_kinds::Kind;
 use dom_edit::of_tree::{NodeId, Tree};
 use dom_edit::of_units::Units;
-use dom_edit::{Content, World};
+use dom_edit::{Content, World, data_in};
 use std::alloc::{AllocError, Global};
 
 // Puts a node last in a list, where it is a Text.

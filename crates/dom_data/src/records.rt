@@ -8,10 +8,10 @@ ghost use Rattle.dom_model.specs.DataAndCopies.Data.{content_in, data_record, at
 ghost use Rattle.dom_edit.specs.Whole.{IsWhole, Follows};
 ghost use Rattle.dom_data.specs.Changes.{change_of};
 
-use crate::bodies::{data_in, value_in};
+use crate::bodies::value_in;
 use dom_edit::of_observe::Mutation;
 use dom_edit::of_tree::{NodeId, Tree};
-use dom_edit::{Content, World};
+use dom_edit::{Content, World, data_in};
 use dom_model::RecordType;
 use std::alloc::{AllocError, Global};
 

@@ -12,14 +12,13 @@ ghost use Rattle.dom_edit.specs.Markers.{StandByEdits};
 ghost use Rattle.dom_edit.specs.Refusals.{IsRefused};
 ghost use Rattle.dom_data.specs.Tails.{IsTail};
 
-use crate::bodies::data_in;
-use crate::making::{document_in, make_text};
+use crate::making::make_text;
 use crate::normalizing::index_if_asked;
 use crate::replacing::replace_data_checked;
 use dom_edit::of_kinds::DomError;
 use dom_edit::of_tree::{NodeId, Tree};
 use dom_edit::of_units::Units;
-use dom_edit::{Content, Refusal, World};
+use dom_edit::{Content, Refusal, World, data_in, document_in};
 use std::alloc::{AllocError, Global};
 
 // A law: the count of the children fits a number of the machine.
@@ -89,7 +88,7 @@ pub fn split(
 ) -> Result<NodeId, Refusal>
     requires whole { IsWhole world.old }
     requires kind { is_of_kind Text world.old.tree.forest node ≡ true }
-    requires room { world.old.tree.made < 4294967295 }
+    requires room { check_offset (unwatched world.old) node offset ≡ None → world.old.tree.made < 4294967295 }
     ensures number { IfOk result (λ id. id ≡ world.old.tree.made) }
     ensures allowed { OnOk result (check_offset (unwatched world.old) node offset ≡ None) }
     ensures split { OnOk result (Follows world.old world.new (split node offset)) }

@@ -41,8 +41,8 @@ module _ (v new : World) (suppressed : Bool) (n : ℕ) (h : IsWhole v) (held : H
 
 -- a root gets a node document
 pub whole-adopted : (v new : World) (n d : ℕ) → IsWhole v → parent_of v.tree.forest n ≡ None → is_of_kind Document v.tree.forest d ≡ true
-    → new.tree ≡ record { forest = adopted n d v.tree.forest; made = v.tree.made } → new.ranges ≡ v.ranges → new.statics ≡ v.statics → new.iters ≡ v.iters → new.walkers ≡ v.walkers → new.observers ≡ v.observers → IsWhole new
-whole-adopted v new n d h root document tree ranges statics iters walkers observers =
+    → new.tree ≡ record { forest = adopted n d v.tree.forest; made = v.tree.made } → new.ranges ≡ v.ranges → new.statics ≡ v.statics → new.iterators ≡ v.iterators → new.walkers ≡ v.walkers → new.observers ≡ v.observers → IsWhole new
+whole-adopted v new n d h root document tree ranges statics iterators walkers observers =
     let f = v.tree.forest in
     let g = adopted n d f in
     let forest : g ≡ new.tree.forest = sym (ap (λ t. t.forest) tree) in
@@ -51,7 +51,7 @@ whole-adopted v new n d h root document tree ranges statics iters walkers observ
       made = sym (ap (λ t. t.made) tree);
       ranges = sym (ap (λ r. r.ranges) ranges);
       static_ranges = sym statics;
-      iterators = sym iters;
+      iterators = sym iterators;
       walkers = sym walkers;
     } in
     let held = statics-held f g (there-alike (with_tree-alike (in_document d) (λ x. refl) n f)) v.statics h.statics in

@@ -1,13 +1,15 @@
 -- Going along the children of a node: what is left of the list from a child on.
-use Rattle.std.specs.Prelude.{◌==◌, if◌then◌else◌, not, ◌||◌, nat_eq}
-use Rattle.std.proofs.Common.{◌≡◌, ℕ, ◌+◌, ◌≤◌, Bool, true, false, List, [], ◌∷◌, length, refl, ap, arith}
+use Rattle.std.specs.Prelude.{◌==◌, if◌then◌else◌, not, ◌||◌, nat_eq, MatchOption}
+use Rattle.std.specs.Option.{ForSome}
+use Rattle.std.proofs.Common.{◌≡◌, ℕ, ◌+◌, ◌<◌, ◌≤◌, Bool, true, false, List, [], ◌∷◌, length, Option, Some, None, refl, ap, subst, arith}
 use Rattle.std.proofs.lemmas.Bool.Decides.{nat_tests}
 use Rattle.dom_model.specs.declared.Kind.{Kind}
 use Rattle.dom_model.specs.PlainLists.Lists.{hits, head_of, after, from_first}
 use Rattle.dom_model.specs.Forests.Arena.{list_under}
-use Rattle.dom_model.specs.Forests.Forest.{Forest, Grove, IsForest, entry_in, HasNode, children_of, next_of}
+use Rattle.dom_model.specs.Forests.Forest.{Forest, Grove, IsForest, entry_in, HasNode, parent_of, children_of, next_of}
 use Rattle.dom_model.specs.MutationAlgorithms.Checks.{count_kind, has_kind}
 use Rattle.dom_model.specs.Forests.Nodes.{is_of_kind}
+use Rattle.dom_model.proofs.PlainLists.Numbers.{same_or, same, apart}
 use Rattle.dom_model.proofs.Forests.Changes.{seen, nothing, just}
 use Rattle.dom_model.proofs.Forests.Climbing.{hits-first}
 use Rattle.dom_model.proofs.Forests.PutBack.{hits-after}
@@ -41,9 +43,38 @@ from_first-after n xs once one =
       | just m e ↦ rw e (from-after n m xs (once m) e)
     ]
 
+hits-from_first : (n m : ℕ) (xs : List ℕ) → hits m (from_first n xs) ≤ hits m xs
+hits-from_first n m [] = omega arith
+hits-from_first n m (x ∷ xs) =
+    elim (same_or x n) [ same _ t ↦ rw t (omega arith) | apart _ t ↦ rw t (omega (arith, hits-from_first n m xs)) ]
+
+-- each number of a list stands in the other
+abbrev pub AreAmong : List ℕ → List ℕ → Type 0
+AreAmong ns xs = (m : ℕ) → 0 < hits m ns → 0 < hits m xs
+
+pub from-among : (o : Option ℕ) (xs : List ℕ) → AreAmong (from_optional o xs) xs
+from-among None xs m h = absurd (omega arith)
+from-among (Some n) xs m h = omega (arith, hits-from_first n m xs)
+
+-- so does the first of them
+pub first-among : (n : ℕ) (ns xs : List ℕ) → AreAmong (n ∷ ns) xs → 0 < hits n xs
+first-among n ns xs h = h n (hits-first n ns)
+
+-- a list that is told of a number that is given, and of none
+pub from_optional-given : (o : Option ℕ) (r xs : List ℕ) → MatchOption o (r ≡ []) (λ n. r ≡ from_first n xs) → r ≡ from_optional o xs
+from_optional-given None r xs h = h
+from_optional-given (Some n) r xs h = h
+
 module _ {X : Type 0} (g : Grove X) (sound : IsForest g) where
-  pub HasNode-child : (p c : ℕ) → hits c (children_of g.forest p) ≡ 1 → HasNode g.forest c
-  HasNode-child p c h = HasNode-occurs g.forest c (child-there g.forest sound.once c p (omega arith))
+  pub HasNode-child : (p c : ℕ) → 0 < hits c (children_of g.forest p) → HasNode g.forest c
+  HasNode-child p c h = HasNode-occurs g.forest c (child-there g.forest sound.once c p h)
+
+  -- a child that is given stands under its parent
+  pub parent-among : (p : ℕ) (o : Option ℕ) → IsAmong o (children_of g.forest p) → ForSome o (λ c. parent_of g.forest c ≡ Some p)
+  parent-among p None h c e = absurd (cc e)
+  parent-among p (Some n) h c e =
+      let d : n ≡ c = cc e in
+      subst (λ m. parent_of g.forest m ≡ Some p) d (child-parent g.forest sound.once n p (omega arith))
 
   -- the next sibling of a child is its successor among the children
   pub next_of-child : (p c : ℕ) → hits c (children_of g.forest p) ≡ 1 → next_of g.forest c ≡ after c (children_of g.forest p)

@@ -26,16 +26,16 @@ nobody-watches o e = subst (λ p. Watches p bare.observing) (sym e) (record {
 })
 
 pub shows-first : (v new : World) (made : ℕ) (label : Label) (body : Content)
-    → v.tree ≡ record { forest = empty; made = 0 } → v.ranges ≡ record { ranges = []; covered = [] } → v.statics ≡ [] → v.iters ≡ [] → v.walkers ≡ []
+    → v.tree ≡ record { forest = empty; made = 0 } → v.ranges ≡ record { ranges = []; covered = [] } → v.statics ≡ [] → v.iterators ≡ [] → v.walkers ≡ []
     → v.observers ≡ record { nodes = []; queues = []; pending = [] }
     → made ≡ 0 → label ≡ document_label → body ≡ no_content → Follows v new (made_node made label body) → IsWhole new → Shows new first_world
-shows-first v new made label body tree ranges statics iters walkers observers number labelled bodied f whole =
+shows-first v new made label body tree ranges statics iterators walkers observers number labelled bodied f whole =
     let keeps : Keeps v bare = record {
       forest = sym (ap (λ t. t.forest) tree);
       made = sym (ap (λ t. t.made) tree);
       ranges = sym (ap (λ r. r.ranges) ranges);
       static_ranges = sym statics;
-      iterators = sym iters;
+      iterators = sym iterators;
       walkers = sym walkers;
     } in
     let is_first : made_node made label body bare ≡ first_world =

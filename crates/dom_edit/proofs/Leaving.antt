@@ -1,5 +1,5 @@
 -- A node leaves its parent: what follows, and that the world stays whole.
-use Rattle.std.proofs.Common.{◌≡◌, ◌<◌, ◌≤◌, ℕ, Bool, true, List, [], ◌∷◌, Option, Some, None, IfSome, All, refl, ap, sym, ◌∙◌, subst, arith}
+use Rattle.std.proofs.Common.{◌≡◌, ℕ, Bool, true, List, [], ◌∷◌, Option, Some, None, IfSome, All, refl, ap, sym, ◌∙◌, subst, arith}
 use Rattle.std.proofs.lemmas.List.Elements.{All-weaker}
 use Rattle.dom_model.specs.Forests.Forest.{HasNode, Forest, one_at, occurs, parent_of, previous_of, next_of, index_of, inclusive_descendants, ancestors, cut}
 use Rattle.dom_model.specs.Forests.Documents.{HasOneDocument}
@@ -11,13 +11,13 @@ use Rattle.dom_model.specs.MutationAlgorithms.PreRemoval.{pre_removed_all}
 use Rattle.dom_model.specs.MutationAlgorithms.Editing.{taken_out, transients_made, tree_record_unless, removed_from, remove}
 use Rattle.dom_model.specs.MutationObservers.Observing.{standing_on}
 use Rattle.dom_model.specs.Soundness.Owners.{HasOwners, IsOwnedWell}
-use Rattle.dom_model.proofs.Forests.Entries.{HasNode-occurs, occurs-HasNode}
+use Rattle.dom_model.proofs.Forests.Entries.{HasNode-occurs}
 use Rattle.dom_model.proofs.Forests.Indices.{parent-there}
 use Rattle.dom_model.proofs.Forests.Paths.{parent-path}
 use Rattle.dom_model.proofs.Forests.Totals.{total-cut}
 use Rattle.dom_model.proofs.Soundness.SoundWorlds.{there_after_cut, sound-remove}
 use Rattle.dom_model.proofs.MutationAlgorithms.OwnersKept.{owned-cut}
-use Rattle.dom_ranges.specs.Tables.{IsCovered}
+use Rattle.dom_ranges.specs.Tables.{RangeTable, IsCovered}
 use Rattle.dom_observe.specs.Held.{NamesHeld}
 use Rattle.dom_observe.specs.Watchers.{Watches}
 use Rattle.dom_observe.proofs.HeldNames.{held-kept}
@@ -57,19 +57,27 @@ statics-held f g there rs h = All-weaker (AreHeld f) (AreHeld g) (λ r k. record
 pub follows-taken : (v new : World) (n p : ℕ)
     → new.tree ≡ record { forest = cut n v.tree.forest; made = v.tree.made }
     → new.ranges ≡ record { ranges = map_ranges (after_removal (inclusive_descendants v.tree.forest n) p (index_of v.tree.forest n)) v.ranges.ranges; covered = v.ranges.covered }
-    → new.statics ≡ v.statics → new.iters ≡ pre_removed_all v.tree.forest n v.iters → new.walkers ≡ v.walkers → new.observers ≡ v.observers
+    → new.statics ≡ v.statics → new.iterators ≡ pre_removed_all v.tree.forest n v.iterators → new.walkers ≡ v.walkers → new.observers ≡ v.observers
     → Follows v new (taken_out n p)
-follows-taken v new n p tree ranges statics iters walkers observers = record {
+follows-taken v new n p tree ranges statics iterators walkers observers = record {
   keeps = λ w k. record {
     forest = ap (cut n) k.forest ∙ sym (ap (λ t. t.forest) tree);
     made = k.made ∙ sym (ap (λ t. t.made) tree);
     ranges = rw (k.forest, k.ranges) (sym (ap (λ r. r.ranges) ranges));
     static_ranges = k.static_ranges ∙ sym statics;
-    iterators = rw (k.forest, k.iterators) (sym iters);
+    iterators = rw (k.forest, k.iterators) (sym iterators);
     walkers = k.walkers ∙ sym walkers;
   };
   watches = λ w k o. subst (λ b. Watches b w.observing) (sym observers) o;
 }
+
+-- once the ends have given way, the rest does
+pub follows-cut_out : (v new : World) (n p : ℕ) (moved : RangeTable)
+    → moved ≡ record { ranges = map_ranges (after_removal (inclusive_descendants v.tree.forest n) p (index_of v.tree.forest n)) v.ranges.ranges; covered = v.ranges.covered }
+    → new ≡ record v { ranges = moved; tree = record v.tree { forest = cut n v.tree.forest }; iterators = pre_removed_all v.tree.forest n v.iterators }
+    → Follows v new (taken_out n p)
+follows-cut_out v new n p moved ends e =
+    follows-taken v new n p (ap (λ (w : World). w.tree) e) (ap (λ (w : World). w.ranges) e ∙ ends) (ap (λ (w : World). w.statics) e) (ap (λ (w : World). w.iterators) e) (ap (λ (w : World). w.walkers) e) (ap (λ (w : World). w.observers) e)
 
 pub whole-taken : (v new : World) (n p : ℕ) → IsWhole v → parent_of v.tree.forest n ≡ Some p → Follows v new (taken_out n p) → new.ranges.covered ≡ v.ranges.covered → new.observers ≡ v.observers → IsWhole new
 whole-taken v new n p h e f covered observers =

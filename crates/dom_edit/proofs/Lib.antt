@@ -1,5 +1,4 @@
 pub mod AmongChildren
-pub mod Leaves
 pub mod Placing
 pub mod Following
 pub mod Covering
@@ -14,6 +13,7 @@ pub mod Naming
 pub mod InsertedNodes
 pub mod ReplacedNodes
 pub mod NodesKept
+pub mod Unreferred
 pub mod Named
 pub mod Marking
 pub mod Unrefused

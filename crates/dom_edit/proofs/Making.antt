@@ -49,15 +49,15 @@ owned-new f made (Some d) label body absent given own =
 
 pub follows-made : (v new : World) (document : Option ℕ) (label : Label) (body : Content)
     → new.tree ≡ record { forest = beside v.tree.forest (node (new_node v.tree.made document label body) empty empty); made = v.tree.made + 1 }
-    → new.ranges.ranges ≡ v.ranges.ranges → new.statics ≡ v.statics → new.iters ≡ v.iters → new.walkers ≡ v.walkers → new.observers ≡ v.observers
+    → new.ranges.ranges ≡ v.ranges.ranges → new.statics ≡ v.statics → new.iterators ≡ v.iterators → new.walkers ≡ v.walkers → new.observers ≡ v.observers
     → Follows v new (made_node (unwrap_or document v.tree.made) label body)
-follows-made v new document label body tree ranges statics iters walkers observers = record {
+follows-made v new document label body tree ranges statics iterators walkers observers = record {
   keeps = λ w k. record {
     forest = rw (k.forest, k.made) (sym (ap (λ t. t.forest) tree));
     made = rw k.made (sym (ap (λ t. t.made) tree));
     ranges = k.ranges ∙ sym ranges;
     static_ranges = k.static_ranges ∙ sym statics;
-    iterators = k.iterators ∙ sym iters;
+    iterators = k.iterators ∙ sym iterators;
     walkers = k.walkers ∙ sym walkers;
   };
   watches = λ w k o. subst (λ b. Watches b w.observing) (sym observers) o;
@@ -95,15 +95,15 @@ whole-made v new document label body h given own follows covered observers =
     (held-kept f new.tree.forest v.observers (λ n here. subst (λ g. HasNode g n) k.forest (there n here)) h.observers))
 
 -- more nodes are covered
-pub whole-covered : (v new : World) (made : ℕ) → IsWhole v → new.tree ≡ v.tree → new.ranges.ranges ≡ v.ranges.ranges → new.ranges.covered ≡ covered_to made v.ranges.covered → new.statics ≡ v.statics → new.iters ≡ v.iters → new.walkers ≡ v.walkers → new.observers ≡ v.observers → IsWhole new
-whole-covered v new made h tree ranges covered statics iters walkers observers = record {
+pub whole-covered : (v new : World) (made : ℕ) → IsWhole v → new.tree ≡ v.tree → new.ranges.ranges ≡ v.ranges.ranges → new.ranges.covered ≡ covered_to made v.ranges.covered → new.statics ≡ v.statics → new.iterators ≡ v.iterators → new.walkers ≡ v.walkers → new.observers ≡ v.observers → IsWhole new
+whole-covered v new made h tree ranges covered statics iterators walkers observers = record {
   forest = rw tree h.forest;
   documents = rw tree h.documents;
   owners = rw tree h.owners;
   covered = rw (tree, covered) (covered-more v.tree v.ranges.covered made h.covered);
   ranges = rw (tree, ranges) h.ranges;
   statics = rw (tree, statics) h.statics;
-  iterators = rw (tree, iters) h.iterators;
+  iterators = rw (tree, iterators) h.iterators;
   walkers = rw (tree, walkers) h.walkers;
   observers = rw (tree, observers) h.observers;
 }

@@ -54,18 +54,18 @@ parted p a b c d e =
 
 -- a number of a tree is among those that the parts of the code's world name
 pub named-own : (v : World) (p : ℕ → Bool)
-    → ((((list_any p (flat_map nodes_of_live v.ranges.ranges) || list_any p (flat_map nodes_of_range v.statics)) || list_any p (flat_map nodes_of_iterator v.iters)) || list_any p (flat_map nodes_of_walker v.walkers)) || list_any p (named v.observers)) ≡ list_any p (named_in v)
-named-own v p = parted p (flat_map nodes_of_live v.ranges.ranges) (flat_map nodes_of_range v.statics) (flat_map nodes_of_iterator v.iters) (flat_map nodes_of_walker v.walkers) (named v.observers)
+    → ((((list_any p (flat_map nodes_of_live v.ranges.ranges) || list_any p (flat_map nodes_of_range v.statics)) || list_any p (flat_map nodes_of_iterator v.iterators)) || list_any p (flat_map nodes_of_walker v.walkers)) || list_any p (named v.observers)) ≡ list_any p (named_in v)
+named-own v p = parted p (flat_map nodes_of_live v.ranges.ranges) (flat_map nodes_of_range v.statics) (flat_map nodes_of_iterator v.iterators) (flat_map nodes_of_walker v.walkers) (named v.observers)
 
 -- and among those that a world names which it keeps
 pub named-parts : (v : World) (w : model.World) (top : ℕ) → Keeps v w → (p : ℕ → Bool) → p ≡ (λ m. among m (inclusive_descendants v.tree.forest top))
-    → ((((list_any p (flat_map nodes_of_live v.ranges.ranges) || list_any p (flat_map nodes_of_range v.statics)) || list_any p (flat_map nodes_of_iterator v.iters)) || list_any p (flat_map nodes_of_walker v.walkers)) || list_any p (observed_nodes w.observing))
+    → ((((list_any p (flat_map nodes_of_live v.ranges.ranges) || list_any p (flat_map nodes_of_range v.statics)) || list_any p (flat_map nodes_of_iterator v.iterators)) || list_any p (flat_map nodes_of_walker v.walkers)) || list_any p (observed_nodes w.observing))
     ≡ list_any (λ m. among m (inclusive_descendants w.forest top)) (named_nodes w)
 named-parts v w top k p e =
     let inside : p ≡ (λ m. among m (inclusive_descendants w.forest top)) = e ∙ ap (λ f m. among m (inclusive_descendants f top)) (sym k.forest) in
     let ranges = flat_map nodes_of_live v.ranges.ranges in
     let statics = flat_map nodes_of_range v.statics in
-    let iterators = flat_map nodes_of_iterator v.iters in
+    let iterators = flat_map nodes_of_iterator v.iterators in
     let walkers = flat_map nodes_of_walker v.walkers in
     let observed = observed_nodes w.observing in
     let all : named_nodes w ≡ ranges ++ (statics ++ (iterators ++ (walkers ++ observed))) = rw (k.ranges, k.static_ranges, k.iterators, k.walkers) refl in
@@ -185,7 +185,7 @@ names-nothing v n free =
     let apart = neither (is_held_outside v.tree.forest n) (list_any (λ m. among m (inclusive_descendants v.tree.forest n)) (named_in v)) free in
     let a = list_any p (flat_map nodes_of_live v.ranges.ranges) in
     let b = list_any p (flat_map nodes_of_range v.statics) in
-    let c = list_any p (flat_map nodes_of_iterator v.iters) in
+    let c = list_any p (flat_map nodes_of_iterator v.iterators) in
     let d = list_any p (flat_map nodes_of_walker v.walkers) in
     let all = neither (((a || b) || c) || d) (list_any p (named v.observers)) (named-own v p ∙ apart.1) in
     let first = neither a b (neither (a || b) c (neither ((a || b) || c) d all.0).0).0 in
@@ -197,8 +197,8 @@ pub no-end-inside : (v : World) (n : ℕ) → is_used v n ≡ false → list_any
 no-end-inside v n free = (names-nothing v n free).ranges
 
 pub whole-left : (v new : World) (n : ℕ) → IsWhole v → is_used v n ≡ false
-    → new.tree ≡ record { forest = without n v.tree.forest; made = v.tree.made } → new.ranges ≡ record v.ranges { covered = uncovered (inclusive_descendants v.tree.forest n) v.ranges.covered } → new.statics ≡ v.statics → new.iters ≡ v.iters → new.walkers ≡ v.walkers → new.observers ≡ v.observers → IsWhole new
-whole-left v new n h free tree ranges statics iters walkers observers =
+    → new.tree ≡ record { forest = without n v.tree.forest; made = v.tree.made } → new.ranges ≡ record v.ranges { covered = uncovered (inclusive_descendants v.tree.forest n) v.ranges.covered } → new.statics ≡ v.statics → new.iterators ≡ v.iterators → new.walkers ≡ v.walkers → new.observers ≡ v.observers → IsWhole new
+whole-left v new n h free tree ranges statics iterators walkers observers =
     let w = unwatched v in
     let k = keeps-unwatched v in
     let f = v.tree.forest in
@@ -220,7 +220,7 @@ whole-left v new n h free tree ranges statics iters walkers observers =
       made = made;
       ranges = sym (ap (λ r. r.ranges) ranges);
       static_ranges = sym statics;
-      iterators = sym iters;
+      iterators = sym iterators;
       walkers = sym walkers;
     } in
     whole-sound new (discarded n w) keeps (sound-without n w (sound-unwatched v h) nothing.unwatched_too)

@@ -17,10 +17,9 @@ use Rattle.dom_model.proofs.Soundness.SoundWorlds.{child_there}
 use Rattle.dom_ranges.specs.dom_tree.Beside.{forward-step}
 use Rattle.dom_edit.specs.declared.world.World.{World}
 use Rattle.dom_edit.specs.Whole.{IsWhole, Follows}
-use Rattle.dom_edit.specs.Inserting.{entering, entering_if_any, AreThere, KeepsNodes}
+use Rattle.dom_edit.specs.Inserting.{reference_in, entering, entering_if_any, AreThere, KeepsNodes}
 use Rattle.dom_edit.proofs.Leaving.{held-taken}
 use Rattle.dom_edit.proofs.InsertedNodes.{if_not, entering-there, there-removed_all}
-use Rattle.dom_edit.proofs.ReplacedNodes.{reference_in}
 
 -- Steps that keep all nodes.
 

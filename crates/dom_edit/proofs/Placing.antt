@@ -142,10 +142,6 @@ pub ahead-none : (until : Option ℕ) → ahead_of until [] ≡ []
 ahead-none None = refl
 ahead-none (Some u) = refl
 
--- one more of a list is asked
-pub one-more : (a b t c : Bool) → a ≡ (b || (t || c)) → a ≡ ((b || t) || c)
-one-more a b t c h = h ∙ sym (or_assoc b t c)
-
 pub no-more : (a b : Bool) → a ≡ (b || false) → b ≡ a
 no-more a b h = sym (h ∙ or_false b)
 

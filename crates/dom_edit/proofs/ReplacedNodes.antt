@@ -3,7 +3,7 @@ use Rattle.std.specs.Option.{ForSome}
 use Rattle.std.proofs.Common.{◌≡◌, ℕ, zero, suc, ◌<◌, ◌≤◌, ◌==◌, Bool, true, false, if◌then◌else◌, List, [], ◌∷◌, length, Option, Some, None, refl, ap, sym, ◌∙◌, subst, arith}
 use Rattle.dom_model.specs.declared.Kind.TheVariants.{DocumentFragment}
 use Rattle.dom_model.specs.declared.DomError.TheVariants.{HierarchyRequestError}
-use Rattle.dom_model.specs.PlainLists.Lists.{hits, is_number}
+use Rattle.dom_model.specs.PlainLists.Lists.{hits}
 use Rattle.dom_model.specs.Forests.Kinds.{is_kind}
 use Rattle.dom_model.specs.Forests.Forest.{Forest, HasNode, occurs, parent_of, children_of, next_of, previous_of, ancestors}
 use Rattle.dom_model.specs.Worlds.World.{Content}
@@ -23,14 +23,10 @@ use Rattle.dom_model.proofs.Soundness.SoundEditing.{IsChecked, checks, checks_in
 use Rattle.dom_edit.specs.declared.world.World.{World}
 use Rattle.dom_edit.specs.Whole.{IsWhole, Keeps, Follows, unwatched}
 use Rattle.dom_edit.specs.Refusals.{check_only_child}
-use Rattle.dom_edit.specs.Inserting.{entering, entering_if_any, AreThere}
+use Rattle.dom_edit.specs.Inserting.{reference_in, entering, entering_if_any, AreThere}
 use Rattle.dom_edit.proofs.Following.{follows-then}
 use Rattle.dom_edit.proofs.PlacedWorlds.{sound-unwatched}
 use Rattle.dom_edit.proofs.InsertedNodes.{follows-as, forest-after, nodes-entering}
-
--- what a node comes in before
-abbrev pub reference_in : Forest Content → ℕ → Option ℕ → Option ℕ
-reference_in f n child = if is_number child n then next_of f n else child
 
 -- Records of what replaced all children.
 

@@ -1,14 +1,15 @@
 -- What comes in under a parent: nodes one after another, and the live range ends that make room for them.
 -- DOM Standard, "Mutation algorithms" (insert), "Live ranges".
-use Rattle.std.specs.Prelude.{if◌then◌else◌, ℕ, ◌<◌, List, [], ◌∷◌, Option, Some, None}
-use Rattle.dom_model.specs.PlainLists.Lists.{hits}
-use Rattle.dom_model.specs.Forests.Forest.{Forest, HasNode, entry_in, occurs, children_of, index_of, put, adopted}
+use Rattle.std.specs.Prelude.{◌≡◌, if◌then◌else◌, ℕ, ◌<◌, List, [], ◌∷◌, Option, Some, None}
+use Rattle.dom_model.specs.PlainLists.Lists.{hits, is_number}
+use Rattle.dom_model.specs.Forests.Forest.{Forest, HasNode, entry_in, occurs, children_of, next_of, ancestors, index_of, put, adopted}
 use Rattle.dom_model.specs.Worlds.World.{Content, Range}
 use Rattle.dom_model.specs.BoundaryPoints.Points.{after_gap, map_ranges}
 use Rattle.dom_model.specs.declared.Kind.TheVariants.{DocumentFragment}
 use Rattle.dom_model.specs.Forests.Nodes.{is_of_kind}
 use Rattle.dom_model.specs.MutationAlgorithms.Editing.{document_in}
 use Rattle.dom_model.specs.MutationAlgorithms.Insertable.{ArePlaceable, IsChildOf}
+use Rattle.dom_ranges.specs.Tables.{live_nodes}
 use Rattle.dom_edit.specs.declared.world.World.{World}
 use Rattle.dom_edit.specs.declared.inserting.NodeList.{NodeList}
 use Rattle.dom_edit.specs.declared.inserting.NodeList.TheVariants.{One, Many}
@@ -40,6 +41,14 @@ AreThere f ns = (m : ℕ) → 0 < hits m ns → 0 < occurs m f
 -- no node goes
 abbrev pub KeepsNodes : World → World → Type 0
 KeepsNodes old new = (n : ℕ) → HasNode old.tree.forest n → HasNode new.tree.forest n
+
+-- what a node comes in before: the child, or the node's next sibling where the child is the node itself
+abbrev pub reference_in : Forest Content → ℕ → Option ℕ → Option ℕ
+reference_in f n child = if is_number child n then next_of f n else child
+
+-- no end of a live range stands inside a node: none has it among its inclusive ancestors
+abbrev pub IsUnreferred : World → ℕ → Type 0
+IsUnreferred v n = (m : ℕ) → 0 < hits m (live_nodes v.ranges) → hits n (ancestors m v.tree.forest) ≡ 0
 
 -- what comes in with a node: a fragment's children, or the node alone
 abbrev pub entering : Forest Content → ℕ → List ℕ

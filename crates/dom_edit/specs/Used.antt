@@ -12,7 +12,7 @@ abbrev pub named_in : World → List ℕ
 named_in v =
     flat_map nodes_of_live v.ranges.ranges
     ++ (flat_map nodes_of_range v.statics
-    ++ (flat_map nodes_of_iterator v.iters
+    ++ (flat_map nodes_of_iterator v.iterators
     ++ (flat_map nodes_of_walker v.walkers
     ++ named v.observers)))
 

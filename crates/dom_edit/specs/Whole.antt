@@ -26,7 +26,7 @@ pub record IsWhole (v : World) : Type 0 where
   pub covered : AreCovered v.tree v.ranges.covered
   pub ranges : All (λ (r : Option Range). IfSome r (IsRange v.tree.forest)) v.ranges.ranges
   pub statics : All (AreHeld v.tree.forest) v.statics
-  pub iterators : All (IsIterator v.tree.forest) v.iters
+  pub iterators : All (IsIterator v.tree.forest) v.iterators
   pub walkers : All (IsWalker v.tree.forest) v.walkers
   pub observers : NamesHeld v.tree.forest v.observers
 
@@ -36,7 +36,7 @@ pub record Keeps (v : World) (w : model.World) : Type 0 where
   pub made : w.made ≡ v.tree.made
   pub ranges : w.ranges ≡ v.ranges.ranges
   pub static_ranges : w.static_ranges ≡ v.statics
-  pub iterators : w.iterators ≡ v.iters
+  pub iterators : w.iterators ≡ v.iterators
   pub walkers : w.walkers ≡ v.walkers
 
 -- nothing has changed, but that more of the numbers ahead may be covered
@@ -72,7 +72,7 @@ unwatched v = record {
   forest = v.tree.forest;
   made = v.tree.made;
   ranges = v.ranges.ranges;
-  iterators = v.iters;
+  iterators = v.iterators;
   walkers = v.walkers;
   observing = record { registrations = []; mutations = []; places = []; notified = 0 };
   static_ranges = v.statics;

@@ -4,8 +4,8 @@ ghost use Rattle.std.specs.Prelude.{◌≡◌, None, Some, MatchResult, not, ◌
 ghost use Rattle.std.specs.Option.{ForSome};
 ghost use Rattle.dom_model.specs.declared.Kind.TheVariants.{Text, Document, DocumentType};
 ghost use Rattle.dom_model.specs.Forests.Kinds.{may_be_parent, is_kind};
-ghost use Rattle.dom_model.specs.PlainLists.Lists.{among, is_number, first_refusal};
-ghost use Rattle.dom_model.specs.Forests.Forest.{HasNode, parent_of, ancestors};
+ghost use Rattle.dom_model.specs.PlainLists.Lists.{is_number, first_refusal};
+ghost use Rattle.dom_model.specs.Forests.Forest.{HasNode, parent_of};
 ghost use Rattle.dom_model.specs.MutationAlgorithms.Checks.{if_given, check_insert, check_replace};
 ghost use Rattle.dom_edit.specs.Places.{child_of, conditions_at};
 
@@ -25,19 +25,6 @@ fn is_misplaced(parent: Kind, kind: Kind) -> bool
         Kind::Element | Kind::ProcessingInstruction | Kind::Comment | Kind::DocumentFragment =>
             false,
     }
-}
-
-// Whether a node stands inside another or is it. A node without children is found at once.
-fn is_inside(tree: &Tree<Content>, top: NodeId, node: NodeId) -> bool
-    requires top_held { HasNode tree.now.forest top }
-    requires node_held { HasNode tree.now.forest node }
-    ensures { result ≡ among top (ancestors node tree.now.forest) }
-{
-    tree.sound();
-    let Some(_) = tree.first(top) else {
-        return top == node;
-    };
-    tree.is_ancestor(top, node)
 }
 
 // Whether a child is given that does not stand under the parent.
@@ -61,19 +48,20 @@ fn check(tree: &Tree<Content>, parent: NodeId, node: NodeId, place: Place) -> Re
     requires child_held { ForSome (child_of place) (λ c. HasNode tree.now.forest c) }
     ensures { MatchResult result (λ _. first_refusal (conditions_at place tree.now.forest parent node) ≡ None) (λ e. first_refusal (conditions_at place tree.now.forest parent node) ≡ Some e) }
 {
+    tree.sound();
     let above = tree.label(parent).kind;
     let kind = tree.label(node).kind;
     if !may_be_parent(above) {
         return Err(DomError::HierarchyRequestError);
     }
     if is_elsewhere(tree, parent, place.child()) {
-        return Err(if is_inside(tree, node, parent) {
+        return Err(if tree.is_inside(node, parent) {
             DomError::HierarchyRequestError
         } else {
             DomError::NotFoundError
         });
     }
-    if is_misplaced(above, kind) || is_inside(tree, node, parent) {
+    if is_misplaced(above, kind) || tree.is_inside(node, parent) {
         return Err(DomError::HierarchyRequestError);
     }
     if above == Kind::Document && is_refused(tree, parent, node, kind, place) {

@@ -39,7 +39,7 @@ impl World {
     {
         self.ranges.refers(&self.tree, top)
             || self.statics.refers(&self.tree, top)
-            || self.iters.refers(&self.tree, top)
+            || self.iterators.refers(&self.tree, top)
             || self.walkers.refers(&self.tree, top)
             || self.observers.refers(&self.tree, top)
     }

@@ -13,14 +13,16 @@ ghost use Rattle.dom_model.specs.Forests.Nodes.{is_of_kind, kind_passes};
 ghost use Rattle.dom_model.specs.MutationAlgorithms.Editing.{remove, insert, pre_insert, append, replace, replace_all, adopt};
 ghost use Rattle.dom_model.specs.MutationAlgorithms.Insertable.{IsInsertable};
 ghost use Rattle.dom_model.specs.TokenText.Edits.{pre_insert_edits, append_edits, replace_edits, remove_edits, replace_all_edits, adopt_edits};
+ghost use Rattle.dom_edit.specs.Inserting.{IsUnreferred};
 ghost use Rattle.dom_edit.specs.Whole.{IsWhole, Follows, Moves};
 ghost use Rattle.dom_edit.specs.Markers.{StandByEdits};
 ghost use Rattle.dom_edit.specs.Refusals.{check_remove_child, check_only_child, check_adopt, IsRefused};
 
 use crate::checks::{check_insert, check_replace};
 use crate::inserting::{children, entering};
+use crate::questions::reference_child;
 use crate::refusal::Refusal;
-use crate::replacing::{check_only_child, entering_if_any, reference_child};
+use crate::replacing::{check_only_child, entering_if_any};
 use crate::world::World;
 use dom_ranges::of_kinds::{DomError, Kind};
 use dom_ranges::of_tree::NodeId;
@@ -47,6 +49,7 @@ impl World {
         ensures refused { IfErr result (λ e. IsRefused e (check_insert self.old.tree.forest parent node child) self.old self.new) }
         ensures whole { IsWhole self.new }
     {
+        // the checker covers no variable of this type that is passed by value twice
         let given = child;
         if let Err(error) = check_insert(&self.tree, parent, node, given) {
             return Err(Refusal::Dom(error));
@@ -93,6 +96,26 @@ impl World {
         self.enter(alloc, false, node, parent, child, nodes.as_slice())
     }
 
+    /// Inserts a node, or the children of a fragment, as [`World::insert`] does, where no end of a live range stands inside the node.
+    ///
+    /// The children of a fragment then leave it in the same time at any depth: no end is asked whether it stands inside them.
+    pub fn insert_unreferred(
+        &mut self,
+        alloc: Global,
+        parent: NodeId,
+        node: NodeId,
+        child: Option<NodeId>,
+    ) -> Result<(), AllocError>
+        requires whole { IsWhole self.old }
+        requires allowed { IsInsertable self.old.tree.forest node parent child }
+        requires unreferred { IsUnreferred self.old node }
+        ensures inserted { OnOk result (Follows self.old self.new (insert false node parent child)) }
+        ensures whole { IsWhole self.new }
+    {
+        let nodes = entering(&self.tree, alloc, node)?;
+        self.enter_unreferred(alloc, node, parent, child, nodes.as_slice())
+    }
+
     /// Puts a node, or the children of a fragment, in as the last of a parent's children (append).
     pub fn append(&mut self, alloc: Global, parent: NodeId, node: NodeId) -> Result<(), Refusal>
         requires whole { IsWhole self.old }
@@ -135,6 +158,7 @@ impl World {
         let reference = reference_child(&self.tree, node, following);
         let nodes = entering(&self.tree, alloc, node)?;
         self.remove_node(alloc, child, true)?;
+        // the checker covers no variable of this type that is passed by value twice
         let before = reference;
         self.enter(alloc, true, node, parent, before, nodes.as_slice())?;
         self.queue_tree_record(
@@ -205,6 +229,7 @@ impl World {
         ensures refused { IfErr result (λ e. IsRefused e (check_only_child self.old.tree.forest parent node) self.old self.new) }
         ensures whole { IsWhole self.new }
     {
+        // the checker covers no variable of this type that is passed by value twice
         let asked = node;
         if let Err(error) = check_only_child(&self.tree, parent, asked) {
             return Err(Refusal::Dom(error));
@@ -229,6 +254,7 @@ impl World {
         ensures markers { OnOk result (StandByEdits self.old self.new (replace_all_edits node parent)) }
         ensures whole { IsWhole self.new }
     {
+        // the checker covers no variable of this type that is passed by value twice
         let entered = node;
         let added = entering_if_any(&self.tree, alloc, entered)?;
         let removed = children(&self.tree, alloc, parent)?;

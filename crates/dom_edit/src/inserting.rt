@@ -1,10 +1,10 @@
 //! Nodes come in under a parent, from wherever they stand (DOM Standard, "Mutation algorithms", insert).
 
-ghost use Rattle.std.specs.Prelude.{◌≡◌, [], IfOk, OnOk, true};
+ghost use Rattle.std.specs.Prelude.{◌≡◌, [], IfOk, OnOk, true, false};
 ghost use Rattle.dom_model.specs.Forests.Forest.{HasNode, children_of};
 ghost use Rattle.dom_model.specs.MutationAlgorithms.Editing.{remove_all, freed, previous_to, insert_all, insert};
 ghost use Rattle.dom_model.specs.MutationAlgorithms.Insertable.{IsInsertable};
-ghost use Rattle.dom_edit.specs.Inserting.{AreThere, KeepsNodes, listed, entering, IsOpen};
+ghost use Rattle.dom_edit.specs.Inserting.{AreThere, KeepsNodes, IsUnreferred, listed, entering, IsOpen};
 ghost use Rattle.dom_edit.specs.Whole.{IsWhole, Follows};
 
 use crate::content::Content;
@@ -41,12 +41,9 @@ pub(crate) fn children(
     requires { HasNode tree.now.forest parent }
     ensures { IfOk result (λ list. list.items ≡ children_of tree.now.forest parent) }
 {
-    tree.sound();
     let mut list = Vec::new(alloc);
-    let mut child = tree.first(parent);
-    while let Some(id) = child {
-        list.push(id)?;
-        child = tree.next(id);
+    for child in tree.children(parent) {
+        list.push(child)?;
     }
     Ok(list)
 }
@@ -91,6 +88,20 @@ impl World {
         Ok(())
     }
 
+    // The children of a parent inside which no live range end stands leave it, one after another, with no record.
+    fn remove_all_unreferred(&mut self, parent: NodeId, nodes: &[NodeId]) -> Result<(), AllocError>
+        requires whole { IsWhole self.old }
+        requires nodes { nodes.now ≡ children_of self.old.tree.forest parent }
+        requires unreferred { IsUnreferred self.old parent }
+        ensures removed { OnOk result (Follows self.old self.new (remove_all nodes.now)) }
+        ensures whole { IsWhole self.new }
+    {
+        for node in nodes {
+            self.remove_unreferred(parent, *node)?;
+        }
+        Ok(())
+    }
+
     // The nodes that come in leave where they stand: a fragment its children, with a record of its own, a node its parent.
     fn free(&mut self, alloc: Global, node: NodeId, nodes: &[NodeId]) -> Result<(), AllocError>
         requires whole { IsWhole self.old }
@@ -105,6 +116,28 @@ impl World {
             return self.queue_tree_record(alloc, node, &[], nodes, None, None);
         }
         self.remove_node(alloc, node, false)
+    }
+
+    // The same of a node inside which no live range end stands: of a fragment's children no end is asked for.
+    fn free_unreferred(
+        &mut self,
+        alloc: Global,
+        node: NodeId,
+        nodes: &[NodeId],
+    ) -> Result<(), AllocError>
+        requires whole { IsWhole self.old }
+        requires held { HasNode self.old.tree.forest node }
+        requires nodes { nodes.now ≡ entering self.old.tree.forest node }
+        requires unreferred { IsUnreferred self.old node }
+        ensures freed { OnOk result (Follows self.old self.new (freed node nodes.now)) }
+        ensures stays { OnOk result (KeepsNodes self.old self.new) }
+        ensures whole { IsWhole self.new }
+    {
+        if !self.tree.is_of_kind(node, Kind::DocumentFragment) {
+            return self.remove_node(alloc, node, false);
+        }
+        self.remove_all_unreferred(node, nodes)?;
+        self.queue_tree_record(alloc, node, &[], nodes, None, None)
     }
 
     // Roots come in, with a record or, where it is suppressed, without one.
@@ -122,6 +155,7 @@ impl World {
         ensures stays { OnOk result (KeepsNodes self.old self.new) }
         ensures whole { IsWhole self.new }
     {
+        // the checker covers no variable of this type that is passed by value twice
         let before = child;
         let after = child;
         let previous = previous_to(&self.tree, parent, before);
@@ -154,5 +188,27 @@ impl World {
         }
         self.free(alloc, node, nodes)?;
         self.insert_all(alloc, suppressed, parent, child, nodes)
+    }
+    /// Inserts a node inside which no live range end stands, of which the list is what comes in with it, with a record.
+    pub(crate) fn enter_unreferred(
+        &mut self,
+        alloc: Global,
+        node: NodeId,
+        parent: NodeId,
+        child: Option<NodeId>,
+        nodes: &[NodeId],
+    ) -> Result<(), AllocError>
+        requires whole { IsWhole self.old }
+        requires allowed { IsInsertable self.old.tree.forest node parent child }
+        requires nodes { nodes.now ≡ entering self.old.tree.forest node }
+        requires unreferred { IsUnreferred self.old node }
+        ensures inserted { OnOk result (Follows self.old self.new (insert false node parent child)) }
+        ensures whole { IsWhole self.new }
+    {
+        if nodes.is_empty() {
+            return Ok(());
+        }
+        self.free_unreferred(alloc, node, nodes)?;
+        self.insert_all(alloc, false, parent, child, nodes)
     }
 }

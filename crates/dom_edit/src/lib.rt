@@ -7,6 +7,7 @@ mod discarding;
 mod edits;
 mod inserting;
 mod putting;
+mod questions;
 mod records;
 mod refusal;
 mod removing;
@@ -16,6 +17,7 @@ mod world;
 
 pub use checks::{check_insert, check_replace};
 pub use content::Content;
+pub use questions::{data_in, document_in, reference_child};
 pub use refusal::Refusal;
 pub use world::World;
 
@@ -53,7 +55,7 @@ pub mod of_ranges {
 
 /// What crates above name of `dom_traverse`.
 pub mod of_traverse {
-    pub use dom_traverse::{Filter, IterId, Rule, WalkerId};
+    pub use dom_traverse::{Filter, IteratorId, Rule, WalkerId};
 }
 
 /// What crates above name of `dom_tree`.

@@ -35,6 +35,7 @@ fn put_all(tree: &mut Tree<Content>, parent: NodeId, child: Option<NodeId>, node
 {
     for node in nodes {
         tree.sound();
+        // the checker covers no variable of this type that is passed by value at each turn
         let before = child;
         put_in(tree, parent, before, *node);
     }
@@ -66,6 +67,7 @@ impl World {
         ensures stays { KeepsNodes self.old self.new }
         ensures whole { IsWhole self.new }
     {
+        // the checker covers no variable of this type that is passed by value twice
         let before = child;
         self.make_room(parent, before, nodes);
         put_all(&mut self.tree, parent, child, nodes);

@@ -1,8 +1,10 @@
 //! A node leaves its parent (DOM Standard, "Mutation algorithms", remove).
 
-ghost use Rattle.std.specs.Prelude.{◌≡◌, OnOk, IsSome, IfSome};
-ghost use Rattle.dom_model.specs.Forests.Forest.{HasNode, parent_of};
+ghost use Rattle.std.specs.Prelude.{◌≡◌, true, Some, OnOk, IsSome, IfSome};
+ghost use Rattle.dom_model.specs.Forests.Forest.{HasNode, parent_of, cut};
+ghost use Rattle.dom_model.specs.MutationAlgorithms.PreRemoval.{pre_removed_all};
 ghost use Rattle.dom_model.specs.MutationAlgorithms.Editing.{taken_out, transients_made, remove};
+ghost use Rattle.dom_edit.specs.Inserting.{IsUnreferred};
 ghost use Rattle.dom_edit.specs.Whole.{IsWhole, Follows, Moves};
 
 use crate::world::World;
@@ -10,6 +12,16 @@ use dom_ranges::of_tree::NodeId;
 use std::alloc::{AllocError, Global};
 
 impl World {
+    // Iterators give way, and then the node becomes a root.
+    fn cut_out(&mut self, node: NodeId)
+        requires held { HasNode self.old.tree.forest node }
+        requires child { IsSome (parent_of self.old.tree.forest node) }
+        ensures { self.new ≡ record self.old { tree = record self.old.tree { forest = cut node self.old.tree.forest }; iterators = pre_removed_all self.old.tree.forest node self.old.iterators } }
+    {
+        self.iterators.removing(&self.tree, node);
+        self.tree.cut(node);
+    }
+
     // Live range ends and iterators give way, and then the node becomes a root.
     fn take_out(&mut self, node: NodeId)
         requires whole { IsWhole self.old }
@@ -18,8 +30,7 @@ impl World {
         ensures whole { IsWhole self.new }
     {
         self.ranges.removing(&self.tree, node);
-        self.iters.removing(&self.tree, node);
-        self.tree.cut(node);
+        self.cut_out(node);
     }
 
     // A node that left its parent is still watched as the parent is; nothing is looked for where nobody observes.
@@ -61,5 +72,21 @@ impl World {
             return Ok(());
         }
         self.queue_tree_record(alloc, parent, &[], &[node], previous, next)
+    }
+    /// Takes a child out of a parent inside which no live range end stands, with no record of it.
+    pub(crate) fn remove_unreferred(
+        &mut self,
+        parent: NodeId,
+        node: NodeId,
+    ) -> Result<(), AllocError>
+        requires whole { IsWhole self.old }
+        requires child { parent_of self.old.tree.forest node ≡ Some parent }
+        requires unreferred { IsUnreferred self.old parent }
+        ensures removed { OnOk result (Follows self.old self.new (remove true node)) }
+        ensures ranges { self.new.ranges ≡ self.old.ranges }
+        ensures whole { IsWhole self.new }
+    {
+        self.cut_out(node);
+        self.make_transients(parent, node)
     }
 }

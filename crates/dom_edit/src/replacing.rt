@@ -1,9 +1,8 @@
 //! Nodes come in where others stood (DOM Standard, "Mutation algorithms", pre-insert, replace, replace all).
 
-ghost use Rattle.std.specs.Prelude.{◌≡◌, Some, None, MatchResult, if◌then◌else◌, IfOk, OnOk, true};
+ghost use Rattle.std.specs.Prelude.{◌≡◌, Some, None, MatchResult, IfOk, OnOk, true};
 ghost use Rattle.std.specs.Option.{ForSome};
-ghost use Rattle.dom_model.specs.PlainLists.Lists.{is_number};
-ghost use Rattle.dom_model.specs.Forests.Forest.{HasNode, next_of};
+ghost use Rattle.dom_model.specs.Forests.Forest.{HasNode};
 ghost use Rattle.dom_model.specs.MutationAlgorithms.Editing.{insert_if_any, replaced_record};
 ghost use Rattle.dom_model.specs.MutationAlgorithms.Insertable.{IsInsertable};
 ghost use Rattle.dom_edit.specs.Inserting.{AreThere, KeepsNodes, listed, entering_if_any};
@@ -13,27 +12,10 @@ ghost use Rattle.dom_edit.specs.Whole.{IsWhole, Follows};
 use crate::checks::check_insert;
 use crate::content::Content;
 use crate::inserting::{NodeList, entering};
-use crate::surroundings::is_number;
 use crate::world::World;
 use dom_ranges::of_kinds::DomError;
 use dom_ranges::of_tree::{NodeId, Tree};
 use std::alloc::{AllocError, Global};
-
-/// What a node comes in before: the child, or the node's next sibling where the child is the node itself.
-pub(crate) fn reference_child(
-    tree: &Tree<Content>,
-    node: NodeId,
-    child: Option<NodeId>,
-) -> Option<NodeId>
-    requires { HasNode tree.now.forest node }
-    ensures { result ≡ (if is_number child node then next_of tree.now.forest node else child) }
-{
-    let given = child;
-    if is_number(given, node) {
-        return tree.next(node);
-    }
-    child
-}
 
 /// What comes in with a node; nothing where none is given.
 pub(crate) fn entering_if_any(

@@ -53,8 +53,8 @@ const NOTHING: Found = Found {
     doctype: false,
 };
 
-/// Whether the number is given, and is the node's.
-pub(crate) fn is_number(given: Option<NodeId>, node: NodeId) -> bool
+// Whether the number is given, and is the node's.
+fn is_number(given: Option<NodeId>, node: NodeId) -> bool
     ensures { result ≡ is_number given node }
 {
     match given {
@@ -87,18 +87,16 @@ fn found_between(
 {
     tree.sound();
     let mut found = NOTHING;
-    let mut child = from;
-    while let Some(id) = child {
-        if is_number(until, id) {
+    for child in tree.children_from(parent, from) {
+        if is_number(until, child) {
             return found;
         }
-        let element = tree.is_of_kind(id, Kind::Element);
-        let doctype = tree.is_of_kind(id, Kind::DocumentType);
+        let element = tree.is_of_kind(child, Kind::Element);
+        let doctype = tree.is_of_kind(child, Kind::DocumentType);
         found = Found {
             element: found.element || element,
             doctype: found.doctype || doctype,
         };
-        child = tree.next(id);
     }
     found
 }
@@ -168,12 +166,10 @@ fn count_children(tree: &Tree<Content>, parent: NodeId, kind: Kind) -> usize
     // there are no more than all of them
     let _most = tree.count(parent);
     let mut count: usize = 0;
-    let mut child = tree.first(parent);
-    while let Some(id) = child {
-        if tree.is_of_kind(id, kind) {
+    for child in tree.children(parent) {
+        if tree.is_of_kind(child, kind) {
             count += 1;
         }
-        child = tree.next(id);
     }
     count
 }

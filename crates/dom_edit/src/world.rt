@@ -16,7 +16,7 @@ use dom_observe::of_units::Units;
 use dom_ranges::of_kinds::{Kind, Label};
 use dom_ranges::of_tree::{NodeId, Tree};
 use dom_ranges::{Ranges, Statics};
-use dom_traverse::{Iters, Walkers};
+use dom_traverse::{NodeIterators, Walkers};
 use std::alloc::{AllocError, Global};
 
 /// The nodes of a session, its live and static ranges, iterators and walkers, and its observers.
@@ -28,7 +28,7 @@ pub struct World {
     pub tree: Tree<Content>,
     pub ranges: Ranges,
     pub statics: Statics,
-    pub iters: Iters,
+    pub iterators: NodeIterators,
     pub walkers: Walkers,
     pub observers: Observers,
 }
@@ -39,7 +39,7 @@ impl World {
         ensures tree { result.tree ≡ record { forest = empty; made = 0 } }
         ensures ranges { result.ranges ≡ record { ranges = []; covered = [] } }
         ensures statics { result.statics ≡ [] }
-        ensures iters { result.iters ≡ [] }
+        ensures iterators { result.iterators ≡ [] }
         ensures walkers { result.walkers ≡ [] }
         ensures observers { result.observers ≡ record { nodes = []; queues = []; pending = [] } }
     {
@@ -47,7 +47,7 @@ impl World {
             tree: Tree::new(alloc),
             ranges: Ranges::new(alloc),
             statics: Statics::new(alloc),
-            iters: Iters::new(alloc),
+            iterators: NodeIterators::new(alloc),
             walkers: Walkers::new(alloc),
             observers: Observers::new(alloc),
         }

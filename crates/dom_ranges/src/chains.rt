@@ -2,7 +2,6 @@
 //!
 //! A node knows the first of its chain, an end the ones on both sides of it. So to take an end out or to put it elsewhere takes the
 //! same time however many there are, and a change at a node is felt by the ends of its chain alone.
-//!
 //! A node that is not covered, since it was not made yet or was forgotten, has no chain, and no end stands in it.
 
 ghost use Rattle.std.specs.Prelude.{◌≡◌, ℕ, ◌+◌, ◌^◌, ◌<◌, ◌≤◌, true, false, [], ◌∷◌, ◌++◌, length, map, Option, option_map, Some, None, IsSome, OnOk, OnErr, slice_set};

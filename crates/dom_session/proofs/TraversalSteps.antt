@@ -43,9 +43,9 @@ module _ (v : World) (shown : IsShown v) (b : Bounds) (c : Command) (reply : Rep
       subst P (ap (λ (s : Step). s.world) (e shown.stands_for shown.shows)) (sound-answer b shown.stands_for c shown.shows.sound)
 
   -- the iterators are others
-  pub step-iterators : (xs : List Iterator) → ((w : model.World) → Shows v w → answer b w c ≡ record { reply = reply_view reply; world = record w { iterators = xs } }) → IsStep v (record v { iters = xs }) b c reply
+  pub step-iterators : (xs : List Iterator) → ((w : model.World) → Shows v w → answer b w c ≡ record { reply = reply_view reply; world = record w { iterators = xs } }) → IsStep v (record v { iterators = xs }) b c reply
   step-iterators xs e =
-      let new : World = record v { iters = xs } in
+      let new : World = record v { iterators = xs } in
       let step : model.World → model.World = λ w. record w { iterators = xs } in
       let keeps : (w : model.World) → Keeps v w → Keeps new (step w) = λ w k. record { forest = k.forest; made = k.made; ranges = k.ranges; static_ranges = k.static_ranges; iterators = refl; walkers = k.walkers } in
       let h = shown.shows.whole in
@@ -63,7 +63,7 @@ module _ (v : World) (shown : IsShown v) (b : Bounds) (c : Command) (reply : Rep
       step-follows b c reply v new step e (record { keeps = keeps; watches = λ w k o. o }) whole
 
 module _ (v : World) (shown : IsShown v) where
-  pub step-create_iterator : (n root id : ℕ) (filter : Filter) (xs : List Iterator) (reply : Reply) → is_some (entry_in v.tree.forest root) ≡ true → nat_lt n (length v.iters + 1) ≡ false → id ≡ length v.iters → reply_view reply ≡ model_reply.Done (model_reply.Number id) → xs ≡ v.iters ++ new_iterator root filter ∷ [] → IsStep v (record v { iters = xs }) (numbered n) (CreateIterator root filter) reply
+  pub step-create_iterator : (n root id : ℕ) (filter : Filter) (xs : List Iterator) (reply : Reply) → is_some (entry_in v.tree.forest root) ≡ true → nat_lt n (length v.iterators + 1) ≡ false → id ≡ length v.iterators → reply_view reply ≡ model_reply.Done (model_reply.Number id) → xs ≡ v.iterators ++ new_iterator root filter ∷ [] → IsStep v (record v { iterators = xs }) (numbered n) (CreateIterator root filter) reply
   step-create_iterator n root id filter xs reply there room is said made =
       step-iterators v shown (numbered n) (CreateIterator root filter) reply xs
       (λ w s. rw (said, is, made, s.keeps.forest, not-none (entry_in v.tree.forest root) there, s.keeps.iterators, room) refl)
@@ -73,16 +73,16 @@ module _ (v : World) (shown : IsShown v) where
       step-walkers v shown (numbered n) (CreateWalker root filter) reply xs
       (λ w s. rw (said, is, made, s.keeps.forest, not-none (entry_in v.tree.forest root) there, s.keeps.walkers, room) refl)
 
-  pub step-next_node : (b : Bounds) (i : ℕ) (found : Option ℕ) (xs : List Iterator) (reply : Reply) → i < length v.iters → reply_view reply ≡ model_reply.Done (model_reply.MaybeNumber found) → IfSome (slice_get v.iters i) (λ it. found ≡ next_found v.tree.forest it) → IfSome (slice_get v.iters i) (λ it. xs ≡ slice_set v.iters i (moved_to_next v.tree.forest it)) → IsStep v (record v { iters = xs }) b (NextNode i) reply
+  pub step-next_node : (b : Bounds) (i : ℕ) (found : Option ℕ) (xs : List Iterator) (reply : Reply) → i < length v.iterators → reply_view reply ≡ model_reply.Done (model_reply.MaybeNumber found) → IfSome (slice_get v.iterators i) (λ it. found ≡ next_found v.tree.forest it) → IfSome (slice_get v.iterators i) (λ it. xs ≡ slice_set v.iterators i (moved_to_next v.tree.forest it)) → IsStep v (record v { iterators = xs }) b (NextNode i) reply
   step-next_node b i found xs reply inside said finds moved =
-      let h = held v.iters i inside in
+      let h = held v.iterators i inside in
       let e = rw h.is at finds in
       let m = rw h.is at moved in
       step-iterators v shown b (NextNode i) reply xs (λ w s. rw (said, e, m, s.keeps.iterators, s.keeps.forest, h.is) refl)
 
-  pub step-previous_node : (b : Bounds) (i : ℕ) (found : Option ℕ) (xs : List Iterator) (reply : Reply) → i < length v.iters → reply_view reply ≡ model_reply.Done (model_reply.MaybeNumber found) → IfSome (slice_get v.iters i) (λ it. found ≡ previous_found v.tree.forest it) → IfSome (slice_get v.iters i) (λ it. xs ≡ slice_set v.iters i (moved_to_previous v.tree.forest it)) → IsStep v (record v { iters = xs }) b (PreviousNode i) reply
+  pub step-previous_node : (b : Bounds) (i : ℕ) (found : Option ℕ) (xs : List Iterator) (reply : Reply) → i < length v.iterators → reply_view reply ≡ model_reply.Done (model_reply.MaybeNumber found) → IfSome (slice_get v.iterators i) (λ it. found ≡ previous_found v.tree.forest it) → IfSome (slice_get v.iterators i) (λ it. xs ≡ slice_set v.iterators i (moved_to_previous v.tree.forest it)) → IsStep v (record v { iterators = xs }) b (PreviousNode i) reply
   step-previous_node b i found xs reply inside said finds moved =
-      let h = held v.iters i inside in
+      let h = held v.iterators i inside in
       let e = rw h.is at finds in
       let m = rw h.is at moved in
       step-iterators v shown b (PreviousNode i) reply xs (λ w s. rw (said, e, m, s.keeps.iterators, s.keeps.forest, h.is) refl)

@@ -13,8 +13,9 @@ use Rattle.dom_model.proofs.Forests.Totals.{IsOnce}
 use Rattle.dom_model.proofs.Forests.Entries.{occurs-HasNode, Lies-entry_in}
 use Rattle.dom_model.proofs.Forests.Indices.{child-once}
 use Rattle.dom_model.proofs.Forests.Climbing.{hits-first, hits-append}
-use Rattle.dom_session.specs.declared.printing.Waiting.{Waiting}
-use Rattle.dom_session.specs.Printing.{row_at, waiting_for}
+use Rattle.dom_wrap.specs.dom_clone.declared.waiting.Waiting.{Waiting}
+use Rattle.dom_wrap.specs.dom_clone.Waits.{waiting_for}
+use Rattle.dom_session.specs.Printing.{row_at}
 use Rattle.dom_model.proofs.Forests.TreeOrder.Ordering.{Single, single, tree_at-single, Lies-tree_at, after-front}
 
 -- a part of the forest: trees that stand beside one another at a depth
@@ -31,28 +32,28 @@ to_come [] = []
 to_come (t ∷ ts) = to_come ts ++ printed t.depth t.trees
 
 -- one that waits stands for a part: the last children of some node
-pub record IsPart (f : Forest Content) (limit : ℕ) (w : Waiting) (t : Part) : Type 0 where
+pub record IsPart (f : Forest Content) (limit : ℕ) (w : Waiting ℕ) (t : Part) : Type 0 where
   pub above : ℕ
   pub passed : List ℕ
-  pub shallow : w.depth ≤ limit
-  pub level : t.depth ≡ w.depth
+  pub shallow : w.place ≤ limit
+  pub level : t.depth ≡ w.place
   pub first : head_of (tops t.trees) ≡ Some w.first
   pub lies : Lies (entry_in f) (Some above) t.trees
   pub within : children_of f above ≡ passed ++ tops t.trees
 
-abbrev pub Match : Forest Content → ℕ → List Waiting → List Part → Type 0
+abbrev pub Match : Forest Content → ℕ → List (Waiting ℕ) → List Part → Type 0
 Match f limit [] [] = Unit {0}
 Match f limit [] (t ∷ ts) = ⊥
 Match f limit (w ∷ ws) [] = ⊥
 Match f limit (w ∷ ws) (t ∷ ts) = IsPart f limit w t × Match f limit ws ts
 
 -- the rows so far, and what is still to come
-pub record IsPrinting (f : Forest Content) (all : List TreeRow) (done : List TreeRow) (waiting : List Waiting) : Type 0 where
+pub record IsPrinting (f : Forest Content) (all : List TreeRow) (done : List TreeRow) (waiting : List (Waiting ℕ)) : Type 0 where
   pub parts : List Part
   pub matched : Match f (length done) waiting parts
   pub whole : done ++ to_come parts ≡ all
 
-IsPart-more : (f : Forest Content) (low high : ℕ) (w : Waiting) (t : Part) → low ≤ high → IsPart f low w t → IsPart f high w t
+IsPart-more : (f : Forest Content) (low high : ℕ) (w : Waiting ℕ) (t : Part) → low ≤ high → IsPart f low w t → IsPart f high w t
 IsPart-more f low high w t h p = record {
   above = p.above;
   passed = p.passed;
@@ -63,27 +64,27 @@ IsPart-more f low high w t h p = record {
   within = p.within;
 }
 
-Match-more : (f : Forest Content) (low high : ℕ) (ws : List Waiting) (ts : List Part) → low ≤ high → Match f low ws ts → Match f high ws ts
+Match-more : (f : Forest Content) (low high : ℕ) (ws : List (Waiting ℕ)) (ts : List Part) → low ≤ high → Match f low ws ts → Match f high ws ts
 Match-more f low high [] [] h m = tt
 Match-more f low high [] (t ∷ ts) h m = m
 Match-more f low high (w ∷ ws) [] h m = m
 Match-more f low high (w ∷ ws) (t ∷ ts) h m = (IsPart-more f low high w t h m.0, Match-more f low high ws ts h m.1)
 
-Match-push : (f : Forest Content) (limit : ℕ) (ws : List Waiting) (ts : List Part) (w : Waiting) (t : Part) → Match f limit ws ts → IsPart f limit w t → Match f limit (ws ++ w ∷ []) (ts ++ t ∷ [])
+Match-push : (f : Forest Content) (limit : ℕ) (ws : List (Waiting ℕ)) (ts : List Part) (w : Waiting ℕ) (t : Part) → Match f limit ws ts → IsPart f limit w t → Match f limit (ws ++ w ∷ []) (ts ++ t ∷ [])
 Match-push f limit [] [] w t m p = (p, tt)
 Match-push f limit [] (u ∷ ts) w t m p = absurd m
 Match-push f limit (v ∷ ws) [] w t m p = absurd m
 Match-push f limit (v ∷ ws) (u ∷ ts) w t m p = (m.0, Match-push f limit ws ts w t m.1 p)
 
 -- the last that waits, and its part
-record Popped (f : Forest Content) (limit : ℕ) (ws : List Waiting) (w : Waiting) (ts : List Part) : Type 0 where
+record Popped (f : Forest Content) (limit : ℕ) (ws : List (Waiting ℕ)) (w : Waiting ℕ) (ts : List Part) : Type 0 where
   others : List Part
   part : Part
   are : ts ≡ others ++ part ∷ []
   matched : Match f limit ws others
   last : IsPart f limit w part
 
-Match-pop : (f : Forest Content) (limit : ℕ) (ws : List Waiting) (w : Waiting) (ts : List Part) → Match f limit (ws ++ w ∷ []) ts → Popped f limit ws w ts
+Match-pop : (f : Forest Content) (limit : ℕ) (ws : List (Waiting ℕ)) (w : Waiting ℕ) (ts : List Part) → Match f limit (ws ++ w ∷ []) ts → Popped f limit ws w ts
 Match-pop f limit [] w [] m = absurd m
 Match-pop f limit [] w (t ∷ []) m = record { others = []; part = t; are = refl; matched = tt; last = m.0 }
 Match-pop f limit [] w (t ∷ u ∷ ts) m = absurd m.1
@@ -101,10 +102,10 @@ abbrev pub part_if : ℕ → Forest Content → List Part
 part_if d empty = []
 part_if d (node x kids rest) = record { depth = d; trees = node x kids rest } ∷ []
 
-Match-wait : (f : Forest Content) (limit : ℕ) (ws : List Waiting) (ts : List Part) (d above : ℕ) (passed : List ℕ) (k : Forest Content) → Match f limit ws ts → d ≤ limit → Lies (entry_in f) (Some above) k → children_of f above ≡ passed ++ tops k → Match f limit (ws ++ waiting_for (head_of (tops k)) d) (ts ++ part_if d k)
+Match-wait : (f : Forest Content) (limit : ℕ) (ws : List (Waiting ℕ)) (ts : List Part) (d above : ℕ) (passed : List ℕ) (k : Forest Content) → Match f limit ws ts → d ≤ limit → Lies (entry_in f) (Some above) k → children_of f above ≡ passed ++ tops k → Match f limit (ws ++ waiting_for (head_of (tops k)) d) (ts ++ part_if d k)
 Match-wait f limit ws ts d above passed empty m h l e = rw (append-nil ws, append-nil ts) m
 Match-wait f limit ws ts d above passed (node x kids rest) m h l e =
-    Match-push f limit ws ts (record { first = x.number; depth = d }) (record { depth = d; trees = node x kids rest }) m
+    Match-push f limit ws ts (record { first = x.number; place = d }) (record { depth = d; trees = node x kids rest }) m
     (record { above = above; passed = passed; shallow = h; level = refl; first = refl; lies = l; within = e })
 
 to_come-wait : (ts : List Part) (d : ℕ) (k : Forest Content) → to_come (ts ++ part_if d k) ≡ printed d k ++ to_come ts
@@ -121,7 +122,7 @@ after-passed x passed ys once =
     after-front x passed (x ∷ ys) (omega arith) ∙ first
 
 -- the trees of a part: its first node, that one's children, and the trees after it
-record Opened (f : Forest Content) (limit : ℕ) (w : Waiting) (t : Part) : Type 0 where
+record Opened (f : Forest Content) (limit : ℕ) (w : Waiting ℕ) (t : Part) : Type 0 where
   x : Node Content
   kids : Forest Content
   rest : Forest Content
@@ -134,7 +135,7 @@ record Opened (f : Forest Content) (limit : ℕ) (w : Waiting) (t : Part) : Type
   lies_rest : Lies (entry_in f) (Some above) rest
   within : children_of f above ≡ passed ++ w.first ∷ tops rest
 
-opened_from : (f : Forest Content) (limit : ℕ) (w : Waiting) (t : Part) (p : IsPart f limit w t) (k : Forest Content) → t.trees ≡ k → head_of (tops k) ≡ Some w.first → Lies (entry_in f) (Some p.above) k → children_of f p.above ≡ p.passed ++ tops k → Opened f limit w t
+opened_from : (f : Forest Content) (limit : ℕ) (w : Waiting ℕ) (t : Part) (p : IsPart f limit w t) (k : Forest Content) → t.trees ≡ k → head_of (tops k) ≡ Some w.first → Lies (entry_in f) (Some p.above) k → children_of f p.above ≡ p.passed ++ tops k → Opened f limit w t
 opened_from f limit w t p empty e h l c = absurd (let z : None ≡ Some w.first = h in cc)
 opened_from f limit w t p (node x kids rest) e h l c =
     let n : x.number ≡ w.first = cc in
@@ -155,11 +156,11 @@ opened_from f limit w t p (node x kids rest) e h l c =
       within = subst R n c;
     }
 
-opened : (f : Forest Content) (limit : ℕ) (w : Waiting) (t : Part) → IsPart f limit w t → Opened f limit w t
+opened : (f : Forest Content) (limit : ℕ) (w : Waiting ℕ) (t : Part) → IsPart f limit w t → Opened f limit w t
 opened f limit w t p = opened_from f limit w t p t.trees refl p.first p.lies p.within
 
 -- one more row is printed, and what stands beside and below it waits
-pub IsPrinting-step : (g : Grove Content) → IsForest g → (all done : List TreeRow) (ws : List Waiting) (w : Waiting) (r : TreeRow) → IsPrinting g.forest all done (ws ++ w ∷ []) → IfSome (entry_in g.forest w.first) (λ e. r ≡ row_at w.first w.depth e.value) → IsPrinting g.forest all (done ++ r ∷ []) ((ws ++ waiting_for (next_of g.forest w.first) w.depth) ++ waiting_for (head_of (children_of g.forest w.first)) (w.depth + 1))
+pub IsPrinting-step : (g : Grove Content) → IsForest g → (all done : List TreeRow) (ws : List (Waiting ℕ)) (w : Waiting ℕ) (r : TreeRow) → IsPrinting g.forest all done (ws ++ w ∷ []) → IfSome (entry_in g.forest w.first) (λ e. r ≡ row_at w.first w.place e.value) → IsPrinting g.forest all (done ++ r ∷ []) ((ws ++ waiting_for (next_of g.forest w.first) w.place) ++ waiting_for (head_of (children_of g.forest w.first)) (w.place + 1))
 IsPrinting-step g sound all done ws w r i row =
     let f = g.forest in
     let p = Match-pop f (length done) ws w i.parts i.matched in
@@ -168,17 +169,17 @@ IsPrinting-step g sound all done ws w r i row =
     let once : (m : ℕ) → hits m (o.passed ++ w.first ∷ tops o.rest) ≤ 1 = λ m. rw (← o.within) (child-once f sound.once m o.above) in
     let next : next_of f w.first ≡ head_of (tops o.rest) = rw (o.entry, o.within) (after-passed w.first o.passed (tops o.rest) once) in
     let down : head_of (children_of f w.first) ≡ head_of (tops o.kids) = rw o.entry refl in
-    let is : r ≡ row_at w.first w.depth o.x = rw o.entry at row in
+    let is : r ≡ row_at w.first w.place o.x = rw o.entry at row in
     let shallow = p.last.shallow in
     let matched = Match-more f (length done) (length (done ++ r ∷ [])) ws p.others (omega arith) p.matched in
-    let beside_it = Match-wait f (length (done ++ r ∷ [])) ws p.others w.depth o.above (o.passed ++ w.first ∷ []) o.rest matched (omega arith) o.lies_rest (rw append_assoc o.within) in
-    let below_it = Match-wait f (length (done ++ r ∷ [])) (ws ++ waiting_for (head_of (tops o.rest)) w.depth) (p.others ++ part_if w.depth o.rest) (w.depth + 1) w.first [] o.kids beside_it (omega arith) o.lies_kids (rw o.entry refl) in
-    let printed_now : printed p.part.depth p.part.trees ≡ r ∷ (printed (w.depth + 1) o.kids ++ printed w.depth o.rest) =
-    rw (o.are, p.last.level, is, add-one w.depth, map-append tree_row (rows (suc w.depth) o.kids) (rows w.depth o.rest), o.number) refl in
+    let beside_it = Match-wait f (length (done ++ r ∷ [])) ws p.others w.place o.above (o.passed ++ w.first ∷ []) o.rest matched (omega arith) o.lies_rest (rw append_assoc o.within) in
+    let below_it = Match-wait f (length (done ++ r ∷ [])) (ws ++ waiting_for (head_of (tops o.rest)) w.place) (p.others ++ part_if w.place o.rest) (w.place + 1) w.first [] o.kids beside_it (omega arith) o.lies_kids (rw o.entry refl) in
+    let printed_now : printed p.part.depth p.part.trees ≡ r ∷ (printed (w.place + 1) o.kids ++ printed w.place o.rest) =
+    rw (o.are, p.last.level, is, add-one w.place, map-append tree_row (rows (suc w.place) o.kids) (rows w.place o.rest), o.number) refl in
     record {
-      parts = (p.others ++ part_if w.depth o.rest) ++ part_if (w.depth + 1) o.kids;
+      parts = (p.others ++ part_if w.place o.rest) ++ part_if (w.place + 1) o.kids;
       matched = rw (next, down) below_it;
-      whole = rw (to_come-wait (p.others ++ part_if w.depth o.rest) (w.depth + 1) o.kids, to_come-wait p.others w.depth o.rest)
+      whole = rw (to_come-wait (p.others ++ part_if w.place o.rest) (w.place + 1) o.kids, to_come-wait p.others w.place o.rest)
           (let e : done ++ (printed p.part.depth p.part.trees ++ to_come p.others) ≡ all = rw (← to_come-push p.others p.part, ← p.are) i.whole in
           let k = rw printed_now at e in
           simp append_assoc (simp append_assoc at k));
@@ -218,17 +219,17 @@ IsPrinting-start g sound top held r row =
     }
 
 -- one that waits is held, and no deeper than there are rows
-pub HasNode-waiting : (f : Forest Content) (all done : List TreeRow) (ws : List Waiting) (w : Waiting) → IsPrinting f all done (ws ++ w ∷ []) → HasNode f w.first
+pub HasNode-waiting : (f : Forest Content) (all done : List TreeRow) (ws : List (Waiting ℕ)) (w : Waiting ℕ) → IsPrinting f all done (ws ++ w ∷ []) → HasNode f w.first
 HasNode-waiting f all done ws w i =
     let p = Match-pop f (length done) ws w i.parts i.matched in
     let o = opened f (length done) w p.part p.last in
     rw o.entry refl
 
-pub shallow_waiting : (f : Forest Content) (all done : List TreeRow) (ws : List Waiting) (w : Waiting) → IsPrinting f all done (ws ++ w ∷ []) → w.depth ≤ length done
+pub shallow_waiting : (f : Forest Content) (all done : List TreeRow) (ws : List (Waiting ℕ)) (w : Waiting ℕ) → IsPrinting f all done (ws ++ w ∷ []) → w.place ≤ length done
 shallow_waiting f all done ws w i = let p = Match-pop f (length done) ws w i.parts i.matched in p.last.shallow
 
 -- while one waits, rows are still to come
-pub more_to_come : (f : Forest Content) (all done : List TreeRow) (ws : List Waiting) (w : Waiting) → IsPrinting f all done (ws ++ w ∷ []) → length done < length all
+pub more_to_come : (f : Forest Content) (all done : List TreeRow) (ws : List (Waiting ℕ)) (w : Waiting ℕ) → IsPrinting f all done (ws ++ w ∷ []) → length done < length all
 more_to_come f all done ws w i =
     let p = Match-pop f (length done) ws w i.parts i.matched in
     let o = opened f (length done) w p.part p.last in

@@ -4,7 +4,7 @@ use dom_model::Move;
 use dom_wrap::of_observe::{ObserverId, RawOptions};
 use dom_wrap::of_point::Point;
 use dom_wrap::of_ranges::{RangeId, StaticId};
-use dom_wrap::of_traverse::{Filter, IterId, WalkerId};
+use dom_wrap::of_traverse::{Filter, IteratorId, WalkerId};
 use dom_wrap::of_tree::NodeId;
 use dom_wrap::of_units::Units;
 
@@ -133,11 +133,11 @@ pub enum Traversing {
     /// Makes a tree walker.
     CreateWalker(NodeId, Filter),
     /// Tells where an iterator stands.
-    DescribeIterator(IterId),
+    DescribeIterator(IteratorId),
     /// Moves an iterator on.
-    NextNode(IterId),
+    NextNode(IteratorId),
     /// Moves an iterator back.
-    PreviousNode(IterId),
+    PreviousNode(IteratorId),
     /// Tells where a walker stands.
     DescribeWalker(WalkerId),
     /// Sets a walker on a node.

@@ -14,6 +14,7 @@ ghost use Rattle.dom_session.specs.Views.{comparing_view, reply_view};
 ghost use Rattle.dom_session.specs.Stands.{IsStep};
 
 use crate::command::Comparing;
+use crate::questions::find_index;
 use crate::reply::{Answer, Reply};
 use dom_model::OwnError;
 use dom_wrap::of_edit::{Content, World};
@@ -151,13 +152,15 @@ fn meets(tree: &Tree<Content>, node: NodeId, start: Point, end: Point) -> bool
 }
 
 /// Whether a live range and a node meet.
-pub fn intersects_node(world: &World, range: RangeId, node: NodeId) -> Reply
-    requires shown { IsShown world.now }
-    ensures step { (b : Bounds) → IsStep world.now world.now b (IntersectsNode range node) result }
+pub fn intersects_node(world: &mut World, range: RangeId, node: NodeId) -> Reply
+    requires shown { IsShown world.old }
+    ensures step { (b : Bounds) → IsStep world.old world.new b (IntersectsNode range node) result }
+    ensures unchanged { world.new ≡ world.old }
 {
     if !world.ranges.holds(range) || !world.tree.holds(node) {
         return Reply::Own(OwnError::NoSuchObject);
     }
+    find_index(world, node);
     let (start, end) = world.ranges.ends(range);
     Reply::Done(Answer::Flag(meets(&world.tree, node, start, end)))
 }

@@ -32,7 +32,7 @@ pub use dom_wrap::of_kinds::{DomError, Kind, Label};
 pub use dom_wrap::of_observe::{ObserverId, RawOptions, Record};
 pub use dom_wrap::of_point::Point;
 pub use dom_wrap::of_ranges::{RangeId, StaticId};
-pub use dom_wrap::of_traverse::{Filter, IterId, Rule, WalkerId};
+pub use dom_wrap::of_traverse::{Filter, IteratorId, Rule, WalkerId};
 pub use dom_wrap::of_tree::NodeId;
 pub use dom_wrap::of_units::Units;
 pub use reply::{Answer, Description, Reply, Told, TreeRow};

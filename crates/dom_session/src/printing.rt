@@ -1,26 +1,20 @@
 //! A tree as a list of rows.
 
-ghost use Rattle.std.specs.Prelude.{◌≡◌, ℕ, ◌++◌, IfOk, IfSome, OnOk};
+ghost use Rattle.std.specs.Prelude.{◌≡◌, IfOk, IfSome};
 ghost use Rattle.dom_model.specs.Forests.Forest.{HasNode, entry_in};
 ghost use Rattle.dom_model.specs.Commands.Answer.{tree_rows};
 ghost use Rattle.dom_model.specs.Commands.Guards.{Bounds};
 ghost use Rattle.dom_model.specs.Commands.Command.{Tree as TreeCommand};
 ghost use Rattle.dom_session.specs.Views.{reply_view};
 ghost use Rattle.dom_session.specs.Stands.{IsStep};
-ghost use Rattle.dom_session.specs.Printing.{row_at, waiting_for};
+ghost use Rattle.dom_session.specs.Printing.{row_at};
 
 use crate::reply::{Answer, Reply, TreeRow};
 use dom_model::OwnError;
+use dom_wrap::of_clone::{Waiting, wait_for};
 use dom_wrap::of_edit::{Content, World};
 use dom_wrap::of_tree::{NodeId, Tree};
 use std::alloc::{AllocError, Global};
-
-// A node that waits to be printed with its following siblings and all that stands below them.
-#[derive(Drop)]
-struct Waiting {
-    first: NodeId,
-    depth: usize,
-}
 
 // The row of one node.
 fn row_of(
@@ -42,20 +36,6 @@ fn row_of(
     })
 }
 
-// Lets a node wait, where there is one.
-fn wait_for(
-    waiting: &mut Vec<Waiting>,
-    first: Option<NodeId>,
-    depth: usize,
-) -> Result<(), AllocError>
-    ensures { OnOk result (waiting.new.items ≡ waiting.old.items ++ waiting_for first depth) }
-{
-    if let Some(first) = first {
-        waiting.push(Waiting { first, depth })?;
-    }
-    Ok(())
-}
-
 // The rows of a node and of all that stands below it, in tree order.
 fn rows_of(tree: &Tree<Content>, alloc: Global, top: NodeId) -> Result<Vec<TreeRow>, AllocError>
     requires { HasNode tree.now.forest top }
@@ -63,13 +43,13 @@ fn rows_of(tree: &Tree<Content>, alloc: Global, top: NodeId) -> Result<Vec<TreeR
 {
     tree.sound();
     let mut rows: Vec<TreeRow> = Vec::new(alloc);
-    let mut waiting: Vec<Waiting> = Vec::new(alloc);
+    let mut waiting: Vec<Waiting<usize>> = Vec::new(alloc);
     rows.push(row_of(tree, alloc, top, 0)?)?;
     wait_for(&mut waiting, tree.first(top), 1)?;
     while let Some(next) = waiting.pop() {
-        rows.push(row_of(tree, alloc, next.first, next.depth)?)?;
-        wait_for(&mut waiting, tree.next(next.first), next.depth)?;
-        wait_for(&mut waiting, tree.first(next.first), next.depth + 1)?;
+        rows.push(row_of(tree, alloc, next.first, next.place)?)?;
+        wait_for(&mut waiting, tree.next(next.first), next.place)?;
+        wait_for(&mut waiting, tree.first(next.first), next.place + 1)?;
     }
     Ok(rows)
 }

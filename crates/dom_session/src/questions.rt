@@ -43,12 +43,9 @@ fn child_numbers(
     requires { HasNode tree.now.forest parent }
     ensures { IfOk result (λ numbers. numbers.items ≡ children_of tree.now.forest parent) }
 {
-    tree.sound();
     let mut numbers: Vec<u32> = Vec::with_capacity(alloc, tree.count(parent))?;
-    let mut child = tree.first(parent);
-    while let Some(id) = child {
-        numbers.push(id.number())?;
-        child = tree.next(id);
+    for child in tree.children(parent) {
+        numbers.push(child.number())?;
     }
     Ok(numbers)
 }
@@ -73,6 +70,14 @@ pub fn index(world: &mut World, node: NodeId) -> Reply
         return Reply::Own(OwnError::NoSuchObject);
     }
     Reply::Done(Answer::Count(world.tree.found_index(node)))
+}
+
+/// Finds the index of a node, so that what asks for it next has it at once: where it is not found near the node, all siblings are counted.
+pub(crate) fn find_index(world: &mut World, node: NodeId)
+    requires held { HasNode world.old.tree.forest node }
+    ensures { world.new ≡ world.old }
+{
+    let _ = world.tree.found_index(node);
 }
 
 /// The length of a node.

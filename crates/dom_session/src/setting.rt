@@ -13,6 +13,7 @@ ghost use Rattle.dom_session.specs.Views.{setting_view, reply_view};
 ghost use Rattle.dom_session.specs.Stands.{IsStep};
 
 use crate::command::Setting;
+use crate::questions::find_index;
 use crate::reply::{Answer, Reply};
 use dom_model::OwnError;
 use dom_wrap::of_edit::World;
@@ -106,6 +107,7 @@ pub fn set_start_before(world: &mut World, range: RangeId, node: NodeId) -> Repl
     if !world.tree.holds(node) {
         return Reply::Own(OwnError::NoSuchObject);
     }
+    find_index(world, node);
     let point = point_before(&world.tree, node);
     set_start_beside(world, range, node, point)
 }
@@ -119,6 +121,7 @@ pub fn set_start_after(world: &mut World, range: RangeId, node: NodeId) -> Reply
     if !world.tree.holds(node) {
         return Reply::Own(OwnError::NoSuchObject);
     }
+    find_index(world, node);
     let point = point_after(&world.tree, node);
     set_start_beside(world, range, node, point)
 }
@@ -132,6 +135,7 @@ pub fn set_end_before(world: &mut World, range: RangeId, node: NodeId) -> Reply
     if !world.tree.holds(node) {
         return Reply::Own(OwnError::NoSuchObject);
     }
+    find_index(world, node);
     let point = point_before(&world.tree, node);
     set_end_beside(world, range, node, point)
 }
@@ -145,6 +149,7 @@ pub fn set_end_after(world: &mut World, range: RangeId, node: NodeId) -> Reply
     if !world.tree.holds(node) {
         return Reply::Own(OwnError::NoSuchObject);
     }
+    find_index(world, node);
     let point = point_after(&world.tree, node);
     set_end_beside(world, range, node, point)
 }
@@ -171,6 +176,7 @@ pub fn select_node(world: &mut World, range: RangeId, node: NodeId) -> Reply
     if !world.ranges.holds(range) || !world.tree.holds(node) {
         return Reply::Own(OwnError::NoSuchObject);
     }
+    find_index(world, node);
     match world.ranges.select(&world.tree, range, node) {
         Ok(()) => Reply::Done(Answer::Nothing),
         Err(error) => Reply::Dom(error),

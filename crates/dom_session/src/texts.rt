@@ -2,9 +2,7 @@
 
 ghost use Rattle.std.specs.Prelude.{◌≡◌, ◌≤◌, true, option_map, IfOk};
 ghost use Rattle.dom_model.specs.declared.Kind.TheVariants.{Text};
-ghost use Rattle.dom_model.specs.Forests.Forest.{HasNode, entry_in};
 ghost use Rattle.dom_model.specs.Forests.Kinds.{is_kind, is_character_data};
-ghost use Rattle.dom_model.specs.DataAndCopies.Data.{content_in};
 ghost use Rattle.dom_model.specs.Commands.Command.{GetData, SetData, AppendData, InsertData, DeleteData, ReplaceData, SubstringData, SplitText, TextContent, SetTextContent, Normalize};
 ghost use Rattle.dom_model.specs.Commands.Guards.{Bounds};
 ghost use Rattle.dom_model.specs.Commands.Reply.{is_refusal};
@@ -17,9 +15,9 @@ ghost use Rattle.dom_session.specs.Refusing.{kind_refusal};
 use crate::command::Texts;
 use crate::reply::{Answer, Reply};
 use dom_model::OwnError;
-use dom_wrap::of_edit::{Content, Refusal, World};
+use dom_wrap::of_edit::{Refusal, World, data_in};
 use dom_wrap::of_kinds::{DomError, Kind};
-use dom_wrap::of_tree::{NodeId, Tree};
+use dom_wrap::of_tree::NodeId;
 use dom_wrap::of_units::Units;
 use std::alloc::{AllocError, Global};
 
@@ -34,14 +32,6 @@ fn refusal(world: &World, node: NodeId) -> Option<Reply>
         return Some(Reply::Dom(DomError::TypeError));
     }
     None
-}
-
-// The data of a node.
-fn data_in(tree: &Tree<Content>, node: NodeId) -> &Units
-    requires { HasNode tree.now.forest node }
-    ensures { result.now ≡ (content_in (entry_in tree.now.forest node)).text }
-{
-    &tree.body(node).text
 }
 
 /// The data of a node.

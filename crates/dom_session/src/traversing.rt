@@ -13,7 +13,7 @@ use crate::command::Traversing;
 use crate::reply::{Answer, Reply};
 use dom_model::{Move, OwnError};
 use dom_wrap::of_edit::World;
-use dom_wrap::of_traverse::{Filter, IterId, WalkerId};
+use dom_wrap::of_traverse::{Filter, IteratorId, WalkerId};
 use dom_wrap::of_tree::NodeId;
 use std::alloc::AllocError;
 
@@ -42,10 +42,10 @@ pub fn create_iterator(
     if !world.tree.holds(root) {
         return Ok(Reply::Own(OwnError::NoSuchObject));
     }
-    if numbers <= world.iters.made() {
+    if numbers <= world.iterators.made() {
         return Ok(Reply::Own(OwnError::Limit));
     }
-    let id = world.iters.make(root, filter)?;
+    let id = world.iterators.make(root, filter)?;
     Ok(Reply::Done(Answer::Number(id.number())))
 }
 
@@ -72,39 +72,39 @@ pub fn create_walker(
 }
 
 /// Tells the root and the reference of an iterator, and whether it stands before the reference.
-pub fn describe_iterator(world: &World, iterator: IterId) -> Reply
+pub fn describe_iterator(world: &World, iterator: IteratorId) -> Reply
     ensures step { (b : Bounds) → IsStep world.now world.now b (DescribeIterator iterator) result }
 {
-    if !world.iters.holds(iterator) {
+    if !world.iterators.holds(iterator) {
         return Reply::Own(OwnError::NoSuchObject);
     }
-    let (root, reference, before) = world.iters.state(iterator);
+    let (root, reference, before) = world.iterators.state(iterator);
     Reply::Done(Answer::IteratorAt(root, reference, before))
 }
 
 /// Moves an iterator on (`nextNode`).
-pub fn next_node(world: &mut World, iterator: IterId) -> Reply
+pub fn next_node(world: &mut World, iterator: IteratorId) -> Reply
     requires shown { IsShown world.old }
     ensures step { (b : Bounds) → IsStep world.old world.new b (NextNode iterator) result }
     ensures refused { is_refusal (reply_view result) ≡ true → world.new ≡ world.old }
 {
-    if !world.iters.holds(iterator) {
+    if !world.iterators.holds(iterator) {
         return Reply::Own(OwnError::NoSuchObject);
     }
-    let found = world.iters.next(&world.tree, iterator);
+    let found = world.iterators.next(&world.tree, iterator);
     reply_found(found)
 }
 
 /// Moves an iterator back (`previousNode`).
-pub fn previous_node(world: &mut World, iterator: IterId) -> Reply
+pub fn previous_node(world: &mut World, iterator: IteratorId) -> Reply
     requires shown { IsShown world.old }
     ensures step { (b : Bounds) → IsStep world.old world.new b (PreviousNode iterator) result }
     ensures refused { is_refusal (reply_view result) ≡ true → world.new ≡ world.old }
 {
-    if !world.iters.holds(iterator) {
+    if !world.iterators.holds(iterator) {
         return Reply::Own(OwnError::NoSuchObject);
     }
-    let found = world.iters.previous(&world.tree, iterator);
+    let found = world.iterators.previous(&world.tree, iterator);
     reply_found(found)
 }
 

@@ -18,11 +18,11 @@ use std::marker::Model;
 
 /// The number by which callers name an iterator: the first that is made has 0.
 #[derive(Clone, Copy, Debug, PartialEq, Eq)]
-pub struct IterId {
+pub struct IteratorId {
     number: u32,
 }
 
-impl Model for IterId {
+impl Model for IteratorId {
     ghost use Rattle.std.specs.Prelude.{ℕ, ◌<◌, ◌^◌};
 
     ghost Value = { ℕ };
@@ -34,12 +34,12 @@ impl Model for IterId {
     ghost inverse = { λ n. record { number = n } };
 }
 
-impl IterId {
+impl IteratorId {
     /// The id of a number, whether or not there is such an iterator.
-    pub fn new(number: u32) -> IterId
+    pub fn new(number: u32) -> IteratorId
         ensures { result ≡ number }
     {
-        IterId { number }
+        IteratorId { number }
     }
 
     /// The number itself.
@@ -52,11 +52,11 @@ impl IterId {
 
 /// Node iterators, each over the inclusive descendants of its root.
 #[derive(Drop)]
-pub struct Iters {
+pub struct NodeIterators {
     iterators: Vec<NodeIterator>,
 }
 
-impl Model for Iters {
+impl Model for NodeIterators {
     ghost use Rattle.std.specs.Prelude.{List};
     ghost use Rattle.dom_model.specs.Worlds.World.{Iterator};
 
@@ -65,24 +65,24 @@ impl Model for Iters {
     ghost view = { λ i. i.iterators.items };
 }
 
-impl Iters {
+impl NodeIterators {
     /// No iterators.
-    pub fn new(alloc: Global) -> Iters
+    pub fn new(alloc: Global) -> NodeIterators
         ensures { result ≡ [] }
     {
-        Iters {
+        NodeIterators {
             iterators: Vec::new(alloc),
         }
     }
 
     /// Makes an iterator that stands before its root (`createNodeIterator`).
-    pub fn make(&mut self, root: NodeId, filter: Filter) -> Result<IterId, AllocError>
+    pub fn make(&mut self, root: NodeId, filter: Filter) -> Result<IteratorId, AllocError>
         requires room { length self.old < 4294967295 }
         ensures number { IfOk result (λ id. id ≡ length self.old) }
         ensures made { OnOk result (self.new ≡ self.old ++ new_iterator root filter ∷ []) }
         ensures unchanged { OnErr result (self.new ≡ self.old) }
     {
-        let id = IterId::new(self.iterators.len() as u32);
+        let id = IteratorId::new(self.iterators.len() as u32);
         self.iterators.push(NodeIterator {
             root,
             reference: root,
@@ -100,14 +100,14 @@ impl Iters {
     }
 
     /// Whether there is such an iterator.
-    pub fn holds(&self, id: IterId) -> bool
+    pub fn holds(&self, id: IteratorId) -> bool
         ensures { IsTrue result ↔ (id < length self.now) }
     {
         (id.number() as usize) < self.iterators.len()
     }
 
     /// `root`, `referenceNode` and `pointerBeforeReferenceNode`.
-    pub fn state(&self, id: IterId) -> (NodeId, NodeId, bool)
+    pub fn state(&self, id: IteratorId) -> (NodeId, NodeId, bool)
         requires { id < length self.now }
         ensures { IfSome (slice_get self.now id) (λ i. result ≡ (i.root, i.reference, i.before)) }
     {
@@ -116,7 +116,7 @@ impl Iters {
     }
 
     /// `nextNode()`.
-    pub fn next<X>(&mut self, tree: &Tree<X>, id: IterId) -> Option<NodeId>
+    pub fn next<X>(&mut self, tree: &Tree<X>, id: IteratorId) -> Option<NodeId>
         requires held { id < length self.old }
         requires inside { ForSome (slice_get self.old id) (StandsInside tree.now.forest) }
         ensures found { IfSome (slice_get self.old id) (λ i. result ≡ next_found tree.now.forest i) }
@@ -126,7 +126,7 @@ impl Iters {
     }
 
     /// `previousNode()`.
-    pub fn previous<X>(&mut self, tree: &Tree<X>, id: IterId) -> Option<NodeId>
+    pub fn previous<X>(&mut self, tree: &Tree<X>, id: IteratorId) -> Option<NodeId>
         requires held { id < length self.old }
         requires inside { ForSome (slice_get self.old id) (StandsInside tree.now.forest) }
         ensures found { IfSome (slice_get self.old id) (λ i. result ≡ previous_found tree.now.forest i) }

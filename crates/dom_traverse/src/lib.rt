@@ -12,5 +12,5 @@ mod walks;
 
 pub use dom_model::{Move, Verdict};
 pub use filter::{Filter, Rule};
-pub use iterators::{IterId, Iters};
+pub use iterators::{IteratorId, NodeIterators};
 pub use walkers::{WalkerId, Walkers};

@@ -1,6 +1,7 @@
 pub mod Adopting
 pub mod Beside
 pub mod Counting
+pub mod Following
 pub mod Freeing
 pub mod Growing
 pub mod Kept

@@ -1,4 +1,5 @@
 pub mod Bodies
+pub mod Following
 pub mod Lends
 pub mod Lengths
 pub mod Numberings

@@ -2,6 +2,7 @@
 #![tactic(auto)]
 
 mod body;
+mod children;
 mod discarding;
 mod indices;
 mod item;
@@ -14,6 +15,7 @@ mod upkeep;
 mod walks;
 
 pub use body::Body;
+pub use children::Children;
 pub use meeting::Meeting;
 pub use node_id::NodeId;
 pub use tree::Tree;

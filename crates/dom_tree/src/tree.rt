@@ -61,8 +61,8 @@ pub(crate) fn slot_of(table: &Pages<SlotNumber>, id: NodeId) -> Slot
     table.get(id.number() as usize).unwrap().slot()
 }
 
-// The slot of a number, where there is one.
-fn slot_of_any(table: &Pages<SlotNumber>, id: Option<NodeId>) -> Option<Slot>
+/// The slot of a number, where there is one.
+pub(crate) fn slot_of_any(table: &Pages<SlotNumber>, id: Option<NodeId>) -> Option<Slot>
     requires { ForSome id (λ n. IsSome (slot_in table.now.items n)) }
     ensures { slot_for table.now.items id ≡ result }
 {

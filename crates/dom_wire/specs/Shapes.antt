@@ -26,6 +26,6 @@ arguments_view a = record {
   flag = a.flag;
   flag_or_null = a.flag_or_null;
   rules = a.rules.items;
-  move = a.course;
+  move = a.direction;
   options = a.options;
 }

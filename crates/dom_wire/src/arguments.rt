@@ -42,7 +42,7 @@ pub struct Arguments {
     pub flag: bool,
     pub flag_or_null: Option<bool>,
     pub rules: Vec<Rule>,
-    pub course: Move,
+    pub direction: Move,
     pub options: RawOptions,
 }
 
@@ -82,7 +82,7 @@ impl Arguments {
             flag: false,
             flag_or_null: None,
             rules: Vec::new(alloc),
-            course: Move::ParentNode,
+            direction: Move::ParentNode,
             options: no_options(),
         }
     }

@@ -198,8 +198,8 @@ fn take_course(value: &Value, arguments: &mut Arguments) -> Result<(), ReadError
         (with_argument a_move (view value.now) 0 (arguments_view arguments.old)) }
 {
     match course_in(value) {
-        Some(course) => {
-            arguments.course = course;
+        Some(direction) => {
+            arguments.direction = direction;
             Ok(())
         }
         None => Err(ReadError::Own(OwnError::BadArguments)),

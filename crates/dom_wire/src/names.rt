@@ -6,7 +6,7 @@ ghost use Rattle.dom_wire.specs.Rows.{row_of, is_of_length};
 
 use crate::arguments::{Arguments, Shape};
 use dom_session::{
-    Asking, Attributes, Command, Comparing, Contents, Copying, Editing, IterId, Making, NodeId,
+    Asking, Attributes, Command, Comparing, Contents, Copying, Editing, IteratorId, Making, NodeId,
     ObserverId, Observing, RangeId, Ranging, Setting, StaticId, StaticRanging, Texts, Traversing,
     WalkerId,
 };
@@ -538,11 +538,13 @@ impl Name {
                 node,
                 a.filter(alloc),
             )),
-            Name::DescribeIterator => Command::Traversing(Traversing::DescribeIterator(IterId::new(
+            Name::DescribeIterator => Command::Traversing(Traversing::DescribeIterator(
+                IteratorId::new(first),
+            )),
+            Name::NextNode => Command::Traversing(Traversing::NextNode(IteratorId::new(first))),
+            Name::PreviousNode => Command::Traversing(Traversing::PreviousNode(IteratorId::new(
                 first,
             ))),
-            Name::NextNode => Command::Traversing(Traversing::NextNode(IterId::new(first))),
-            Name::PreviousNode => Command::Traversing(Traversing::PreviousNode(IterId::new(first))),
             Name::DescribeWalker => Command::Traversing(Traversing::DescribeWalker(WalkerId::new(
                 first,
             ))),
@@ -550,7 +552,7 @@ impl Name {
                 WalkerId::new(first),
                 other,
             )),
-            Name::Walk => Command::Traversing(Traversing::Walk(WalkerId::new(first), a.course)),
+            Name::Walk => Command::Traversing(Traversing::Walk(WalkerId::new(first), a.direction)),
             Name::CreateObserver => Command::Observing(Observing::CreateObserver),
             Name::Observe => Command::Observing(Observing::Observe(
                 ObserverId::new(first),

@@ -5,7 +5,7 @@ use Rattle.std.specs.List.{list_any}
 use Rattle.dom_model.specs.declared.Kind.TheVariants.{Element, Text, Document, DocumentType, DocumentFragment}
 use Rattle.dom_model.specs.declared.DomError.{DomError}
 use Rattle.dom_model.specs.declared.DomError.TheVariants.{HierarchyRequestError, InvalidStateError, InvalidNodeTypeError}
-use Rattle.dom_model.specs.PlainLists.Lists.{hits, among, last_of, place_in, after, is_number, from_first}
+use Rattle.dom_model.specs.PlainLists.Lists.{hits, among, last_of, place_in, after, is_number}
 use Rattle.dom_model.specs.Forests.Forest.{Forest, HasNode, occurs, numbers, parent_of, children_of, next_of, index_of, ancestors, root_of}
 use Rattle.dom_model.specs.Worlds.World.{Content, Point, Range}
 use Rattle.dom_model.specs.Worlds.World as model
@@ -28,7 +28,7 @@ use Rattle.dom_content.specs.dom_edit.declared.world.World.{World}
 use Rattle.dom_content.specs.dom_edit.Whole.{IsWhole, unwatched}
 use Rattle.dom_content.specs.dom_edit.Places.{from_optional, IsAmong}
 use Rattle.dom_content.specs.dom_edit.PlacedWorlds.{sound-unwatched}
-use Rattle.dom_content.specs.dom_edit.AmongChildren.{from_first-after, next_of-child}
+use Rattle.dom_content.specs.dom_edit.AmongChildren.{next_of-child}
 use Rattle.dom_wrap.specs.Allowing.{is_near, is_refused_at, is_refused_between, is_unplaceable, is_left_element, first_behind, surround_refusal_of}
 use Rattle.dom_wrap.proofs.AllowPlaces.{insert-told, parent-is}
 use Rattle.dom_wrap.proofs.AllowShape.{near-told}
@@ -37,11 +37,11 @@ use Rattle.dom_wrap.proofs.AllowWhole.{surround-told}
 
 -- Going along a list.
 
-pub found-here : (p : ℕ → Bool) (ks : List ℕ) → ((m : ℕ) → hits m ks ≤ 1) → (id : ℕ) → hits id ks ≡ 1 → (all : Bool) → all ≡ list_any p (from_first id ks) → p id ≡ true → true ≡ all
-found-here p ks once id one all e t = sym (e ∙ ap (list_any p) (from_first-after id ks once one) ∙ ap (λ b. b || list_any p (from_optional (after id ks) ks)) t)
+pub found-first : (p : ℕ → Bool) (n : ℕ) (ns : List ℕ) (all : Bool) → all ≡ list_any p (n ∷ ns) → p n ≡ true → true ≡ all
+found-first p n ns all e t = sym (e ∙ ap (λ b. b || list_any p ns) t)
 
-pub passed-by : (p : ℕ → Bool) (ks : List ℕ) → ((m : ℕ) → hits m ks ≤ 1) → (id : ℕ) → hits id ks ≡ 1 → (all : Bool) → all ≡ list_any p (from_first id ks) → p id ≡ false → all ≡ list_any p (from_optional (after id ks) ks)
-passed-by p ks once id one all e t = e ∙ ap (list_any p) (from_first-after id ks once one) ∙ ap (λ b. b || list_any p (from_optional (after id ks) ks)) t
+pub passed-first : (p : ℕ → Bool) (n : ℕ) (ns : List ℕ) (all : Bool) → all ≡ list_any p (n ∷ ns) → p n ≡ false → all ≡ list_any p ns
+passed-first p n ns all e t = e ∙ ap (λ b. b || list_any p ns) t
 
 after-place : (a : ℕ) (ks : List ℕ) → 0 < hits a ks → slice_get ks (place_in a ks + 1) ≡ after a ks
 after-place a [] h = absurd (omega arith)

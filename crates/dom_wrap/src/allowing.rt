@@ -69,12 +69,10 @@ fn leaves_element(world: &World, start: Point, end: Point, parent: NodeId) -> bo
     ensures { result ≡ list_any (λ m. is_left_element (unwatched world.now) (record { start = start; end = end }) m) (children_of world.now.tree.forest parent) }
 {
     world.tree.sound();
-    let mut child = world.tree.first(parent);
-    while let Some(id) = child {
-        if is_left_element(world, start, end, id) {
+    for child in world.tree.children(parent) {
+        if is_left_element(world, start, end, child) {
             return true;
         }
-        child = world.tree.next(id);
     }
     false
 }
@@ -86,12 +84,10 @@ fn has_doctype_from(tree: &Tree<Content>, parent: NodeId, first: Option<NodeId>)
     ensures { result ≡ has_kind DocumentType tree.now.forest (from_optional first (children_of tree.now.forest parent)) }
 {
     tree.sound();
-    let mut child = first;
-    while let Some(id) = child {
-        if tree.is_of_kind(id, Kind::DocumentType) {
+    for child in tree.children_from(parent, first) {
+        if tree.is_of_kind(child, Kind::DocumentType) {
             return true;
         }
-        child = tree.next(id);
     }
     false
 }

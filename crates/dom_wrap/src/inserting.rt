@@ -7,7 +7,7 @@ ghost use Rattle.dom_model.specs.Forests.Forest.{HasNode};
 ghost use Rattle.dom_model.specs.Worlds.World.{World as PlainWorld};
 ghost use Rattle.dom_model.specs.MutationAlgorithms.Checks.{check_insert as insert_refusal};
 ghost use Rattle.dom_model.specs.Forests.Nodes.{is_of_kind};
-ghost use Rattle.dom_model.specs.MutationAlgorithms.Editing.{reference_child, nodes_of};
+ghost use Rattle.dom_model.specs.MutationAlgorithms.Editing.{nodes_of};
 ghost use Rattle.dom_model.specs.DataAndCopies.Data.{data_of};
 ghost use Rattle.dom_model.specs.RangesAndContents.Wrapping.{insert_node, is_text, inserted_at, placed_at, refusal_in, check_start, reference_at, parent_at, reference_after, split_at, offset_past, end_if_collapsed};
 ghost use Rattle.dom_model.specs.TokenText.Edits.{insert_node_edits};
@@ -18,7 +18,7 @@ ghost use Rattle.dom_content.specs.dom_edit.Refusals.{IsRefused};
 ghost use Rattle.dom_wrap.specs.Outcomes.{left_by, index_before, HasRoom, IsPlaceable, MayEndAt, MayTake};
 
 use dom_content::of_data::split_checked;
-use dom_content::of_edit::{Refusal, World, check_insert};
+use dom_content::of_edit::{Refusal, World, check_insert, reference_child};
 use dom_content::of_kinds::{DomError, Kind};
 use dom_content::of_point::Point;
 use dom_content::of_ranges::RangeId;
@@ -106,17 +106,6 @@ fn reference_after(
     }
     let new = split_checked(world, alloc, node, offset)?;
     Ok(Some(new))
-}
-
-// The child that a node comes in before, or what follows the node where it is that child.
-fn reference_child(world: &World, node: NodeId, child: Option<NodeId>) -> Option<NodeId>
-    requires { HasNode world.now.tree.forest node }
-    ensures { result ≡ reference_child (unwatched world.now) node child }
-{
-    match child {
-        Some(reference) if reference == node => world.tree.next(node),
-        _ => child,
-    }
 }
 
 // The index before a child of a parent, or behind the last.
@@ -225,7 +214,7 @@ pub(crate) fn insert_at_start(
     let (start, _) = world.ranges.ends(range);
     let parent = parent_at(world, start);
     let after = reference_after(world, alloc, start)?;
-    let reference = reference_child(world, node, after);
+    let reference = reference_child(&world.tree, node, after);
     place(world, alloc, range, node, parent, reference)?;
     Ok(())
 }

@@ -19,7 +19,9 @@ pub mod of_attrs {
 
 /// What crates above name of `dom_clone`.
 pub mod of_clone {
-    pub use dom_content::of_clone::{clone_node, contains, import, is_equal, position};
+    pub use dom_content::of_clone::{
+        Waiting, clone_node, contains, import, is_equal, position, wait_for,
+    };
 }
 
 /// What crates above name of `dom_data`.
@@ -32,7 +34,7 @@ pub mod of_data {
 
 /// What crates above name of `dom_edit`.
 pub mod of_edit {
-    pub use dom_content::of_edit::{Content, Refusal, World};
+    pub use dom_content::of_edit::{Content, Refusal, World, data_in};
 }
 
 /// What crates above name of `dom_kinds`.
@@ -64,7 +66,7 @@ pub mod of_ranges {
 
 /// What crates above name of `dom_traverse`.
 pub mod of_traverse {
-    pub use dom_content::of_traverse::{Filter, IterId, Rule, WalkerId};
+    pub use dom_content::of_traverse::{Filter, IteratorId, Rule, WalkerId};
 }
 
 /// What crates above name of `dom_tree`.

@@ -15,6 +15,8 @@ mod pages;
 #[cfg(test)]
 mod points;
 #[cfg(test)]
+mod range_scenes;
+#[cfg(test)]
 mod ranges;
 #[cfg(test)]
 mod traversal;

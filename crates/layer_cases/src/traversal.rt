@@ -6,7 +6,7 @@ ghost use Rattle.dom_traverse.specs.Standing.{StandsInside};
 
 use super::nodes::{made, named, put};
 use dom_kinds::Kind;
-use dom_traverse::{Filter, IterId, Iters, Move, Rule, Verdict, WalkerId, Walkers};
+use dom_traverse::{Filter, IteratorId, Move, NodeIterators, Rule, Verdict, WalkerId, Walkers};
 use dom_tree::{NodeId, Tree};
 use std::alloc::{AllocError, Global};
 use std::process::Abort;
@@ -39,11 +39,11 @@ fn append(rt: &impl Abort, tree: &mut Tree<()>, parent: u32, child: u32) {
 }
 
 // Takes a node from its parent, after the pre-removing steps.
-fn remove(rt: &impl Abort, iters: &mut Iters, tree: &mut Tree<()>, node: u32) {
+fn remove(rt: &impl Abort, iterators: &mut NodeIterators, tree: &mut Tree<()>, node: u32) {
     let node = NodeId::new(node);
     assert!(rt; tree.holds(node));
     assert!(rt; tree.parent(node).is_some());
-    iters.removing(tree, node);
+    iterators.removing(tree, node);
     tree.cut(node);
 }
 
@@ -61,11 +61,15 @@ fn filter(alloc: Global, rules: &[(&str, Verdict)]) -> Result<Filter, AllocError
     })
 }
 
-fn new_iterator(iters: &mut Iters, root: u32, filter: Filter) -> Result<IterId, AllocError> {
-    if iters.made() >= 4294967295 {
+fn new_iterator(
+    iterators: &mut NodeIterators,
+    root: u32,
+    filter: Filter,
+) -> Result<IteratorId, AllocError> {
+    if iterators.made() >= 4294967295 {
         return Err(AllocError);
     }
-    iters.make(NodeId::new(root), filter)
+    iterators.make(NodeId::new(root), filter)
 }
 
 fn new_walker(walkers: &mut Walkers, root: u32, filter: Filter) -> Result<WalkerId, AllocError> {
@@ -75,34 +79,44 @@ fn new_walker(walkers: &mut Walkers, root: u32, filter: Filter) -> Result<Walker
     walkers.make(NodeId::new(root), filter)
 }
 
-fn iterator(rt: &impl Abort, iters: &Iters, id: IterId) -> (u32, u32, bool) {
-    assert!(rt; iters.holds(id));
-    let (root, reference, before) = iters.state(id);
+fn iterator(rt: &impl Abort, iterators: &NodeIterators, id: IteratorId) -> (u32, u32, bool) {
+    assert!(rt; iterators.holds(id));
+    let (root, reference, before) = iterators.state(id);
     (root.number(), reference.number(), before)
 }
 
 // That an iterator is there, and stands in the tree.
-fn stands(rt: &impl Abort, iters: &Iters, tree: &Tree<()>, id: IterId)
-    ensures held { id < length iters.now }
-    ensures inside { ForSome (slice_get iters.now id) (StandsInside tree.now.forest) }
+fn stands(rt: &impl Abort, iterators: &NodeIterators, tree: &Tree<()>, id: IteratorId)
+    ensures held { id < length iterators.now }
+    ensures inside { ForSome (slice_get iterators.now id) (StandsInside tree.now.forest) }
 {
-    assert!(rt; iters.holds(id));
-    let state = iters.state(id);
+    assert!(rt; iterators.holds(id));
+    let state = iterators.state(id);
     assert!(rt; tree.holds(state.0));
     assert!(rt; tree.holds(state.1));
     assert!(rt; tree.is_ancestor(state.0, state.1));
     tree.sound();
 }
 
-fn next(rt: &impl Abort, iters: &mut Iters, tree: &Tree<()>, id: IterId) -> Option<u32> {
-    stands(rt, iters, tree, id);
-    let found = iters.next(tree, id)?;
+fn next(
+    rt: &impl Abort,
+    iterators: &mut NodeIterators,
+    tree: &Tree<()>,
+    id: IteratorId,
+) -> Option<u32> {
+    stands(rt, iterators, tree, id);
+    let found = iterators.next(tree, id)?;
     Some(found.number())
 }
 
-fn previous(rt: &impl Abort, iters: &mut Iters, tree: &Tree<()>, id: IterId) -> Option<u32> {
-    stands(rt, iters, tree, id);
-    let found = iters.previous(tree, id)?;
+fn previous(
+    rt: &impl Abort,
+    iterators: &mut NodeIterators,
+    tree: &Tree<()>,
+    id: IteratorId,
+) -> Option<u32> {
+    stands(rt, iterators, tree, id);
+    let found = iterators.previous(tree, id)?;
     Some(found.number())
 }
 
@@ -154,33 +168,33 @@ fn small(rt: &impl Abort, alloc: Global) -> Result<Tree<()>, AllocError> {
 }
 
 // An iterator of the element 1 that shows all.
-fn iterates_all(rt: &impl Abort, alloc: Global) -> Result<Iters, AllocError> {
-    let mut iters = Iters::new(alloc);
+fn iterates_all(rt: &impl Abort, alloc: Global) -> Result<NodeIterators, AllocError> {
+    let mut iterators = NodeIterators::new(alloc);
     let all = filter(alloc, &[])?;
-    let id = new_iterator(&mut iters, 1, all)?;
+    let id = new_iterator(&mut iterators, 1, all)?;
     assert_eq!(rt; id.number(), 0);
-    Ok(iters)
+    Ok(iterators)
 }
 
 #[test]
 fn an_iterator_steps_off_what_is_removed(rt: HostRuntime) -> Result<(), Fail> {
     let mut tree = small(&rt, rt.alloc())?;
-    let mut iters = iterates_all(&rt, rt.alloc())?;
-    let id = IterId::new(0);
-    assert!(rt; iterator(&rt, &iters, id) == (1, 1, true));
+    let mut iterators = iterates_all(&rt, rt.alloc())?;
+    let id = IteratorId::new(0);
+    assert!(rt; iterator(&rt, &iterators, id) == (1, 1, true));
     for wanted in 1..4 {
-        assert_eq!(rt; next(&rt, &mut iters, &tree, id), Some(wanted));
+        assert_eq!(rt; next(&rt, &mut iterators, &tree, id), Some(wanted));
     }
-    assert_eq!(rt; previous(&rt, &mut iters, &tree, id), Some(3));
-    remove(&rt, &mut iters, &mut tree, 2);
-    assert!(rt; iterator(&rt, &iters, id) == (1, 4, true));
-    remove(&rt, &mut iters, &mut tree, 4);
-    assert!(rt; iterator(&rt, &iters, id) == (1, 1, false));
-    assert_eq!(rt; next(&rt, &mut iters, &tree, id), None);
+    assert_eq!(rt; previous(&rt, &mut iterators, &tree, id), Some(3));
+    remove(&rt, &mut iterators, &mut tree, 2);
+    assert!(rt; iterator(&rt, &iterators, id) == (1, 4, true));
+    remove(&rt, &mut iterators, &mut tree, 4);
+    assert!(rt; iterator(&rt, &iterators, id) == (1, 1, false));
+    assert_eq!(rt; next(&rt, &mut iterators, &tree, id), None);
     append(&rt, &mut tree, 5, 1);
     append(&rt, &mut tree, 6, 5);
-    remove(&rt, &mut iters, &mut tree, 5);
-    assert!(rt; iterator(&rt, &iters, id) == (1, 1, false));
+    remove(&rt, &mut iterators, &mut tree, 5);
+    assert!(rt; iterator(&rt, &iterators, id) == (1, 1, false));
     Ok(())
 }
 
@@ -264,7 +278,7 @@ fn a_walker_goes_back_past_its_root(rt: HostRuntime) -> Result<(), Fail> {
     assert!(rt; refers(&rt, &walkers, &tree, 1));
     assert!(rt; !refers(&rt, &walkers, &tree, 4));
     assert!(rt; tree.holds(NodeId::new(1)));
-    assert!(rt; !Iters::new(rt.alloc()).refers(&tree, NodeId::new(1)));
+    assert!(rt; !NodeIterators::new(rt.alloc()).refers(&tree, NodeId::new(1)));
     Ok(())
 }
 
@@ -281,12 +295,12 @@ fn wide(rt: &impl Abort, alloc: Global, count: u32) -> Result<Tree<()>, AllocErr
 // An iterator over so many elements, all under the first of them: each is found once.
 fn iterates(rt: &impl Abort, alloc: Global, count: u32) -> Result<(), AllocError> {
     let tree = wide(rt, alloc, count)?;
-    let mut iters = iterates_all(rt, alloc)?;
-    let id = IterId::new(0);
+    let mut iterators = iterates_all(rt, alloc)?;
+    let id = IteratorId::new(0);
     for number in 1..count {
-        assert_eq!(rt; next(rt, &mut iters, &tree, id), Some(number));
+        assert_eq!(rt; next(rt, &mut iterators, &tree, id), Some(number));
     }
-    assert_eq!(rt; next(rt, &mut iters, &tree, id), None);
+    assert_eq!(rt; next(rt, &mut iterators, &tree, id), None);
     Ok(())
 }
 

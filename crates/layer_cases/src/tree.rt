@@ -26,6 +26,39 @@ fn refers(rt: &impl Abort, tree: &Tree<u32>, id: NodeId) -> bool {
     tree.refers(id)
 }
 
+/// The numbers of the children of a node.
+fn children(
+    rt: &impl Abort,
+    alloc: Global,
+    tree: &Tree<u32>,
+    parent: NodeId,
+) -> Result<Vec<u32>, AllocError> {
+    assert!(rt; tree.holds(parent));
+    let mut numbers: Vec<u32> = Vec::new(alloc);
+    for child in tree.children(parent) {
+        numbers.push(child.number())?;
+    }
+    Ok(numbers)
+}
+
+/// The numbers of the children of a node from one of them on.
+fn children_from(
+    rt: &impl Abort,
+    alloc: Global,
+    tree: &Tree<u32>,
+    child: NodeId,
+) -> Result<Vec<u32>, AllocError> {
+    assert!(rt; tree.holds(child));
+    let above = tree.parent(child);
+    assert!(rt; above.is_some());
+    let parent = above.unwrap();
+    let mut numbers: Vec<u32> = Vec::new(alloc);
+    for each in tree.children_from(parent, Some(child)) {
+        numbers.push(each.number())?;
+    }
+    Ok(numbers)
+}
+
 fn number_children(rt: &impl Abort, tree: &mut Tree<u32>, parent: NodeId) {
     assert!(rt; tree.holds(parent));
     tree.number_children(parent);
@@ -97,6 +130,20 @@ fn a_child_in_front_moves_the_others_on(rt: HostRuntime) -> Result<(), Fail> {
         let id = NodeId::new(2 + place);
         assert_eq!(rt; kept(&rt, &tree, id), Some(place as usize + 1));
     }
+    Ok(())
+}
+
+#[test]
+fn children_come_in_order(rt: HostRuntime) -> Result<(), Fail> {
+    let tree = five_children(&rt, rt.alloc())?;
+    let all = children(&rt, rt.alloc(), &tree, NodeId::new(1))?;
+    assert_eq!(rt; all.as_slice(), [6, 2, 3, 4, 5].as_slice());
+    let later = children_from(&rt, rt.alloc(), &tree, NodeId::new(3))?;
+    assert_eq!(rt; later.as_slice(), [3, 4, 5].as_slice());
+    let last = children_from(&rt, rt.alloc(), &tree, NodeId::new(5))?;
+    assert_eq!(rt; last.as_slice(), [5].as_slice());
+    assert!(rt; children(&rt, rt.alloc(), &tree, NodeId::new(2))?.is_empty());
+    assert!(rt; tree.children_from(NodeId::new(1), None).next().is_none());
     Ok(())
 }
 

@@ -1,7 +1,10 @@
-//! Callers of the crates that others use, one module for each. The pages `CALLING.md` quote them.
+//! Callers of the crates that others use, one module for each. The pages `CALLING.md` quote them, but those of `copies` and `data`, which
+//! show calls that need no number left.
 #![tactic(auto)]
 
 pub mod attrs;
+pub mod copies;
+pub mod data;
 pub mod edit;
 pub mod observe;
 pub mod pages;

@@ -201,7 +201,7 @@ impl Said<'_> {
                 self.session.set_current(self.walker(), self.node(1))?;
                 Json::Null
             }
-            "walk" => maybe(self.session.walk(self.walker(), course(&self.name(1)))?),
+            "walk" => maybe(self.session.walk(self.walker(), direction(&self.name(1)))?),
             _ => return Ok(None),
         }))
     }
@@ -259,7 +259,7 @@ fn rule(it: &Json) -> (String, Verdict) {
     (it.list()[0].string(), verdict)
 }
 
-fn course(name: &str) -> Move {
+fn direction(name: &str) -> Move {
     match name {
         "parentNode" => Move::ParentNode,
         "firstChild" => Move::FirstChild,

@@ -3,24 +3,21 @@ use Rattle.std.proofs.Common.{refl, ap}
 use Rattle.dom_content.specs.Drawing.{in_one_data}
 use Rattle.dom_content.proofs.RangeTexts.{ahead-of}
 use Rattle.dom_content.proofs.PieceSteps.{held-still}
-use Rattle.dom_content.proofs.DrawnContents.{document-is, document-kind, one-same, follows-drawn, room-fragment, room-filled}
+use Rattle.dom_content.proofs.StaysOf.{stays-then}
+use Rattle.dom_content.proofs.DrawnContents.{document-is, one-same, follows-drawn, room-fragment, room-filled}
 use Rattle.dom_content.proofs.PartsComing.{may-fill}
 use Rattle.dom_content.proofs.drawing.draw.Goals as goal
-
-pub new_fragment-requires-clause-document_kind : goal.new_fragment-requires-clause-document_kind
-new_fragment-requires-clause-document_kind c =
-    document-kind c.args.world.now c.requires.whole c.start.inside.node c.args.start.node c.document_of-document.result (ap (λ p. p.node) c.start.view_is) c.requires.range.starts.there c.document_of-document.ensures
 
 pub new_fragment-requires-clause-room : goal.new_fragment-requires-clause-room
 new_fragment-requires-clause-room c =
     let v = c.args.world.now in
     room-fragment v c.requires.whole (record { start = c.args.start; end = c.args.end }) c.requires.range c.args.parts.now.first.items c.args.parts.now.contained.items c.args.parts.now.last.items c.requires.parts
-    c.args.moves (in_one_data v.tree.forest (record { start = c.args.start; end = c.args.end })) v.tree.made c.document_of-document.result refl
-    (document-is v.tree.forest c.start.inside.node c.args.start.node c.document_of-document.result (ap (λ p. p.node) c.start.view_is) c.requires.range.starts.there c.document_of-document.ensures)
+    c.args.moves (in_one_data v.tree.forest (record { start = c.args.start; end = c.args.end })) v.tree.made c.document_in-document.result refl
+    (document-is v.tree.forest c.start.inside.node c.args.start.node c.document_in-document.result (ap (λ p. p.node) c.start.view_is) c.document_in-document.ensures.document)
     refl c.requires.room
 
 pub fill-requires-clause-start_held : goal.fill-requires-clause-start_held
-fill-requires-clause-start_held c = held-still c.args.world.now c.new_fragment.new.world c.in_ok-fragment.ensures.still_held c.args.start.node c.requires.range.starts.there
+fill-requires-clause-start_held c = held-still c.args.world.now c.new_fragment.new.world c.in_ok-fragment.ensures.stays.held c.args.start.node c.requires.range.starts.there
 
 pub fill-requires-clause-ahead : goal.fill-requires-clause-ahead
 fill-requires-clause-ahead c = λ h. ahead-of c.args.world.now.tree.forest (record { start = c.args.start; end = c.args.end }) c.args.start c.args.end c.requires.range refl refl h
@@ -28,33 +25,33 @@ fill-requires-clause-ahead c = λ h. ahead-of c.args.world.now.tree.forest (reco
 pub fill-requires-clause-may : goal.fill-requires-clause-may
 fill-requires-clause-may c =
     let m = may-fill c.args.world.now c.requires.whole (record { start = c.args.start; end = c.args.end }) c.requires.range c.requires.allowed c.args.parts.now.first.items c.args.parts.now.contained.items c.args.parts.now.last.items c.requires.parts
-    c.new_fragment.new.world c.document_of-document.result c.in_ok-fragment.fragment
-    (document-is c.args.world.now.tree.forest c.start.inside.node c.args.start.node c.document_of-document.result (ap (λ p. p.node) c.start.view_is) c.requires.range.starts.there c.document_of-document.ensures)
-    c.in_ok-fragment.ensures.number c.in_ok-fragment.ensures.made in
+    c.new_fragment.new.world c.document_in-document.result c.in_ok-fragment.fragment
+    (document-is c.args.world.now.tree.forest c.start.inside.node c.args.start.node c.document_in-document.result (ap (λ p. p.node) c.start.view_is) c.document_in-document.ensures.document)
+    c.in_ok-fragment.ensures.number c.in_ok-fragment.ensures.made c.in_ok-fragment.ensures.stays in
     m.may
 
 pub fill-requires-clause-first_way : goal.fill-requires-clause-first_way
 fill-requires-clause-first_way c =
     let m = may-fill c.args.world.now c.requires.whole (record { start = c.args.start; end = c.args.end }) c.requires.range c.requires.allowed c.args.parts.now.first.items c.args.parts.now.contained.items c.args.parts.now.last.items c.requires.parts
-    c.new_fragment.new.world c.document_of-document.result c.in_ok-fragment.fragment
-    (document-is c.args.world.now.tree.forest c.start.inside.node c.args.start.node c.document_of-document.result (ap (λ p. p.node) c.start.view_is) c.requires.range.starts.there c.document_of-document.ensures)
-    c.in_ok-fragment.ensures.number c.in_ok-fragment.ensures.made in
+    c.new_fragment.new.world c.document_in-document.result c.in_ok-fragment.fragment
+    (document-is c.args.world.now.tree.forest c.start.inside.node c.args.start.node c.document_in-document.result (ap (λ p. p.node) c.start.view_is) c.document_in-document.ensures.document)
+    c.in_ok-fragment.ensures.number c.in_ok-fragment.ensures.made c.in_ok-fragment.ensures.stays in
     m.first_way
 
 pub fill-requires-clause-last_way : goal.fill-requires-clause-last_way
 fill-requires-clause-last_way c =
     let m = may-fill c.args.world.now c.requires.whole (record { start = c.args.start; end = c.args.end }) c.requires.range c.requires.allowed c.args.parts.now.first.items c.args.parts.now.contained.items c.args.parts.now.last.items c.requires.parts
-    c.new_fragment.new.world c.document_of-document.result c.in_ok-fragment.fragment
-    (document-is c.args.world.now.tree.forest c.start.inside.node c.args.start.node c.document_of-document.result (ap (λ p. p.node) c.start.view_is) c.requires.range.starts.there c.document_of-document.ensures)
-    c.in_ok-fragment.ensures.number c.in_ok-fragment.ensures.made in
+    c.new_fragment.new.world c.document_in-document.result c.in_ok-fragment.fragment
+    (document-is c.args.world.now.tree.forest c.start.inside.node c.args.start.node c.document_in-document.result (ap (λ p. p.node) c.start.view_is) c.document_in-document.ensures.document)
+    c.in_ok-fragment.ensures.number c.in_ok-fragment.ensures.made c.in_ok-fragment.ensures.stays in
     m.last_way
 
 pub fill-requires-clause-within : goal.fill-requires-clause-within
 fill-requires-clause-within c =
     let m = may-fill c.args.world.now c.requires.whole (record { start = c.args.start; end = c.args.end }) c.requires.range c.requires.allowed c.args.parts.now.first.items c.args.parts.now.contained.items c.args.parts.now.last.items c.requires.parts
-    c.new_fragment.new.world c.document_of-document.result c.in_ok-fragment.fragment
-    (document-is c.args.world.now.tree.forest c.start.inside.node c.args.start.node c.document_of-document.result (ap (λ p. p.node) c.start.view_is) c.requires.range.starts.there c.document_of-document.ensures)
-    c.in_ok-fragment.ensures.number c.in_ok-fragment.ensures.made in
+    c.new_fragment.new.world c.document_in-document.result c.in_ok-fragment.fragment
+    (document-is c.args.world.now.tree.forest c.start.inside.node c.args.start.node c.document_in-document.result (ap (λ p. p.node) c.start.view_is) c.document_in-document.ensures.document)
+    c.in_ok-fragment.ensures.number c.in_ok-fragment.ensures.made c.in_ok-fragment.ensures.stays in
     m.within
 
 pub fill-requires-clause-room : goal.fill-requires-clause-room
@@ -62,9 +59,9 @@ fill-requires-clause-room c =
     let v = c.args.world.now in
     let x = c.new_fragment.new.world in
     room-filled v c.requires.whole (record { start = c.args.start; end = c.args.end }) c.requires.range c.args.parts.now.first.items c.args.parts.now.contained.items c.args.parts.now.last.items c.requires.parts
-    c.args.moves (in_one_data x.tree.forest (record { start = c.args.start; end = c.args.end })) c.in_ok-fragment.fragment c.document_of-document.result c.in_ok-fragment.ensures.number
-    (document-is v.tree.forest c.start.inside.node c.args.start.node c.document_of-document.result (ap (λ p. p.node) c.start.view_is) c.requires.range.starts.there c.document_of-document.ensures)
-    (one-same v c.requires.whole (record { start = c.args.start; end = c.args.end }) c.requires.range x c.document_of-document.result c.in_ok-fragment.ensures.made)
+    c.args.moves (in_one_data x.tree.forest (record { start = c.args.start; end = c.args.end })) c.in_ok-fragment.fragment c.document_in-document.result c.in_ok-fragment.ensures.number
+    (document-is v.tree.forest c.start.inside.node c.args.start.node c.document_in-document.result (ap (λ p. p.node) c.start.view_is) c.document_in-document.ensures.document)
+    (one-same v c.requires.whole (record { start = c.args.start; end = c.args.end }) c.requires.range x c.document_in-document.result c.in_ok-fragment.ensures.made)
     x c.in_ok-fragment.ensures.made c.requires.room
 
 pub returns-clause-drawn : goal.returns-clause-drawn
@@ -72,7 +69,10 @@ returns-clause-drawn c =
     let v = c.args.world.now in
     let x = c.new_fragment.new.world in
     follows-drawn v c.requires.whole (record { start = c.args.start; end = c.args.end }) c.requires.range c.args.parts.now.first.items c.args.parts.now.contained.items c.args.parts.now.last.items c.requires.parts
-    c.args.moves (in_one_data x.tree.forest (record { start = c.args.start; end = c.args.end })) c.in_ok-fragment.fragment c.document_of-document.result c.in_ok-fragment.ensures.number
-    (document-is v.tree.forest c.start.inside.node c.args.start.node c.document_of-document.result (ap (λ p. p.node) c.start.view_is) c.requires.range.starts.there c.document_of-document.ensures)
-    (one-same v c.requires.whole (record { start = c.args.start; end = c.args.end }) c.requires.range x c.document_of-document.result c.in_ok-fragment.ensures.made)
+    c.args.moves (in_one_data x.tree.forest (record { start = c.args.start; end = c.args.end })) c.in_ok-fragment.fragment c.document_in-document.result c.in_ok-fragment.ensures.number
+    (document-is v.tree.forest c.start.inside.node c.args.start.node c.document_in-document.result (ap (λ p. p.node) c.start.view_is) c.document_in-document.ensures.document)
+    (one-same v c.requires.whole (record { start = c.args.start; end = c.args.end }) c.requires.range x c.document_in-document.result c.in_ok-fragment.ensures.made)
     x c.fill.new.world c.in_ok-fragment.ensures.made c.in_ok-fill.ensures.drawn
+
+pub returns-clause-stays : goal.returns-clause-stays
+returns-clause-stays c = stays-then c.args.world.now c.new_fragment.new.world c.fill.new.world c.in_ok-fragment.ensures.stays c.in_ok-fill.ensures.stays

@@ -1,8 +1,10 @@
 -- Each part has its room, and may go in.
 use Rattle.std.proofs.Common.{◌++◌, ap, sym, subst}
+use Rattle.std.proofs.lemmas.Result.{on_ok_weaker}
 use Rattle.dom_content.specs.Coming.{AreOld, IsPathTo}
+use Rattle.dom_content.proofs.StaysOf.{stays-then}
 use Rattle.dom_content.proofs.Comings.{left-old, right-old, holder-goes, old-goes, goes-then, front-goes, goes-children, goes-tail}
-use Rattle.dom_content.proofs.DrawnContents.{room-tail, room-children}
+use Rattle.dom_content.proofs.DrawnContents.{room-tail, room-children, follows-parts}
 use Rattle.dom_content.proofs.drawing.draw_parts.Goals as goal
 
 pub tail_into-requires-clause-may : goal.tail_into-requires-clause-may
@@ -36,7 +38,7 @@ children_into-requires-clause-may c =
     let old : AreOld m.low f path = rw c.deref.ensures.value (left-old m.low f c.args.parts.now.first.items (c.args.parts.now.contained.items ++ c.args.parts.now.last.items) m.nodes) in
     let way : IsPathTo f c.start.inside.offset path = subst (λ o. IsPathTo f o path) (sym (ap (λ p. p.offset) c.start.view_is)) (rw c.deref.ensures.value c.requires.first_way) in
     let mid = c.tail_into.new.world in
-    let a = goes-tail c.args.world.now c.requires.whole m.low m.rising c.args.into m.holder c.args.moves c.start.inside.offset path old way mid c.in_ok-tail_into.ensures.drawn in
+    let a = goes-tail c.args.world.now c.requires.whole m.low m.rising c.args.into m.holder c.args.moves c.start.inside.offset path old way mid c.in_ok-tail_into.ensures.drawn c.in_ok-tail_into.ensures.stays in
     let more = right-old m.low f c.args.parts.now.first.items (c.args.parts.now.contained.items ++ c.args.parts.now.last.items) m.nodes in
     let contained : AreOld m.low mid.tree.forest c.deref-2.result.now = rw c.deref-2.ensures.value (λ x i. old-goes m.low c.args.world.now mid a x (left-old m.low f c.args.parts.now.contained.items c.args.parts.now.last.items more x i)) in
     let holder = holder-goes m.low c.args.world.now mid a c.args.into m.holder in
@@ -55,12 +57,12 @@ head_into-requires-clause-may c =
     let old : AreOld m.low f path = rw c.deref.ensures.value (left-old m.low f c.args.parts.now.first.items (c.args.parts.now.contained.items ++ c.args.parts.now.last.items) m.nodes) in
     let way : IsPathTo f c.start.inside.offset path = subst (λ o. IsPathTo f o path) (sym (ap (λ p. p.offset) c.start.view_is)) (rw c.deref.ensures.value c.requires.first_way) in
     let mid = c.tail_into.new.world in
-    let a = goes-tail c.args.world.now c.requires.whole m.low m.rising c.args.into m.holder c.args.moves c.start.inside.offset path old way mid c.in_ok-tail_into.ensures.drawn in
+    let a = goes-tail c.args.world.now c.requires.whole m.low m.rising c.args.into m.holder c.args.moves c.start.inside.offset path old way mid c.in_ok-tail_into.ensures.drawn c.in_ok-tail_into.ensures.stays in
     let more = right-old m.low f c.args.parts.now.first.items (c.args.parts.now.contained.items ++ c.args.parts.now.last.items) m.nodes in
     let contained : AreOld m.low mid.tree.forest c.deref-2.result.now = rw c.deref-2.ensures.value (λ x i. old-goes m.low c.args.world.now mid a x (left-old m.low f c.args.parts.now.contained.items c.args.parts.now.last.items more x i)) in
     let holder = holder-goes m.low c.args.world.now mid a c.args.into m.holder in
     let end = c.children_into.new.world in
-    let b = goes-children mid c.in_ok-tail_into.ensures.whole m.low a.rising c.args.into holder c.args.moves c.deref-2.result.now contained end c.in_ok-children_into.ensures.drawn in
+    let b = goes-children mid c.in_ok-tail_into.ensures.whole m.low a.rising c.args.into holder c.args.moves c.deref-2.result.now contained end c.in_ok-children_into.ensures.drawn c.in_ok-children_into.ensures.stays in
     let g = goes-then m.low c.args.world.now mid end a b in
     let last = right-old m.low f c.args.parts.now.contained.items c.args.parts.now.last.items more in
     let nodes : AreOld m.low end.tree.forest c.deref-3.result.now = rw c.deref-3.ensures.value (λ x i. old-goes m.low c.args.world.now end g x (last x i)) in
@@ -74,12 +76,28 @@ head_into-requires-clause-way c =
     let old : AreOld m.low f path = rw c.deref.ensures.value (left-old m.low f c.args.parts.now.first.items (c.args.parts.now.contained.items ++ c.args.parts.now.last.items) m.nodes) in
     let way : IsPathTo f c.start.inside.offset path = subst (λ o. IsPathTo f o path) (sym (ap (λ p. p.offset) c.start.view_is)) (rw c.deref.ensures.value c.requires.first_way) in
     let mid = c.tail_into.new.world in
-    let a = goes-tail c.args.world.now c.requires.whole m.low m.rising c.args.into m.holder c.args.moves c.start.inside.offset path old way mid c.in_ok-tail_into.ensures.drawn in
+    let a = goes-tail c.args.world.now c.requires.whole m.low m.rising c.args.into m.holder c.args.moves c.start.inside.offset path old way mid c.in_ok-tail_into.ensures.drawn c.in_ok-tail_into.ensures.stays in
     let more = right-old m.low f c.args.parts.now.first.items (c.args.parts.now.contained.items ++ c.args.parts.now.last.items) m.nodes in
     let contained : AreOld m.low mid.tree.forest c.deref-2.result.now = rw c.deref-2.ensures.value (λ x i. old-goes m.low c.args.world.now mid a x (left-old m.low f c.args.parts.now.contained.items c.args.parts.now.last.items more x i)) in
     let holder = holder-goes m.low c.args.world.now mid a c.args.into m.holder in
     let end = c.children_into.new.world in
-    let b = goes-children mid c.in_ok-tail_into.ensures.whole m.low a.rising c.args.into holder c.args.moves c.deref-2.result.now contained end c.in_ok-children_into.ensures.drawn in
+    let b = goes-children mid c.in_ok-tail_into.ensures.whole m.low a.rising c.args.into holder c.args.moves c.deref-2.result.now contained end c.in_ok-children_into.ensures.drawn c.in_ok-children_into.ensures.stays in
     let g = goes-then m.low c.args.world.now mid end a b in
     let last = right-old m.low f c.args.parts.now.contained.items c.args.parts.now.last.items more in
     rw c.deref-3.ensures.value (front-goes m.low c.args.world.now end g c.args.parts.now.last.items last c.requires.last_way)
+
+pub returns-clause-drawn : goal.returns-clause-drawn
+returns-clause-drawn c =
+    on_ok_weaker c.head_into.result
+    (follows-parts c.args.moves c.args.into (record { start = c.args.start; end = c.args.end }) c.args.parts.now.first.items c.args.parts.now.contained.items c.args.parts.now.last.items
+    c.args.world.now c.tail_into.new.world c.children_into.new.world c.head_into.new.world c.start.inside.offset c.end.inside.offset c.deref.result.now c.deref-2.result.now c.deref-3.result.now
+    (ap (λ p. p.offset) c.start.view_is) c.deref.ensures.value c.deref-2.ensures.value (ap (λ p. p.offset) c.end.view_is) c.deref-3.ensures.value c.in_ok-tail_into.ensures.drawn c.in_ok-children_into.ensures.drawn)
+    c.head_into.ensures.drawn
+
+pub returns-clause-stays : goal.returns-clause-stays
+returns-clause-stays c =
+    let v = c.args.world.now in
+    let mid = c.tail_into.new.world in
+    let end = c.children_into.new.world in
+    on_ok_weaker c.head_into.result
+    (λ s. stays-then v mid c.head_into.new.world c.in_ok-tail_into.ensures.stays (stays-then mid end c.head_into.new.world c.in_ok-children_into.ensures.stays s)) c.head_into.ensures.stays

@@ -1,6 +1,7 @@
 -- Units of one node need no other node.
 use Rattle.std.proofs.Common.{sym}
 use Rattle.dom_content.proofs.Comings.{none-old}
+use Rattle.dom_content.proofs.StaysOf.{stays-none}
 use Rattle.dom_content.proofs.drawing.fill.Goals as goal
 
 pub draw_units-requires-clause-may : goal.draw_units-requires-clause-may
@@ -8,3 +9,6 @@ draw_units-requires-clause-may c = record { low = c.requires.may.low; rising = c
 
 pub draw_units-requires-clause-within : goal.draw_units-requires-clause-within
 draw_units-requires-clause-within c = c.requires.within (sym c.if-is_in_one_data.ensures)
+
+pub returns-then-is_collapsed-clause-stays : goal.returns-then-is_collapsed-clause-stays
+returns-then-is_collapsed-clause-stays c = stays-none c.args.world.now

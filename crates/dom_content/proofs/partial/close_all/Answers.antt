@@ -24,7 +24,7 @@ loop-partial-smaller c = rw c.in-Some.ensures.items (fewer c.pop.new.self.items 
 pub loop-partial-preserved : goal.loop-partial-preserved
 loop-partial-preserved c =
     closing-next c.args.world.now c.loop-partial.world c.args.moves c.args.partials.items c.pop.new.self.items c.in-Some.partial (rw c.in-Some.ensures.items at c.loop-partial.invariant)
-    c.close_partial.new.world c.in_ok-close_partial.ensures.closed c.in_ok-close_partial.ensures.still_held c.in_ok-close_partial.ensures.whole
+    c.close_partial.new.world c.in_ok-close_partial.ensures.closed c.in_ok-close_partial.ensures.stays c.in_ok-close_partial.ensures.whole
 
 pub returns-clause-closed : goal.returns-clause-closed
 returns-clause-closed c =
@@ -35,8 +35,8 @@ returns-clause-closed c =
     (cases_lt 0 (length c.loop-partial.partials.items)) in
     closing-end c.args.world.now c.loop-partial.world c.args.moves c.args.partials.items (rw empty at c.loop-partial.invariant)
 
-pub returns-clause-still_held : goal.returns-clause-still_held
-returns-clause-still_held c = c.loop-partial.invariant.still
+pub returns-clause-stays : goal.returns-clause-stays
+returns-clause-stays c = c.loop-partial.invariant.still
 
 pub returns-clause-whole : goal.returns-clause-whole
 returns-clause-whole c = c.loop-partial.invariant.whole

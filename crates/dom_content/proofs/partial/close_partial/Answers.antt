@@ -1,6 +1,7 @@
 -- The children go in, and then the fragment into the copy.
-use Rattle.dom_content.proofs.Comings.{inner-holder, unfinished-goes, goes-children, may-finish}
-use Rattle.dom_content.proofs.PathSteps.{room-children, follows-closed, still-twice}
+use Rattle.dom_content.proofs.StaysOf.{stays-then}
+use Rattle.dom_content.proofs.Comings.{inner-holder, unfinished-goes, goes-children, may-finish, finish-unreferred}
+use Rattle.dom_content.proofs.PathSteps.{room-children, follows-closed}
 use Rattle.dom_content.proofs.partial.close_partial.Goals as goal
 
 pub children_into-requires-clause-may : goal.children_into-requires-clause-may
@@ -21,12 +22,21 @@ put_last-requires-clause-allowed c =
     let p = c.args.partial.now in
     let m = c.requires.may in
     let drawn = rw c.as_slice.ensures.value at c.in_ok-children_into.ensures.drawn in
-    let g = goes-children v c.requires.whole m.low m.rising p.inner (inner-holder m.low v.tree.forest p m.parts.0) c.args.moves p.children.items m.parts.0.children c.children_into.new.world drawn in
+    let g = goes-children v c.requires.whole m.low m.rising p.inner (inner-holder m.low v.tree.forest p m.parts.0) c.args.moves p.children.items m.parts.0.children c.children_into.new.world drawn c.in_ok-children_into.ensures.stays in
     may-finish c.children_into.new.world c.in_ok-children_into.ensures.whole m.low g.rising p (unfinished-goes m.low v c.children_into.new.world g p m.parts.0)
+
+pub put_last-requires-clause-unreferred : goal.put_last-requires-clause-unreferred
+put_last-requires-clause-unreferred c =
+    let v = c.args.world.now in
+    let p = c.args.partial.now in
+    let m = c.requires.may in
+    let drawn = rw c.as_slice.ensures.value at c.in_ok-children_into.ensures.drawn in
+    let g = goes-children v c.requires.whole m.low m.rising p.inner (inner-holder m.low v.tree.forest p m.parts.0) c.args.moves p.children.items m.parts.0.children c.children_into.new.world drawn c.in_ok-children_into.ensures.stays in
+    finish-unreferred c.children_into.new.world c.in_ok-children_into.ensures.whole m.low g.rising p (unfinished-goes m.low v c.children_into.new.world g p m.parts.0)
 
 pub returns-clause-closed : goal.returns-clause-closed
 returns-clause-closed c =
     follows-closed c.args.world.now c.children_into.new.world c.put_last.new.world c.args.moves c.args.partial.now (rw c.as_slice.ensures.value at c.in_ok-children_into.ensures.drawn) c.in_ok-put_last.ensures.appended
 
-pub returns-clause-still_held : goal.returns-clause-still_held
-returns-clause-still_held c = still-twice c.args.world.now c.children_into.new.world c.put_last.new.world c.in_ok-children_into.ensures.still_held c.in_ok-put_last.ensures.still_held
+pub returns-clause-stays : goal.returns-clause-stays
+returns-clause-stays c = stays-then c.args.world.now c.children_into.new.world c.put_last.new.world c.in_ok-children_into.ensures.stays c.in_ok-put_last.ensures.stays

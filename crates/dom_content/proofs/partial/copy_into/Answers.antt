@@ -1,7 +1,8 @@
 -- A copy is opened, and finished at once.
 use Rattle.dom_content.specs.Coming.{AreOld}
+use Rattle.dom_content.proofs.StaysOf.{stays-then}
 use Rattle.dom_content.proofs.Comings.{first-old, rest-old, goes-opened, opened-unfinished}
-use Rattle.dom_content.proofs.PathSteps.{room-open, room-closing, follows-copy, still-twice}
+use Rattle.dom_content.proofs.PathSteps.{room-open, room-closing, follows-copy}
 use Rattle.dom_content.proofs.partial.copy_into.Goals as goal
 
 pub open_partial-requires-clause-room : goal.open_partial-requires-clause-room
@@ -13,13 +14,13 @@ close_partial-requires-clause-may c =
     let m = c.requires.may in
     let o = first-old m.low v.tree.forest c.args.node c.args.children.items m.nodes in
     let kids : AreOld m.low v.tree.forest c.in_ok-partial.partial.children.items = rw c.in_ok-partial.ensures.children (rest-old m.low v.tree.forest c.args.node c.args.children.items m.nodes) in
-    let g = goes-opened v c.requires.whole m.low m.rising c.args.into m.holder c.args.node o c.requires.no_data c.open_partial.new.world c.in_ok-partial.ensures.opened in
+    let g = goes-opened v c.requires.whole m.low m.rising c.args.into m.holder c.args.node o c.requires.no_data c.open_partial.new.world c.in_ok-partial.ensures.opened c.in_ok-partial.ensures.stays in
     record {
       low = m.low;
       rising = g.rising;
       parts = (
         opened-unfinished v c.requires.whole m.low m.rising c.args.into m.holder c.args.node o c.requires.no_data c.open_partial.new.world c.in_ok-partial.partial
-            c.in_ok-partial.ensures.opened c.in_ok-partial.ensures.copy c.in_ok-partial.ensures.inner kids,
+            c.in_ok-partial.ensures.opened c.in_ok-partial.ensures.stays c.in_ok-partial.ensures.copy c.in_ok-partial.ensures.inner kids,
         tt,
       );
     }
@@ -33,5 +34,5 @@ returns-clause-copied c =
     follows-copy c.args.world.now c.open_partial.new.world c.args.moves c.args.into c.args.node c.args.children.items c.in_ok-partial.partial c.in_ok-partial.ensures.copy c.in_ok-partial.ensures.inner c.in_ok-partial.ensures.children c.in_ok-partial.ensures.opened
     c.close_partial.new.world c.in_ok-close_partial.ensures.closed
 
-pub returns-clause-still_held : goal.returns-clause-still_held
-returns-clause-still_held c = still-twice c.args.world.now c.open_partial.new.world c.close_partial.new.world c.in_ok-partial.ensures.still_held c.in_ok-close_partial.ensures.still_held
+pub returns-clause-stays : goal.returns-clause-stays
+returns-clause-stays c = stays-then c.args.world.now c.open_partial.new.world c.close_partial.new.world c.in_ok-partial.ensures.stays c.in_ok-close_partial.ensures.stays

@@ -4,8 +4,9 @@ use Rattle.std.specs.Prelude.{OnOk}
 use Rattle.dom_model.specs.RangesAndContents.Contents.{child_into}
 use Rattle.dom_clone.specs.dom_edit.Whole.{Follows}
 use Rattle.dom_content.specs.Paths.{HasRoom}
-use Rattle.dom_content.proofs.PieceSteps.{room-child, follows-child, still-then}
-use Rattle.dom_content.proofs.Comings.{first-old, may-put, may-put_copy}
+use Rattle.dom_content.proofs.PieceSteps.{room-child, follows-child}
+use Rattle.dom_content.proofs.StaysOf.{stays-then}
+use Rattle.dom_content.proofs.Comings.{first-old, may-put, may-put_copy, copy-unreferred}
 use Rattle.dom_content.proofs.pieces.child_into.Goals as goal
 
 pub copy_of-requires-clause-room : goal.copy_of-requires-clause-room
@@ -14,22 +15,30 @@ copy_of-requires-clause-room c =
 
 pub returns-then-moves-clause-drawn : goal.returns-then-moves-clause-drawn
 returns-then-moves-clause-drawn c =
-    subst (λ b. OnOk c.put_last.result (Follows c.args.world.now c.put_last.new.world (child_into b c.args.into c.args.node))) (sym c.if-moves.true) c.put_last.ensures.appended
+    subst (λ b. OnOk c.move_last.result (Follows c.args.world.now c.move_last.new.world (child_into b c.args.into c.args.node))) (sym c.if-moves.true) c.move_last.ensures.moved
+
+pub move_last-requires-clause-allowed : goal.move_last-requires-clause-allowed
+move_last-requires-clause-allowed c =
+    may-put c.args.world.now c.requires.whole c.requires.may.low c.requires.may.rising c.args.into c.args.node c.requires.may.holder (first-old c.requires.may.low c.args.world.now.tree.forest c.args.node [] c.requires.may.nodes)
+
+pub move_last-requires-clause-child : goal.move_last-requires-clause-child
+move_last-requires-clause-child c = (first-old c.requires.may.low c.args.world.now.tree.forest c.args.node [] c.requires.may.nodes).child
+
+pub put_last-requires-clause-unreferred : goal.put_last-requires-clause-unreferred
+put_last-requires-clause-unreferred c =
+    rw c.in_ok-copy.ensures.number
+    (copy-unreferred c.args.world.now c.requires.whole c.requires.may.low c.requires.may.rising true c.args.node c.copy_of.new.world c.in_ok-copy.ensures.whole c.in_ok-copy.ensures.copied c.in_ok-copy.ensures.copy_held)
 
 pub put_last-requires-clause-allowed : goal.put_last-requires-clause-allowed
 put_last-requires-clause-allowed c =
-    may-put c.args.world.now c.requires.whole c.requires.may.low c.requires.may.rising c.args.into c.args.node c.requires.may.holder (first-old c.requires.may.low c.args.world.now.tree.forest c.args.node [] c.requires.may.nodes)
-
-pub put_last-requires-2-clause-allowed : goal.put_last-requires-2-clause-allowed
-put_last-requires-2-clause-allowed c =
     rw c.in_ok-copy.ensures.number
     (may-put_copy c.args.world.now c.requires.whole c.requires.may.low c.requires.may.rising c.args.into c.requires.may.holder true c.args.node (first-old c.requires.may.low c.args.world.now.tree.forest c.args.node [] c.requires.may.nodes)
     c.copy_of.new.world c.in_ok-copy.ensures.whole c.in_ok-copy.ensures.copied)
 
 pub returns-clause-drawn : goal.returns-clause-drawn
 returns-clause-drawn c =
-    subst (λ b. Follows c.args.world.now c.put_last-2.new.world (child_into b c.args.into c.args.node)) (sym c.if-moves.false)
-    (follows-child c.args.world.now c.copy_of.new.world c.put_last-2.new.world c.args.into c.args.node c.in_ok-copy.ensures.copied (rw c.in_ok-copy.ensures.number at c.in_ok-put_last.ensures.appended))
+    subst (λ b. Follows c.args.world.now c.put_last.new.world (child_into b c.args.into c.args.node)) (sym c.if-moves.false)
+    (follows-child c.args.world.now c.copy_of.new.world c.put_last.new.world c.args.into c.args.node c.in_ok-copy.ensures.copied (rw c.in_ok-copy.ensures.number at c.in_ok-put_last.ensures.appended))
 
-pub returns-clause-still_held : goal.returns-clause-still_held
-returns-clause-still_held c = still-then c.args.world.now c.copy_of.new.world c.put_last-2.new.world c.in_ok-copy.ensures.still_held c.in_ok-put_last.ensures.still_held
+pub returns-clause-stays : goal.returns-clause-stays
+returns-clause-stays c = stays-then c.args.world.now c.copy_of.new.world c.put_last.new.world c.in_ok-copy.ensures.stays c.in_ok-put_last.ensures.stays

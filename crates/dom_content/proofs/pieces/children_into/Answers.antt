@@ -20,7 +20,10 @@ child_into-requires-clause-room c =
 pub loop-node-preserved : goal.loop-node-preserved
 loop-node-preserved c =
     filling-next c.args.world.now c.loop-node.world c.args.moves c.args.into c.args.nodes.now c.loop-node.node-index c.loop-node.invariant c.node-item.result c.node-item.is c.loop-node-test.true
-    c.child_into.new.world c.in_ok-child_into.ensures.drawn c.in_ok-child_into.ensures.still_held c.in_ok-child_into.ensures.whole
+    c.child_into.new.world c.in_ok-child_into.ensures.drawn c.in_ok-child_into.ensures.stays c.in_ok-child_into.ensures.whole
 
 pub returns-clause-drawn : goal.returns-clause-drawn
 returns-clause-drawn c = filling-end c.args.world.now c.loop-node.world c.args.moves c.args.into c.args.nodes.now c.loop-node.node-index c.loop-node.invariant c.loop-node-test.false
+
+pub returns-clause-stays : goal.returns-clause-stays
+returns-clause-stays c = c.loop-node.invariant.still

@@ -1,5 +1,6 @@
 -- A copy is there beside all others.
-use Rattle.dom_content.proofs.PieceSteps.{room-clone, still-clone, kinds-clone, data-clone, clone-held}
+use Rattle.dom_content.proofs.PieceSteps.{room-clone, kinds-clone, data-clone, clone-held}
+use Rattle.dom_content.proofs.StaysOf.{stays-clone}
 use Rattle.dom_content.proofs.pieces.copy_of.Goals as goal
 
 pub clone_node-requires-clause-room : goal.clone_node-requires-clause-room
@@ -8,8 +9,8 @@ clone_node-requires-clause-room c = room-clone c.args.world.now c.args.deep c.ar
 pub returns-clause-copy_held : goal.returns-clause-copy_held
 returns-clause-copy_held c = clone-held c.args.world.now c.clone_node.new.world c.args.deep c.args.node c.requires.whole c.requires.held c.in_ok-copy.ensures.cloned
 
-pub returns-clause-still_held : goal.returns-clause-still_held
-returns-clause-still_held c = still-clone c.args.world.now c.clone_node.new.world c.args.deep c.args.node c.in_ok-copy.ensures.cloned
+pub returns-clause-stays : goal.returns-clause-stays
+returns-clause-stays c = stays-clone c.args.world.now c.clone_node.new.world c.args.deep c.args.node c.in_ok-copy.ensures.cloned
 
 pub returns-clause-kinds : goal.returns-clause-kinds
 returns-clause-kinds c = kinds-clone c.args.world.now c.clone_node.new.world c.args.deep c.args.node c.in_ok-copy.ensures.cloned

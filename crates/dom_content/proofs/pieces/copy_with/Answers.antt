@@ -1,5 +1,6 @@
 -- The copy is there beside all others.
-use Rattle.dom_content.proofs.PieceSteps.{room-copied, follows-copied, still-copied, kinds-copied, data-copied, copied-held}
+use Rattle.dom_content.proofs.PieceSteps.{room-copied, follows-copied, kinds-copied, data-copied, copied-held}
+use Rattle.dom_content.proofs.StaysOf.{stays-copied}
 use Rattle.dom_content.proofs.pieces.copy_with.Goals as goal
 
 pub make_copy-requires-clause-room : goal.make_copy-requires-clause-room
@@ -13,9 +14,9 @@ returns-clause-copy_held c =
     copied-held c.args.world.now c.make_copy.new.world c.args.units c.args.node c.requires.whole c.requires.held
     (follows-copied c.args.world.now c.requires.whole c.args.node c.requires.held c.args.units c.make_copy.new.world c.in_ok-copy.ensures.copied)
 
-pub returns-clause-still_held : goal.returns-clause-still_held
-returns-clause-still_held c =
-    still-copied c.args.world.now c.make_copy.new.world c.args.units c.args.node
+pub returns-clause-stays : goal.returns-clause-stays
+returns-clause-stays c =
+    stays-copied c.args.world.now c.make_copy.new.world c.args.units c.args.node
     (follows-copied c.args.world.now c.requires.whole c.args.node c.requires.held c.args.units c.make_copy.new.world c.in_ok-copy.ensures.copied)
 
 pub returns-clause-kinds : goal.returns-clause-kinds

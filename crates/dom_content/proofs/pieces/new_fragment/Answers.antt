@@ -1,5 +1,6 @@
 -- The fragment is there beside all others.
-use Rattle.dom_content.proofs.PieceSteps.{room-fragment, still-fragment, data-fragment, fragment-held}
+use Rattle.dom_content.proofs.PieceSteps.{room-fragment, data-fragment, fragment-held}
+use Rattle.dom_content.proofs.StaysOf.{stays-fragment}
 use Rattle.dom_content.proofs.pieces.new_fragment.Goals as goal
 
 pub make_fragment-requires-clause-room : goal.make_fragment-requires-clause-room
@@ -11,8 +12,8 @@ returns-clause-made c = c.in_ok-fragment.ensures.made
 pub returns-clause-made_held : goal.returns-clause-made_held
 returns-clause-made_held c = fragment-held c.args.world.now c.make_fragment.new.world c.args.document c.requires.whole c.in_ok-fragment.ensures.made
 
-pub returns-clause-still_held : goal.returns-clause-still_held
-returns-clause-still_held c = still-fragment c.args.world.now c.make_fragment.new.world c.args.document c.in_ok-fragment.ensures.made
+pub returns-clause-stays : goal.returns-clause-stays
+returns-clause-stays c = stays-fragment c.args.world.now c.make_fragment.new.world c.args.document c.in_ok-fragment.ensures.made
 
 pub returns-clause-texts : goal.returns-clause-texts
 returns-clause-texts c = data-fragment c.args.world.now c.make_fragment.new.world c.args.document c.in_ok-fragment.ensures.made

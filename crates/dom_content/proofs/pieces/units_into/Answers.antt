@@ -1,6 +1,7 @@
 -- A copy with the units is made, put and the units cut.
 use Rattle.dom_content.proofs.PieceSteps.{room-units, follows-units, still-data, still-within}
-use Rattle.dom_content.proofs.Comings.{may-put_part}
+use Rattle.dom_content.proofs.StaysOf.{stays-then}
+use Rattle.dom_content.proofs.Comings.{may-put_part, part-unreferred}
 use Rattle.dom_content.proofs.pieces.units_into.Goals as goal
 
 pub copy_with-requires-clause-room : goal.copy_with-requires-clause-room
@@ -11,15 +12,21 @@ put_last-requires c =
     record {
       whole = c.in_ok-copy.ensures.whole;
       allowed = rw c.in_ok-copy.ensures.number (may-put_part c.args.world.now c.requires.whole c.requires.may.low c.requires.may.rising c.args.into c.requires.may.holder c.in_ok-units.units c.args.node c.requires.kind c.copy_with.new.world c.in_ok-copy.ensures.whole c.in_ok-copy.ensures.copied);
+      unreferred = rw c.in_ok-copy.ensures.number (part-unreferred c.args.world.now c.requires.whole c.requires.may.low c.requires.may.rising c.in_ok-units.units c.args.node c.copy_with.new.world c.in_ok-copy.ensures.whole c.in_ok-copy.ensures.copied c.in_ok-copy.ensures.copy_held);
     }
 
 pub cut_if-requires-clause-kind : goal.cut_if-requires-clause-kind
-cut_if-requires-clause-kind c = still-data c.args.world.now c.copy_with.new.world c.put_last.new.world c.args.node c.in_ok-copy.ensures.still_held c.in_ok-copy.ensures.kinds c.in_ok-put_last.ensures.kinds c.requires.kind
+cut_if-requires-clause-kind c = still-data c.args.world.now c.copy_with.new.world c.put_last.new.world c.args.node c.in_ok-copy.ensures.stays.held c.in_ok-copy.ensures.kinds c.in_ok-put_last.ensures.kinds c.requires.kind
 
 pub cut_if-requires-clause-within : goal.cut_if-requires-clause-within
-cut_if-requires-clause-within c = still-within c.args.world.now c.copy_with.new.world c.put_last.new.world c.args.node c.args.offset c.in_ok-copy.ensures.still_held c.in_ok-copy.ensures.texts c.in_ok-put_last.ensures.texts c.requires.kind c.requires.within
+cut_if-requires-clause-within c = still-within c.args.world.now c.copy_with.new.world c.put_last.new.world c.args.node c.args.offset c.in_ok-copy.ensures.stays.held c.in_ok-copy.ensures.texts c.in_ok-put_last.ensures.texts c.requires.kind c.requires.within
 
 pub returns-clause-drawn : goal.returns-clause-drawn
 returns-clause-drawn c =
     follows-units c.args.world.now c.args.moves c.args.into c.args.node c.args.offset c.args.count c.in_ok-units.units c.in_ok-units.ensures
     c.copy_with.new.world c.put_last.new.world c.cut_if.new.world c.in_ok-copy.ensures.copied (rw c.in_ok-copy.ensures.number at c.in_ok-put_last.ensures.appended) c.in_ok-cut_if.ensures.cut
+
+pub returns-clause-stays : goal.returns-clause-stays
+returns-clause-stays c =
+    stays-then c.args.world.now c.copy_with.new.world c.cut_if.new.world c.in_ok-copy.ensures.stays
+    (stays-then c.copy_with.new.world c.put_last.new.world c.cut_if.new.world c.in_ok-put_last.ensures.stays c.in_ok-cut_if.ensures.stays)

@@ -4,6 +4,7 @@ use Rattle.dom_model.specs.RangesAndContents.Contents.{head_into}
 use Rattle.dom_content.specs.Paths.{entered}
 use Rattle.dom_content.proofs.PathSteps.{down-first, down-first_old, down-held, down-may, down-room, down-next, down-close, down-close_room, down-end, down-more, down-last}
 use Rattle.dom_content.proofs.PathHeads.{head-enters, head-down}
+use Rattle.dom_content.proofs.StaysOf.{stays-then}
 use Rattle.dom_content.proofs.Comings.{rest-old, front-goes, goes-entered, entered-unfinished, goes-head}
 use Rattle.dom_content.proofs.ways.head_along.Goals as goal
 
@@ -49,14 +50,14 @@ loop-next-preserved c =
     let n = c.loop-next.node in
     let o = down-first_old c.args.world.now c.loop-next.world c.args.moves 0 whole (λ i ns. head_into c.args.moves i c.args.offset ns) c.loop-next.partials.items c.loop-next.here c.loop-next.node (c.next-item.result ∷ more) t in
     let p = c.in_ok-partial.partial in
-    let g = goes-entered v t.stays_whole t.low t.rising c.loop-next.here t.into n o t.way.0 c.args.moves c.next-item.result c.open_head.new.world c.in_ok-partial.ensures.entered in
+    let g = goes-entered v t.stays_whole t.low t.rising c.loop-next.here t.into n o t.way.0 c.args.moves c.next-item.result c.open_head.new.world c.in_ok-partial.ensures.entered c.in_ok-partial.ensures.stays in
     let u = entered-unfinished v t.stays_whole t.low t.rising c.loop-next.here t.into n o t.way.0 c.args.moves c.next-item.result c.open_head.new.world p c.in_ok-partial.ensures.entered c.in_ok-partial.ensures.copy c.in_ok-partial.ensures.inner c.in_ok-partial.ensures.children in
     let way = front-goes t.low v c.open_head.new.world g (c.next-item.result ∷ more) (rest-old t.low v.tree.forest n (c.next-item.result ∷ more) t.nodes) t.way.1 in
     rw c.in_ok-push.ensures.ok
     (down-next c.args.world.now c.loop-next.world c.args.moves 0 whole (λ i ns. head_into c.args.moves i c.args.offset ns) c.loop-next.partials.items c.loop-next.here c.loop-next.node (c.next-item.result ∷ more) t
     c.open_head.new.world (entered c.args.moves c.loop-next.here c.loop-next.node c.next-item.result) p
     (head-down v c.args.moves c.loop-next.here c.args.offset n c.next-item.result more p c.in_ok-partial.ensures.copy c.in_ok-partial.ensures.inner c.in_ok-partial.ensures.children)
-    c.in_ok-partial.ensures.entered c.in_ok-partial.ensures.still_held c.in_ok-partial.ensures.whole g u way)
+    c.in_ok-partial.ensures.entered c.in_ok-partial.ensures.stays c.in_ok-partial.ensures.whole g u way)
 
 pub head_of_last-requires-clause-whole : goal.head_of_last-requires-clause-whole
 head_of_last-requires-clause-whole c = c.loop-next.invariant.stays_whole
@@ -84,7 +85,7 @@ close_all-requires-clause-may c =
     let whole = head_into c.args.moves c.args.into c.args.offset (c.args.first ∷ c.args.below.now) in
     let t = (down-last c.args.world.now c.loop-next.world c.args.moves 0 whole (λ i ns. head_into c.args.moves i c.args.offset ns) c.loop-next.partials.items c.loop-next.here c.loop-next.node c.args.below.now c.loop-next.next-index c.loop-next.invariant c.loop-next-test.false) in
     down-close c.args.world.now c.loop-next.world c.args.moves 0 whole (λ i ns. head_into c.args.moves i c.args.offset ns) c.loop-next.partials.items c.loop-next.here c.loop-next.node [] t
-    c.head_of_last.new.world c.in_ok-head_of_last.ensures.drawn (goes-head c.loop-next.world t.stays_whole t.low t.rising c.loop-next.here t.into c.args.moves c.args.offset (c.loop-next.node ∷ []) t.nodes t.way c.head_of_last.new.world c.in_ok-head_of_last.ensures.drawn)
+    c.head_of_last.new.world c.in_ok-head_of_last.ensures.drawn (goes-head c.loop-next.world t.stays_whole t.low t.rising c.loop-next.here t.into c.args.moves c.args.offset (c.loop-next.node ∷ []) t.nodes t.way c.head_of_last.new.world c.in_ok-head_of_last.ensures.drawn c.in_ok-head_of_last.ensures.stays)
 
 pub close_all-requires-clause-room : goal.close_all-requires-clause-room
 close_all-requires-clause-room c =
@@ -100,5 +101,7 @@ returns-clause-drawn c =
     (down-last c.args.world.now c.loop-next.world c.args.moves 0 whole (λ i ns. head_into c.args.moves i c.args.offset ns) c.loop-next.partials.items c.loop-next.here c.loop-next.node c.args.below.now c.loop-next.next-index c.loop-next.invariant c.loop-next-test.false)
     c.head_of_last.new.world c.in_ok-head_of_last.ensures.drawn c.close_all.new.world c.in_ok-close_all.ensures.closed
 
-pub returns-clause-still_held : goal.returns-clause-still_held
-returns-clause-still_held c = λ m h. c.in_ok-close_all.ensures.still_held m (c.in_ok-head_of_last.ensures.still_held m (c.loop-next.invariant.still m h))
+pub returns-clause-stays : goal.returns-clause-stays
+returns-clause-stays c =
+    stays-then c.args.world.now c.loop-next.world c.close_all.new.world c.loop-next.invariant.still
+    (stays-then c.loop-next.world c.head_of_last.new.world c.close_all.new.world c.in_ok-head_of_last.ensures.stays c.in_ok-close_all.ensures.stays)

@@ -4,7 +4,7 @@ use Rattle.dom_model.specs.PlainLists.Lists.{up_to}
 use Rattle.dom_model.specs.Forests.Forest.{children_of}
 use Rattle.dom_model.proofs.RangesAndContents.DrawnPaths.{hits-up_to}
 use Rattle.dom_content.specs.Coming.{AreOld}
-use Rattle.dom_content.proofs.PathSteps.{still-twice}
+use Rattle.dom_content.proofs.StaysOf.{stays-then}
 use Rattle.dom_content.proofs.PathHeads.{room-entered, room-ahead, follows-entered}
 use Rattle.dom_content.proofs.Comings.{first-old, none-old, children-old, old-goes, inner-holder, goes-opened, opened-unfinished}
 use Rattle.dom_content.proofs.ways.open_head.Goals as goal
@@ -24,9 +24,9 @@ children_into-requires-clause-may c =
     let mid = c.open_partial.new.world in
     let o = first-old m.low v.tree.forest c.args.node [] m.nodes in
     let kids = children-old v c.requires.whole m.low m.rising c.args.into m.holder c.args.node o c.requires.no_data (up_to c.args.next (children_of v.tree.forest c.args.node)) (λ x. hits-up_to x c.args.next (children_of v.tree.forest c.args.node)) in
-    let g = goes-opened v c.requires.whole m.low m.rising c.args.into m.holder c.args.node o c.requires.no_data mid c.in_ok-partial.ensures.opened in
+    let g = goes-opened v c.requires.whole m.low m.rising c.args.into m.holder c.args.node o c.requires.no_data mid c.in_ok-partial.ensures.opened c.in_ok-partial.ensures.stays in
     let none : AreOld m.low v.tree.forest c.in_ok-partial.partial.children.items = rw (c.in_ok-partial.ensures.children, c.new-none.ensures.items) (none-old m.low v.tree.forest) in
-    let u = opened-unfinished v c.requires.whole m.low m.rising c.args.into m.holder c.args.node o c.requires.no_data mid c.in_ok-partial.partial c.in_ok-partial.ensures.opened c.in_ok-partial.ensures.copy c.in_ok-partial.ensures.inner none in
+    let u = opened-unfinished v c.requires.whole m.low m.rising c.args.into m.holder c.args.node o c.requires.no_data mid c.in_ok-partial.partial c.in_ok-partial.ensures.opened c.in_ok-partial.ensures.stays c.in_ok-partial.ensures.copy c.in_ok-partial.ensures.inner none in
     let listed : AreOld m.low v.tree.forest c.in_ok-ahead.ahead.items = rw c.in_ok-ahead.ensures kids in
     rw c.as_slice.ensures.value (record {
       low = m.low;
@@ -49,5 +49,5 @@ returns-clause-entered c =
     follows-entered c.args.world.now c.open_partial.new.world c.args.moves c.args.into c.args.node c.args.next c.in_ok-ahead.ahead.items c.in_ok-ahead.ensures c.in_ok-partial.partial.inner c.in_ok-partial.ensures.inner c.in_ok-partial.ensures.opened
     c.children_into.new.world (rw c.as_slice.ensures.value at c.in_ok-children_into.ensures.drawn)
 
-pub returns-clause-still_held : goal.returns-clause-still_held
-returns-clause-still_held c = still-twice c.args.world.now c.open_partial.new.world c.children_into.new.world c.in_ok-partial.ensures.still_held c.in_ok-children_into.ensures.still_held
+pub returns-clause-stays : goal.returns-clause-stays
+returns-clause-stays c = stays-then c.args.world.now c.open_partial.new.world c.children_into.new.world c.in_ok-partial.ensures.stays c.in_ok-children_into.ensures.stays

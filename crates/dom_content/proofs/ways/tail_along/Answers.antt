@@ -7,6 +7,7 @@ use Rattle.dom_model.specs.Forests.Forest.{children_of}
 use Rattle.dom_model.proofs.RangesAndContents.DrawnPaths.{hits-past}
 use Rattle.dom_content.specs.Coming.{AreOld}
 use Rattle.dom_content.proofs.PathSteps.{down-first, down-first_old, down-held, down-may, down-next_held, down-room, down-next, down-close, down-close_room, down-end, down-more, down-last, tail-opens, tail-down}
+use Rattle.dom_content.proofs.StaysOf.{stays-then}
 use Rattle.dom_content.proofs.Comings.{rest-old, children-old, way-goes, goes-opened, opened-unfinished, goes-tail}
 use Rattle.dom_content.proofs.ways.tail_along.Goals as goal
 
@@ -58,16 +59,16 @@ loop-next-preserved c =
     let n = c.loop-next.node in
     let o = down-first_old c.args.world.now c.loop-next.world c.args.moves c.args.offset whole (λ i ns. tail_into c.args.moves i c.args.offset ns) c.loop-next.partials.items c.loop-next.here c.loop-next.node (c.next-item.result ∷ more) t in
     let p = c.in_ok-partial.partial in
-    let g = goes-opened v t.stays_whole t.low t.rising c.loop-next.here t.into n o t.way.0 c.open_tail.new.world c.in_ok-partial.ensures.opened in
+    let g = goes-opened v t.stays_whole t.low t.rising c.loop-next.here t.into n o t.way.0 c.open_tail.new.world c.in_ok-partial.ensures.opened c.in_ok-partial.ensures.stays in
     let kids = children-old v t.stays_whole t.low t.rising c.loop-next.here t.into n o t.way.0 (past c.next-item.result (children_of v.tree.forest n)) (λ x. hits-past x c.next-item.result (children_of v.tree.forest n)) in
     let listed : AreOld t.low v.tree.forest p.children.items = rw c.in_ok-partial.ensures.children kids in
-    let u = opened-unfinished v t.stays_whole t.low t.rising c.loop-next.here t.into n o t.way.0 c.open_tail.new.world p c.in_ok-partial.ensures.opened c.in_ok-partial.ensures.copy c.in_ok-partial.ensures.inner listed in
+    let u = opened-unfinished v t.stays_whole t.low t.rising c.loop-next.here t.into n o t.way.0 c.open_tail.new.world p c.in_ok-partial.ensures.opened c.in_ok-partial.ensures.stays c.in_ok-partial.ensures.copy c.in_ok-partial.ensures.inner listed in
     let way = way-goes t.low v c.open_tail.new.world g c.in_ok-partial.ensures.texts c.args.offset (c.next-item.result ∷ more) (rest-old t.low v.tree.forest n (c.next-item.result ∷ more) t.nodes) t.way.1 in
     rw c.in_ok-push.ensures.ok
     (down-next c.args.world.now c.loop-next.world c.args.moves c.args.offset whole (λ i ns. tail_into c.args.moves i c.args.offset ns) c.loop-next.partials.items c.loop-next.here c.loop-next.node (c.next-item.result ∷ more) t
     c.open_tail.new.world (opened c.loop-next.here c.loop-next.node) p
     (tail-down v c.args.moves c.loop-next.here c.args.offset n c.next-item.result more p c.in_ok-partial.ensures.copy c.in_ok-partial.ensures.inner c.in_ok-partial.ensures.children)
-    c.in_ok-partial.ensures.opened c.in_ok-partial.ensures.still_held c.in_ok-partial.ensures.whole g u way)
+    c.in_ok-partial.ensures.opened c.in_ok-partial.ensures.stays c.in_ok-partial.ensures.whole g u way)
 
 pub tail_of_last-requires-clause-whole : goal.tail_of_last-requires-clause-whole
 tail_of_last-requires-clause-whole c = c.loop-next.invariant.stays_whole
@@ -101,7 +102,7 @@ close_all-requires-clause-may c =
     let whole = tail_into c.args.moves c.args.into c.args.offset (c.args.first ∷ c.args.below.now) in
     let t = (down-last c.args.world.now c.loop-next.world c.args.moves c.args.offset whole (λ i ns. tail_into c.args.moves i c.args.offset ns) c.loop-next.partials.items c.loop-next.here c.loop-next.node c.args.below.now c.loop-next.next-index c.loop-next.invariant c.loop-next-test.false) in
     down-close c.args.world.now c.loop-next.world c.args.moves c.args.offset whole (λ i ns. tail_into c.args.moves i c.args.offset ns) c.loop-next.partials.items c.loop-next.here c.loop-next.node [] t
-    c.tail_of_last.new.world c.in_ok-tail_of_last.ensures.drawn (goes-tail c.loop-next.world t.stays_whole t.low t.rising c.loop-next.here t.into c.args.moves c.args.offset (c.loop-next.node ∷ []) t.nodes t.way c.tail_of_last.new.world c.in_ok-tail_of_last.ensures.drawn)
+    c.tail_of_last.new.world c.in_ok-tail_of_last.ensures.drawn (goes-tail c.loop-next.world t.stays_whole t.low t.rising c.loop-next.here t.into c.args.moves c.args.offset (c.loop-next.node ∷ []) t.nodes t.way c.tail_of_last.new.world c.in_ok-tail_of_last.ensures.drawn c.in_ok-tail_of_last.ensures.stays)
 
 pub close_all-requires-clause-room : goal.close_all-requires-clause-room
 close_all-requires-clause-room c =
@@ -117,5 +118,7 @@ returns-clause-drawn c =
     (down-last c.args.world.now c.loop-next.world c.args.moves c.args.offset whole (λ i ns. tail_into c.args.moves i c.args.offset ns) c.loop-next.partials.items c.loop-next.here c.loop-next.node c.args.below.now c.loop-next.next-index c.loop-next.invariant c.loop-next-test.false)
     c.tail_of_last.new.world c.in_ok-tail_of_last.ensures.drawn c.close_all.new.world c.in_ok-close_all.ensures.closed
 
-pub returns-clause-still_held : goal.returns-clause-still_held
-returns-clause-still_held c = λ m h. c.in_ok-close_all.ensures.still_held m (c.in_ok-tail_of_last.ensures.still_held m (c.loop-next.invariant.still m h))
+pub returns-clause-stays : goal.returns-clause-stays
+returns-clause-stays c =
+    stays-then c.args.world.now c.loop-next.world c.close_all.new.world c.loop-next.invariant.still
+    (stays-then c.loop-next.world c.tail_of_last.new.world c.close_all.new.world c.in_ok-tail_of_last.ensures.stays c.in_ok-close_all.ensures.stays)

@@ -1,6 +1,6 @@
 -- The text content of an element or a fragment.
 use Rattle.std.proofs.Common.{ap, ⊎_elim}
-use Rattle.dom_data.specs.Gathering.{may_hold_text}
+use Rattle.dom_data.specs.TextContent.{may_hold_text}
 use Rattle.dom_data.proofs.Gathered.{content-below}
 use Rattle.dom_data.proofs.contents.text_content.Goals as goal
 

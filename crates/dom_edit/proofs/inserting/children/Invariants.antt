@@ -1,16 +1,7 @@
--- The children that were passed are in the list; the child stands among them.
-use Rattle.std.proofs.Common.{◌≡◌, ◌++◌, length}
+-- The children that were passed are in the list, and the others are to come.
+use Rattle.std.proofs.Common.{◌≡◌, ◌++◌}
 use Rattle.dom_model.specs.Forests.Forest.{children_of}
-use Rattle.dom_edit.specs.Places.{from_optional, IsAmong}
 use Rattle.dom_edit.proofs.inserting.children.Given as goal
 
 abbrev pub invariant-loop-child : goal.invariant-loop-child
-invariant-loop-child l =
-    let all = children_of l.tree.forest l.fn.parent in
-    record {
-      listed : l.list.items ++ from_optional l.child all ≡ all;
-      within : IsAmong l.child all;
-    }
-
-abbrev pub decreases-loop-child : goal.decreases-loop-child
-decreases-loop-child l = length (from_optional l.child (children_of l.tree.forest l.fn.parent))
+invariant-loop-child l = l.list.items ++ l.child-iterator ≡ children_of l.tree.forest l.fn.parent

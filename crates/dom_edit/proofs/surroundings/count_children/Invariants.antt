@@ -1,16 +1,14 @@
-use Rattle.std.proofs.Common.{◌≡◌, ◌+◌, length}
+-- What is counted, and those to come of the kind, are all of it.
+use Rattle.std.proofs.Common.{◌≡◌, ◌+◌}
 use Rattle.dom_model.specs.Forests.Forest.{children_of}
 use Rattle.dom_model.specs.MutationAlgorithms.Checks.{count_kind}
-use Rattle.dom_edit.specs.Places.{from_optional, IsAmong}
+use Rattle.dom_edit.proofs.AmongChildren.{AreAmong}
 use Rattle.dom_edit.proofs.surroundings.count_children.Given as goal
 
 abbrev pub invariant-loop-child : goal.invariant-loop-child
 invariant-loop-child l =
     let all = children_of l.tree.forest l.fn.parent in
     record {
-      counted : l.count + count_kind l.kind l.tree.forest (from_optional l.child all) ≡ count_kind l.kind l.tree.forest all;
-      within : IsAmong l.child all;
+      counted : l.count + count_kind l.kind l.tree.forest l.child-iterator ≡ count_kind l.kind l.tree.forest all;
+      within : AreAmong l.child-iterator all;
     }
-
-abbrev pub decreases-loop-child : goal.decreases-loop-child
-decreases-loop-child l = length (from_optional l.child (children_of l.tree.forest l.fn.parent))

@@ -1,9 +1,11 @@
+-- What was found, and what stands among those to come, is all of it.
 use Rattle.std.specs.Prelude.{◌||◌}
-use Rattle.std.proofs.Common.{◌≡◌, length}
+use Rattle.std.proofs.Common.{◌≡◌}
 use Rattle.dom_model.specs.declared.Kind.TheVariants.{Element, DocumentType}
 use Rattle.dom_model.specs.Forests.Forest.{children_of}
 use Rattle.dom_model.specs.MutationAlgorithms.Checks.{has_kind}
-use Rattle.dom_edit.specs.Places.{from_optional, ahead_of, IsAmong}
+use Rattle.dom_edit.specs.Places.{from_optional, ahead_of}
+use Rattle.dom_edit.proofs.AmongChildren.{AreAmong}
 use Rattle.dom_edit.proofs.surroundings.found_between.Given as goal
 
 abbrev pub invariant-loop-child : goal.invariant-loop-child
@@ -11,10 +13,7 @@ invariant-loop-child l =
     let f = l.tree.forest in
     let all = children_of f l.fn.parent in
     record {
-      element : has_kind Element f (ahead_of l.until (from_optional l.fn.from all)) ≡ (l.found.element || has_kind Element f (ahead_of l.until (from_optional l.child all)));
-      doctype : has_kind DocumentType f (ahead_of l.until (from_optional l.fn.from all)) ≡ (l.found.doctype || has_kind DocumentType f (ahead_of l.until (from_optional l.child all)));
-      within : IsAmong l.child all;
+      element : has_kind Element f (ahead_of l.until (from_optional l.fn.from all)) ≡ (l.found.element || has_kind Element f (ahead_of l.until l.child-iterator));
+      doctype : has_kind DocumentType f (ahead_of l.until (from_optional l.fn.from all)) ≡ (l.found.doctype || has_kind DocumentType f (ahead_of l.until l.child-iterator));
+      within : AreAmong l.child-iterator all;
     }
-
-abbrev pub decreases-loop-child : goal.decreases-loop-child
-decreases-loop-child l = length (from_optional l.child (children_of l.tree.forest l.fn.parent))

@@ -20,7 +20,7 @@ pub import-requires-clause-room : goal.import-requires-clause-room
 import-requires-clause-room c =
     let v = c.args.world.now in
     let room : nat_lt c.args.numbers (v.tree.made + (2 * size v.tree.forest + 8)) ≡ false = cc in
-    room-copy c.args.numbers v.tree.made c.args.deep c.args.node v.tree.forest c.requires.numbers room
+    λ _. room-copy c.args.numbers v.tree.made c.args.deep c.args.node v.tree.forest c.requires.numbers room
 
 pub returns-in-Ok-clause-step : goal.returns-in-Ok-clause-step
 returns-in-Ok-clause-step c =

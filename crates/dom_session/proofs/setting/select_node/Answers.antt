@@ -4,6 +4,7 @@ use Rattle.dom_model.specs.Forests.Forest.{HasNode, entry_in}
 use Rattle.dom_model.specs.RangesAndContents.Ranges.{around, check_parent}
 use Rattle.dom_model.specs.Commands.Command.{SelectNode}
 use Rattle.dom_model.proofs.Forests.Above.{above}
+use Rattle.dom_wrap.specs.dom_edit.Whole.{IsShown}
 use Rattle.dom_wrap.specs.dom_ranges.Tables.{range_in}
 use Rattle.dom_session.specs.declared.reply.Answer.TheVariants.{Nothing}
 use Rattle.dom_session.specs.declared.reply.Reply.TheVariants.{Done}
@@ -13,20 +14,22 @@ use Rattle.dom_session.proofs.RangeAnswers.{passed, around-there, answer-select_
 use Rattle.dom_session.proofs.setting.select_node.Goals as goal
 
 pub select-requires-clause-covered : goal.select-requires-clause-covered
-select-requires-clause-covered c parent e =
+select-requires-clause-covered c =
     let old = c.args.world.now in
     let whole = c.requires.shown.shows.whole in
     let there : HasNode old.tree.forest c.args.node = cc in
-    node-covered old whole parent (above whole.forest c.args.node parent there e).there
+    rw c.find_index.ensures (λ parent e. node-covered old whole parent (above whole.forest c.args.node parent there e).there)
 
 pub returns-in-Ok-clause-step : goal.returns-in-Ok-clause-step
 returns-in-Ok-clause-step c b =
-    let old = c.args.world.now in
+    let old = c.find_index.new.world in
     let f = old.tree.forest in
     let r = c.args.range in
     let n = c.args.node in
-    let live : is_some (range_in old.ranges r) ≡ true = cc in
-    let there : is_some (entry_in f n) ≡ true = cc in
+    let shown : IsShown old = rw c.find_index.ensures c.requires.shown in
+    let live : is_some (range_in old.ranges r) ≡ true = rw c.find_index.ensures cc in
+    let there : is_some (entry_in f n) ≡ true = rw c.find_index.ensures cc in
     let check = passed (check_parent f n) c.in-Ok.field-0 (sym c.in-Ok.is ∙ c.select.ensures.refusal) in
-    step-set b (SelectNode r n) (Done Nothing) old c.select.new.self r (around f n) (λ ends. ends) c.requires.shown (around-there f n check) c.in-Ok.ensures.set
-    (λ ends is w shown. answer-select_node old b w shown r n live there ends is)
+    rw (← c.find_index.ensures)
+    (step-set b (SelectNode r n) (Done Nothing) old c.select.new.self r (around f n) (λ ends. ends) shown (around-there f n check) c.in-Ok.ensures.set
+    (λ ends is w shows. answer-select_node old b w shows r n live there ends is))

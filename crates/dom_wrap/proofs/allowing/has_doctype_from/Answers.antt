@@ -1,51 +1,33 @@
-use Rattle.std.proofs.Common.{◌≡◌, ℕ, ◌≤◌, false, sym, ◌∙◌, arith}
+use Rattle.std.proofs.Common.{◌≡◌, false, refl, sym, ◌∙◌}
 use Rattle.dom_model.specs.declared.Kind.TheVariants.{DocumentType}
-use Rattle.dom_model.specs.PlainLists.Lists.{hits}
 use Rattle.dom_model.specs.Forests.Forest.{children_of}
 use Rattle.dom_model.specs.MutationAlgorithms.Checks.{has_kind}
 use Rattle.dom_model.specs.Forests.Nodes.{is_of_kind}
-use Rattle.dom_model.proofs.Forests.Indices.{child-once}
 use Rattle.dom_content.specs.dom_edit.Places.{from_optional}
-use Rattle.dom_content.specs.dom_edit.AmongChildren.{IsAmong-after, from_first-after, HasNode-child, next_of-child}
-use Rattle.dom_wrap.proofs.AllowCode.{found-here, passed-by}
+use Rattle.dom_content.specs.dom_edit.AmongChildren.{from-among, first-among, from_optional-given, HasNode-child, parent-among}
+use Rattle.dom_wrap.proofs.AllowCode.{found-first}
 use Rattle.dom_wrap.proofs.allowing.has_doctype_from.Goals as goal
+
+pub children_from-child-items-requires : goal.children_from-child-items-requires
+children_from-child-items-requires c = parent-among c.args.tree.now c.sound.ensures c.args.parent c.args.first c.requires.under
+
+pub loop-child-init : goal.loop-child-init
+loop-child-init c =
+    let all = children_of c.args.tree.now.forest c.args.parent in
+    rw (c.into_iter-child-iterator.ensures.into_iter_gives, from_optional-given c.args.first c.children_from-child-items.result all c.children_from-child-items.ensures)
+    (record { told = refl; within = from-among c.args.first all })
 
 pub is_of_kind-requires : goal.is_of_kind-requires
 is_of_kind-requires c =
-    let here : hits c.in-Some.id (children_of c.args.tree.now.forest c.args.parent) ≡ 1 = rw c.in-Some.is at c.loop-child.invariant.within in
-    HasNode-child c.args.tree.now c.sound.ensures c.args.parent c.in-Some.id here
+    let within = rw c.in-Some.ensures.steps at c.loop-child.invariant.within in
+    let here = first-among c.in-Some.child c.next.new.self (children_of c.args.tree.now.forest c.args.parent) within in
+    HasNode-child c.args.tree.now c.sound.ensures c.args.parent c.in-Some.child here
 
 pub returns-then-is_of_kind : goal.returns-then-is_of_kind
 returns-then-is_of_kind c =
     let f = c.args.tree.now.forest in
-    let all = children_of f c.args.parent in
-    let here : hits c.in-Some.id all ≡ 1 = rw c.in-Some.is at c.loop-child.invariant.within in
-    let told = rw c.in-Some.is at c.loop-child.invariant.told in
-    found-here (is_of_kind DocumentType f) all (λ m. child-once f c.sound.ensures.once m c.args.parent) c.in-Some.id here (has_kind DocumentType f (from_optional c.args.first all)) told (sym c.is_of_kind.ensures ∙ c.if-is_of_kind.true)
+    let told = rw c.in-Some.ensures.steps at c.loop-child.invariant.told in
+    found-first (is_of_kind DocumentType f) c.in-Some.child c.next.new.self (has_kind DocumentType f (from_optional c.args.first (children_of f c.args.parent))) told (sym c.is_of_kind.ensures ∙ c.if-is_of_kind.true)
 
-pub next-child-requires : goal.next-child-requires
-next-child-requires c =
-    let here : hits c.in-Some.id (children_of c.args.tree.now.forest c.args.parent) ≡ 1 = rw c.in-Some.is at c.loop-child.invariant.within in
-    HasNode-child c.args.tree.now c.sound.ensures c.args.parent c.in-Some.id here
-
-pub loop-child-smaller : goal.loop-child-smaller
-loop-child-smaller c =
-    let all = children_of c.args.tree.now.forest c.args.parent in
-    let here : hits c.in-Some.id all ≡ 1 = rw c.in-Some.is at c.loop-child.invariant.within in
-    let split = from_first-after c.in-Some.id all (λ m. child-once c.args.tree.now.forest c.sound.ensures.once m c.args.parent) here in
-    let next = c.next-child.ensures ∙ next_of-child c.args.tree.now c.sound.ensures c.args.parent c.in-Some.id here in
-    rw (c.in-Some.is, split, next) (omega arith)
-
-pub loop-child-preserved : goal.loop-child-preserved
-loop-child-preserved c =
-    let f = c.args.tree.now.forest in
-    let all = children_of f c.args.parent in
-    let once : (m : ℕ) → hits m all ≤ 1 = λ m. child-once f c.sound.ensures.once m c.args.parent in
-    let here : hits c.in-Some.id all ≡ 1 = rw c.in-Some.is at c.loop-child.invariant.within in
-    let next = c.next-child.ensures ∙ next_of-child c.args.tree.now c.sound.ensures c.args.parent c.in-Some.id here in
-    let told = rw c.in-Some.is at c.loop-child.invariant.told in
-    let other : is_of_kind DocumentType f c.in-Some.id ≡ false = sym c.is_of_kind.ensures ∙ c.if-is_of_kind.false in
-    record {
-      told = rw next (passed-by (is_of_kind DocumentType f) all once c.in-Some.id here (has_kind DocumentType f (from_optional c.args.first all)) told other);
-      within = rw next (IsAmong-after c.in-Some.id all once);
-    }
+pub returns : goal.returns
+returns c = (let told = rw c.in-None.ensures.steps.0 at c.loop-child.invariant.told in sym told)

@@ -1,17 +1,16 @@
-use Rattle.std.proofs.Common.{◌≡◌, length}
+-- None of those that were passed is a doctype, so what is told of those to come is told of all.
+use Rattle.std.proofs.Common.{◌≡◌}
 use Rattle.dom_model.specs.declared.Kind.TheVariants.{DocumentType}
 use Rattle.dom_model.specs.Forests.Forest.{children_of}
 use Rattle.dom_model.specs.MutationAlgorithms.Checks.{has_kind}
-use Rattle.dom_content.specs.dom_edit.Places.{from_optional, IsAmong}
+use Rattle.dom_content.specs.dom_edit.AmongChildren.{AreAmong}
+use Rattle.dom_content.specs.dom_edit.Places.{from_optional}
 use Rattle.dom_wrap.proofs.allowing.has_doctype_from.Given as goal
 
 abbrev pub invariant-loop-child : goal.invariant-loop-child
 invariant-loop-child l =
     let all = children_of l.tree.forest l.fn.parent in
     record {
-      told : has_kind DocumentType l.tree.forest (from_optional l.fn.first all) ≡ has_kind DocumentType l.tree.forest (from_optional l.child all);
-      within : IsAmong l.child all;
+      told : has_kind DocumentType l.tree.forest (from_optional l.fn.first all) ≡ has_kind DocumentType l.tree.forest l.child-iterator;
+      within : AreAmong l.child-iterator all;
     }
-
-abbrev pub decreases-loop-child : goal.decreases-loop-child
-decreases-loop-child l = length (from_optional l.child (children_of l.tree.forest l.fn.parent))

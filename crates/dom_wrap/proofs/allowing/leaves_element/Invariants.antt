@@ -1,8 +1,9 @@
-use Rattle.std.proofs.Common.{◌≡◌, length}
+-- None of those that were passed is left, so what is told of those to come is told of all.
+use Rattle.std.proofs.Common.{◌≡◌}
 use Rattle.std.specs.List.{list_any}
 use Rattle.dom_model.specs.Forests.Forest.{children_of}
 use Rattle.dom_content.specs.dom_edit.Whole.{unwatched}
-use Rattle.dom_content.specs.dom_edit.Places.{from_optional, IsAmong}
+use Rattle.dom_content.specs.dom_edit.AmongChildren.{AreAmong}
 use Rattle.dom_wrap.specs.Allowing.{is_left_element}
 use Rattle.dom_wrap.proofs.allowing.leaves_element.Given as goal
 
@@ -11,9 +12,6 @@ invariant-loop-child l =
     let all = children_of l.world.tree.forest l.fn.parent in
     let left = is_left_element (unwatched l.world) (record { start = l.fn.start; end = l.fn.end }) in
     record {
-      told : list_any left all ≡ list_any left (from_optional l.child all);
-      within : IsAmong l.child all;
+      told : list_any left all ≡ list_any left l.child-iterator;
+      within : AreAmong l.child-iterator all;
     }
-
-abbrev pub decreases-loop-child : goal.decreases-loop-child
-decreases-loop-child l = length (from_optional l.child (children_of l.world.tree.forest l.fn.parent))

@@ -21,7 +21,7 @@ pub returns-then-ne-clause-whole : goal.returns-then-ne-clause-whole
 returns-then-ne-clause-whole c =
     let v = c.args.self.now in
     let out = c.remove_node.new.self in
-    let new : World = record { tree = c.set_document.new.self; ranges = out.ranges; statics = out.statics; iters = out.iters; walkers = out.walkers; observers = out.observers } in
+    let new : World = record { tree = c.set_document.new.self; ranges = out.ranges; statics = out.statics; iterators = out.iterators; walkers = out.walkers; observers = out.observers } in
     let root = removed-root v out false c.args.node c.requires.whole c.requires.node_held c.in_ok-remove_node.ensures.removed in
     let document = removed-document v out false c.args.node c.requires.whole c.requires.node_held c.in_ok-remove_node.ensures.removed c.args.document c.requires.document_kind in
     whole-adopted out new c.args.node c.args.document c.in_ok-remove_node.ensures.whole root document c.set_document.ensures refl refl refl refl refl
@@ -29,7 +29,7 @@ returns-then-ne-clause-whole c =
 pub returns-then-ne-clause-markers : goal.returns-then-ne-clause-markers
 returns-then-ne-clause-markers c =
     let out = c.remove_node.new.self in
-    let new : World = record { tree = c.set_document.new.self; ranges = out.ranges; statics = out.statics; iters = out.iters; walkers = out.walkers; observers = out.observers } in
+    let new : World = record { tree = c.set_document.new.self; ranges = out.ranges; statics = out.statics; iterators = out.iterators; walkers = out.walkers; observers = out.observers } in
     stand-by_adopt c.args.self.now new c.requires.whole (returns-then-ne-clause-whole c) out c.args.node c.in_ok-remove_node.ensures.removed
     (ap (λ (t : Grove Content). bared t.forest) c.set_document.ensures ∙ bared-adopted c.args.node c.args.document out.tree.forest) refl
 

@@ -9,7 +9,7 @@ forget-requires-clause-empty c = no-end-inside c.args.self.now c.args.top c.requ
 pub returns-clause-whole : goal.returns-clause-whole
 returns-clause-whole c =
     let v = c.args.self.now in
-    let new : World = record { tree = c.free.new.self; ranges = c.forget.new.self; statics = v.statics; iters = v.iters; walkers = v.walkers; observers = v.observers } in
+    let new : World = record { tree = c.free.new.self; ranges = c.forget.new.self; statics = v.statics; iterators = v.iterators; walkers = v.walkers; observers = v.observers } in
     whole-left v new c.args.top c.requires.whole c.requires.unused c.free.ensures c.forget.ensures refl refl refl refl
 
 pub returns-clause-discarded : goal.returns-clause-discarded

@@ -18,12 +18,12 @@ returns-then-refers-4-clause-own c =
       | then-refers b ↦ or-met c.if-refers.value c.refers.result _ _ (b.value-is ∙ b.if-refers.true) b.if-refers.true c.refers.ensures
       | else-refers b ↦ or-next c.if-refers.value c.refers.result b.refers-else-refers.result _ _ b.value-is b.if-refers.false c.refers.ensures b.refers-else-refers.ensures
     ] in
-    let second : c.if-refers-2.value ≡ ((list_any p (flat_map nodes_of_live v.ranges.ranges) || list_any p (flat_map nodes_of_range v.statics)) || list_any p (flat_map nodes_of_iterator v.iters)) =
+    let second : c.if-refers-2.value ≡ ((list_any p (flat_map nodes_of_live v.ranges.ranges) || list_any p (flat_map nodes_of_range v.statics)) || list_any p (flat_map nodes_of_iterator v.iterators)) =
     elim c.if-refers-2.branch [
       | then-refers-2 b ↦ or-met c.if-refers-2.value c.if-refers.value _ _ (b.value-is ∙ b.if-refers-2.true) b.if-refers-2.true first
       | else-refers-2 b ↦ or-next c.if-refers-2.value c.if-refers.value b.refers-else-refers-2.result _ _ b.value-is b.if-refers-2.false first b.refers-else-refers-2.ensures
     ] in
-    let third : c.if-refers-3.value ≡ (((list_any p (flat_map nodes_of_live v.ranges.ranges) || list_any p (flat_map nodes_of_range v.statics)) || list_any p (flat_map nodes_of_iterator v.iters)) || list_any p (flat_map nodes_of_walker v.walkers)) =
+    let third : c.if-refers-3.value ≡ (((list_any p (flat_map nodes_of_live v.ranges.ranges) || list_any p (flat_map nodes_of_range v.statics)) || list_any p (flat_map nodes_of_iterator v.iterators)) || list_any p (flat_map nodes_of_walker v.walkers)) =
     elim c.if-refers-3.branch [
       | then-refers-3 b ↦ or-met c.if-refers-3.value c.if-refers-2.value _ _ (b.value-is ∙ b.if-refers-3.true) b.if-refers-3.true second
       | else-refers-3 b ↦ or-next c.if-refers-3.value c.if-refers-2.value b.refers-else-refers-3.result _ _ b.value-is b.if-refers-3.false second b.refers-else-refers-3.ensures
@@ -39,12 +39,12 @@ returns-then-refers-4-clause-shown c w s =
       | then-refers b ↦ or-met c.if-refers.value c.refers.result _ _ (b.value-is ∙ b.if-refers.true) b.if-refers.true c.refers.ensures
       | else-refers b ↦ or-next c.if-refers.value c.refers.result b.refers-else-refers.result _ _ b.value-is b.if-refers.false c.refers.ensures b.refers-else-refers.ensures
     ] in
-    let second : c.if-refers-2.value ≡ ((list_any p (flat_map nodes_of_live v.ranges.ranges) || list_any p (flat_map nodes_of_range v.statics)) || list_any p (flat_map nodes_of_iterator v.iters)) =
+    let second : c.if-refers-2.value ≡ ((list_any p (flat_map nodes_of_live v.ranges.ranges) || list_any p (flat_map nodes_of_range v.statics)) || list_any p (flat_map nodes_of_iterator v.iterators)) =
     elim c.if-refers-2.branch [
       | then-refers-2 b ↦ or-met c.if-refers-2.value c.if-refers.value _ _ (b.value-is ∙ b.if-refers-2.true) b.if-refers-2.true first
       | else-refers-2 b ↦ or-next c.if-refers-2.value c.if-refers.value b.refers-else-refers-2.result _ _ b.value-is b.if-refers-2.false first b.refers-else-refers-2.ensures
     ] in
-    let third : c.if-refers-3.value ≡ (((list_any p (flat_map nodes_of_live v.ranges.ranges) || list_any p (flat_map nodes_of_range v.statics)) || list_any p (flat_map nodes_of_iterator v.iters)) || list_any p (flat_map nodes_of_walker v.walkers)) =
+    let third : c.if-refers-3.value ≡ (((list_any p (flat_map nodes_of_live v.ranges.ranges) || list_any p (flat_map nodes_of_range v.statics)) || list_any p (flat_map nodes_of_iterator v.iterators)) || list_any p (flat_map nodes_of_walker v.walkers)) =
     elim c.if-refers-3.branch [
       | then-refers-3 b ↦ or-met c.if-refers-3.value c.if-refers-2.value _ _ (b.value-is ∙ b.if-refers-3.true) b.if-refers-3.true second
       | else-refers-3 b ↦ or-next c.if-refers-3.value c.if-refers-2.value b.refers-else-refers-3.result _ _ b.value-is b.if-refers-3.false second b.refers-else-refers-3.ensures
@@ -60,12 +60,12 @@ returns-else-refers-4-clause-own c =
       | then-refers b ↦ or-met c.if-refers.value c.refers.result _ _ (b.value-is ∙ b.if-refers.true) b.if-refers.true c.refers.ensures
       | else-refers b ↦ or-next c.if-refers.value c.refers.result b.refers-else-refers.result _ _ b.value-is b.if-refers.false c.refers.ensures b.refers-else-refers.ensures
     ] in
-    let second : c.if-refers-2.value ≡ ((list_any p (flat_map nodes_of_live v.ranges.ranges) || list_any p (flat_map nodes_of_range v.statics)) || list_any p (flat_map nodes_of_iterator v.iters)) =
+    let second : c.if-refers-2.value ≡ ((list_any p (flat_map nodes_of_live v.ranges.ranges) || list_any p (flat_map nodes_of_range v.statics)) || list_any p (flat_map nodes_of_iterator v.iterators)) =
     elim c.if-refers-2.branch [
       | then-refers-2 b ↦ or-met c.if-refers-2.value c.if-refers.value _ _ (b.value-is ∙ b.if-refers-2.true) b.if-refers-2.true first
       | else-refers-2 b ↦ or-next c.if-refers-2.value c.if-refers.value b.refers-else-refers-2.result _ _ b.value-is b.if-refers-2.false first b.refers-else-refers-2.ensures
     ] in
-    let third : c.if-refers-3.value ≡ (((list_any p (flat_map nodes_of_live v.ranges.ranges) || list_any p (flat_map nodes_of_range v.statics)) || list_any p (flat_map nodes_of_iterator v.iters)) || list_any p (flat_map nodes_of_walker v.walkers)) =
+    let third : c.if-refers-3.value ≡ (((list_any p (flat_map nodes_of_live v.ranges.ranges) || list_any p (flat_map nodes_of_range v.statics)) || list_any p (flat_map nodes_of_iterator v.iterators)) || list_any p (flat_map nodes_of_walker v.walkers)) =
     elim c.if-refers-3.branch [
       | then-refers-3 b ↦ or-met c.if-refers-3.value c.if-refers-2.value _ _ (b.value-is ∙ b.if-refers-3.true) b.if-refers-3.true second
       | else-refers-3 b ↦ or-next c.if-refers-3.value c.if-refers-2.value b.refers-else-refers-3.result _ _ b.value-is b.if-refers-3.false second b.refers-else-refers-3.ensures
@@ -81,12 +81,12 @@ returns-else-refers-4-clause-shown c w s =
       | then-refers b ↦ or-met c.if-refers.value c.refers.result _ _ (b.value-is ∙ b.if-refers.true) b.if-refers.true c.refers.ensures
       | else-refers b ↦ or-next c.if-refers.value c.refers.result b.refers-else-refers.result _ _ b.value-is b.if-refers.false c.refers.ensures b.refers-else-refers.ensures
     ] in
-    let second : c.if-refers-2.value ≡ ((list_any p (flat_map nodes_of_live v.ranges.ranges) || list_any p (flat_map nodes_of_range v.statics)) || list_any p (flat_map nodes_of_iterator v.iters)) =
+    let second : c.if-refers-2.value ≡ ((list_any p (flat_map nodes_of_live v.ranges.ranges) || list_any p (flat_map nodes_of_range v.statics)) || list_any p (flat_map nodes_of_iterator v.iterators)) =
     elim c.if-refers-2.branch [
       | then-refers-2 b ↦ or-met c.if-refers-2.value c.if-refers.value _ _ (b.value-is ∙ b.if-refers-2.true) b.if-refers-2.true first
       | else-refers-2 b ↦ or-next c.if-refers-2.value c.if-refers.value b.refers-else-refers-2.result _ _ b.value-is b.if-refers-2.false first b.refers-else-refers-2.ensures
     ] in
-    let third : c.if-refers-3.value ≡ (((list_any p (flat_map nodes_of_live v.ranges.ranges) || list_any p (flat_map nodes_of_range v.statics)) || list_any p (flat_map nodes_of_iterator v.iters)) || list_any p (flat_map nodes_of_walker v.walkers)) =
+    let third : c.if-refers-3.value ≡ (((list_any p (flat_map nodes_of_live v.ranges.ranges) || list_any p (flat_map nodes_of_range v.statics)) || list_any p (flat_map nodes_of_iterator v.iterators)) || list_any p (flat_map nodes_of_walker v.walkers)) =
     elim c.if-refers-3.branch [
       | then-refers-3 b ↦ or-met c.if-refers-3.value c.if-refers-2.value _ _ (b.value-is ∙ b.if-refers-3.true) b.if-refers-3.true second
       | else-refers-3 b ↦ or-next c.if-refers-3.value c.if-refers-2.value b.refers-else-refers-3.result _ _ b.value-is b.if-refers-3.false second b.refers-else-refers-3.ensures

@@ -8,7 +8,7 @@ use Rattle.dom_edit.proofs.world.World.make.Goals as goal
 pub returns-clause-whole : goal.returns-clause-whole
 returns-clause-whole c =
     let v = c.args.self.now in
-    let new : World = record { tree = c.make.new.self; ranges = c.cover.new.self; statics = v.statics; iters = v.iters; walkers = v.walkers; observers = v.observers } in
+    let new : World = record { tree = c.make.new.self; ranges = c.cover.new.self; statics = v.statics; iterators = v.iterators; walkers = v.walkers; observers = v.observers } in
     let ranges = ap (λ r. r.ranges) c.in_ok-cover.ensures.ok in
     let covered : c.cover.new.self.covered ≡ covered_to (v.tree.made + 1) v.ranges.covered = ap (λ r. r.covered) c.in_ok-cover.ensures.ok ∙ ap (λ m. covered_to (m + 1) v.ranges.covered) c.made.ensures in
     by_outcome c.make.result c.make.ensures.made c.make.ensures.unchanged c.make.ensures.unchanged

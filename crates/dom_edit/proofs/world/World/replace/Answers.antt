@@ -1,6 +1,7 @@
 use Rattle.std.proofs.Common.{true, ap, sym, ◌∙◌, tests, rules}
 use Rattle.dom_edit.proofs.Marking.{stand-by_replace}
-use Rattle.dom_edit.proofs.ReplacedNodes.{reference_in, insertable-instead, entering-instead, follows-replace}
+use Rattle.dom_edit.specs.Inserting.{reference_in}
+use Rattle.dom_edit.proofs.ReplacedNodes.{insertable-instead, entering-instead, follows-replace}
 use Rattle.dom_edit.proofs.Adopting.{removed-held}
 use Rattle.dom_edit.proofs.NodesKept.{one-there, stay-there, stay-some, previous-held, next-held, entering-held, reference-held, nodes-then}
 use Rattle.dom_edit.proofs.world.World.replace.Goals as goal

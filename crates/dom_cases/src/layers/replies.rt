@@ -1,0 +1,200 @@
+//! Printed replies.
+
+use dom_serve::write_reply;
+use dom_session::{
+    Answer, Content, Description, DomError, Kind, Label, NodeId, ObserverId, OwnError, Point,
+    Record, RecordType, Reply, Told, TreeRow, Units,
+};
+use std::alloc::{AllocError, Global};
+use std::cmp::Ordering;
+use std::test::Fail;
+
+fn label(alloc: Global, kind: Kind, name: &str) -> Result<Label, AllocError> {
+    Ok(Label {
+        kind,
+        name: String::from_str(alloc, name)?,
+        public_id: String::new(alloc),
+        system_id: String::new(alloc),
+    })
+}
+
+fn row(alloc: Global, depth: usize, number: u32, label: Label, text: Units) -> TreeRow {
+    TreeRow {
+        depth,
+        number: NodeId::new(number),
+        label,
+        body: Content::of_text(alloc, text),
+    }
+}
+
+#[test]
+fn short_replies(rt: HostRuntime) -> Result<(), Fail> {
+    let alloc = rt.alloc();
+    let line = write_reply(alloc, &Reply::Done(Answer::Number(1)))?;
+    assert_eq!(rt; line.as_slice(), b"{\"ok\":1}\n".as_slice());
+    let line = write_reply(alloc, &Reply::Dom(DomError::HierarchyRequestError))?;
+    assert_eq!(rt;
+        line.as_slice(),
+        b"{\"error\":\"HierarchyRequestError\"}\n".as_slice()
+    );
+    let line = write_reply(alloc, &Reply::Own(OwnError::NoSuchObject))?;
+    assert_eq!(rt;
+        line.as_slice(),
+        b"{\"error\":\"no-such-object\"}\n".as_slice()
+    );
+    Ok(())
+}
+
+#[test]
+fn printed_tree(rt: HostRuntime) -> Result<(), Fail> {
+    let alloc = rt.alloc();
+    let mut rows = Vec::new(alloc);
+    let document = label(alloc, Kind::Document, "")?;
+    rows.push(row(alloc, 0, 0, document, Units::new(alloc)))?;
+    let element = label(alloc, Kind::Element, "p")?;
+    rows.push(row(alloc, 1, 1, element, Units::new(alloc)))?;
+    let lone = label(alloc, Kind::Text, "")?;
+    rows.push(row(alloc, 2, 3, lone, Units::from_units(alloc, &[55357])?))?;
+    let quoted = label(alloc, Kind::Text, "")?;
+    rows.push(row(
+        alloc,
+        2,
+        4294967295,
+        quoted,
+        Units::from_str(alloc, "a\"b")?,
+    ))?;
+    let line = write_reply(alloc, &Reply::Done(Answer::Rows(rows)))?;
+    let wanted =
+        "{\"ok\":[[0,0,9,\"#document\"],[1,1,1,\"p\",[]],[2,3,3,\"#text\",[55357]],[2,4294967295,3,\"#text\",\"a\\\"b\"]]}\n";
+    assert_eq!(rt; line.as_slice(), wanted.as_bytes());
+    Ok(())
+}
+
+// Whether the printed answer is this text in its object.
+fn prints(alloc: Global, answer: Answer, wanted: &str) -> Result<bool, AllocError> {
+    let line = write_reply(alloc, &Reply::Done(answer))?;
+    let whole = format!(in alloc; "{{\"ok\":{wanted}}}\n")?;
+    Ok(line.as_slice() == whole.as_bytes())
+}
+
+#[test]
+fn printed_values(rt: HostRuntime) -> Result<(), Fail> {
+    let alloc = rt.alloc();
+    assert!(rt; prints(alloc, Answer::Nothing, "null")?);
+    assert!(rt; prints(alloc, Answer::MaybeNumber(None), "null")?);
+    assert!(rt; prints(alloc, Answer::MaybeNumber(Some(3)), "3")?);
+    assert!(rt; prints(alloc, Answer::Count(5000000000), "5000000000")?);
+    let numbers = Vec::from_slice(alloc, &[1, 4294967295])?;
+    assert!(rt; prints(alloc, Answer::Numbers(numbers), "[1,4294967295]")?);
+    assert!(rt; prints(alloc, Answer::Flag(false), "false")?);
+    assert!(rt; prints(alloc, Answer::Order(Ordering::Less), "-1")?);
+    assert!(rt; prints(alloc, Answer::Order(Ordering::Greater), "1")?);
+    let text = Units::from_str(alloc, "a\"b")?;
+    assert!(rt; prints(alloc, Answer::Units(text), "\"a\\\"b\"")?);
+    let lone = Units::from_units(alloc, &[55296])?;
+    assert!(rt; prints(alloc, Answer::MaybeUnits(Some(lone)), "[55296]")?);
+    let names = vec![in alloc; String::from_str(alloc, "x")?]?;
+    assert!(rt; prints(alloc, Answer::Names(names), "[\"x\"]")?);
+    Ok(())
+}
+
+#[test]
+fn printed_places(rt: HostRuntime) -> Result<(), Fail> {
+    let alloc = rt.alloc();
+    let mut node = Description {
+        document: NodeId::new(8),
+        label: label(alloc, Kind::Element, "b")?,
+        next: None,
+        parent: Some(NodeId::new(1)),
+        previous: Some(NodeId::new(2)),
+    };
+    let wanted =
+        "{\"document\":8,\"name\":\"b\",\"next\":null,\"parent\":1,\"previous\":2,\"type\":1}";
+    assert!(rt; prints(alloc, Answer::NodeAt(node), wanted)?);
+    node = Description {
+        document: NodeId::new(0),
+        label: label(alloc, Kind::DocumentType, "html")?,
+        next: None,
+        parent: None,
+        previous: None,
+    };
+    let wanted =
+        "{\"document\":0,\"name\":\"html\",\"next\":null,\"parent\":null,\"previous\":null,\"public\":\"\",\"system\":\"\",\"type\":10}";
+    assert!(rt; prints(alloc, Answer::NodeAt(node), wanted)?);
+    let start = Point {
+        node: NodeId::new(1),
+        offset: 0,
+    };
+    let end = Point {
+        node: NodeId::new(2),
+        offset: 3,
+    };
+    assert!(rt; prints(alloc, Answer::Ends(start, end), "[1,0,2,3]")?);
+    assert!(rt;
+        prints(
+            alloc,
+            Answer::StaticEnds(start, end, true),
+            "[1,0,2,3,true]"
+        )?
+    );
+    let (root, other) = (NodeId::new(1), NodeId::new(4));
+    assert!(rt; prints(alloc, Answer::IteratorAt(root, other, false), "[1,4,false]")?);
+    assert!(rt; prints(alloc, Answer::WalkerAt(root, other), "[1,4]")?);
+    Ok(())
+}
+
+fn removal(alloc: Global) -> Result<Record, AllocError> {
+    Ok(Record {
+        what: RecordType::ChildList,
+        target: NodeId::new(1),
+        added: Vec::new(alloc),
+        removed: Vec::from_slice(alloc, &[NodeId::new(2)])?,
+        previous: None,
+        next: Some(NodeId::new(3)),
+        name: None,
+        old_value: None,
+    })
+}
+
+#[test]
+fn printed_records(rt: HostRuntime) -> Result<(), Fail> {
+    let alloc = rt.alloc();
+    let change = Record {
+        what: RecordType::Attributes,
+        target: NodeId::new(2),
+        added: Vec::new(alloc),
+        removed: Vec::new(alloc),
+        previous: None,
+        next: None,
+        name: Some(String::from_str(alloc, "x")?),
+        old_value: Some(Units::from_str(alloc, "1")?),
+    };
+    let records = vec![in alloc; removal(alloc)?, change]?;
+    let wanted =
+        "[[\"childList\",1,[],[2],null,3,null,null],[\"attributes\",2,[],[],null,null,\"x\",\"1\"]]";
+    assert!(rt; prints(alloc, Answer::Records(records), wanted)?);
+    let told = Told {
+        observer: ObserverId::new(0),
+        records: vec![in alloc; removal(alloc)?]?,
+    };
+    let told = vec![in alloc; told]?;
+    let wanted = "[[0,[[\"childList\",1,[],[2],null,3,null,null]]]]";
+    assert!(rt; prints(alloc, Answer::Notified(told), wanted)?);
+    Ok(())
+}
+
+#[test]
+fn printed_attributes(rt: HostRuntime) -> Result<(), Fail> {
+    let alloc = rt.alloc();
+    let mut body = Content::of_text(alloc, Units::new(alloc));
+    let _ = body.attrs.set(String::from_str(alloc, "k")?, Units::from_str(alloc, "v")?)?;
+    let element = TreeRow {
+        depth: 0,
+        number: NodeId::new(1),
+        label: label(alloc, Kind::Element, "p")?,
+        body,
+    };
+    let rows = vec![in alloc; element]?;
+    assert!(rt; prints(alloc, Answer::Rows(rows), "[[0,1,1,\"p\",[[\"k\",\"v\"]]]]")?);
+    Ok(())
+}

@@ -1,0 +1,58 @@
+use Rattle.std.proofs.Common.{◌≡◌, ℕ, ◌+◌, true, List, [], ◌∷◌, ◌++◌, take, drop, ap, sym, ◌∙◌, subst}
+use Rattle.std.proofs.lemmas.List.{take_more, drop_more}
+use Rattle.dom_model.specs.MutationAlgorithms.Editing.{remove, remove_all}
+use Rattle.dom_model.proofs.Forests.Indices.{child-parent, child-once}
+use Rattle.dom_edit.specs.Whole.{Follows}
+use Rattle.dom_edit.proofs.Following.{follows-none, follows-then}
+use Rattle.dom_edit.proofs.InsertedNodes.{remove_all-more, follows-as}
+use Rattle.dom_edit.proofs.Unreferred.{AreLeft, first-left, rest-left}
+use Rattle.dom_edit.proofs.world.World.remove_all_unreferred.Goals as goal
+
+pub loop-node-init : goal.loop-node-init
+loop-node-init c =
+    let v = c.args.self.now in
+    let p = c.args.parent in
+    record {
+      removed = follows-none v;
+      left = rw c.requires.nodes (record {
+        whole = c.requires.whole;
+        unreferred = c.requires.unreferred;
+        under = λ m k. child-parent v.tree.forest c.requires.whole.forest.once m p k;
+        once = λ m. child-once v.tree.forest c.requires.whole.forest.once m p;
+      });
+    }
+
+pub remove_unreferred-requires-clause-whole : goal.remove_unreferred-requires-clause-whole
+remove_unreferred-requires-clause-whole c = c.loop-node.invariant.left.whole
+
+pub remove_unreferred-requires-clause-child : goal.remove_unreferred-requires-clause-child
+remove_unreferred-requires-clause-child c =
+    let xs = c.args.nodes.now in
+    let i = c.loop-node.node-index in
+    let n = c.node-item.result in
+    let split : drop i xs ≡ n ∷ drop (i + 1) xs = drop_more xs i n c.loop-node-test.true ∙ ap (λ m. m ∷ drop (i + 1) xs) (sym c.node-item.is) in
+    first-left c.loop-node.self c.args.parent n (drop (i + 1) xs) (subst (AreLeft c.loop-node.self c.args.parent) split c.loop-node.invariant.left)
+
+pub remove_unreferred-requires-clause-unreferred : goal.remove_unreferred-requires-clause-unreferred
+remove_unreferred-requires-clause-unreferred c = c.loop-node.invariant.left.unreferred
+
+pub loop-node-preserved : goal.loop-node-preserved
+loop-node-preserved c =
+    let first = c.args.self.now in
+    let v = c.loop-node.self in
+    let new = c.remove_unreferred.new.self in
+    let n = c.node-item.result in
+    let xs = c.args.nodes.now in
+    let i = c.loop-node.node-index in
+    let more : take (i + 1) xs ≡ take i xs ++ n ∷ [] = take_more xs i n c.loop-node-test.true ∙ ap (λ m. take i xs ++ m ∷ []) (sym c.node-item.is) in
+    let split : drop i xs ≡ n ∷ drop (i + 1) xs = drop_more xs i n c.loop-node-test.true ∙ ap (λ m. m ∷ drop (i + 1) xs) (sym c.node-item.is) in
+    let step : Follows v new (remove true n) = c.in_ok-remove_unreferred.ensures.removed in
+    record {
+      removed = follows-as first new (λ w. remove true n (remove_all (take i xs) w)) (remove_all (take (i + 1) xs))
+          (λ w k. ap (λ (ns : List ℕ). remove_all ns w) more ∙ remove_all-more (take i xs) n w)
+          (follows-then first v new (remove_all (take i xs)) (remove true n) c.loop-node.invariant.removed step);
+      left = rest-left v new c.args.parent n (drop (i + 1) xs) (subst (AreLeft v c.args.parent) split c.loop-node.invariant.left) step c.in_ok-remove_unreferred.ensures.ranges c.in_ok-remove_unreferred.ensures.whole;
+    }
+
+pub returns-clause-whole : goal.returns-clause-whole
+returns-clause-whole c = c.loop-node.invariant.left.whole

@@ -1,0 +1,58 @@
+use Rattle.std.proofs.Common.{true, refl, ap, ◌∙◌}
+use Rattle.std.proofs.lemmas.Result.{on_ok_weaker}
+use Rattle.dom_model.specs.MutationAlgorithms.Editing.{taken_out}
+use Rattle.dom_model.proofs.Forests.Entries.{HasNode-occurs}
+use Rattle.dom_model.proofs.Forests.Indices.{parent-there}
+use Rattle.dom_edit.specs.declared.world.World.{World}
+use Rattle.dom_edit.specs.Whole.{Follows}
+use Rattle.dom_edit.proofs.Following.{follows-none}
+use Rattle.dom_edit.proofs.Leaving.{parent-held, held-taken, follows-cut_out, whole-taken, follows-removed}
+use Rattle.dom_edit.proofs.Unreferred.{ends-stay}
+use Rattle.dom_edit.proofs.world.World.remove_unreferred.Goals as goal
+
+pub cut_out-requires-clause-held : goal.cut_out-requires-clause-held
+cut_out-requires-clause-held c =
+    let f = c.args.self.now.tree.forest in
+    HasNode-occurs f c.args.node (parent-there f c.args.node c.args.parent c.requires.child)
+
+pub cut_out-requires-clause-child : goal.cut_out-requires-clause-child
+cut_out-requires-clause-child c = rw c.requires.child refl
+
+pub make_transients-requires-clause-whole : goal.make_transients-requires-clause-whole
+make_transients-requires-clause-whole c =
+    let v = c.args.self.now in
+    let n = c.args.node in
+    let p = c.args.parent in
+    let mid = c.cut_out.new.self in
+    let f : Follows v mid (taken_out n p) = follows-cut_out v mid n p v.ranges (ends-stay v c.requires.whole p n c.requires.child c.requires.unreferred) c.cut_out.ensures in
+    whole-taken v mid n p c.requires.whole c.requires.child f (ap (λ (w : World). w.ranges.covered) c.cut_out.ensures) (ap (λ (w : World). w.observers) c.cut_out.ensures)
+
+pub make_transients-requires-clause-held : goal.make_transients-requires-clause-held
+make_transients-requires-clause-held c =
+    let v = c.args.self.now in
+    let n = c.args.node in
+    let p = c.args.parent in
+    let mid = c.cut_out.new.self in
+    held-taken v mid n p p (follows-cut_out v mid n p v.ranges (ends-stay v c.requires.whole p n c.requires.child c.requires.unreferred) c.cut_out.ensures) (parent-held v c.requires.whole n p c.requires.child)
+
+pub make_transients-requires-clause-node_held : goal.make_transients-requires-clause-node_held
+make_transients-requires-clause-node_held c =
+    let v = c.args.self.now in
+    let n = c.args.node in
+    let p = c.args.parent in
+    let mid = c.cut_out.new.self in
+    held-taken v mid n p n (follows-cut_out v mid n p v.ranges (ends-stay v c.requires.whole p n c.requires.child c.requires.unreferred) c.cut_out.ensures)
+    (HasNode-occurs v.tree.forest n (parent-there v.tree.forest n p c.requires.child))
+
+pub returns-clause-removed : goal.returns-clause-removed
+returns-clause-removed c =
+    let v = c.args.self.now in
+    let n = c.args.node in
+    let p = c.args.parent in
+    let mid = c.cut_out.new.self in
+    let new = c.make_transients.new.self in
+    let f : Follows v mid (taken_out n p) = follows-cut_out v mid n p v.ranges (ends-stay v c.requires.whole p n c.requires.child c.requires.unreferred) c.cut_out.ensures in
+    on_ok_weaker c.make_transients.result (λ made. follows-removed v mid new new n p true c.requires.child f made (follows-none new)) c.make_transients.ensures.made
+
+pub returns-clause-ranges : goal.returns-clause-ranges
+returns-clause-ranges c = ap (λ (w : World). w.ranges) c.make_transients.ensures.parts ∙ ap (λ (w : World). w.ranges) c.cut_out.ensures

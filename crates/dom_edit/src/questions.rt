@@ -1,0 +1,43 @@
+//! What this crate and those above ask of a node of a tree.
+
+ghost use Rattle.std.specs.Prelude.{◌≡◌, true};
+ghost use Rattle.dom_model.specs.declared.Kind.TheVariants.{Document};
+ghost use Rattle.dom_model.specs.Forests.Forest.{HasNode, entry_in};
+ghost use Rattle.dom_model.specs.Forests.Nodes.{is_of_kind};
+ghost use Rattle.dom_model.specs.MutationAlgorithms.Editing.{document_in};
+ghost use Rattle.dom_model.specs.DataAndCopies.Data.{content_in};
+ghost use Rattle.dom_model.specs.Soundness.Owners.{HasOwners};
+ghost use Rattle.dom_edit.specs.Inserting.{reference_in};
+
+use crate::content::Content;
+use dom_observe::of_units::Units;
+use dom_ranges::of_tree::{NodeId, Tree};
+
+/// What a node comes in before: the child, or the node's next sibling where the child is the node itself; none where it comes in last.
+pub fn reference_child(tree: &Tree<Content>, node: NodeId, child: Option<NodeId>) -> Option<NodeId>
+    requires { HasNode tree.now.forest node }
+    ensures { result ≡ reference_in tree.now.forest node child }
+{
+    match child {
+        Some(reference) if reference == node => tree.next(node),
+        _ => child,
+    }
+}
+
+/// The node document of a node. What it asks of the forest is a part of a whole world.
+pub fn document_in(tree: &Tree<Content>, node: NodeId) -> NodeId
+    requires held { HasNode tree.now.forest node }
+    requires owners { HasOwners tree.now.forest }
+    ensures document { result ≡ document_in (entry_in tree.now.forest node) }
+    ensures kind { is_of_kind Document tree.now.forest result ≡ true }
+{
+    tree.document_of(node)
+}
+
+/// The data of a node, lent as the tree keeps it.
+pub fn data_in(tree: &Tree<Content>, node: NodeId) -> &Units
+    requires held { HasNode tree.now.forest node }
+    ensures { result.now ≡ (content_in (entry_in tree.now.forest node)).text }
+{
+    &tree.body(node).text
+}

@@ -1,0 +1,77 @@
+//! The children of a node, one after another (DOM Standard, "Trees").
+
+ghost use Rattle.std.specs.Prelude.{◌≡◌, [], Some, MatchOption};
+ghost use Rattle.std.specs.Option.{ForSome};
+ghost use Rattle.dom_model.specs.PlainLists.Lists.{from_first};
+ghost use Rattle.dom_model.specs.Forests.Forest.{HasNode, parent_of, children_of};
+
+use crate::item::Item;
+use crate::node_id::NodeId;
+use crate::tree::{Tree, number_of, slot_of, slot_of_any};
+use dom_links::{Links, Slot};
+use std::marker::Model;
+
+/// The children of a node that are still to come, in tree order. It goes from one to the next in the store.
+#[derive(Drop)]
+pub struct Children<'a, X> {
+    links: &'a Links<Item<X>>,
+    next: Option<Slot>,
+}
+
+impl<'a, X> Model for Children<'a, X> {
+    ghost use Rattle.std.specs.Prelude.{List, ℕ};
+    ghost use Rattle.dom_model.specs.Forests.Arena.{entry_at};
+    ghost use Rattle.dom_tree.specs.Following.{numbers_from, IsChild};
+
+    ghost Value = { List ℕ };
+
+    ghost view = { λ c. numbers_from c.links.now c.next };
+
+    ghost invariant = { λ c. IsChild (entry_at c.links.now) c.next };
+}
+
+impl<'a, X> Iterator for Children<'a, X> {
+    ghost use Rattle.std.specs.Iterator.{YieldsFirst, item_count};
+
+    type Item = NodeId;
+
+    ghost next_gives = { YieldsFirst (λ s. s) };
+
+    ghost remaining = { item_count (λ s. s) };
+
+    fn next(&mut self) -> Option<NodeId> {
+        let slot = self.next?;
+        let links = self.links;
+        links.sound();
+        self.next = links.next(slot);
+        Some(number_of(links, slot))
+    }
+}
+
+impl<X> Tree<X> {
+    /// The children of a node, in tree order.
+    pub fn children(&self, parent: NodeId) -> Children<'_, X>
+        requires { HasNode self.now.forest parent }
+        ensures { result ≡ children_of self.now.forest parent }
+    {
+        self.links.sound();
+        let first = self.links.first(slot_of(&self.table, parent));
+        Children {
+            links: &self.links,
+            next: first,
+        }
+    }
+
+    /// The children of a node from one of them on; none where no child is given.
+    pub fn children_from(&self, parent: NodeId, child: Option<NodeId>) -> Children<'_, X>
+        requires { ForSome child (λ c. parent_of self.now.forest c ≡ Some parent) }
+        ensures { MatchOption child (result ≡ []) (λ c. result ≡ from_first c (children_of self.now.forest parent)) }
+    {
+        self.links.sound();
+        let from = slot_of_any(&self.table, child);
+        Children {
+            links: &self.links,
+            next: from,
+        }
+    }
+}
