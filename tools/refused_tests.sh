@@ -7,7 +7,8 @@
 # - its answer is AllocError, or AllocFailed;
 # - it stops at its assertion that memory was there: `is_ok()`, for what is read through a pointer `Some`, and for what is written into a
 #   vector `Ok`, where the answer is `Err(Failed)`.
-# The tests under `stands` below meet a refusal and must pass. A test of more than LAST growths (3,000 where none is given) is left there, and said.
+# The tests under `stands` below, and those of the modules of dom_cases under `standing`, meet a refusal and must pass. A test of more than
+# LAST growths (3,000 where none is given) is left there, and said.
 set -euo pipefail
 . "$(dirname "$0")/words.sh"
 takes 1 "$@"
@@ -18,6 +19,7 @@ trap 'rm -rf "$work"' EXIT
 cc -shared -fPIC -O2 -Wall -o "$work/refused.so" tools/refused_growths/refused_growths.c -ldl
 crates="layer_cases dom_cases"
 stands="layer_cases:links::a_refused_add_hands_the_value_back layer_cases:ranges::refused_room dom_cases:layers::observing::a_hundred_nodes"
+standing="attributes cloning editing texts"
 runs=0
 cut=0
 
@@ -53,6 +55,12 @@ tests_of() {
     "crates/$1/out/${1}_tests" --list | sed -n 's/: test$//p' | grep -E "$kept"
 }
 
+# must_stand CRATE TEST: whether the test must pass where a growth is refused
+must_stand() {
+    local module=${2#layers::}
+    [[ " $stands " == *" $1:$2 "* || ($1 == dom_cases && " $standing " == *" ${module%%::*} "*) ]]
+}
+
 # in_turn CRATE TEST: refuses each growth in turn
 in_turn() {
     local n
@@ -62,7 +70,7 @@ in_turn() {
             [ "$refused" -ge 1 ] || return 0
             continue
         fi
-        [[ " $stands " != *" $1:$2 "* ]] || fail "$1 $2, growth $n: it does not stand the refusal"
+        ! must_stand "$1" "$2" || fail "$1 $2, growth $n: it does not stand the refusal"
         wants_memory || fail "$1 $2, growth $n: it ends in another way"
     done
     cut=$((cut + 1))

@@ -1,1 +1,2 @@
 pub mod WholeWorlds
+pub mod Rooms

@@ -3,6 +3,7 @@
 
 mod attributes;
 mod building;
+mod cloning;
 mod copies;
 mod editing;
 mod lines;
@@ -10,4 +11,5 @@ mod observing;
 mod replies;
 mod sessions;
 mod streams;
+mod texts;
 mod worlds;

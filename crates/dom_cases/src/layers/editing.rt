@@ -1,33 +1,41 @@
 //! Nodes that are made, put in, replaced, taken out and adopted. Where memory is wanting, the world goes on from what it is then.
 
+ghost use Rattle.std.specs.Option.{ForSome};
+ghost use Rattle.dom_model.specs.Forests.Forest.{HasNode};
 ghost use Rattle.dom_wrap.specs.dom_edit.Whole.{IsWhole};
 
 use crate::layers::building::{
-    appended, begun, expect_children, expect_data, expect_document, expect_held, expect_root,
-    expect_roots, made,
+    allowed, appended, begun, expect_children, expect_data, expect_document, expect_held,
+    expect_root, expect_roots, made, second_document,
 };
 use dom_wrap::of_edit::{Refusal, World};
-use dom_wrap::of_kinds::{DomError, Kind};
+use dom_wrap::of_kinds::{DomError, Kind, may_be_parent};
 use dom_wrap::of_tree::NodeId;
 use std::alloc::{AllocError, Global};
 use std::process::Abort;
 use std::test::Fail;
 
-#[test]
-fn a_node_is_appended(rt: HostRuntime) -> Result<(), Fail> {
-    let alloc = rt.alloc();
+// Element 6 goes last under element 1.
+fn append_one(rt: &impl Abort, world: &mut World, alloc: Global) -> Result<(), Fail>
+    requires { IsWhole world.old }
+{
     let (top, node) = (NodeId::new(1), NodeId::new(6));
-    let mut world = begun(&rt, alloc)?;
     assert!(rt; world.tree.holds(top));
     assert!(rt; world.tree.holds(node));
     if let Err(refusal) = world.append(alloc, top, node) {
         assert_eq!(rt; refusal, Refusal::Memory);
-        expect_held(&rt, &world, 13);
-        appended(&rt, &mut world, alloc, 1, node)?;
+        expect_held(rt, world, 13);
+        appended(rt, world, alloc, 1, node)?;
     }
-    expect_children(&rt, &world, 1, &[2, 3, 5, 6]);
-    expect_children(&rt, &world, 6, &[7, 8, 9]);
+    expect_children(rt, world, 1, &[2, 3, 5, 6]);
+    expect_children(rt, world, 6, &[7, 8, 9]);
     Ok(())
+}
+
+#[test]
+fn a_node_is_appended(rt: HostRuntime) -> Result<(), Fail> {
+    let mut world = begun(&rt, rt.alloc())?;
+    append_one(&rt, &mut world, rt.alloc())
 }
 
 // Makes comment 13. Where a growth is refused, nothing has come of it.
@@ -44,16 +52,22 @@ fn make(rt: &impl Abort, world: &mut World, alloc: Global) -> Result<NodeId, All
     }
 }
 
+// Comment 13 is a root of document 0.
+fn make_one(rt: &impl Abort, world: &mut World, alloc: Global) -> Result<(), Fail>
+    requires { IsWhole world.old }
+{
+    let node = make(rt, world, alloc)?;
+    assert_eq!(rt; node.number(), 13);
+    expect_root(rt, world, 13);
+    expect_data(rt, world, 13, "mn");
+    expect_document(rt, world, 13, 0);
+    Ok(())
+}
+
 #[test]
 fn a_node_is_made(rt: HostRuntime) -> Result<(), Fail> {
-    let alloc = rt.alloc();
-    let mut world = begun(&rt, alloc)?;
-    let node = make(&rt, &mut world, alloc)?;
-    assert_eq!(rt; node.number(), 13);
-    expect_root(&rt, &world, 13);
-    expect_data(&rt, &world, 13, "mn");
-    expect_document(&rt, &world, 13, 0);
-    Ok(())
+    let mut world = begun(&rt, rt.alloc())?;
+    make_one(&rt, &mut world, rt.alloc())
 }
 
 // Puts a node in before another child of an element.
@@ -74,41 +88,53 @@ fn insert(
     world.insert_before(alloc, parent, node, Some(child))
 }
 
-#[test]
-fn a_fragment_is_inserted(rt: HostRuntime) -> Result<(), Fail> {
-    let alloc = rt.alloc();
+// The children of fragment 10 come in before element 3.
+fn insert_fragment(rt: &impl Abort, world: &mut World, alloc: Global) -> Result<(), Fail>
+    requires { IsWhole world.old }
+{
     let (top, child) = (NodeId::new(1), NodeId::new(3));
-    let mut world = begun(&rt, alloc)?;
-    if let Err(refusal) = insert(&rt, &mut world, alloc, top, NodeId::new(10), child) {
+    if let Err(refusal) = insert(rt, world, alloc, top, NodeId::new(10), child) {
         assert_eq!(rt; refusal, Refusal::Memory);
-        expect_held(&rt, &world, 13);
-        insert(&rt, &mut world, alloc, top, NodeId::new(11), child)?;
-        insert(&rt, &mut world, alloc, top, NodeId::new(12), child)?;
+        expect_held(rt, world, 13);
+        insert(rt, world, alloc, top, NodeId::new(11), child)?;
+        insert(rt, world, alloc, top, NodeId::new(12), child)?;
     }
-    expect_children(&rt, &world, 1, &[2, 11, 12, 3, 5]);
-    expect_children(&rt, &world, 10, &[]);
+    expect_children(rt, world, 1, &[2, 11, 12, 3, 5]);
+    expect_children(rt, world, 10, &[]);
     Ok(())
 }
 
 #[test]
-fn a_child_is_replaced(rt: HostRuntime) -> Result<(), Fail> {
-    let alloc = rt.alloc();
+fn a_fragment_is_inserted(rt: HostRuntime) -> Result<(), Fail> {
+    let mut world = begun(&rt, rt.alloc())?;
+    insert_fragment(&rt, &mut world, rt.alloc())
+}
+
+// Element 6 comes in where element 3 stood.
+fn replace_child(rt: &impl Abort, world: &mut World, alloc: Global) -> Result<(), Fail>
+    requires { IsWhole world.old }
+{
     let (top, node, child) = (NodeId::new(1), NodeId::new(6), NodeId::new(3));
-    let mut world = begun(&rt, alloc)?;
     assert!(rt; world.tree.holds(top));
     assert!(rt; world.tree.holds(node));
     assert!(rt; world.tree.holds(child));
     if let Err(refusal) = world.replace(alloc, top, node, child) {
         assert_eq!(rt; refusal, Refusal::Memory);
-        expect_held(&rt, &world, 13);
-        insert(&rt, &mut world, alloc, top, node, NodeId::new(5))?;
+        expect_held(rt, world, 13);
+        insert(rt, world, alloc, top, node, NodeId::new(5))?;
         assert!(rt; world.tree.holds(child));
         world.remove(alloc, child)?;
     }
-    expect_children(&rt, &world, 1, &[2, 6, 5]);
-    expect_children(&rt, &world, 3, &[4]);
-    expect_root(&rt, &world, 3);
+    expect_children(rt, world, 1, &[2, 6, 5]);
+    expect_children(rt, world, 3, &[4]);
+    expect_root(rt, world, 3);
     Ok(())
+}
+
+#[test]
+fn a_child_is_replaced(rt: HostRuntime) -> Result<(), Fail> {
+    let mut world = begun(&rt, rt.alloc())?;
+    replace_child(&rt, &mut world, rt.alloc())
 }
 
 // Takes all children out of element 6.
@@ -134,31 +160,36 @@ fn cleared(rt: &impl Abort, world: &mut World, alloc: Global) -> Result<(), Allo
     }
 }
 
-#[test]
-fn all_children_leave(rt: HostRuntime) -> Result<(), Fail> {
-    let alloc = rt.alloc();
-    let mut world = begun(&rt, alloc)?;
-    cleared(&rt, &mut world, alloc)?;
-    expect_children(&rt, &world, 6, &[]);
-    expect_roots(&rt, &world, &[7, 8, 9]);
+// The Texts of element 6 become roots.
+fn clear_all(rt: &impl Abort, world: &mut World, alloc: Global) -> Result<(), Fail>
+    requires { IsWhole world.old }
+{
+    cleared(rt, world, alloc)?;
+    expect_children(rt, world, 6, &[]);
+    expect_roots(rt, world, &[7, 8, 9]);
     Ok(())
 }
 
-// The child has left where memory was wanting too.
 #[test]
-fn a_child_leaves(rt: HostRuntime) -> Result<(), Fail> {
-    let alloc = rt.alloc();
+fn all_children_leave(rt: HostRuntime) -> Result<(), Fail> {
+    let mut world = begun(&rt, rt.alloc())?;
+    clear_all(&rt, &mut world, rt.alloc())
+}
+
+// The child has left where memory was wanting too.
+fn leave_once(rt: &impl Abort, world: &mut World, alloc: Global) -> Result<(), Fail>
+    requires { IsWhole world.old }
+{
     let (top, child) = (NodeId::new(1), NodeId::new(3));
-    let mut world = begun(&rt, alloc)?;
     assert!(rt; world.tree.holds(top));
     assert!(rt; world.tree.holds(child));
     if let Err(refusal) = world.remove_child(alloc, top, child) {
         assert_eq!(rt; refusal, Refusal::Memory);
     }
-    expect_held(&rt, &world, 13);
-    expect_children(&rt, &world, 1, &[2, 5]);
-    expect_children(&rt, &world, 3, &[4]);
-    expect_root(&rt, &world, 3);
+    expect_held(rt, world, 13);
+    expect_children(rt, world, 1, &[2, 5]);
+    expect_children(rt, world, 3, &[4]);
+    expect_root(rt, world, 3);
     assert!(rt; world.tree.holds(top));
     assert!(rt; world.tree.holds(child));
     assert_eq!(rt;
@@ -168,18 +199,118 @@ fn a_child_leaves(rt: HostRuntime) -> Result<(), Fail> {
     Ok(())
 }
 
-// The same of a node whose parent is not named.
 #[test]
-fn a_node_leaves(rt: HostRuntime) -> Result<(), Fail> {
-    let alloc = rt.alloc();
+fn a_child_leaves(rt: HostRuntime) -> Result<(), Fail> {
+    let mut world = begun(&rt, rt.alloc())?;
+    leave_once(&rt, &mut world, rt.alloc())
+}
+
+// The same of Text 8, whose parent is not named. It comes in elsewhere, at the second try where a growth is refused.
+fn leave_and_return(rt: &impl Abort, world: &mut World, alloc: Global) -> Result<(), AllocError>
+    requires { IsWhole world.old }
+{
     let node = NodeId::new(8);
-    let mut world = begun(&rt, alloc)?;
     assert!(rt; world.tree.holds(node));
     let _ = world.remove(alloc, node);
-    expect_held(&rt, &world, 13);
-    expect_children(&rt, &world, 6, &[7, 9]);
-    expect_root(&rt, &world, 8);
-    appended(&rt, &mut world, alloc, 1, node)?;
-    expect_children(&rt, &world, 1, &[2, 3, 5, 8]);
+    expect_held(rt, world, 13);
+    expect_children(rt, world, 6, &[7, 9]);
+    expect_root(rt, world, 8);
+    if let Err(AllocError) = appended(rt, world, alloc, 1, node) {
+        appended(rt, world, alloc, 1, node)?;
+    }
+    expect_children(rt, world, 1, &[2, 3, 5, 8]);
+    Ok(())
+}
+
+#[test]
+fn a_node_leaves(rt: HostRuntime) -> Result<(), Fail> {
+    let mut world = begun(&rt, rt.alloc())?;
+    leave_and_return(&rt, &mut world, rt.alloc())?;
+    Ok(())
+}
+
+// Makes a node, the children of a fragment, or nothing, all that stands under element 1.
+fn fill(
+    rt: &impl Abort,
+    world: &mut World,
+    alloc: Global,
+    node: Option<NodeId>,
+) -> Result<(), AllocError>
+    requires whole { IsWhole world.old }
+    requires node { ForSome node (λ n. HasNode world.old.tree.forest n) }
+    ensures { IsWhole world.new }
+{
+    let top = NodeId::new(1);
+    assert!(rt; world.tree.holds(top));
+    assert!(rt; may_be_parent(world.tree.label(top).kind));
+    allowed(rt, world.replace_children(alloc, top, node))
+}
+
+// The children of fragment 10 take the place of those of element 1.
+fn replace_all(rt: &impl Abort, world: &mut World, alloc: Global) -> Result<(), AllocError>
+    requires { IsWhole world.old }
+{
+    let fragment = NodeId::new(10);
+    assert!(rt; world.tree.holds(fragment));
+    if let Err(AllocError) = fill(rt, world, alloc, Some(fragment)) {
+        expect_held(rt, world, 13);
+        fill(rt, world, alloc, None)?;
+        appended(rt, world, alloc, 1, NodeId::new(11))?;
+        appended(rt, world, alloc, 1, NodeId::new(12))?;
+    }
+    expect_children(rt, world, 1, &[11, 12]);
+    expect_children(rt, world, 10, &[]);
+    expect_children(rt, world, 3, &[4]);
+    expect_roots(rt, world, &[2, 3, 5]);
+    Ok(())
+}
+
+#[test]
+fn all_children_are_replaced(rt: HostRuntime) -> Result<(), Fail> {
+    let mut world = begun(&rt, rt.alloc())?;
+    replace_all(&rt, &mut world, rt.alloc())?;
+    Ok(())
+}
+
+// Takes a node out of its parent and into a document.
+fn adopt(
+    rt: &impl Abort,
+    world: &mut World,
+    alloc: Global,
+    document: NodeId,
+    node: NodeId,
+) -> Result<(), AllocError>
+    requires { IsWhole world.old }
+    ensures { IsWhole world.new }
+{
+    assert!(rt; world.tree.holds(document));
+    assert!(rt; world.tree.is_of_kind(document, Kind::Document));
+    assert!(rt; world.tree.holds(node));
+    allowed(rt, world.adopt(alloc, document, node))
+}
+
+// Element 3 goes into a second document, with the Text in it.
+fn adopt_once(rt: &impl Abort, world: &mut World, alloc: Global) -> Result<(), AllocError>
+    requires { IsWhole world.old }
+{
+    let node = NodeId::new(3);
+    let document = second_document(rt, world, alloc)?;
+    if let Err(AllocError) = adopt(rt, world, alloc, document, node) {
+        expect_held(rt, world, 14);
+        adopt(rt, world, alloc, document, node)?;
+    }
+    expect_root(rt, world, 3);
+    expect_children(rt, world, 3, &[4]);
+    expect_children(rt, world, 1, &[2, 5]);
+    expect_document(rt, world, 3, 13);
+    expect_document(rt, world, 4, 13);
+    expect_document(rt, world, 5, 0);
+    Ok(())
+}
+
+#[test]
+fn a_tree_is_adopted(rt: HostRuntime) -> Result<(), Fail> {
+    let mut world = begun(&rt, rt.alloc())?;
+    adopt_once(&rt, &mut world, rt.alloc())?;
     Ok(())
 }

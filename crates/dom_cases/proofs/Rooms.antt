@@ -1,0 +1,23 @@
+-- Where few numbers were given out, and few nodes are held, there is room for copies.
+use Rattle.std.proofs.Common.{ℕ, ◌+◌, ◌<◌, ◌≤◌, Bool, arith}
+use Rattle.dom_model.specs.Forests.Forest.{Forest, size}
+use Rattle.dom_model.specs.Worlds.World.{Content}
+use Rattle.dom_model.specs.DataAndCopies.Clones.{original}
+use Rattle.dom_model.specs.RangesAndContents.Contents.{extract, clone_contents}
+use Rattle.dom_model.proofs.Counting.CountsOfContents.{size-original}
+use Rattle.dom_model.proofs.Counting.CountsOfExtraction.{extract-grown}
+use Rattle.dom_model.proofs.Counting.CopiesOfContents.{clone_contents-grown}
+use Rattle.dom_model.proofs.Counting.NumbersKept.{in_order}
+use Rattle.dom_wrap.specs.dom_edit.declared.world.World.{World}
+use Rattle.dom_wrap.specs.dom_edit.Whole.{IsWhole, unwatched}
+use Rattle.dom_wrap.specs.dom_edit.Leaving.{sound-unwatched}
+
+pub room-copy_few : (made : ℕ) (deep : Bool) (n : ℕ) (f : Forest Content) → made < 1000 → size f < 1000 → made + size (original deep n f) ≤ 4294967295
+room-copy_few made deep n f few_made few_live = let s = size-original deep n f in omega (arith, s, few_made, few_live)
+
+module _ (v : World) (r : ℕ) (made : v.tree.made < 1000) (live : size v.tree.forest < 1000) where
+  pub room-extract_few : (extract r (unwatched v)).made ≤ 4294967295
+  room-extract_few = let g = (extract-grown r (unwatched v)).most in omega (arith, g, made, live)
+
+  pub room-contents_few : IsWhole v → (clone_contents r (unwatched v)).made ≤ 4294967295
+  room-contents_few whole = let g = (clone_contents-grown r (unwatched v) (in_order (unwatched v) (sound-unwatched v whole))).most in omega (arith, g, made, live)
