@@ -1,2 +1,3 @@
 pub mod WholeWorlds
 pub mod Rooms
+pub mod LiveRanges

@@ -1,16 +1,18 @@
 -- Where few numbers were given out, and few nodes are held, there is room for copies.
-use Rattle.std.proofs.Common.{ℕ, ◌+◌, ◌<◌, ◌≤◌, Bool, arith}
+use Rattle.std.proofs.Common.{ℕ, ◌+◌, ◌*◌, ◌<◌, ◌≤◌, Bool, Ok, Err, arith}
 use Rattle.dom_model.specs.Forests.Forest.{Forest, size}
 use Rattle.dom_model.specs.Worlds.World.{Content}
 use Rattle.dom_model.specs.DataAndCopies.Clones.{original}
 use Rattle.dom_model.specs.RangesAndContents.Contents.{extract, clone_contents}
+use Rattle.dom_model.specs.RangesAndContents.Wrapping.{Outcome, surround}
 use Rattle.dom_model.proofs.Counting.CountsOfContents.{size-original}
-use Rattle.dom_model.proofs.Counting.CountsOfExtraction.{extract-grown}
+use Rattle.dom_model.proofs.Counting.CountsOfExtraction.{IsGrownTo, extract-grown, surround-to}
 use Rattle.dom_model.proofs.Counting.CopiesOfContents.{clone_contents-grown}
 use Rattle.dom_model.proofs.Counting.NumbersKept.{in_order}
 use Rattle.dom_wrap.specs.dom_edit.declared.world.World.{World}
 use Rattle.dom_wrap.specs.dom_edit.Whole.{IsWhole, unwatched}
 use Rattle.dom_wrap.specs.dom_edit.Leaving.{sound-unwatched}
+use Rattle.dom_wrap.specs.Outcomes.{left_by}
 
 pub room-copy_few : (made : ℕ) (deep : Bool) (n : ℕ) (f : Forest Content) → made < 1000 → size f < 1000 → made + size (original deep n f) ≤ 4294967295
 room-copy_few made deep n f few_made few_live = let s = size-original deep n f in omega (arith, s, few_made, few_live)
@@ -21,3 +23,10 @@ module _ (v : World) (r : ℕ) (made : v.tree.made < 1000) (live : size v.tree.f
 
   pub room-contents_few : IsWhole v → (clone_contents r (unwatched v)).made ≤ 4294967295
   room-contents_few whole = let g = (clone_contents-grown r (unwatched v) (in_order (unwatched v) (sound-unwatched v whole))).most in omega (arith, g, made, live)
+
+  pub room-surround_few : (n : ℕ) → (left_by (surround r n (unwatched v)) (unwatched v)).made ≤ 4294967295
+  room-surround_few n = let g = left-grown (surround r n (unwatched v)) (surround-to r n (unwatched v)) in omega (arith, g, made, live)
+    where
+      left-grown : (o : Outcome) → IsGrownTo (2 * size v.tree.forest + 4) (unwatched v) o → (left_by o (unwatched v)).made ≤ v.tree.made + (2 * size v.tree.forest + 4)
+      left-grown (Ok w) g = g.most
+      left-grown (Err e) g = omega arith

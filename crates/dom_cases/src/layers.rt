@@ -4,12 +4,15 @@
 mod attributes;
 mod building;
 mod cloning;
+mod contents;
 mod copies;
 mod editing;
 mod lines;
 mod observing;
 mod replies;
+mod selecting;
 mod sessions;
 mod streams;
 mod texts;
 mod worlds;
+mod wrapping;
