@@ -211,6 +211,15 @@ def discarded_beside_static_ranges(ranges):
         ["discard", 2 + k] for k in range(COMMANDS)], COMMANDS
 
 
+def discarded_beside_walks(walks):
+    """Texts without a parent go, while iterators and walkers of another node stand."""
+    texts = [["createText", 0, "a"] for _ in range(COMMANDS)]
+    making = [["createElement", 0, "p"]] + texts
+    for _ in range(walks):
+        making += [["createIterator", 1, 4294967295, []], ["createWalker", 1, 4294967295, []]]
+    return making, [["discard", 2 + k] for k in range(COMMANDS)], COMMANDS
+
+
 def documents_discarded(gone):
     """Documents go, after so many other nodes went."""
     making = []
@@ -220,12 +229,24 @@ def documents_discarded(gone):
     return making, [["discard", gone + 1 + k] for k in range(100)], 100
 
 
-def selected_in_the_midst(children):
-    """A range is set around a child in the midst of children that were each put in front."""
+def put_in_front(children):
+    """Children that were each put in front of those before."""
     making = [["createElement", 0, "p"]]
     for number in range(2, children + 2):
         making += [["createElement", 0, "e"], ["insertBefore", 1, number, number - 1 if number > 2 else None]]
-    return making + [["createRange", 0], ["selectNode", 0, children // 2]], [["selectNode", 0, children // 2 + 1] for _ in range(100)], 100
+    return making
+
+
+def selected_in_the_midst(children):
+    """A range is set around a child in the midst of children that were each put in front."""
+    select = ["selectNode", 0, children // 2]
+    return put_in_front(children) + [["createRange", 0], select], [["selectNode", 0, children // 2 + 1] for _ in range(100)], 100
+
+
+def compared_in_the_midst(children):
+    """Points among children that were each put in front are compared with a range inside a child in their midst."""
+    ends = [["createRange", 0], ["selectNodeContents", 0, children // 2], ["comparePoint", 0, 1, 1]]
+    return put_in_front(children) + ends, [["comparePoint", 0, 1, children // 2 + k % 3] for k in range(100)], 100
 
 
 def moved_beside_released(ranges):
@@ -276,8 +297,10 @@ PAIRS = (
     ("a child that comes, goes and is told of", ("with no other observer", "beside 10,000 of other nodes"), notified, (0, 10000)),
     ("discard of a Text", ("with no record that waits", "beside 50,000"), discarded_beside_records, (0, 50000)),
     ("discard of a Text", ("with no static range", "beside 50,000"), discarded_beside_static_ranges, (0, 50000)),
+    ("discard of a Text", ("with no iterator or walker", "beside 10,000 of each"), discarded_beside_walks, (0, 10000)),
     ("discard of a Document", ("after 100 other nodes went", "after 100,000"), documents_discarded, (100, 100000)),
     ("selectNode in the midst", ("of 100 children", "of 50,000"), selected_in_the_midst, (100, 50000)),
+    ("comparePoint in the midst", ("of 100 children", "of 50,000"), compared_in_the_midst, (100, 50000)),
     ("a group that moves", ("with no released range", "beside 10,000"), moved_beside_released, (0, 10000)),
     ("extractContents out of a chain, for each level", ("40 deep", "4,000 deep"), taken_out_of_a_chain, (40, 4000)),
     ("cloneContents out of a chain, for each level", ("40 deep", "4,000 deep"), cloned_out_of_a_chain, (40, 4000)),

@@ -19,7 +19,7 @@ trap 'rm -rf "$work"' EXIT
 cc -shared -fPIC -O2 -Wall -o "$work/refused.so" tools/refused_growths/refused_growths.c -ldl
 crates="layer_cases dom_cases"
 stands="layer_cases:links::a_refused_add_hands_the_value_back layer_cases:ranges::refused_room dom_cases:layers::observing::a_hundred_nodes"
-standing="attributes cloning editing texts"
+standing="attributes cloning contents editing texts watching wrapping"
 runs=0
 cut=0
 

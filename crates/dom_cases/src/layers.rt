@@ -14,5 +14,6 @@ mod selecting;
 mod sessions;
 mod streams;
 mod texts;
+mod watching;
 mod worlds;
 mod wrapping;

@@ -15,7 +15,7 @@ use dom_edit::{Content, World, data_in};
 use dom_model::RecordType;
 use std::alloc::{AllocError, Global};
 
-// Queues a record of a node's data, which is about to change, for each observer that it interests.
+// Queues a record of a node's data, which is about to change, for each observer that it interests. Records are made in the observers' own memory.
 pub(crate) fn tell_data(world: &mut World, _alloc: Global, node: NodeId) -> Result<(), AllocError>
     requires whole { IsWhole world.old }
     requires held { HasNode world.old.tree.forest node }
@@ -54,7 +54,7 @@ fn attribute_change<'a>(tree: &'a Tree<Content>, node: NodeId, name: &'a str) ->
     }
 }
 
-// Queues a record of an attribute, which is about to change, for each observer that it interests.
+// Queues a record of an attribute, which is about to change, for each observer that it interests. Records are made in the observers' own memory.
 pub(crate) fn tell_attribute(
     world: &mut World,
     _alloc: Global,

@@ -16,7 +16,7 @@ use std::alloc::{AllocError, Global};
 impl World {
     /// Queues a record of children that came in under a node or left it, for each observer that it interests.
     ///
-    /// The lists are lent: nothing is copied where it interests nobody. After an error some observers may have their record and others not.
+    /// The lists are lent: nothing is copied where it interests nobody, and records are made in the observers' own memory. After an error some observers may have their record and others not.
     pub(crate) fn queue_tree_record<'a>(
         &mut self,
         _alloc: Global,

@@ -26,7 +26,7 @@ swapped m n =
       | apart ne t ↦ elim (same_or n m) [ same e _ ↦ absurd (ne (sym e)) | apart _ u ↦ t ∙ sym u ]
     ]
 
-among-list_any : (n : ℕ) (ns : List ℕ) → list_any (nat_eq n) ns ≡ among n ns
+pub among-list_any : (n : ℕ) (ns : List ℕ) → list_any (nat_eq n) ns ≡ among n ns
 among-list_any n [] = refl
 among-list_any n (m ∷ ns) = ap (λ b. b || list_any (nat_eq n) ns) (swapped n m) ∙ go (m == n) (among-list_any n ns)
   where

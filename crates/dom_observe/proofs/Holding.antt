@@ -1,11 +1,11 @@
 -- What observers name, as their registrations and queues change.
 use Rattle.std.proofs.Common.{◌≡◌, ◌≢◌, ℕ, zero, suc, ◌<◌, ◌≤◌, ◌==◌, Bool, true, false, ◌||◌, if◌then◌else◌, List, [], ◌∷◌, ◌++◌, length, map, filter, Option, None, Some, option_map, refl, ap, sym, ◌∙◌, subst, nat_eq, arith, ◌⊎◌, inl, inr}
-use Rattle.std.specs.Prelude.{Vec, slice_index_or, slice_set, flat_map, filter_map}
+use Rattle.std.specs.Prelude.{Vec, slice_index_or, slice_set, flat_map}
 use Rattle.std.specs.Map.{keys_of}
 use Rattle.std.specs.Option.{option_map_or}
 use Rattle.std.specs.List.{list_any, IsDistinct, AllByRecursion}
 use Rattle.std.proofs.lemmas.Bool.{true≢false, cases_lt}
-use Rattle.std.proofs.lemmas.List.{get_or_past, get_or-set_same, get_or-set_other, length-set, get_or_append_left, get_or-append_right}
+use Rattle.std.proofs.lemmas.List.{get_or_past, get_or-set_same, get_or-set_other, length-set}
 use Rattle.std.proofs.lemmas.List.Folds.{list_any-append}
 use Rattle.slab.specs.Slab.{Slab}
 use Rattle.dom_model.specs.PlainLists.Lists.{among}
@@ -14,11 +14,12 @@ use Rattle.dom_model.specs.MutationObservers.Record.{Record}
 use Rattle.dom_model.specs.MutationObservers.Observing.{transient_of}
 use Rattle.dom_model.specs.MutationAlgorithms.Discarding.{nodes_of_registration, nodes_of_record}
 use Rattle.dom_model.proofs.PlainLists.Numbers.{Same, same_or, same, apart}
+use Rattle.dom_model.proofs.RangesAndContents.RangesElsewhere.{among-any}
 use Rattle.dom_observe.specs.declared.registration.Registration as held
 use Rattle.dom_observe.specs.declared.registration.Ended.{Ended}
 use Rattle.dom_observe.specs.Watchers.{Watchers, on}
 use Rattle.dom_observe.specs.Held.{named, watching, nodes_of_mutation, NamesOnly}
-use Rattle.dom_observe.specs.Registrations.{at, found, listed, spares, left_by, is_live, AllLive, StandsOn, Added, with_new_options, transient_under}
+use Rattle.dom_observe.specs.Registrations.{at, listed, spares, left_by, is_live, AllLive, StandsOn, Added, with_new_options, transient_under}
 use Rattle.dom_observe.specs.Kept.{nodes_of, IsKept}
 use Rattle.dom_observe.specs.Naming.{names_one, NamesNone, TellsNone}
 use Rattle.dom_observe.specs.Telling.{delivered}
@@ -38,23 +39,15 @@ module _ {A : Type 0} (p : A → Bool) where
   all_none (x ∷ xs) h = neither (p x) (list_any p xs) h.0 (all_none xs h.1)
 
 -- each queue passes a test that no queue passes that is not there
-any_tells : (t : List Record → Bool) (qs : List (List Record)) → t [] ≡ false → list_any t qs ≡ false → (o : ℕ) → t (slice_index_or qs o []) ≡ false
+pub any_tells : (t : List Record → Bool) (qs : List (List Record)) → t [] ≡ false → list_any t qs ≡ false → (o : ℕ) → t (slice_index_or qs o []) ≡ false
 any_tells t [] nothing h zero = nothing
 any_tells t [] nothing h (suc o) = nothing
 any_tells t (q ∷ qs) nothing h zero = or-left (t q) (list_any t qs) h
 any_tells t (q ∷ qs) nothing h (suc o) = any_tells t qs nothing (or-right (t q) (list_any t qs) h) o
 
-tells_any : (t : List Record → Bool) (qs : List (List Record)) → ((o : ℕ) → t (slice_index_or qs o []) ≡ false) → list_any t qs ≡ false
+pub tells_any : (t : List Record → Bool) (qs : List (List Record)) → ((o : ℕ) → t (slice_index_or qs o []) ≡ false) → list_any t qs ≡ false
 tells_any t [] h = refl
 tells_any t (q ∷ qs) h = neither (t q) (list_any t qs) (h 0) (tells_any t qs (λ o. h (suc o)))
-
-pub among-any : (n : ℕ) (xs : List ℕ) → among n xs ≡ list_any (λ m. m == n) xs
-among-any n [] = refl
-among-any n (x ∷ xs) = go (x == n) (among-any n xs)
-  where
-    go : (b : Bool) → among n xs ≡ list_any (λ m. m == n) xs → (if b then true else among n xs) ≡ (b || list_any (λ m. m == n) xs)
-    go true i = refl
-    go false i = i
 
 -- what is named, by registrations and by records
 pub named-parts : (p : ℕ → Bool) (o : Watchers) → list_any p (named o)

@@ -17,7 +17,7 @@ use Rattle.dom_observe.specs.declared.registration.Registration as held
 use Rattle.dom_observe.specs.declared.registration.Ended.{Ended}
 use Rattle.dom_observe.specs.Watchers.{on}
 use Rattle.dom_observe.specs.Registrations.{at, found, listed, spares, left_by, is_live, Stands, StandsOn, AllStand, HaveKeys, deep_at, with_added_transients}
-use Rattle.dom_observe.specs.Kept.{nodes_of, queues_of, keys_by, IsKept}
+use Rattle.dom_observe.specs.Kept.{nodes_of, keys_by, IsKept}
 use Rattle.dom_observe.proofs.Tables.{all_imply, all_append, all_filter}
 
 -- what a function makes of each list, and of no list nothing
@@ -31,26 +31,6 @@ on-map f nothing n (e ∷ es) = go (n == e.0) (on-map f nothing n es)
 
 pub on-nodes_of : {A : Type 0} (table : Slab held.Registration) (n : ℕ) (es : List (ℕ × Vec ℕ A)) → on n (nodes_of table es) ≡ found table (on n (listed es))
 on-nodes_of table n es = on-map (found table) refl n (listed es)
-
-module _ {A : Type 0} where
-  pub queues_of-push : (qs : List (Vec Record A)) (q : Vec Record A) → q.items ≡ [] → queues_of (qs ++ q ∷ []) ≡ queues_of qs ++ [] ∷ []
-  queues_of-push [] q e = ap (λ rs. rs ∷ []) e
-  queues_of-push (p ∷ qs) q e = ap (λ rs. p.items ∷ rs) (queues_of-push qs q e)
-
-  pub queues_of-set : (qs : List (Vec Record A)) (i : ℕ) (q : Vec Record A) (rs : List Record) → q.items ≡ rs → queues_of (slice_set qs i q) ≡ slice_set (queues_of qs) i rs
-  queues_of-set [] zero q rs e = refl
-  queues_of-set [] (suc i) q rs e = refl
-  queues_of-set (p ∷ qs) zero q rs e = ap (λ xs. xs ∷ queues_of qs) e
-  queues_of-set (p ∷ qs) (suc i) q rs e = ap (λ xs. p.items ∷ xs) (queues_of-set qs i q rs e)
-
-  pub queues_of-at : (qs : List (Vec Record A)) (i : ℕ) (d : Vec Record A) → i < length qs → slice_index_or (queues_of qs) i [] ≡ (slice_index_or qs i d).items
-  queues_of-at [] i d lt = absurd (omega arith)
-  queues_of-at (q ∷ qs) zero d lt = refl
-  queues_of-at (q ∷ qs) (suc i) d lt = queues_of-at qs i d (omega arith)
-
-  pub queues_of-length : (qs : List (Vec Record A)) → length (queues_of qs) ≡ length qs
-  queues_of-length [] = refl
-  queues_of-length (q ∷ qs) = omega (arith, queues_of-length qs)
 
 module _ {A : Type 0} where
   pub keys_by-set : (ls : List (Vec ℕ A)) (i : ℕ) (l : Vec ℕ A) (ks : List ℕ) → l.items ≡ ks → keys_by (slice_set ls i l) ≡ slice_set (keys_by ls) i ks
@@ -74,6 +54,10 @@ module _ {A : Type 0} where
   keys_by-push [] l e (suc i) = refl
   keys_by-push (p ∷ ls) l e zero = refl
   keys_by-push (p ∷ ls) l e (suc i) = keys_by-push ls l e i
+
+-- one more queue, with nothing in it
+pub queues-pushed : (qs new : List (List Record)) (q : List Record) → new ≡ qs ++ q ∷ [] → q ≡ [] → new ≡ qs ++ [] ∷ []
+queues-pushed qs new q pushed nothing = pushed ∙ ap (λ rs. qs ++ rs ∷ []) nothing
 
 no_queue : (none : List Record) (k : ℕ) → slice_index_or (none ∷ []) k none ≡ none
 no_queue none zero = refl
@@ -248,20 +232,28 @@ set_same [] (suc i) d = refl
 set_same (x ∷ xs) zero d = refl
 set_same (x ∷ xs) (suc i) d = ap (λ ys. x ∷ ys) (set_same xs i d)
 
+-- a place that is there, whatever is read where none is
+at_place : {A : Type 0} (xs : List A) (i : ℕ) (d e : A) → i < length xs → slice_index_or xs i d ≡ slice_index_or xs i e
+at_place [] i d e lt = absurd (omega arith)
+at_place (x ∷ xs) zero d e lt = refl
+at_place (x ∷ xs) (suc i) d e lt = at_place xs i d e (omega arith)
+
+-- a queue that is there
+pub queue-at : (qs : List (List Record)) (i : ℕ) (d : List Record) → i < length qs → slice_index_or qs i d ≡ slice_index_or qs i []
+queue-at qs i d within = at_place qs i d [] within
+
 -- a record is put in a queue, or is not
-module _ {A : Type 0} (qs : List (Vec Record A)) (i : ℕ) (d : Vec Record A) (within : i < length qs) (q : Vec Record A) where
-  pub queue-pushed : (r : Record) (p : ℕ) → q.items ≡ (slice_index_or qs i d).items ++ r ∷ []
-      → slice_index_or (queues_of (slice_set qs i q)) p [] ≡ (if i == p then slice_index_or (queues_of qs) p [] ++ r ∷ [] else slice_index_or (queues_of qs) p [])
+module _ (qs : List (List Record)) (i : ℕ) (d : List Record) (within : i < length qs) (q : List Record) where
+  pub queue-pushed : (r : Record) (p : ℕ) → q ≡ slice_index_or qs i d ++ r ∷ []
+      → slice_index_or (slice_set qs i q) p [] ≡ (if i == p then slice_index_or qs p [] ++ r ∷ [] else slice_index_or qs p [])
   queue-pushed r p e =
-      ap (λ ls. slice_index_or ls p []) (queues_of-set qs i q ((slice_index_or qs i d).items ++ r ∷ []) e)
-      ∙ elim (same_or i p) [
+      elim (same_or i p) [
         | same f t ↦ rw t (
-            ap (λ k. slice_index_or (slice_set (queues_of qs) i ((slice_index_or qs i d).items ++ r ∷ [])) k []) (sym f)
-            ∙ get_or-set_same (queues_of qs) i ((slice_index_or qs i d).items ++ r ∷ []) [] (omega (arith, queues_of-length qs))
-            ∙ ap (λ rs. rs ++ r ∷ []) (sym (queues_of-at qs i d within) ∙ ap (λ k. slice_index_or (queues_of qs) k []) f))
-        | apart ne t ↦ rw t (get_or-set_other (queues_of qs) i p ((slice_index_or qs i d).items ++ r ∷ []) [] (λ g. ne (sym g)))
+            ap (λ k. slice_index_or (slice_set qs i q) k []) (sym f)
+            ∙ get_or-set_same qs i q [] within
+            ∙ e ∙ ap (λ rs. rs ++ r ∷ []) (queue-at qs i d within ∙ ap (λ k. slice_index_or qs k []) f))
+        | apart ne t ↦ rw t (get_or-set_other qs i p q [] (λ g. ne (sym g)))
       ]
 
-  pub queue-unpushed : q.items ≡ (slice_index_or qs i d).items → queues_of (slice_set qs i q) ≡ queues_of qs
-  queue-unpushed e =
-      queues_of-set qs i q (slice_index_or (queues_of qs) i []) (e ∙ sym (queues_of-at qs i d within)) ∙ set_same (queues_of qs) i []
+  pub queue-unpushed : q ≡ slice_index_or qs i d → slice_set qs i q ≡ qs
+  queue-unpushed e = ap (slice_set qs i) (e ∙ queue-at qs i d within) ∙ set_same qs i []

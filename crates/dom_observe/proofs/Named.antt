@@ -15,7 +15,7 @@ use Rattle.dom_model.proofs.PlainLists.Numbers.{Same, same_or, same, apart}
 use Rattle.dom_observe.specs.declared.registration.Registration as held
 use Rattle.dom_observe.specs.Watchers.{on}
 use Rattle.dom_observe.specs.Registrations.{at}
-use Rattle.dom_observe.specs.Kept.{nodes_of, queues_of}
+use Rattle.dom_observe.specs.Kept.{nodes_of}
 use Rattle.dom_observe.specs.Naming.{names_one}
 use Rattle.dom_observe.proofs.Asked.{any-found}
 
@@ -32,7 +32,7 @@ neither true b h i = h
 neither false b h i = i
 
 -- two answers that are no alike are the same
-alike : (a b : Bool) → (a ≡ false → b ≡ false) → (b ≡ false → a ≡ false) → a ≡ b
+pub alike : (a b : Bool) → (a ≡ false → b ≡ false) → (b ≡ false → a ≡ false) → a ≡ b
 alike true true f g = refl
 alike true false f g = g refl
 alike false true f g = sym (f refl)
@@ -128,10 +128,6 @@ module _ {A : Type 0} (table : Slab held.Registration) where
       ≡ list_any (λ e. list_any (λ r. list_any p (nodes_of_registration r)) e.1) (nodes_of table es)
   any-nodes_of p [] = refl
   any-nodes_of p (e ∷ es) = (λ i. any-found (λ r. list_any p (nodes_of_registration r)) (at table) e.1.items i || any-nodes_of p es i)
-
-pub any-queues_of : {A : Type 0} (p : Record → Bool) (qs : List (Vec Record A)) → list_any (λ q. list_any p q.items) qs ≡ list_any p (flat_map (λ q. q) (queues_of qs))
-any-queues_of p [] = refl
-any-queues_of p (q ∷ qs) = ap (λ b. list_any p q.items || b) (any-queues_of p qs) ∙ sym (list_any-append p q.items (flat_map (λ r. r) (queues_of qs)))
 
 -- the nodes that are named, in the order of the definitions
 pub any-observed : (p : ℕ → Bool) (x : Observing) → list_any p (observed_nodes x)

@@ -5,6 +5,10 @@ pub on_ok : {A E : Type 0} (r : Result A E) {P Q : Type 0} → OnOk r P → (P �
 on_ok (Ok x) h f = f h
 on_ok (Err e) h f = h
 
+pub on_err : {A E : Type 0} (r : Result A E) {P Q : Type 0} → OnErr r P → (P → Q) → OnErr r Q
+on_err (Ok x) h f = h
+on_err (Err e) h f = f h
+
 pub by_outcome : {A E : Type 0} (r : Result A E) {P B C Q : Type 0} → OnOk r P → OnErr r B → OnErr r C → (P → Q) → (B → C → Q) → Q
 by_outcome (Ok x) h b c f g = f h
 by_outcome (Err e) h b c f g = g b c

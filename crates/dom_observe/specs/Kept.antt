@@ -13,10 +13,6 @@ use Rattle.dom_observe.specs.Registrations.{at, found, listed, lasts_for, passes
 abbrev pub nodes_of : {A : Type 0} → Slab Registration → List (ℕ × Vec ℕ A) → List (ℕ × List model.Registration)
 nodes_of table entries = map (λ e. (e.0, found table e.1)) (listed entries)
 
--- the records of each queue
-abbrev pub queues_of : {A : Type 0} → List (Vec Record A) → List (List Record)
-queues_of queues = map (λ q. q.items) queues
-
 -- the keys of each observer
 abbrev pub keys_by : {A : Type 0} → List (Vec ℕ A) → List (List ℕ)
 keys_by lists = map (λ l. l.items) lists

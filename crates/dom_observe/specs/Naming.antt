@@ -1,7 +1,9 @@
 -- The nodes that observers name: those of their registrations, and those of the records that wait.
-use Rattle.std.specs.Prelude.{◌≡◌, ℕ, Bool, false, List, [], Option, slice_index_or}
+use Rattle.std.specs.Prelude.{◌≡◌, ℕ, Bool, false, List, [], Option, slice_index_or, flat_map, nat_eq}
 use Rattle.std.specs.Option.{option_map_or}
 use Rattle.std.specs.List.{list_any, AllByRecursion}
+use Rattle.indexmap.specs.IndexSet.{IndexSet, contains}
+use Rattle.dom_model.specs.PlainLists.Lists.{among}
 use Rattle.dom_model.specs.Worlds.World.{Registration}
 use Rattle.dom_model.specs.MutationObservers.Record.{Record}
 use Rattle.dom_model.specs.MutationAlgorithms.Discarding.{nodes_of_registration, nodes_of_record}
@@ -18,3 +20,7 @@ NamesNone p under lists = (n : ℕ) → AllByRecursion (λ key. names_one p (und
 -- nor does a record that waits
 abbrev pub TellsNone : (ℕ → Bool) → List (List Record) → Type 0
 TellsNone p queues = (o : ℕ) → list_any (λ r. list_any p (nodes_of_record r)) (slice_index_or queues o []) ≡ false
+
+-- a set has the numbers of the nodes that records name, and no others
+abbrev pub NamesNodes : {S : Type 0} → List Record → IndexSet ℕ S → Type 0
+NamesNodes records named = (n : ℕ) → contains nat_eq named n ≡ among n (flat_map nodes_of_record records)

@@ -1,18 +1,19 @@
 //! Which nodes the registrations and the records that wait name.
 
-ghost use Rattle.std.specs.Prelude.{◌≡◌};
-ghost use Rattle.std.specs.List.{list_any};
+ghost use Rattle.std.specs.Prelude.{◌≡◌, ◌<◌, [], length, flat_map, slice_index_or};
+ghost use Rattle.std.specs.List.{list_any, AllByRecursion};
 ghost use Rattle.dom_model.specs.PlainLists.Lists.{among};
-ghost use Rattle.dom_model.specs.Forests.Forest.{inclusive_descendants};
+ghost use Rattle.dom_model.specs.Forests.Forest.{HasNode, inclusive_descendants};
 ghost use Rattle.dom_model.specs.MutationAlgorithms.Discarding.{if_any, nodes_of_registration, nodes_of_record};
 ghost use Rattle.indexmap.specs.IndexMap.{values};
 ghost use Rattle.dom_observe.specs.Registrations.{plain, at};
 ghost use Rattle.dom_observe.specs.Naming.{names_one};
 
-use crate::record::Record;
+use crate::observer_id::ObserverId;
+use crate::queue::Queue;
 use crate::registration::Registration;
 use dom_tree::{NodeId, Tree};
-use indexmap::IndexMap;
+use indexmap::{IndexMap, IndexSet};
 use slab::Slab;
 
 // Whether a node that may be missing stands inside another.
@@ -23,13 +24,6 @@ fn is_some_inside<X>(tree: &Tree<X>, top: NodeId, node: Option<NodeId>) -> bool
         Some(node) => tree.is_inside(top, node),
         None => false,
     }
-}
-
-// The same of one of several nodes.
-fn is_any_inside<X>(tree: &Tree<X>, top: NodeId, nodes: &[NodeId]) -> bool
-    ensures { result ≡ list_any (λ m. among m (inclusive_descendants tree.now.forest top)) nodes.now }
-{
-    nodes.iter().any(|node| tree.is_inside(top, *node))
 }
 
 // Whether a registration names a node inside.
@@ -56,24 +50,6 @@ fn any_names<X>(tree: &Tree<X>, top: NodeId, table: &Slab<Registration>, keys: &
     keys.iter().any(|key| names_at(tree, top, table, *key))
 }
 
-// Whether a record names a node inside.
-fn tells<X>(tree: &Tree<X>, top: NodeId, told: &Record) -> bool
-    ensures { result ≡ list_any (λ m. among m (inclusive_descendants tree.now.forest top)) (nodes_of_record told.now) }
-{
-    tree.is_inside(top, told.target)
-        || (is_any_inside(tree, top, told.added.as_slice())
-            || (is_any_inside(tree, top, told.removed.as_slice())
-                || (is_some_inside(tree, top, told.previous)
-                    || is_some_inside(tree, top, told.next))))
-}
-
-// The same of one of several records.
-fn any_tells<X>(tree: &Tree<X>, top: NodeId, records: &[Record]) -> bool
-    ensures { result ≡ list_any (λ r. list_any (λ m. among m (inclusive_descendants tree.now.forest top)) (nodes_of_record r)) records.now }
-{
-    records.iter().any(|told| tells(tree, top, told))
-}
-
 // Whether a registration, of those under the keys of nodes, names a node inside.
 pub fn is_named<X>(
     tree: &Tree<X>,
@@ -90,11 +66,21 @@ pub fn is_named<X>(
     )
 }
 
-// Whether a record in a queue names a node inside.
-pub fn is_told<X>(tree: &Tree<X>, top: NodeId, queues: &[Vec<Record>]) -> bool
-    ensures { result ≡ list_any (λ queue. list_any (λ r. list_any (λ m. among m (inclusive_descendants tree.now.forest top)) (nodes_of_record r)) queue.items) queues.now }
+// Whether a record that waits for a pending observer names a node inside.
+pub fn is_told<X>(
+    tree: &Tree<X>,
+    top: NodeId,
+    queues: &[Queue],
+    pending: &IndexSet<ObserverId>,
+) -> bool
+    requires held { HasNode tree.now.forest top }
+    requires made { AllByRecursion (λ o. o < length queues.now) pending.now.keys }
+    ensures { result ≡ list_any (λ o. list_any (λ m. among m (inclusive_descendants tree.now.forest top)) (flat_map nodes_of_record (slice_index_or queues.now o []))) pending.now.keys }
 {
-    queues
-        .iter()
-        .any(|queue| any_tells(tree, top, queue.as_slice()))
+    for observer in pending.as_slice() {
+        if queues[observer.number() as usize].names_inside(tree, top) {
+            return true;
+        }
+    }
+    false
 }

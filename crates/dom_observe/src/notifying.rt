@@ -4,11 +4,11 @@ ghost use Rattle.std.specs.Prelude.{◌≡◌, ◌<◌, ℕ, Bool, [], filter, l
 ghost use Rattle.std.specs.List.{AllByRecursion, IsDistinct};
 ghost use Rattle.dom_model.specs.PlainLists.Lists.{among};
 ghost use Rattle.dom_model.specs.MutationObservers.Records.{has_records};
-ghost use Rattle.dom_observe.specs.Kept.{queues_of};
 ghost use Rattle.dom_observe.specs.Naming.{TellsNone};
 ghost use Rattle.dom_observe.specs.Notifying.{told_of, waiting_for};
 
 use crate::observer_id::ObserverId;
+use crate::queue::Queue;
 use crate::queues::take_from;
 use crate::record::Record;
 use indexmap::IndexSet;
@@ -17,14 +17,14 @@ use std::alloc::{AllocError, Global};
 // Takes the records of the pending observers out of their queues, in order; an observer whose queue is empty is left out.
 pub fn gather(
     pending: &IndexSet<ObserverId>,
-    queues: &mut Vec<Vec<Record>>,
+    queues: &mut Vec<Queue>,
     alloc: Global,
 ) -> Result<Vec<(ObserverId, Vec<Record>)>, AllocError>
     requires { AllByRecursion (λ o. o < length queues.old.items) pending.now.keys }
-    ensures told { IfOk result (λ told. told_of told.items ≡ filter has_records (map (waiting_for (queues_of queues.old.items)) pending.now.keys)) }
-    ensures emptied { OnOk result ((p : ℕ) → among p pending.now.keys ≡ true → slice_index_or (queues_of queues.new.items) p [] ≡ []) }
-    ensures empty { (p : ℕ) → slice_index_or (queues_of queues.old.items) p [] ≡ [] → slice_index_or (queues_of queues.new.items) p [] ≡ [] }
-    ensures names { (p : ℕ → Bool) → TellsNone p (queues_of queues.old.items) → TellsNone p (queues_of queues.new.items) }
+    ensures told { IfOk result (λ told. told_of told.items ≡ filter has_records (map (waiting_for queues.old.items) pending.now.keys)) }
+    ensures emptied { OnOk result ((p : ℕ) → among p pending.now.keys ≡ true → slice_index_or queues.new.items p [] ≡ []) }
+    ensures empty { (p : ℕ) → slice_index_or queues.old.items p [] ≡ [] → slice_index_or queues.new.items p [] ≡ [] }
+    ensures names { (p : ℕ → Bool) → TellsNone p queues.old.items → TellsNone p queues.new.items }
     ensures len { length queues.new.items ≡ length queues.old.items }
 {
     let mut told = Vec::new(alloc);

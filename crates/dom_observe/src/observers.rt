@@ -18,6 +18,7 @@ use crate::naming::{is_named, is_told};
 use crate::notifying::gather;
 use crate::observer_id::ObserverId;
 use crate::options::Options;
+use crate::queue::Queue;
 use crate::queues::take_from;
 use crate::record::{Mutation, Record};
 use crate::registration::{Ended, Registration};
@@ -31,7 +32,7 @@ use std::marker::Model;
 
 /// Observers, who is registered on which node, and the records that wait for them.
 ///
-/// It takes memory for each registration and for each record, and none for a node that nobody observes.
+/// It takes memory for each registration, for each record and the nodes that it names, and none for a node that nobody observes.
 #[derive(Drop)]
 pub struct Observers {
     table: Slab<Registration>,
@@ -42,7 +43,7 @@ pub struct Observers {
     passing: Vec<Vec<usize>>,
     // the observers that may have transient ones
     fleeting: IndexSet<ObserverId>,
-    queues: Vec<Vec<Record>>,
+    queues: Vec<Queue>,
     pending: IndexSet<ObserverId>,
     alloc: Global,
 }
@@ -54,15 +55,15 @@ impl Model for Observers {
 
     ghost use Rattle.std.specs.Prelude.{length};
     ghost use Rattle.dom_observe.specs.Registrations.{at, listed};
-    ghost use Rattle.dom_observe.specs.Kept.{nodes_of, queues_of, keys_by, IsKept, IsIndexed};
+    ghost use Rattle.dom_observe.specs.Kept.{nodes_of, keys_by, IsKept, IsIndexed};
 
     ghost view = { λ o. record {
       nodes = nodes_of o.table o.nodes.entries;
-      queues = queues_of o.queues.items;
+      queues = o.queues.items;
       pending = o.pending.keys;
     } };
 
-    ghost invariant = { λ o. IsKept o.table o.nodes.entries (queues_of o.queues.items) o.pending.keys × IsIndexed (at o.table) (listed o.nodes.entries) (keys_by o.lasting.items) (keys_by o.passing.items) o.fleeting.keys (length (queues_of o.queues.items)) };
+    ghost invariant = { λ o. IsKept o.table o.nodes.entries o.queues.items o.pending.keys × IsIndexed (at o.table) (listed o.nodes.entries) (keys_by o.lasting.items) (keys_by o.passing.items) o.fleeting.keys (length o.queues.items) };
 }
 
 impl Observers {
@@ -94,7 +95,7 @@ impl Observers {
         seat(&mut self.lasting, made, self.alloc)?;
         seat(&mut self.passing, made, self.alloc)?;
         let id = ObserverId::new(made as u32);
-        self.queues.push(Vec::new(self.alloc))?;
+        self.queues.push(Queue::new(self.alloc))?;
         Ok(id)
     }
 
@@ -283,12 +284,15 @@ impl Observers {
         Ok(told)
     }
 
-    /// Whether a registration, or a record that waits, names a node inside another. It asks all of them, and takes no memory.
+    /// Whether a registration, or a record that waits, names a node inside another. It takes no memory.
+    ///
+    /// It asks each registration, and each queue of a pending observer, which knows the nodes that its records name.
     pub fn refers<X>(&self, tree: &Tree<X>, top: NodeId) -> bool
         requires { HasNode tree.now.forest top }
         ensures observed { (x : Observing) → Watches self.now x → result ≡ list_any (λ m. among m (inclusive_descendants tree.now.forest top)) (observed_nodes x) }
         ensures named { result ≡ list_any (λ m. among m (inclusive_descendants tree.now.forest top)) (named self.now) }
     {
-        is_named(tree, top, &self.table, &self.nodes) || is_told(tree, top, self.queues.as_slice())
+        is_named(tree, top, &self.table, &self.nodes)
+            || is_told(tree, top, self.queues.as_slice(), &self.pending)
     }
 }

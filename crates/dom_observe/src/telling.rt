@@ -8,12 +8,12 @@ ghost use Rattle.dom_model.specs.PlainLists.Lists.{among};
 ghost use Rattle.dom_model.specs.PlainLists.LastOnce.{with_all_last, with_last};
 ghost use Rattle.dom_observe.specs.Names.{text_of};
 ghost use Rattle.dom_observe.specs.Registrations.{at, Stands};
-ghost use Rattle.dom_observe.specs.Kept.{queues_of};
 ghost use Rattle.dom_observe.specs.Held.{nodes_of_mutation};
 ghost use Rattle.dom_observe.specs.Naming.{TellsNone};
 ghost use Rattle.dom_observe.specs.Telling.{listener_under, listeners, flag_of, delivered};
 
 use crate::observer_id::ObserverId;
+use crate::queue::Queue;
 use crate::record::{Mutation, Record};
 use crate::registration::{Question, Registration};
 use indexmap::{IndexMap, IndexSet};
@@ -84,28 +84,27 @@ pub fn listen(
 }
 
 // Puts a record last in a queue.
-fn deliver(queues: &mut Vec<Vec<Record>>, observer: u32, told: Record) -> Result<(), AllocError>
+fn deliver(queues: &mut Vec<Queue>, observer: u32, told: Record) -> Result<(), AllocError>
     requires { observer < length queues.old.items }
-    ensures ok { OnOk result ((p : ℕ) → slice_index_or (queues_of queues.new.items) p [] ≡ (if observer == p then slice_index_or (queues_of queues.old.items) p [] ++ told ∷ [] else slice_index_or (queues_of queues.old.items) p [])) }
-    ensures err { OnErr result (queues_of queues.new.items ≡ queues_of queues.old.items) }
+    ensures ok { OnOk result ((p : ℕ) → slice_index_or queues.new.items p [] ≡ (if observer == p then slice_index_or queues.old.items p [] ++ told ∷ [] else slice_index_or queues.old.items p [])) }
+    ensures err { OnErr result (queues.new.items ≡ queues.old.items) }
     ensures len { length queues.new.items ≡ length queues.old.items }
 {
-    queues[observer as usize].push(told)?;
-    Ok(())
+    queues[observer as usize].push(told)
 }
 
 // Puts a record of the mutation last in the queue of each listener.
 pub fn tell(
-    queues: &mut Vec<Vec<Record>>,
+    queues: &mut Vec<Queue>,
     heard: &IndexMap<u32, bool>,
     mutation: &Mutation<'_>,
     alloc: Global,
 ) -> Result<(), AllocError>
     requires unique { IsUnique nat_eq heard.now }
     requires made { AllByRecursion (λ o. o < length queues.old.items) (keys_of heard.now.entries) }
-    ensures ok { OnOk result ((p : ℕ) → slice_index_or (queues_of queues.new.items) p [] ≡ slice_index_or (queues_of queues.old.items) p [] ++ delivered mutation.now (get nat_eq heard.now p)) }
-    ensures others { (p : ℕ) → get nat_eq heard.now p ≡ None → slice_index_or (queues_of queues.new.items) p [] ≡ slice_index_or (queues_of queues.old.items) p [] }
-    ensures names { (p : ℕ → Bool) → list_any p (nodes_of_mutation mutation.now) ≡ false → TellsNone p (queues_of queues.old.items) → TellsNone p (queues_of queues.new.items) }
+    ensures ok { OnOk result ((p : ℕ) → slice_index_or queues.new.items p [] ≡ slice_index_or queues.old.items p [] ++ delivered mutation.now (get nat_eq heard.now p)) }
+    ensures others { (p : ℕ) → get nat_eq heard.now p ≡ None → slice_index_or queues.new.items p [] ≡ slice_index_or queues.old.items p [] }
+    ensures names { (p : ℕ → Bool) → list_any p (nodes_of_mutation mutation.now) ≡ false → TellsNone p queues.old.items → TellsNone p queues.new.items }
     ensures len { length queues.new.items ≡ length queues.old.items }
 {
     for index in 0..heard.len() {

@@ -4,9 +4,10 @@ ghost use Rattle.std.specs.Prelude.{◌≡◌, if◌then◌else◌};
 ghost use Rattle.std.specs.declared.cmp.Ordering.TheVariants.{Less, Greater};
 ghost use Rattle.dom_model.specs.Forests.Forest.{HasNode, root_of};
 ghost use Rattle.dom_model.specs.BoundaryPoints.Points.{order_of};
+ghost use Rattle.dom_tree.specs.Ways.{IsOnWay, AreApart};
 
 use crate::point::Point;
-use dom_tree::Tree;
+use dom_tree::{Meeting, NodeId, Tree};
 use std::cmp::Ordering;
 
 /// How two points of one root stand: as many steps as the nodes are deep, and as their ways lie apart where they part. A point at offset 0 of a node stands ahead of all points below that node, and no index is asked for.
@@ -16,8 +17,46 @@ pub fn order<X>(tree: &Tree<X>, a: Point, b: Point) -> Ordering
     requires one_root { root_of tree.now.forest a.node ≡ root_of tree.now.forest b.node }
     ensures { result ≡ order_of tree.now.forest a b }
 {
-    tree.sound();
     let met = tree.meeting(a.node, b.node);
+    order_where_met(tree, met, a, b)
+}
+
+/// How two points of one root stand. Where that asks for an index that is not found near, all siblings are numbered, so that it is known when it is asked for again. It takes no memory.
+pub fn found_order<X>(tree: &mut Tree<X>, a: Point, b: Point) -> Ordering
+    requires a_held { HasNode tree.old.forest a.node }
+    requires b_held { HasNode tree.old.forest b.node }
+    requires one_root { root_of tree.old.forest a.node ≡ root_of tree.old.forest b.node }
+    ensures order { result ≡ order_of tree.old.forest a b }
+    ensures unchanged { tree.new ≡ tree.old }
+{
+    tree.sound();
+    let meeting = tree.meeting(a.node, b.node);
+    match (meeting.first, meeting.second) {
+        (None, Some(child)) if a.offset != 0 => find_index(tree, child),
+        (Some(child), None) if b.offset != 0 => find_index(tree, child),
+        _ => {}
+    }
+    order_where_met(tree, meeting, a, b)
+}
+
+// Finds the index of a node, so that what asks for it next has it at once.
+fn find_index<X>(tree: &mut Tree<X>, node: NodeId)
+    requires { HasNode tree.old.forest node }
+    ensures { tree.new ≡ tree.old }
+{
+    let _ = tree.found_index(node);
+}
+
+// How two points stand whose ways up meet there.
+fn order_where_met<X>(tree: &Tree<X>, met: Meeting, a: Point, b: Point) -> Ordering
+    requires a_held { HasNode tree.now.forest a.node }
+    requires b_held { HasNode tree.now.forest b.node }
+    requires first { IsOnWay tree.now.forest a.node met.node met.first }
+    requires second { IsOnWay tree.now.forest b.node met.node met.second }
+    requires apart { AreApart met.first met.second }
+    ensures { result ≡ order_of tree.now.forest a b }
+{
+    tree.sound();
     match (met.first, met.second) {
         (None, None) => a.offset.cmp(&b.offset),
         (None, Some(_)) if a.offset == 0 => Ordering::Less,

@@ -6,7 +6,7 @@ ghost use Rattle.dom_model.specs.Forests.Nodes.{same_root as has_same_root};
 ghost use Rattle.dom_model.specs.RangesAndContents.Ranges.{is_before as comes_before, check_point, point_before as place_before, point_after as place_after};
 ghost use Rattle.dom_point.specs.Refusals.{refused};
 
-use crate::ordering::order;
+use crate::ordering::{found_order, order};
 use crate::point::Point;
 use dom_tree::of_kinds::{DomError, Kind};
 use dom_tree::{Body, NodeId, Tree};
@@ -32,6 +32,17 @@ pub fn is_before<X>(tree: &Tree<X>, a: Point, b: Point) -> bool
         Ordering::Less => true,
         Ordering::Equal | Ordering::Greater => false,
     }
+}
+
+/// Whether the first of two points of one root comes before the second. An index that this asks for is known when it is asked for again, as by [`found_order`].
+pub fn found_before<X>(tree: &mut Tree<X>, a: Point, b: Point) -> bool
+    requires a_held { HasNode tree.old.forest a.node }
+    requires b_held { HasNode tree.old.forest b.node }
+    requires one_root { root_of tree.old.forest a.node ≡ root_of tree.old.forest b.node }
+    ensures before { result ≡ comes_before tree.old.forest a b }
+    ensures unchanged { tree.new ≡ tree.old }
+{
+    found_order(tree, a, b) == Ordering::Less
 }
 
 /// The refusal of a node and an offset to be a boundary point: a doctype has none, and an offset is at most the length.

@@ -13,7 +13,8 @@ use Rattle.dom_ranges.specs.Tables.{RangeTable, live_nodes, paired, IsPaired, by
 use Rattle.dom_ranges.proofs.Steps.{points-at, points-length, same-length, point-written, point-kept, has-after}
 use Rattle.dom_ranges.proofs.Slots.{slots-any}
 use Rattle.dom_ranges.proofs.Pairs.{ranges-are}
-use Rattle.dom_ranges.proofs.Making.{among-any, many}
+use Rattle.dom_model.proofs.RangesAndContents.RangesElsewhere.{among-any}
+use Rattle.dom_ranges.proofs.Making.{many}
 
 -- the nodes of the ends are those of the live ranges
 pub nodes-paired : (ps : List (Option Point)) → IsPaired ps → nodes_at ps ≡ flat_map nodes_of_live (paired ps)

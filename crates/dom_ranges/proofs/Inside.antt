@@ -22,7 +22,7 @@ use Rattle.dom_ranges.specs.Chained.{uncovered, on_node}
 use Rattle.dom_ranges.specs.Tables.{RangeTable, live_nodes, moved_in}
 use Rattle.dom_ranges.proofs.Walking.{hits-first, hits-rest, among-first, among-rest, among-absent, among-there, absent-among}
 use Rattle.dom_ranges.proofs.Moving.{splice-node}
-use Rattle.dom_ranges.proofs.Making.{among-any}
+use Rattle.dom_model.proofs.RangesAndContents.RangesElsewhere.{among-any}
 
 -- ranges moved twice
 range-twice : (g h k : Point → Point) → ((p : Point) → h (g p) ≡ k p) → (r : Range) → moved_range h (moved_range g r) ≡ moved_range k r

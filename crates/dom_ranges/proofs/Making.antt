@@ -1,11 +1,8 @@
 -- What the calls that make, release and move ranges leave in order.
 use Rattle.std.proofs.Common.{◌≡◌, ℕ, ◌+◌, ◌-◌, ◌≤◌, ◌<◌, ◌^◌, ◌==◌, true, false, List, [], ◌∷◌, ◌++◌, length, get_or, set, take, Option, Some, None, refl, sym, ap, subst, ◌∙◌, ⊎_elim, arith, length-append, length-set}
-use Rattle.std.specs.List.{list_any}
-use Rattle.std.proofs.lemmas.Bool.{cases_Bool}
 use Rattle.std.proofs.lemmas.Grind.{get_or_default_zero}
 use Rattle.std.proofs.lemmas.List.{length-take-le}
 use Rattle.std.specs.Prelude.{swap_remove}
-use Rattle.dom_model.specs.PlainLists.Lists.{among}
 use Rattle.dom_model.specs.Worlds.World.{Point, Range}
 use Rattle.dom_ranges.specs.declared.chains.End.{End}
 use Rattle.dom_ranges.specs.Chained.{Heads, cover_of, points_of, HasChains}
@@ -33,10 +30,6 @@ live-few : (rs : List (Option Range)) → live_count rs ≤ length rs
 live-few [] = omega arith
 live-few (None ∷ rs) = omega (arith, live-few rs)
 live-few (Some r ∷ rs) = omega (arith, live-few rs)
-
-pub among-any : (n : ℕ) (xs : List ℕ) → among n xs ≡ list_any (λ m. m == n) xs
-among-any n [] = refl
-among-any n (x ∷ xs) = ⊎_elim (λ (a : (x == n) ≡ true). rw a refl) (λ (a : (x == n) ≡ false). rw a (among-any n xs)) (cases_Bool (x == n))
 
 -- the ends of a range moved, at numbers that were computed
 module _ (t : List End) (heads : Heads) (slots : List (Option ℕ)) (numbers : List ℕ) (k : IsInOrder t heads slots numbers) (v : RangeTable) (view : record { ranges = by_slot (paired (points_of t)) slots; covered = cover_of heads } ≡ v)

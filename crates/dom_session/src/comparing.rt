@@ -14,47 +14,54 @@ ghost use Rattle.dom_session.specs.Views.{comparing_view, reply_view};
 ghost use Rattle.dom_session.specs.Stands.{IsStep};
 
 use crate::command::Comparing;
-use crate::questions::find_index;
 use crate::reply::{Answer, Reply};
 use dom_model::OwnError;
 use dom_wrap::of_edit::{Content, World};
 use dom_wrap::of_kinds::DomError;
-use dom_wrap::of_point::{Point, checked_point, common, is_before, order, same_root};
+use dom_wrap::of_point::{Point, checked_point, common, found_before, found_order, same_root};
 use dom_wrap::of_ranges::RangeId;
 use dom_wrap::of_tree::{NodeId, Tree};
 use std::cmp::Ordering;
 
 // Where a point of the range's root stands: before it, after it, or in it.
-fn place(tree: &Tree<Content>, point: Point, start: Point, end: Point) -> Ordering
-    requires point_held { HasNode tree.now.forest point.node }
-    requires stands { StandsIn tree.now.forest (record { start = start; end = end }) }
-    requires one_root { root_of tree.now.forest point.node ≡ root_of tree.now.forest start.node }
-    ensures { result ≡ place_against tree.now.forest point (record { start = start; end = end }) }
+fn place(tree: &mut Tree<Content>, point: Point, start: Point, end: Point) -> Ordering
+    requires point_held { HasNode tree.old.forest point.node }
+    requires stands { StandsIn tree.old.forest (record { start = start; end = end }) }
+    requires one_root { root_of tree.old.forest point.node ≡ root_of tree.old.forest start.node }
+    ensures place { result ≡ place_against tree.old.forest point (record { start = start; end = end }) }
+    ensures unchanged { tree.new ≡ tree.old }
 {
-    if is_before(tree, point, start) {
+    if found_before(tree, point, start) {
         return Ordering::Less;
     }
-    if is_before(tree, end, point) {
+    if found_before(tree, end, point) {
         return Ordering::Greater;
     }
     Ordering::Equal
 }
 
 // Whether a point of the range's root stands neither before the range nor after it.
-fn is_inside(tree: &Tree<Content>, point: Point, start: Point, end: Point) -> bool
-    requires point_held { HasNode tree.now.forest point.node }
-    requires stands { StandsIn tree.now.forest (record { start = start; end = end }) }
-    requires one_root { has_same_root tree.now.forest point.node start.node ≡ true }
-    ensures { result ≡ is_point_in tree.now.forest point (record { start = start; end = end }) }
+fn is_inside(tree: &mut Tree<Content>, point: Point, start: Point, end: Point) -> bool
+    requires point_held { HasNode tree.old.forest point.node }
+    requires stands { StandsIn tree.old.forest (record { start = start; end = end }) }
+    requires one_root { has_same_root tree.old.forest point.node start.node ≡ true }
+    ensures inside { result ≡ is_point_in tree.old.forest point (record { start = start; end = end }) }
+    ensures unchanged { tree.new ≡ tree.old }
 {
-    !is_before(tree, point, start) && !is_before(tree, end, point)
+    !found_before(tree, point, start) && !found_before(tree, end, point)
 }
 
 /// Compares an end of a live range with one of a source: with `how` 0 both starts, 1 the end with the source's start, 2 both ends, 3 the
 /// start with the source's end.
-pub fn compare_boundary_points(world: &World, range: RangeId, how: u32, source: RangeId) -> Reply
-    requires shown { IsShown world.now }
-    ensures step { (b : Bounds) → IsStep world.now world.now b (CompareBoundaryPoints range how source) result }
+pub fn compare_boundary_points(
+    world: &mut World,
+    range: RangeId,
+    how: u32,
+    source: RangeId,
+) -> Reply
+    requires shown { IsShown world.old }
+    ensures step { (b : Bounds) → IsStep world.old world.new b (CompareBoundaryPoints range how source) result }
+    ensures unchanged { world.new ≡ world.old }
 {
     if !world.ranges.holds(range) || !world.ranges.holds(source) {
         return Reply::Own(OwnError::NoSuchObject);
@@ -73,13 +80,14 @@ pub fn compare_boundary_points(world: &World, range: RangeId, how: u32, source: 
     } else {
         source_end
     };
-    Reply::Done(Answer::Order(order(&world.tree, this, other)))
+    Reply::Done(Answer::Order(found_order(&mut world.tree, this, other)))
 }
 
 /// Whether a point stands before a live range, in it, or after it.
-pub fn compare_point(world: &World, range: RangeId, node: NodeId, offset: u32) -> Reply
-    requires shown { IsShown world.now }
-    ensures step { (b : Bounds) → IsStep world.now world.now b (ComparePoint range node offset) result }
+pub fn compare_point(world: &mut World, range: RangeId, node: NodeId, offset: u32) -> Reply
+    requires shown { IsShown world.old }
+    ensures step { (b : Bounds) → IsStep world.old world.new b (ComparePoint range node offset) result }
+    ensures unchanged { world.new ≡ world.old }
 {
     if !world.ranges.holds(range) || !world.tree.holds(node) {
         return Reply::Own(OwnError::NoSuchObject);
@@ -91,7 +99,7 @@ pub fn compare_point(world: &World, range: RangeId, node: NodeId, offset: u32) -
     }
     match checked_point(&world.tree, node, offset) {
         Ok(()) => Reply::Done(Answer::Order(place(
-            &world.tree,
+            &mut world.tree,
             Point { node, offset },
             start,
             end,
@@ -101,9 +109,10 @@ pub fn compare_point(world: &World, range: RangeId, node: NodeId, offset: u32) -
 }
 
 /// Whether a point stands in a live range; a point of another root does not.
-pub fn is_point_in_range(world: &World, range: RangeId, node: NodeId, offset: u32) -> Reply
-    requires shown { IsShown world.now }
-    ensures step { (b : Bounds) → IsStep world.now world.now b (IsPointInRange range node offset) result }
+pub fn is_point_in_range(world: &mut World, range: RangeId, node: NodeId, offset: u32) -> Reply
+    requires shown { IsShown world.old }
+    ensures step { (b : Bounds) → IsStep world.old world.new b (IsPointInRange range node offset) result }
+    ensures unchanged { world.new ≡ world.old }
 {
     if !world.ranges.holds(range) || !world.tree.holds(node) {
         return Reply::Own(OwnError::NoSuchObject);
@@ -115,7 +124,7 @@ pub fn is_point_in_range(world: &World, range: RangeId, node: NodeId, offset: u3
     }
     match checked_point(&world.tree, node, offset) {
         Ok(()) => Reply::Done(Answer::Flag(is_inside(
-            &world.tree,
+            &mut world.tree,
             Point { node, offset },
             start,
             end,
@@ -125,10 +134,11 @@ pub fn is_point_in_range(world: &World, range: RangeId, node: NodeId, offset: u3
 }
 
 // Whether a node of the range's root meets the range. A root does.
-fn meets(tree: &Tree<Content>, node: NodeId, start: Point, end: Point) -> bool
-    requires node_held { HasNode tree.now.forest node }
-    requires stands { StandsIn tree.now.forest (record { start = start; end = end }) }
-    ensures { result ≡ intersects tree.now.forest node (record { start = start; end = end }) }
+fn meets(tree: &mut Tree<Content>, node: NodeId, start: Point, end: Point) -> bool
+    requires node_held { HasNode tree.old.forest node }
+    requires stands { StandsIn tree.old.forest (record { start = start; end = end }) }
+    ensures meets { result ≡ intersects tree.old.forest node (record { start = start; end = end }) }
+    ensures unchanged { tree.new ≡ tree.old }
 {
     tree.sound();
     if !same_root(tree, node, start.node) {
@@ -139,7 +149,7 @@ fn meets(tree: &Tree<Content>, node: NodeId, start: Point, end: Point) -> bool
     };
     // an index is below the count, so the offset behind the node is a number of the machine too
     let _ = tree.count(parent);
-    let index = tree.index(node);
+    let index = tree.found_index(node);
     let before = Point {
         node: parent,
         offset: index,
@@ -148,7 +158,7 @@ fn meets(tree: &Tree<Content>, node: NodeId, start: Point, end: Point) -> bool
         node: parent,
         offset: index + 1,
     };
-    is_before(tree, before, end) && is_before(tree, start, after)
+    found_before(tree, before, end) && found_before(tree, start, after)
 }
 
 /// Whether a live range and a node meet.
@@ -160,9 +170,8 @@ pub fn intersects_node(world: &mut World, range: RangeId, node: NodeId) -> Reply
     if !world.ranges.holds(range) || !world.tree.holds(node) {
         return Reply::Own(OwnError::NoSuchObject);
     }
-    find_index(world, node);
     let (start, end) = world.ranges.ends(range);
-    Reply::Done(Answer::Flag(meets(&world.tree, node, start, end)))
+    Reply::Done(Answer::Flag(meets(&mut world.tree, node, start, end)))
 }
 
 /// The deepest node that has both ends of a live range in it.

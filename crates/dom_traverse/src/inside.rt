@@ -39,3 +39,19 @@ pub(crate) fn past_inside<X>(tree: &Tree<X>, top: NodeId, node: NodeId) -> Optio
     }
     None
 }
+
+// Whether at most `few` nodes stand inside `top`. It counts no further. Only the time that something takes hangs on the answer, so no clause
+// says it.
+pub(crate) fn has_few_inside<X>(tree: &Tree<X>, top: NodeId, few: usize) -> bool
+    requires { HasNode tree.now.forest top }
+{
+    tree.sound();
+    let mut here = top;
+    for _step in 0..few {
+        match tree.next_inside(top, here) {
+            Some(next) => here = next,
+            None => return true,
+        }
+    }
+    false
+}

@@ -6,13 +6,19 @@ ghost use Rattle.std.specs.Option.{ForSome};
 ghost use Rattle.dom_model.specs.PlainLists.Lists.{among};
 ghost use Rattle.dom_model.specs.Forests.Forest.{HasNode, inclusive_descendants};
 ghost use Rattle.dom_model.specs.Traversal.Iterators.{new_iterator, next_found, previous_found, moved_to_next, moved_to_previous};
-ghost use Rattle.dom_model.specs.MutationAlgorithms.PreRemoval.{pre_removed_all};
+ghost use Rattle.dom_model.specs.MutationAlgorithms.PreRemoval.{pre_removed, pre_removed_all};
 ghost use Rattle.dom_model.specs.MutationAlgorithms.Discarding.{nodes_of_iterator};
+ghost use Rattle.dom_traverse.specs.GivingWay.{GaveWay};
 ghost use Rattle.dom_traverse.specs.Standing.{StandsInside};
 
 use crate::filter::Filter;
+use crate::giving_way::{give_way, settle};
+use crate::inside::has_few_inside;
 use crate::iterator::NodeIterator;
+use crate::naming::{name, names_inside};
+use crate::whereabouts::Whereabouts;
 use dom_tree::{NodeId, Tree};
+use indexmap::IndexSet;
 use std::alloc::{AllocError, Global};
 use std::marker::Model;
 
@@ -54,6 +60,10 @@ impl IteratorId {
 #[derive(Drop)]
 pub struct NodeIterators {
     iterators: Vec<NodeIterator>,
+    // where each stands: at its reference
+    references: Whereabouts,
+    // the numbers of their roots
+    roots: IndexSet<u32>,
 }
 
 impl Model for NodeIterators {
@@ -63,6 +73,10 @@ impl Model for NodeIterators {
     ghost Value = { List Iterator };
 
     ghost view = { λ i. i.iterators.items };
+
+    ghost use Rattle.dom_traverse.specs.Naming.{IteratorsFound};
+
+    ghost invariant = { λ i. IteratorsFound i.iterators.items i.roots i.references };
 }
 
 impl NodeIterators {
@@ -72,6 +86,8 @@ impl NodeIterators {
     {
         NodeIterators {
             iterators: Vec::new(alloc),
+            references: Whereabouts::new(alloc),
+            roots: IndexSet::new(alloc),
         }
     }
 
@@ -83,12 +99,16 @@ impl NodeIterators {
         ensures unchanged { OnErr result (self.new ≡ self.old) }
     {
         let id = IteratorId::new(self.iterators.len() as u32);
-        self.iterators.push(NodeIterator {
+        self.iterators.reserve(1)?;
+        self.roots.reserve(1)?;
+        self.references.add(root)?;
+        name(&mut self.roots, root);
+        self.iterators.push_reserved(NodeIterator {
             root,
             reference: root,
             before: true,
             filter,
-        })?;
+        });
         Ok(id)
     }
 
@@ -122,7 +142,10 @@ impl NodeIterators {
         ensures found { IfSome (slice_get self.old id) (λ i. result ≡ next_found tree.now.forest i) }
         ensures moved { IfSome (slice_get self.old id) (λ i. self.new ≡ slice_set self.old id (moved_to_next tree.now.forest i)) }
     {
-        self.iterators[id.number() as usize].next(tree)
+        let iterator = &mut self.iterators[id.number() as usize];
+        let found = iterator.next(tree);
+        self.references.set(id.number(), iterator.reference);
+        found
     }
 
     /// `previousNode()`.
@@ -132,21 +155,87 @@ impl NodeIterators {
         ensures found { IfSome (slice_get self.old id) (λ i. result ≡ previous_found tree.now.forest i) }
         ensures moved { IfSome (slice_get self.old id) (λ i. self.new ≡ slice_set self.old id (moved_to_previous tree.now.forest i)) }
     {
-        self.iterators[id.number() as usize].previous(tree)
+        let iterator = &mut self.iterators[id.number() as usize];
+        let found = iterator.previous(tree);
+        self.references.set(id.number(), iterator.reference);
+        found
     }
 
     /// The pre-removing steps of every iterator, before a node is taken from its parent.
+    ///
+    /// It walks the nodes inside, and where they are more than the iterators it asks each iterator.
     pub fn removing<X>(&mut self, tree: &Tree<X>, node: NodeId)
         requires { HasNode tree.now.forest node }
         ensures { self.new ≡ pre_removed_all tree.now.forest node self.old }
     {
-        for iterator in self.iterators.iter_mut() {
-            iterator.removing(tree, node);
+        if has_few_inside(tree, node, self.iterators.len()) {
+            self.removing_inside(tree, node);
+        } else {
+            self.removing_each(tree, node);
         }
     }
 
+    // The same, by the iterators at each node inside.
+    fn removing_inside<X>(&mut self, tree: &Tree<X>, node: NodeId)
+        requires { HasNode tree.now.forest node }
+        ensures { self.new ≡ pre_removed_all tree.now.forest node self.old }
+    {
+        tree.sound();
+        let mut here = node;
+        loop {
+            self.give_way(tree, node, here);
+            let Some(next) = tree.next_inside(node, here) else {
+                return;
+            };
+            here = next;
+        }
+    }
+
+    // The same, by each iterator there is.
+    fn removing_each<X>(&mut self, tree: &Tree<X>, node: NodeId)
+        requires { HasNode tree.now.forest node }
+        ensures { self.new ≡ pre_removed_all tree.now.forest node self.old }
+    {
+        for index in 0..self.iterators.len() {
+            self.step_off(tree, node, index as u32);
+        }
+    }
+
+    // The pre-removing steps of the iterators whose reference is `here`, and of others that are found with them.
+    fn give_way<X>(&mut self, tree: &Tree<X>, node: NodeId, here: NodeId)
+        requires { HasNode tree.now.forest node }
+        ensures { GaveWay (pre_removed tree.now.forest node) here self.old self.new }
+    {
+        give_way(&mut self.iterators, &mut self.references, tree, node, here);
+        settle(&self.iterators, &mut self.references);
+    }
+
+    // The pre-removing steps of one iterator.
+    fn step_off<X>(&mut self, tree: &Tree<X>, node: NodeId, id: u32)
+        requires held { HasNode tree.now.forest node }
+        requires there { id < length self.old }
+        ensures { IfSome (slice_get self.old id) (λ i. self.new ≡ slice_set self.old id (pre_removed tree.now.forest node i)) }
+    {
+        let iterator = &mut self.iterators[id as usize];
+        iterator.removing(tree, node);
+        self.references.set(id, iterator.reference);
+    }
+
     /// Whether some iterator has its root or its reference among the inclusive descendants of a node.
+    ///
+    /// It walks the nodes inside, and where they are more than the iterators it asks each iterator.
     pub fn refers<X>(&self, tree: &Tree<X>, top: NodeId) -> bool
+        requires { HasNode tree.now.forest top }
+        ensures { result ≡ list_any (λ m. among m (inclusive_descendants tree.now.forest top)) (flat_map nodes_of_iterator self.now) }
+    {
+        match names_inside(&self.roots, &self.references, tree, top) {
+            Some(answer) => answer,
+            None => self.refer(tree, top),
+        }
+    }
+
+    // The same, by each iterator there is.
+    fn refer<X>(&self, tree: &Tree<X>, top: NodeId) -> bool
         requires { HasNode tree.now.forest top }
         ensures { result ≡ list_any (λ m. among m (inclusive_descendants tree.now.forest top)) (flat_map nodes_of_iterator self.now) }
     {

@@ -3,12 +3,17 @@
 
 mod course;
 mod filter;
+mod giving_way;
 mod inside;
 mod iterator;
 mod iterators;
+mod naming;
+mod places;
+mod seats;
 mod walker;
 mod walkers;
 mod walks;
+mod whereabouts;
 
 pub use dom_model::{Move, Verdict};
 pub use filter::{Filter, Rule};

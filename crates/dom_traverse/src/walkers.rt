@@ -10,9 +10,12 @@ ghost use Rattle.dom_model.specs.MutationAlgorithms.Discarding.{nodes_of_walker}
 ghost use Rattle.dom_traverse.specs.Standing.{StandsThere};
 
 use crate::filter::Filter;
+use crate::naming::{name, names_inside};
 use crate::walker::TreeWalker;
+use crate::whereabouts::Whereabouts;
 use dom_model::Move;
 use dom_tree::{NodeId, Tree};
+use indexmap::IndexSet;
 use std::alloc::{AllocError, Global};
 use std::marker::Model;
 
@@ -54,6 +57,10 @@ impl WalkerId {
 #[derive(Drop)]
 pub struct Walkers {
     walkers: Vec<TreeWalker>,
+    // where each stands: at its current node
+    currents: Whereabouts,
+    // the numbers of their roots
+    roots: IndexSet<u32>,
 }
 
 impl Model for Walkers {
@@ -63,6 +70,10 @@ impl Model for Walkers {
     ghost Value = { List Walker };
 
     ghost view = { λ w. w.walkers.items };
+
+    ghost use Rattle.dom_traverse.specs.Naming.{WalkersFound};
+
+    ghost invariant = { λ w. WalkersFound w.walkers.items w.roots w.currents };
 }
 
 impl Walkers {
@@ -72,6 +83,8 @@ impl Walkers {
     {
         Walkers {
             walkers: Vec::new(alloc),
+            currents: Whereabouts::new(alloc),
+            roots: IndexSet::new(alloc),
         }
     }
 
@@ -83,11 +96,15 @@ impl Walkers {
         ensures unchanged { OnErr result (self.new ≡ self.old) }
     {
         let id = WalkerId::new(self.walkers.len() as u32);
-        self.walkers.push(TreeWalker {
+        self.walkers.reserve(1)?;
+        self.roots.reserve(1)?;
+        self.currents.add(root)?;
+        name(&mut self.roots, root);
+        self.walkers.push_reserved(TreeWalker {
             root,
             current: root,
             filter,
-        })?;
+        });
         Ok(id)
     }
 
@@ -120,6 +137,7 @@ impl Walkers {
         ensures { IfSome (slice_get self.old id) (λ w. self.new ≡ slice_set self.old id (record w { current = node })) }
     {
         self.walkers[id.number() as usize].current = node;
+        self.currents.set(id.number(), node);
     }
 
     /// Makes one of the seven moves: to the node that it finds, where there is one.
@@ -129,11 +147,27 @@ impl Walkers {
         ensures found { IfSome (slice_get self.old id) (λ w. result ≡ walk_found direction tree.now.forest w) }
         ensures moved { IfSome (slice_get self.old id) (λ w. self.new ≡ slice_set self.old id (walker_moved (walk_found direction tree.now.forest w) w)) }
     {
-        self.walkers[id.number() as usize].step(tree, direction)
+        let walker = &mut self.walkers[id.number() as usize];
+        let found = walker.step(tree, direction);
+        self.currents.set(id.number(), walker.current);
+        found
     }
 
     /// Whether some walker has its root or its current node among the inclusive descendants of a node.
+    ///
+    /// It walks the nodes inside, and where they are more than the walkers it asks each walker.
     pub fn refers<X>(&self, tree: &Tree<X>, top: NodeId) -> bool
+        requires { HasNode tree.now.forest top }
+        ensures { result ≡ list_any (λ m. among m (inclusive_descendants tree.now.forest top)) (flat_map nodes_of_walker self.now) }
+    {
+        match names_inside(&self.roots, &self.currents, tree, top) {
+            Some(answer) => answer,
+            None => self.refer(tree, top),
+        }
+    }
+
+    // The same, by each walker there is.
+    fn refer<X>(&self, tree: &Tree<X>, top: NodeId) -> bool
         requires { HasNode tree.now.forest top }
         ensures { result ≡ list_any (λ m. among m (inclusive_descendants tree.now.forest top)) (flat_map nodes_of_walker self.now) }
     {

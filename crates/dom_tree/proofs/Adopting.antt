@@ -119,30 +119,32 @@ pub record Adopts {X : Type 0} (start g : Grove X) (top d here : ℕ) : Type 0 w
   pub ahead : painted d (from_first here (inclusive_descendants g.forest top)) g.forest ≡ adopted top d start.forest
   pub made : g.made ≡ start.made
 
+-- a walk over a tree begins at its top
+module _ {X : Type 0} {g : Grove X} (s : IsForest g) (top : ℕ) (h : HasNode g.forest top) where
+  there : occurs top g.forest ≡ 1
+  there = omega (arith, occurs-HasNode g.forest top h, s.once top)
+
+  pub from-top : from_first top (inclusive_descendants g.forest top) ≡ inclusive_descendants g.forest top
+  from-top = starts (tree_at-single top g.forest there)
+    where
+      starts : Single top (tree_at top g.forest) → from_first top (inclusive_descendants g.forest top) ≡ inclusive_descendants g.forest top
+      starts (single x kids e t) = rw t (elim (same_or x.number top) [ same _ v ↦ rw v refl | apart ne v ↦ absurd (ne e) ])
+
+  pub top-inside : 0 < occurs top (tree_at top g.forest)
+  top-inside = found (tree_at-single top g.forest there)
+    where
+      found : Single top (tree_at top g.forest) → 0 < occurs top (tree_at top g.forest)
+      found (single x kids e t) = rw t (elim (same_or x.number top) [ same _ v ↦ rw v (omega arith) | apart ne v ↦ absurd (ne e) ])
+
 module _ {X : Type 0} where
   pub Adopts-start : (g : Grove X) (top d : ℕ) → IsForest g → HasNode g.forest top → Adopts g g top d top
   Adopts-start g top d s h =
       record {
         there = h;
-        within = inside_top;
-        ahead = ap (λ l. painted d l g.forest) whole ∙ painted-adopted d top g.forest s.once;
+        within = top-inside s top h;
+        ahead = ap (λ l. painted d l g.forest) (from-top s top h) ∙ painted-adopted d top g.forest s.once;
         made = refl;
       }
-    where
-      there : occurs top g.forest ≡ 1
-      there = omega (arith, occurs-HasNode g.forest top h, s.once top)
-
-      starts : Single top (tree_at top g.forest) → from_first top (inclusive_descendants g.forest top) ≡ inclusive_descendants g.forest top
-      starts (single x kids e t) = rw t (elim (same_or x.number top) [ same _ v ↦ rw v refl | apart ne v ↦ absurd (ne e) ])
-
-      whole : from_first top (inclusive_descendants g.forest top) ≡ inclusive_descendants g.forest top
-      whole = starts (tree_at-single top g.forest there)
-
-      found : Single top (tree_at top g.forest) → 0 < occurs top (tree_at top g.forest)
-      found (single x kids e t) = rw t (elim (same_or x.number top) [ same _ v ↦ rw v (omega arith) | apart ne v ↦ absurd (ne e) ])
-
-      inside_top : 0 < occurs top (tree_at top g.forest)
-      inside_top = found (tree_at-single top g.forest there)
 
 -- one more document set
 module _ {X : Type 0} {start g h : Grove X} {top d here : ℕ} (a : Adopts start g top d here) (e : ◌≡◌ {A = Grove X} h (record { forest = with_node here (in_document d) g.forest; made = g.made })) (s : IsForest h) where

@@ -1,5 +1,5 @@
 -- Going along the children of a node from slot to slot: what is left of them, and the numbers of what is left.
-use Rattle.std.proofs.Common.{◌≡◌, ℕ, ◌<◌, ◌==◌, true, false, if◌then◌else◌, List, [], ◌∷◌, map, Option, Some, None, IsSome, length, refl, ap, sym, ◌∙◌, arith}
+use Rattle.std.proofs.Common.{◌≡◌, ℕ, ◌<◌, ◌==◌, Bool, true, false, if◌then◌else◌, List, [], ◌∷◌, map, Option, Some, None, IsSome, length, refl, ap, sym, ◌∙◌, arith}
 use Rattle.std.proofs.lemmas.Bool.{false≢true}
 use Rattle.std.specs.Prelude.{MatchOption}
 use Rattle.std.specs.Option.{ForSome}
@@ -119,18 +119,18 @@ module _ {X : Type 0} {a : Arena (Node X)} {table : List (Option ℕ)} {live : �
       ∙ ap (from_first n) (siblings_in-map at (slot_in table) k.tabled l.linked n s e)
       ∙ m2
 
-module _ {X : Type 0} {a : Arena (Kept X)} {table : List (Option ℕ)} {live : ℕ} (k : IsTree a table live) {w : Grove X} (v : record { forest = shown (nodes_of a) table; made = length table } ≡ w) (l : IsSound a) where
+module _ {X : Type 0} {a : Arena (Kept X)} {table : List (Option ℕ)} {live : ℕ} {strays : Bool} (k : IsTree a table live strays) {w : Grove X} (v : record { forest = shown (nodes_of a) table; made = length table } ≡ w) (l : IsSound a) where
   -- the numbers from the first child's slot on are those of all children
   pub all-numbers : (n s : ℕ) (o : Option ℕ) → slot_in table n ≡ Some s → o ≡ head_of (children_in (entry_at a s)) → numbers_from a o ≡ children_of w.forest n
   all-numbers n s o i e =
       ap (numbers_from a) e
       ∙ ap (map (number_at (entry_at (nodes_of a)))) (slots-first (entry_at a) l.linked s ∙ sym (children-nodes a s))
-      ∙ children-read k.kept v n s i
+      ∙ children-read k.stored.kept v n s i
 
   numbers-slot : (c s p : ℕ) → slot_in table c ≡ Some s → parent_of w.forest c ≡ Some p → numbers_from a (Some s) ≡ from_first c (children_of w.forest p)
   numbers-slot c s p i e =
       ap (λ (ss : List ℕ). map (number_at (entry_at (nodes_of a))) (from_first s ss)) (sym (siblings-nodes a s))
-      ∙ sym (from-slot k.kept (sound-nodes l) c s i)
+      ∙ sym (from-slot k.stored.kept (sound-nodes l) c s i)
       ∙ ap (λ (g : Grove X). from_first c (siblings_in (entry_in g.forest) c)) v
       ∙ ap (λ o. from_first c (list_under (entry_in w.forest) o)) e
 

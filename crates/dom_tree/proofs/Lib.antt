@@ -1,6 +1,7 @@
 pub mod Adopting
 pub mod Beside
 pub mod Counting
+pub mod DocumentsKept
 pub mod Following
 pub mod Freeing
 pub mod Growing
@@ -9,12 +10,18 @@ pub mod Making
 pub mod Nodes
 pub mod Numbering
 pub mod NumberingAll
+pub mod OwnedSlots
+pub mod OwnedSteps
+pub mod OwnedTrees
+pub mod Owning
 pub mod Reading
 pub mod Referring
+pub mod ReferringByCount
 pub mod Renumbering
 pub mod Spelling
 pub mod Steps
 pub mod Stores
+pub mod Sums
 pub mod Taking
 pub mod TreeOrder
 pub mod Trees

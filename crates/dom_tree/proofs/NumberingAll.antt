@@ -7,10 +7,11 @@ use Rattle.dom_model.specs.Forests.Forest.{Node}
 use Rattle.dom_model.proofs.PlainLists.Numbers.{same_or, same, apart}
 use Rattle.dom_model.proofs.Forests.Chains.{place-apart}
 use Rattle.dom_model.proofs.PlainLists.Places.{place-there}
-use Rattle.dom_tree.specs.Slots.{Kept, with_index, with_sure, nodes_of, index_in, sure_in, indexed, assured, IsCounted}
+use Rattle.dom_tree.specs.Slots.{Kept, with_index, with_sure, nodes_of, index_in, sure_in, owned_in, indexed, assured, IsCounted}
 use Rattle.dom_tree.specs.Numberings.{IsAllNumbered}
 use Rattle.dom_tree.proofs.Nodes.{parent-nodes, children-nodes, held-nodes, held-back, indexed-nodes, assured-nodes, room-altered}
 use Rattle.dom_tree.proofs.Counting.{children-once, altered-children, indexed-index, indexed-other, indexed-sure, assured-sure, assured-other, assured-index}
+use Rattle.dom_tree.proofs.OwnedSlots.{indexed-owned, assured-owned}
 use Rattle.dom_model.proofs.Forests.Siblings.{after-get, hits-get, get-head}
 
 pub get-place : (l : List ℕ) (i c : ℕ) → ((k : ℕ) → hits k l ≤ 1) → slice_get l i ≡ Some c → place_in c l ≡ i
@@ -35,6 +36,7 @@ pub record IsNumbering {X : Type 0} (start now : Arena (Kept X)) (p index : ℕ)
   pub right : (x : ℕ) → 0 < hits x (children_in (entry_at start p)) → place_in x (children_in (entry_at start p)) < index → index_in (entry_at now x) ≡ place_in x (children_in (entry_at start p))
   pub ahead : next ≡ slice_get (children_in (entry_at start p)) index
   pub room : length now.slots ≡ length start.slots
+  pub owned : (slot : ℕ) → owned_in (entry_at now slot) ≡ owned_in (entry_at start slot)
 
 module _ {X : Type 0} where
   pub children-same : (a b : Arena (Kept X)) → nodes_of a ≡ nodes_of b → (n : ℕ) → children_in (entry_at a n) ≡ children_in (entry_at b n)
@@ -73,6 +75,7 @@ module _ {X : Type 0} {start : Arena (Kept X)} (l : IsSound start) (p : ℕ) (hp
         right = λ x h i. absurd (omega arith);
         ahead = en ∙ ap head_of (children-same now start n p) ∙ get-head (children_in (entry_at start p));
         room = ap (λ (d : Arena (Kept X)). length d.slots) e ∙ room-altered _ start p;
+        owned = rw e (assured-owned start p 0);
       }
 
   module _ {now : Arena (Kept X)} {index : ℕ} {next : Option ℕ} (w : IsNumbering start now p index next) where
@@ -115,6 +118,7 @@ module _ {X : Type 0} {start : Arena (Kept X)} (l : IsSound start) (p : ℕ) (hp
             right = rw e right;
             ahead = en ∙ ap (after c) siblings ∙ after-get (children_in (entry_at start p)) index c once got ∙ ap (slice_get (children_in (entry_at start p))) (sym (add-one index));
             room = ap (λ (d : Arena (Kept X)). length d.slots) e ∙ room-altered _ now c ∙ w.room;
+            owned = rw e (λ s. indexed-owned now c index s ∙ w.owned s);
           }
         where
           n : nodes_of now' ≡ nodes_of start
@@ -153,6 +157,7 @@ module _ {X : Type 0} {start : Arena (Kept X)} (l : IsSound start) (p : ℕ) (hp
           counted = rw e (assured-counted now index held_now w.counted (λ x h. all x (subst (λ o. 0 < hits x o) lists h)));
           all = rw e (assured-sure now p index held_now ∙ ei);
           room = ap (λ (d : Arena (Kept X)). length d.slots) e ∙ room-altered _ now p ∙ w.room;
+          owned = rw e (λ s. assured-owned now p index s ∙ w.owned s);
         }
       where
         held_now : IsHeld now p

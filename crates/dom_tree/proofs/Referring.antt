@@ -68,16 +68,6 @@ module _ {X : Type 0} where
       ]
 
 module _ {X : Type 0} {g : Grove X} (s : IsForest g) (top : ℕ) where
-  -- a node is in the tree where the top is an ancestor
-  pub inside-same : (m : ℕ) → among m (inclusive_descendants g.forest top) ≡ among top (ancestors m g.forest)
-  inside-same m =
-      ⊎_elim
-      (λ (lt : 0 < occurs m (tree_at top g.forest)).
-      hits-among m (numbers (tree_at top g.forest)) (omega (arith, hits-numbers m (tree_at top g.forest))) ∙ sym (hits-among top (ancestors m g.forest) (omega (arith, hits-ancestors top m g.forest s.once))))
-      (λ (le : occurs m (tree_at top g.forest) ≤ 0).
-      hits-not_among m (numbers (tree_at top g.forest)) (omega (arith, hits-numbers m (tree_at top g.forest))) ∙ sym (hits-not_among top (ancestors m g.forest) (omega (arith, hits-ancestors top m g.forest s.once))))
-      (cases_lt 0 (occurs m (tree_at top g.forest)))
-
   -- a number that no node has is in no tree
   pub inside-none : (m : ℕ) → is_some (entry_in g.forest m) ≡ false → among m (inclusive_descendants g.forest top) ≡ false
   inside-none m e =

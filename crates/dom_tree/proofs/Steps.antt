@@ -1,5 +1,5 @@
 -- A walk from slot to slot: what each step says of the numbers of the nodes that stand there.
-use Rattle.std.proofs.Common.{◌≡◌, ◌==◌, ℕ, List, length, Option, Some, None, IsSome, is_some, refl, ap, sym, ◌∙◌, subst}
+use Rattle.std.proofs.Common.{◌≡◌, ◌==◌, ℕ, Bool, List, length, Option, Some, None, IsSome, is_some, refl, ap, sym, ◌∙◌, subst}
 use Rattle.dom_model.specs.PlainLists.Lists.{head_of, last_of}
 use Rattle.dom_model.specs.Forests.Arena.{Arena, entry_at, parent_in, children_in, list_under, siblings_in, next_in, previous_in, IsHeld, IsSound}
 use Rattle.dom_model.specs.Forests.Forest.{Grove, entry_in, HasNode, parent_of, children_of, next_of, previous_of}
@@ -13,26 +13,26 @@ use Rattle.dom_tree.proofs.Trees.{parent-named, first-named, last-named, next-na
 abbrev pub called : {X : Type 0} → Arena (Kept X) → ℕ → ℕ
 called a s = number_at (entry_at (nodes_of a)) s
 
-module _ {X : Type 0} {a : Arena (Kept X)} {table : List (Option ℕ)} {live : ℕ} (k : IsTree a table live) {w : Grove X} (v : record { forest = shown (nodes_of a) table; made = length table } ≡ w) where
+module _ {X : Type 0} {a : Arena (Kept X)} {table : List (Option ℕ)} {live : ℕ} {strays : Bool} (k : IsTree a table live strays) {w : Grove X} (v : record { forest = shown (nodes_of a) table; made = length table } ≡ w) where
   -- the slot of a number is held, and the node in it has that number
   pub begins : (n s : ℕ) → slot_in table n ≡ Some s → IsHeld a s × (called a s ≡ n)
-  begins n s i = (let t = k.kept.tabled.named n s i in (held-back a s t.0, t.1))
+  begins n s i = (let t = k.stored.kept.tabled.named n s i in (held-back a s t.0, t.1))
 
   pub listed : (s : ℕ) → IsHeld a s → slot_in table (called a s) ≡ Some s
-  listed s h = k.kept.tabled.listed s (held-nodes a s h)
+  listed s h = k.stored.kept.tabled.listed s (held-nodes a s h)
 
   pub stands : (s : ℕ) → IsHeld a s → HasNode w.forest (called a s)
   stands s h = sym (holds-read k v (called a s)) ∙ ap is_some (listed s h)
 
   -- two slots of one number are one
   pub one : (s t : ℕ) → IsHeld a s → IsHeld a t → called a s ≡ called a t → s ≡ t
-  one s t hs ht e = one_slot (entry_at (nodes_of a)) (slot_in table) k.kept.tabled s t (held-nodes a s hs) (held-nodes a t ht) e
+  one s t hs ht e = one_slot (entry_at (nodes_of a)) (slot_in table) k.stored.kept.tabled s t (held-nodes a s hs) (held-nodes a t ht) e
 
   -- a slot is a number's, or is not, as the node in it has the number
   pub meets : (s n e : ℕ) → IsHeld a s → slot_in table n ≡ Some e → (called a s == n) ≡ (s == e)
   meets s n e h i =
       let b = begins n e i in
-      ap (λ m. called a s == m) (sym b.1) ∙ same_test (entry_at (nodes_of a)) (slot_in table) k.kept.tabled s e (held-nodes a s h) (held-nodes a e b.0)
+      ap (λ m. called a s == m) (sym b.1) ∙ same_test (entry_at (nodes_of a)) (slot_in table) k.stored.kept.tabled s e (held-nodes a s h) (held-nodes a e b.0)
 
   -- a step leads to a slot that is held, where the forest says so by number
   module _ (l : IsSound a) (s : ℕ) (h : IsHeld a s) where

@@ -126,7 +126,7 @@ module _ {X : Type 0} {a : Arena (Node X)} {table : List (Option ℕ)} {live : �
     tabled : IsTabled (entry_at (taken a s)) (slot_in (slice_set table n None))
     tabled = IsTabled-taken (entry_at a) (entry_at (taken a s)) (slot_in table) (slot_in (slice_set table n None)) n s k.tabled e (taken-here a s) (taken-other a s) gone sold
 
-    others : (m : ℕ) → (m ≡ n → ⊥) → numbered (taken a s) (slice_set table n None) m ≡ numbered a table m
+    pub others : (m : ℕ) → (m ≡ n → ⊥) → numbered (taken a s) (slice_set table n None) m ≡ numbered a table m
     others m ne = sym ((by_number-added (entry_at (taken a s)) (entry_at a) (slot_in (slice_set table n None)) (slot_in table) n s lone.0 tabled l.linked gone (taken-here a s) lone.1 (λ j nj. sym (taken-other a s j nj)) e (λ j nj. sym (sold j nj))).1 m ne)
 
     nothing_there : numbered (taken a s) (slice_set table n None) n ≡ None

@@ -1,5 +1,5 @@
 -- What is read and changed by slot, where a tree keeps indices beside its nodes.
-use Rattle.std.proofs.Common.{◌≡◌, ℕ, ◌+◌, ◌-◌, ◌<◌, ◌≤◌, nat_lt, false, if◌then◌else◌, List, [], ◌∷◌, ◌++◌, length, slice_set, Option, Some, None, option_map, IsSome, is_some, IfSome, refl, ap, sym, ◌∙◌, subst, arith, ⊎_elim, length-append}
+use Rattle.std.proofs.Common.{◌≡◌, ℕ, ◌+◌, ◌-◌, ◌<◌, ◌≤◌, nat_lt, Bool, false, if◌then◌else◌, List, [], ◌∷◌, ◌++◌, length, slice_set, Option, Some, None, option_map, IsSome, is_some, IfSome, refl, ap, sym, ◌∙◌, subst, arith, ⊎_elim, length-append}
 use Rattle.std.proofs.lemmas.Bool.{cases_lt, le-ltb, false≢true}
 use Rattle.std.proofs.lemmas.List.{length-set, length-map}
 use Rattle.std.specs.Option.{ForSome}
@@ -10,7 +10,7 @@ use Rattle.dom_model.proofs.PlainLists.Numbers.{same_or, same, apart}
 use Rattle.dom_model.proofs.Forests.Changes.{seen, nothing, just}
 use Rattle.dom_tree.specs.Standing.{MayStand}
 use Rattle.dom_tree.specs.Spelled.{number_at, slot_in, slot_for, shown, IsKept}
-use Rattle.dom_tree.specs.Slots.{Kept, node_entry, nodes_of, indexed, index_in, sure_in, IsCounted, IsTree}
+use Rattle.dom_tree.specs.Slots.{Kept, node_entry, nodes_of, indexed, index_in, sure_in, IsCounted, IsStored, IsTree}
 use Rattle.dom_tree.specs.Numberings.{index_put, sure_put, numbered_put, numbered_cut_from, numbered_cut, IsAllNumbered}
 use Rattle.dom_tree.proofs.Kept.{Keeps, index-slot}
 use Rattle.dom_tree.proofs.Making as making
@@ -21,7 +21,7 @@ use Rattle.dom_tree.proofs.Counting.{counted-put, counted-cut, counted-added, co
 
 -- a store and a table that spell a forest, with indices that are right
 pub record Stays {X : Type 0} (a : Arena (Kept X)) (table : List (Option ℕ)) (live : ℕ) (f : Forest X) : Type 0 where
-  pub kept : IsTree a table live
+  pub kept : IsStored a table live
   pub same : shown (nodes_of a) table ≡ f
 
 pub stays : {X : Type 0} (a : Arena (Kept X)) (b : Arena (Node X)) (table : List (Option ℕ)) (live : ℕ) (f : Forest X) → nodes_of a ≡ b → Keeps b table live f → IsCounted (entry_at a) → length a.slots ≤ length table → Stays a table live f
@@ -96,19 +96,19 @@ module _ {X : Type 0} where
       go None = refl
       go (Some p) = assured-nodes a p _
 
-module _ {X : Type 0} {a : Arena (Kept X)} {table : List (Option ℕ)} {live : ℕ} (k : IsTree a table live) {w : Grove X} (v : record { forest = shown (nodes_of a) table; made = length table } ≡ w) where
+module _ {X : Type 0} {a : Arena (Kept X)} {table : List (Option ℕ)} {live : ℕ} {strays : Bool} (k : IsTree a table live strays) {w : Grove X} (v : record { forest = shown (nodes_of a) table; made = length table } ≡ w) where
   pub slot-held : (n : ℕ) → HasNode w.forest n → IsSome (slot_in table n)
-  slot-held = reading.slot-held k.kept v
+  slot-held = reading.slot-held k.stored.kept v
 
   pub slot-of_child : (n : ℕ) → IsSome (parent_of w.forest n) → IsSome (slot_in table n)
-  slot-of_child = reading.slot-of_child k.kept v
+  slot-of_child = reading.slot-of_child k.stored.kept v
 
   pub slots-held : (nb : Option ℕ) (p : ℕ) → ForSome nb (λ b. parent_of w.forest b ≡ Some p) → (n : ℕ) → nb ≡ Some n → IsSome (slot_in table n)
-  slots-held = reading.slots-held k.kept v
+  slots-held = reading.slots-held k.stored.kept v
 
   -- a slot of the table is held
   pub held-slot : (n s : ℕ) → slot_in table n ≡ Some s → IsHeld a s
-  held-slot n s i = held-back a s (k.kept.tabled.named n s i).0
+  held-slot n s i = held-back a s (k.stored.kept.tabled.named n s i).0
 
   -- a parent that is named is held
   pub parents-held : IsSound a → (s : ℕ) → (p : ℕ) → parent_in (entry_at a s) ≡ Some p → IsHeld a p
@@ -123,42 +123,42 @@ module _ {X : Type 0} {a : Arena (Kept X)} {table : List (Option ℕ)} {live : �
 
   pub value-read : {B : Type 0} (p : Node X → B) (n s : ℕ) → slot_in table n ≡ Some s → (x y : Kept X) → y ≡ x → IfSome (entry_at a s) (λ e. x ≡ e.value) → IfSome (entry_in w.forest n) (λ e. p y.node ≡ p e.value)
   value-read p n s i x y yx h =
-      reading.value-read k.kept v p n s i x.node y.node (ap (λ (q : Kept X). q.node) yx) (nodes-some (λ q. x.node ≡ q) s (go (entry_at a s) h))
+      reading.value-read k.stored.kept v p n s i x.node y.node (ap (λ (q : Kept X). q.node) yx) (nodes-some (λ q. x.node ≡ q) s (go (entry_at a s) h))
     where
       go : (o : Option (Entry (Kept X))) → IfSome o (λ e. x ≡ e.value) → IfSome o (λ e. x.node ≡ e.value.node)
       go None j = tt
       go (Some d) j = ap (λ (q : Kept X). q.node) j
 
   pub part-read : {B : Type 0} (p : Node X → B) (n s : ℕ) → slot_in table n ≡ Some s → (b : B) → IfSome (entry_at a s) (λ e. b ≡ p e.value.node) → IfSome (entry_in w.forest n) (λ e. b ≡ p e.value)
-  part-read p n s i b h = reading.part-read k.kept v p n s i b (nodes-some (λ q. b ≡ p q) s h)
+  part-read p n s i b h = reading.part-read k.stored.kept v p n s i b (nodes-some (λ q. b ≡ p q) s h)
 
   pub parent-read : (n s : ℕ) (o r : Option ℕ) → slot_in table n ≡ Some s → o ≡ parent_in (entry_at a s) → r ≡ option_map (number_at (entry_at (nodes_of a))) o → r ≡ parent_of w.forest n
-  parent-read n s o r i h = reading.parent-read k.kept v n s o r i (h ∙ sym (parent-nodes a s))
+  parent-read n s o r i h = reading.parent-read k.stored.kept v n s o r i (h ∙ sym (parent-nodes a s))
 
   pub first-read : (n s : ℕ) (o r : Option ℕ) → slot_in table n ≡ Some s → o ≡ head_of (children_in (entry_at a s)) → r ≡ option_map (number_at (entry_at (nodes_of a))) o → r ≡ head_of (children_of w.forest n)
-  first-read n s o r i h = reading.first-read k.kept v n s o r i (h ∙ ap head_of (sym (children-nodes a s)))
+  first-read n s o r i h = reading.first-read k.stored.kept v n s o r i (h ∙ ap head_of (sym (children-nodes a s)))
 
   pub last-read : (n s : ℕ) (o r : Option ℕ) → slot_in table n ≡ Some s → o ≡ last_of (children_in (entry_at a s)) → r ≡ option_map (number_at (entry_at (nodes_of a))) o → r ≡ last_of (children_of w.forest n)
-  last-read n s o r i h = reading.last-read k.kept v n s o r i (h ∙ ap last_of (sym (children-nodes a s)))
+  last-read n s o r i h = reading.last-read k.stored.kept v n s o r i (h ∙ ap last_of (sym (children-nodes a s)))
 
   pub count-read : (n s : ℕ) (r : ℕ) → slot_in table n ≡ Some s → r ≡ length (children_in (entry_at a s)) → r ≡ length (children_of w.forest n)
-  count-read n s r i h = reading.count-read k.kept v n s r i (h ∙ ap length (sym (children-nodes a s)))
+  count-read n s r i h = reading.count-read k.stored.kept v n s r i (h ∙ ap length (sym (children-nodes a s)))
 
   pub next-read : IsSound a → (n s : ℕ) (o r : Option ℕ) → slot_in table n ≡ Some s → o ≡ next_in (entry_at a) s → r ≡ option_map (number_at (entry_at (nodes_of a))) o → r ≡ next_of w.forest n
-  next-read l n s o r i h = reading.next-read k.kept v (sound-nodes l) n s o r i (h ∙ sym (next-nodes a s))
+  next-read l n s o r i h = reading.next-read k.stored.kept v (sound-nodes l) n s o r i (h ∙ sym (next-nodes a s))
 
   pub previous-read : IsSound a → (n s : ℕ) (o r : Option ℕ) → slot_in table n ≡ Some s → o ≡ previous_in (entry_at a) s → r ≡ option_map (number_at (entry_at (nodes_of a))) o → r ≡ previous_of w.forest n
-  previous-read l n s o r i h = reading.previous-read k.kept v (sound-nodes l) n s o r i (h ∙ sym (previous-nodes a s))
+  previous-read l n s o r i h = reading.previous-read k.stored.kept v (sound-nodes l) n s o r i (h ∙ sym (previous-nodes a s))
 
   index-slots : IsSound a → (n s : ℕ) → slot_in table n ≡ Some s → index_of w.forest n ≡ place_in s (siblings_in (entry_at a) s)
   index-slots l n s i =
-      ap (λ (g : Grove X). index_of g.forest n) (sym v) ∙ index-slot k.kept (sound-nodes l) n s i ∙ ap (place_in s) (siblings-nodes a s)
+      ap (λ (g : Grove X). index_of g.forest n) (sym v) ∙ index-slot k.stored.kept (sound-nodes l) n s i ∙ ap (place_in s) (siblings-nodes a s)
 
   -- a kept index below the parent's count is right
   pub kept-read : IsSound a → (n s p : ℕ) → slot_in table n ≡ Some s → parent_in (entry_at a s) ≡ Some p → (x y z u : Kept X) → z ≡ x → u ≡ y → IfSome (entry_at a s) (λ e. x ≡ e.value) → IfSome (entry_at a p) (λ e. y ≡ e.value) → z.index < u.sure → z.index ≡ index_of w.forest n
   kept-read l n s p i ep x y z u zx uy hx hy lt =
       let listed : 0 < hits s (children_in (entry_at a p)) = omega (arith, l.linked p s, ap (λ o. names o p) ep, names-itself p) in
-      let c = k.counted p s listed in
+      let c = k.stored.counted p s listed in
       let place : index_of w.forest n ≡ place_in s (children_in (entry_at a p)) = index-slots l n s i ∙ ap (λ o. place_in s (list_under (entry_at a) o)) ep in
       let zi : z.index ≡ index_in (entry_at a s) = ap (λ (q : Kept X). q.index) zx ∙ index_is (entry_at a s) (held-slot n s i) hx in
       let us : u.sure ≡ sure_in (entry_at a p) = ap (λ (q : Kept X). q.sure) uy ∙ sure_is (entry_at a p) (parents-held l s p ep) hy in
@@ -173,34 +173,34 @@ module _ {X : Type 0} {a : Arena (Kept X)} {table : List (Option ℕ)} {live : �
       sure_is (Some d) i h = ap (λ (q : Kept X). q.sure) h
 
   pub holds-read : (n : ℕ) → is_some (slot_in table n) ≡ is_some (entry_in w.forest n)
-  holds-read = reading.holds-read k.kept v
+  holds-read = reading.holds-read k.stored.kept v
 
   pub forest-read : IsForest w
-  forest-read = reading.forest-read k.kept v
+  forest-read = reading.forest-read k.stored.kept v
 
   pub live-read : live ≡ size w.forest
-  live-read = reading.live-read k.kept v
+  live-read = reading.live-read k.stored.kept v
 
   -- the value after a change of the forest alone
   pub changed-shown : (a' : Arena (Kept X)) (change : Forest X → Forest X) → shown (nodes_of a') table ≡ change (shown (nodes_of a) table) → ◌≡◌ {A = Grove X} (record { forest = shown (nodes_of a') table; made = length table }) (record { forest = change w.forest; made = w.made })
-  changed-shown a' change h = reading.changed-shown k.kept v (nodes_of a') change h
+  changed-shown a' change h = reading.changed-shown k.stored.kept v (nodes_of a') change h
 
   pub keeps-shown : {a' : Arena (Kept X)} (change : Forest X → Forest X) → Stays a' table live (change (shown (nodes_of a) table)) → ◌≡◌ {A = Grove X} (record { forest = shown (nodes_of a') table; made = length table }) (record { forest = change w.forest; made = w.made })
   keeps-shown {a'} change h = changed-shown a' change h.same
 
   pub parent-there : (n s : ℕ) → slot_in table n ≡ Some s → IsSome (parent_of w.forest n) → IsSome (parent_in (entry_at a s))
-  parent-there n s i h = (let j = reading.parent-there k.kept v n s i h in subst IsSome (parent-nodes a s) j)
+  parent-there n s i h = (let j = reading.parent-there k.stored.kept v n s i h in subst IsSome (parent-nodes a s) j)
 
   pub parent-none : (n s : ℕ) → slot_in table n ≡ Some s → parent_of w.forest n ≡ None → parent_in (entry_at a s) ≡ None
-  parent-none n s i h = sym (parent-nodes a s) ∙ reading.parent-none k.kept v n s i h
+  parent-none n s i h = sym (parent-nodes a s) ∙ reading.parent-none k.stored.kept v n s i h
 
   pub parent-same : IsSound a → (nb : Option ℕ) (np sp : ℕ) (sb : Option ℕ) → slot_in table np ≡ Some sp → slot_for table nb ≡ sb → ForSome nb (λ b. parent_of w.forest b ≡ Some np) → (x : ℕ) → sb ≡ Some x → parent_in (entry_at a x) ≡ Some sp
   parent-same l nb np sp sb ep eb h x d =
-      sym (parent-nodes a x) ∙ reading.parent-same k.kept v (sound-nodes l) nb np sp sb ep eb h x d
+      sym (parent-nodes a x) ∙ reading.parent-same k.stored.kept v (sound-nodes l) nb np sp sb ep eb h x d
 
   pub no_cycle-slots : IsSound a → (np sp nc sc : ℕ) → slot_in table np ≡ Some sp → slot_in table nc ≡ Some sc → among nc (ancestors np w.forest) ≡ false → StandsUnder (entry_at a) sc sp → ⊥
   no_cycle-slots l np sp nc sc ep ec h st =
-      reading.no_cycle-slots k.kept v (sound-nodes l) np sp nc sc ep ec h (stands-nodes a sc sp st)
+      reading.no_cycle-slots k.stored.kept v (sound-nodes l) np sp nc sc ep ec h (stands-nodes a sc sp st)
 
   -- the indices are kept first, and then the child is unlinked
   pub parent-still : (s : ℕ) (d : Arena (Kept X)) → d ≡ numbered_cut a s → IsSome (parent_in (entry_at a s)) → IsSome (parent_in (entry_at d s))
@@ -213,12 +213,12 @@ module _ {X : Type 0} {a : Arena (Kept X)} {table : List (Option ℕ)} {live : �
       let ee : a' ≡ unlinked (numbered_cut a s) s = ea ∙ ap (λ (b : Arena (Kept X)). unlinked b s) ed in
       rw ee (stays (unlinked (numbered_cut a s) s) (unlinked (nodes_of a) s) table live (cut n (shown (nodes_of a) table))
       (unlinked-nodes (numbered_cut a s) s ∙ ap (λ (b : Arena (Node X)). unlinked b s) (cut-nodes a s))
-      (reading.cut-done k.kept v (sound-nodes l) n s i h (unlinked (nodes_of a) s) refl)
+      (reading.cut-done k.stored.kept v (sound-nodes l) n s i h (unlinked (nodes_of a) s) refl)
       (elim (seen (parent_in (entry_at a s))) [
         | nothing z ↦ absurd (let j = parent-there n s i h in let j2 = rw z at j in cc j2)
-        | just p z ↦ counted-cut l k.counted s p z (parents-held l s p z)
+        | just p z ↦ counted-cut l k.stored.counted s p z (parents-held l s p z)
       ])
-      (omega (arith, k.room, room-unlinked (numbered_cut a s) s, room-cut a s)))
+      (omega (arith, k.stored.room, room-unlinked (numbered_cut a s) s, room-cut a s)))
 
   -- a child that was put in is there, and so is the one behind it
   pub put-child : (np sp sc : ℕ) (sb : Option ℕ) → slot_in table np ≡ Some sp → (d : Arena (Kept X)) → d ≡ linked a sp sc sb → 0 < length (children_in (entry_at d sp))
@@ -242,17 +242,17 @@ module _ {X : Type 0} {a : Arena (Kept X)} {table : List (Option ℕ)} {live : �
       let ee : a' ≡ numbered_put (linked a sp sc sb) sp sc sb = ea ∙ ap (λ (b : Arena (Kept X)). numbered_put b sp sc sb) ed in
       rw ee (stays (numbered_put (linked a sp sc sb) sp sc sb) (linked (nodes_of a) sp sc sb) table live (put np nc nb (shown (nodes_of a) table))
       (put-nodes (linked a sp sc sb) sp sc sb ∙ linked-nodes a sp sc sb)
-      (reading.put-done k.kept v (sound-nodes l) np sp nc sc nb sb ep ec eb root cy under may (linked (nodes_of a) sp sc sb) refl)
-      (counted-put l k.counted sp sc sb (held-slot np sp ep) (held-slot nc sc ec) (parent-none nc sc ec root) (parent-same l nb np sp sb ep eb under))
-      (omega (arith, k.room, room-put (linked a sp sc sb) sp sc sb, room-linked a sp sc sb)))
+      (reading.put-done k.stored.kept v (sound-nodes l) np sp nc sc nb sb ep ec eb root cy under may (linked (nodes_of a) sp sc sb) refl)
+      (counted-put l k.stored.counted sp sc sb (held-slot np sp ep) (held-slot nc sc ec) (parent-none nc sc ec root) (parent-same l nb np sp sb ep eb under))
+      (omega (arith, k.stored.room, room-put (linked a sp sc sb) sp sc sb, room-linked a sp sc sb)))
 
   pub alter-done : (n s : ℕ) → slot_in table n ≡ Some s → (h : Node X → Node X) → ((q : Node X) → (h q).number ≡ q.number) → ((q : Node X) → (h q).label ≡ q.label) → Stays (altered (λ (e : Entry (Kept X)). with_value (record e.value { node = h e.value.node }) e) a s) table live (with_node n h (shown (nodes_of a) table))
   alter-done n s i h hn hl =
       stays (altered (λ (d : Entry (Kept X)). with_value (record d.value { node = h d.value.node }) d) a s) (altered (λ (d : Entry (Node X)). with_value (h d.value) d) (nodes_of a) s) table live (with_node n h (shown (nodes_of a) table))
       (altered-nodes (λ (d : Entry (Kept X)). with_value (record d.value { node = h d.value.node }) d) (λ (d : Entry (Node X)). with_value (h d.value) d) (λ d. refl) a s)
-      (reading.alter-done k.kept v n s i h hn hl)
-      (counted-altered (λ (q : Kept X). record q { node = h q.node }) (λ q. refl) (λ q. refl) a s k.counted)
-      (omega (arith, k.room, room-altered (λ (d : Entry (Kept X)). with_value (record d.value { node = h d.value.node }) d) a s))
+      (reading.alter-done k.stored.kept v n s i h hn hl)
+      (counted-altered (λ (q : Kept X). record q { node = h q.node }) (λ q. refl) (λ q. refl) a s k.stored.counted)
+      (omega (arith, k.stored.room, room-altered (λ (d : Entry (Kept X)). with_value (record d.value { node = h d.value.node }) d) a s))
 
   -- a node written to its slot, with the number and the label that stood there
   pub write-done : (n s : ℕ) → slot_in table n ≡ Some s → (x y z : Kept X) (h : Node X → Node X) → ((q : Node X) → (h q).number ≡ q.number) → ((q : Node X) → (h q).label ≡ q.label) → y ≡ x → z ≡ record y { node = h y.node } → IfSome (entry_at a s) (λ e. x ≡ e.value) → Stays (altered (with_value z) a s) table live (with_node n h (shown (nodes_of a) table))
@@ -266,12 +266,12 @@ module _ {X : Type 0} {a : Arena (Kept X)} {table : List (Option ℕ)} {live : �
       same_store : altered (with_value z) a s ≡ altered (λ (d : Entry (Kept X)). with_value (record d.value { node = h d.value.node }) d) a s
       same_store = ap (λ o. record a { slots = slice_set a.slots s o }) (each (entry_at a s) j)
 
-  pub numbered-done : (d : Arena (Kept X)) (s : ℕ) → IsAllNumbered a d s → IsTree d table live
+  pub numbered-done : (d : Arena (Kept X)) (s : ℕ) → IsAllNumbered a d s → IsStored d table live
   numbered-done d s n =
       record {
-        kept = subst (λ (b : Arena (Node X)). IsKept b table live) (sym n.nodes) k.kept;
+        kept = subst (λ (b : Arena (Node X)). IsKept b table live) (sym n.nodes) k.stored.kept;
         counted = n.counted;
-        room = (let r = k.room in omega (arith, r, n.room));
+        room = (let r = k.stored.room in omega (arith, r, n.room));
       }
 
   pub numbered-shown : (d : Arena (Kept X)) (s : ℕ) → IsAllNumbered a d s → ◌≡◌ {A = Grove X} (record { forest = shown (nodes_of d) table; made = length table }) w
@@ -279,7 +279,7 @@ module _ {X : Type 0} {a : Arena (Kept X)} {table : List (Option ℕ)} {live : �
 
   pub children-none : (n s : ℕ) → slot_in table n ≡ Some s → children_of w.forest n ≡ [] → children_in (entry_at a s) ≡ []
   children-none n s i h =
-      none (children_in (entry_at a s)) (omega (arith, length-map (children_in (entry_at (nodes_of a) s)) (number_at (entry_at (nodes_of a))), ap length (reading.children-read k.kept v n s i ∙ h), ap length (children-nodes a s)))
+      none (children_in (entry_at a s)) (omega (arith, length-map (children_in (entry_at (nodes_of a) s)) (number_at (entry_at (nodes_of a))), ap length (reading.children-read k.stored.kept v n s i ∙ h), ap length (children-nodes a s)))
     where
       none : (l : List ℕ) → length l ≡ 0 → l ≡ []
       none [] z = refl
@@ -299,15 +299,15 @@ module _ {X : Type 0} {a : Arena (Kept X)} {table : List (Option ℕ)} {live : �
     bare_s = children-nodes a s ∙ children-none n s i childless
 
     pub take-live : 1 ≤ live
-    take-live = taken-live k.kept n s i sound_d root_s bare_s
+    take-live = taken-live k.stored.kept n s i sound_d root_s bare_s
 
     pub take-done : (m : ℕ) (table' : List (Option ℕ)) → m ≡ n → table' ≡ slice_set table m None → Stays d table' (live - 1) (without n (shown (nodes_of a) table))
     take-done m table' em et =
         rw (et, em) (stays d (taken (nodes_of a) s) (slice_set table n None) (live - 1) (without n (shown (nodes_of a) table))
         nodes_d
-        (taken-kept k.kept n s i sound_d root_s bare_s (live - 1) (let z = take-live in omega arith))
-        (rw ed (counted-taken l k.counted s (parent-none n s i root)))
-        (let r = k.room in omega (arith, r, ap (λ (b : Arena (Kept X)). length b.slots) ed, length-set a.slots s None, length-set table n None)))
+        (taken-kept k.stored.kept n s i sound_d root_s bare_s (live - 1) (let z = take-live in omega arith))
+        (rw ed (counted-taken l k.stored.counted s (parent-none n s i root)))
+        (let r = k.stored.room in omega (arith, r, ap (λ (b : Arena (Kept X)). length b.slots) ed, length-set a.slots s None, length-set table n None)))
 
     pub take-shown : (m : ℕ) (table' : List (Option ℕ)) → m ≡ n → table' ≡ slice_set table m None → ◌≡◌ {A = Grove X} (record { forest = shown (nodes_of d) table'; made = length table' }) (record { forest = without n w.forest; made = w.made })
     take-shown m table' em et =
@@ -317,18 +317,18 @@ module _ {X : Type 0} {a : Arena (Kept X)} {table : List (Option ℕ)} {live : �
         }
 
   pub made-is : length table ≡ w.made
-  made-is = making.made-is k.kept v
+  made-is = making.made-is k.stored.kept v
 
   pub fresh-small : IsSound a → (s : ℕ) → s ≡ next_slot a → w.made < 4294967295 → s < 4294967296
-  fresh-small l s e room = (let r = k.room in omega (arith, next-within l, made-is, r))
+  fresh-small l s e room = (let r = k.stored.room in omega (arith, next-within l, made-is, r))
 
   pub made-keeps : IsSound a → (x : Kept X) (a' : Arena (Kept X)) (table' : List (Option ℕ)) (s : ℕ) → x.node.number ≡ length table → entry_at a s ≡ None → w.made < 4294967295 → a' ≡ added a x → s ≡ next_slot a → table' ≡ table ++ Some s ∷ [] → Stays a' table' (live + 1) (beside (shown (nodes_of a) table) (node x.node empty empty))
   made-keeps l x a' table' s nx fresh room ea es et =
       rw ea (stays (added a x) (added (nodes_of a) x.node) table' (live + 1) (beside (shown (nodes_of a) table) (node x.node empty empty))
       (added-nodes a x)
-      (making.made-keeps k.kept v (sound-nodes l) x.node (added (nodes_of a) x.node) table' s nx (none-nodes a s fresh) room refl (es ∙ sym (next_slot-nodes a)) et)
-      (counted-added l k.counted x (ap (entry_at a) (sym es) ∙ fresh))
-      (let r = k.room in omega (arith, r, room-added l x, ap length et, length-append table (Some s ∷ []))))
+      (making.made-keeps k.stored.kept v (sound-nodes l) x.node (added (nodes_of a) x.node) table' s nx (none-nodes a s fresh) room refl (es ∙ sym (next_slot-nodes a)) et)
+      (counted-added l k.stored.counted x (ap (entry_at a) (sym es) ∙ fresh))
+      (let r = k.stored.room in omega (arith, r, room-added l x, ap length et, length-append table (Some s ∷ []))))
 
   pub made-shown : (x y : Kept X) (a' : Arena (Kept X)) (table' : List (Option ℕ)) (s : ℕ) → x.node ≡ y.node → table' ≡ table ++ Some s ∷ [] → Stays a' table' (live + 1) (beside (shown (nodes_of a) table) (node x.node empty empty)) → ◌≡◌ {A = Grove X} (record { forest = shown (nodes_of a') table'; made = length table' }) (record { forest = beside w.forest (node y.node empty empty); made = w.made + 1 })
-  made-shown x y a' table' s xy et h = making.made-shown k.kept v x.node y.node (nodes_of a') table' s xy et (record { kept = h.kept.kept; same = h.same })
+  made-shown x y a' table' s xy et h = making.made-shown k.stored.kept v x.node y.node (nodes_of a') table' s xy et (record { kept = h.kept.kept; same = h.same })

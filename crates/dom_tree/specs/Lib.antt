@@ -4,6 +4,7 @@ pub mod Lends
 pub mod Lengths
 pub mod Numberings
 pub mod Outside
+pub mod Owned
 pub mod Slots
 pub mod Spelled
 pub mod Standing

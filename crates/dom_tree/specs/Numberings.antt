@@ -1,7 +1,7 @@
 -- The kept indices over a put and a cut.
 use Rattle.std.specs.Prelude.{◌≡◌, ℕ, ◌-◌, nat_le, ◌&&◌, min, if◌then◌else◌, length, Option, Some, None, is_none}
 use Rattle.dom_model.specs.Forests.Arena.{Arena, Entry, entry_at, parent_in, children_in}
-use Rattle.dom_tree.specs.Slots.{Kept, index_in, sure_in, nodes_of, indexed, assured, IsCounted}
+use Rattle.dom_tree.specs.Slots.{Kept, index_in, sure_in, owned_in, nodes_of, indexed, assured, IsCounted}
 
 module _ {X : Type 0} where
   -- the index of a new child: that of the one behind it, or the last
@@ -33,3 +33,4 @@ module _ {X : Type 0} where
     pub counted : IsCounted (entry_at new)
     pub all : sure_in (entry_at new parent) ≡ length (children_in (entry_at old parent))
     pub room : length new.slots ≡ length old.slots
+    pub owned : (slot : ℕ) → owned_in (entry_at new slot) ≡ owned_in (entry_at old slot)

@@ -1,15 +1,16 @@
 //! Letting go of a tree. The DOM Standard leaves it to garbage collection.
 
-ghost use Rattle.std.specs.Prelude.{◌≡◌, [], None, false};
+ghost use Rattle.std.specs.Prelude.{◌≡◌, [], None, Some, IfSome, false};
 ghost use Rattle.dom_model.specs.Forests.Forest.{HasNode, parent_of, children_of, without};
 ghost use Rattle.dom_model.specs.MutationAlgorithms.Discarding.{is_held_outside};
 ghost use Rattle.dom_tree.specs.Outside.{refers_from};
+ghost use Rattle.dom_tree.specs.Owned.{document_in};
 
 use crate::node_id::NodeId;
 use crate::tree::{Tree, slot_of};
 
 impl<X> Tree<X> {
-    /// Whether something outside of a node's tree names the tree: a parent, or a node that has its node document there. It looks at every node where there is no parent.
+    /// Whether something outside of a node's tree names the tree: a parent, or a node that has its node document there. It looks at the nodes of the tree alone, as long as nodes are counted by their node documents.
     pub fn refers(&self, top: NodeId) -> bool
         requires { HasNode self.now.forest top }
         ensures { result ≡ is_held_outside self.now.forest top }
@@ -18,12 +19,36 @@ impl<X> Tree<X> {
         if self.parent(top).is_some() {
             return true;
         }
+        if let Some(refers) = self.refers_by_count(top) {
+            return refers;
+        }
         for number in 0..self.table.len() {
             if self.refers_from(top, NodeId::new(number as u32)) {
                 return true;
             }
         }
         false
+    }
+
+    // Whether more nodes have their node document in a root's tree than those of the tree that do; none where nodes are not counted by their node documents.
+    fn refers_by_count(&self, top: NodeId) -> Option<bool>
+        requires held { HasNode self.now.forest top }
+        requires no_parent { parent_of self.now.forest top ≡ None }
+        ensures { IfSome result (λ refers. refers ≡ is_held_outside self.now.forest top) }
+    {
+        self.sound();
+        self.fits();
+        let mut owned = 0;
+        let mut inside = 0;
+        let mut here = top;
+        loop {
+            owned += self.owned(here)?;
+            inside += u64::from(self.is_inside(top, self.document_of(here)));
+            match self.next_inside(top, here) {
+                Some(next) => here = next,
+                None => return Some(owned != inside),
+            }
+        }
     }
 
     // Whether there is such a node, outside of the tree, with its node document in it.
@@ -74,11 +99,24 @@ impl<X: Drop> Tree<X> {
         requires no_child { children_of self.old.forest id ≡ [] }
         ensures { self.new ≡ record self.old { forest = without id self.old.forest } }
     {
+        self.sound();
+        self.move_to(id, id);
+        self.take_alone(id);
+    }
+
+    // Lets go of one root without children, in itself. Where other nodes still have it as their node document, nodes are no longer counted by these.
+    fn take_alone(&mut self, id: NodeId)
+        requires no_parent { parent_of self.old.forest id ≡ None }
+        requires no_child { children_of self.old.forest id ≡ [] }
+        requires itself { document_in self.old.forest id ≡ Some id }
+        ensures { self.new ≡ record self.old { forest = without id self.old.forest } }
+    {
         let slot = slot_of(&self.table, id);
         self.links.sound();
-        let _item = self.links.take(slot);
+        let item = self.links.take(slot);
         self.links.sound();
         self.table.clear(id.number() as usize);
         self.live -= 1;
+        self.strays |= item.owned != 1;
     }
 }

@@ -6,7 +6,7 @@ use std::marker::Model;
 
 /// A node as its slot holds it, with the number that callers know it by.
 ///
-/// `index` is its place among its siblings where it is below the parent's `sure`, the number of first children whose `index` is right.
+/// `index` is its place among its siblings where it is below the parent's `sure`, the number of first children whose `index` is right. `owned` is how many nodes have it as their node document, where the tree keeps count of that.
 #[derive(Drop)]
 pub struct Item<X> {
     pub number: NodeId,
@@ -15,6 +15,7 @@ pub struct Item<X> {
     pub body: X,
     pub index: usize,
     pub sure: usize,
+    pub owned: u64,
 }
 
 impl<X> Model for Item<X> {
@@ -24,5 +25,5 @@ impl<X> Model for Item<X> {
 
     ghost coded = { kept_code X.code };
 
-    ghost view = { λ i. record { node = record { number = i.number; document = i.document; label = i.label; body = i.body }; index = i.index; sure = i.sure } };
+    ghost view = { λ i. record { node = record { number = i.number; document = i.document; label = i.label; body = i.body }; index = i.index; sure = i.sure; owned = i.owned } };
 }

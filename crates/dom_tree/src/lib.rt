@@ -4,6 +4,7 @@
 mod body;
 mod children;
 mod discarding;
+mod documents;
 mod indices;
 mod item;
 mod kinds;

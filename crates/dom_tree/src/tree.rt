@@ -5,7 +5,7 @@ ghost use Rattle.std.specs.Borrow.{sem};
 ghost use Rattle.std.specs.Option.{ForSome};
 ghost use Rattle.dom_model.specs.PlainLists.Lists.{among, head_of, last_of};
 ghost use Rattle.dom_model.specs.Forests.Arena.{IsHeld, entry_at};
-ghost use Rattle.dom_model.specs.Forests.Forest.{empty, node, beside, size, entry_in, HasNode, parent_of, children_of, next_of, previous_of, ancestors, put, cut, with_node, in_document, IsForest};
+ghost use Rattle.dom_model.specs.Forests.Forest.{empty, node, beside, size, entry_in, HasNode, parent_of, children_of, next_of, previous_of, ancestors, put, cut, IsForest};
 ghost use Rattle.dom_tree.specs.Bodies.{lends_item_body};
 ghost use Rattle.dom_tree.specs.Spelled.{slot_in, slot_for, number_at};
 ghost use Rattle.dom_tree.specs.Slots.{nodes_of};
@@ -22,11 +22,14 @@ use std::alloc::{AllocError, Global};
 use std::marker::Model;
 
 /// A forest of nodes, each a root or among the children of one parent. A node keeps its number wherever it stands.
+///
+/// `strays` is set, for good, where a node document may be no node of the tree. Until then each node's `owned` is right.
 #[derive(Drop)]
 pub struct Tree<X> {
     pub(crate) links: Links<Item<X>>,
     pub(crate) table: Pages<SlotNumber>,
     pub(crate) live: u64,
+    pub(crate) strays: bool,
 }
 
 impl<X> Model for Tree<X> {
@@ -42,7 +45,7 @@ impl<X> Model for Tree<X> {
 
     ghost view = { λ t. record { forest = shown (nodes_of t.links) t.table.items; made = length t.table.items } };
 
-    ghost invariant = { λ t. IsTree t.links t.table.items t.live };
+    ghost invariant = { λ t. IsTree t.links t.table.items t.live t.strays };
 }
 
 /// The slot of a number, where the table has one.
@@ -114,15 +117,29 @@ impl<X: Drop> Tree<X> {
         ensures made { OnOk result (self.new ≡ record { forest = beside self.old.forest (node (record { number = self.old.made; document = unwrap_or document self.old.made; label = label; body = body }) empty empty); made = self.old.made + 1 }) }
         ensures unchanged { OnErr result (self.new ≡ self.old) }
     {
+        self.sound();
+        let id = self.make_alone(label, body)?;
+        self.move_to(id, document.unwrap_or(id));
+        Ok(id)
+    }
+
+    // Makes a root with no children, in itself.
+    fn make_alone(&mut self, label: Label, body: X) -> Result<NodeId, AllocError>
+        requires room { self.old.made < 4294967295 }
+        ensures number { IfOk result (λ id. id ≡ self.old.made) }
+        ensures made { OnOk result (self.new ≡ record { forest = beside self.old.forest (node (record { number = self.old.made; document = self.old.made; label = label; body = body }) empty empty); made = self.old.made + 1 }) }
+        ensures unchanged { OnErr result (self.new ≡ self.old) }
+    {
         self.table.reserve(1)?;
         let id = NodeId::new(self.table.len() as u32);
         let item = Item {
             number: id,
-            document: document.unwrap_or(id),
+            document: id,
             label,
             body,
             index: 0,
             sure: 0,
+            owned: 1,
         };
         self.links.sound();
         let Ok(slot) = self.links.add(item) else {
@@ -145,6 +162,7 @@ impl<X> Tree<X> {
             links: Links::new(alloc),
             table: Pages::new(alloc),
             live: 0,
+            strays: false,
         }
     }
 
@@ -299,15 +317,5 @@ impl<X> Tree<X> {
         self.links.sound();
         number_cut(&mut self.links, slot);
         self.links.unlink(slot);
-    }
-
-    /// Sets the node document of one node.
-    pub(crate) fn move_to(&mut self, id: NodeId, document: NodeId)
-        requires { HasNode self.old.forest id }
-        ensures { self.new ≡ record self.old { forest = with_node id (in_document document) self.old.forest } }
-    {
-        let slot = slot_of(&self.table, id);
-        let item = self.links.value_mut(slot);
-        item.document = document;
     }
 }

@@ -7,10 +7,8 @@ use Rattle.std.proofs.lemmas.List.{length-set}
 use Rattle.dom_model.specs.PlainLists.Lists.{among}
 use Rattle.dom_model.specs.MutationObservers.Record.{Record}
 use Rattle.dom_model.specs.MutationObservers.Records.{has_records}
-use Rattle.dom_observe.specs.Kept.{queues_of}
 use Rattle.dom_observe.specs.Notifying.{told_of, waiting_for}
 use Rattle.dom_observe.proofs.Gathered.{told-some, told-none, left-next}
-use Rattle.dom_observe.proofs.Keeping.{queues_of-length}
 use Rattle.dom_observe.proofs.Hearing.{take-none}
 use Rattle.dom_observe.proofs.notifying.gather.Goals as goal
 use Rattle.dom_observe.proofs.notifying.gather.Goals.{in-Some+then-not-is_empty+in_ok-push, in-Some+else-not-is_empty, in_default}
@@ -19,16 +17,16 @@ told_of-push : {A : Type 0} (xs : List (ℕ × Vec Record A)) (x : ℕ × Vec Re
 told_of-push [] x = refl
 told_of-push (y ∷ xs) x = ap (λ ts. record { observer = y.0; records = y.1.items } ∷ ts) (told_of-push xs x)
 
-emptied_length : {A : Type 0} (old new : List (Vec Record A)) (o : ℕ) → queues_of new ≡ slice_set (queues_of old) o [] → length new ≡ length old
-emptied_length old new o e = sym (queues_of-length new) ∙ ap length e ∙ length-set (queues_of old) o [] ∙ queues_of-length old
+emptied_length : (old new : List (List Record)) (o : ℕ) → new ≡ slice_set old o [] → length new ≡ length old
+emptied_length old new o e = ap length e ∙ length-set old o []
 
 pub loop-index-preserved : goal.loop-index-preserved
 loop-index-preserved c =
     let keys = c.args.pending.now.keys in
     let i = c.loop-index.index in
     let inv = c.loop-index.invariant in
-    let qs0 = queues_of c.args.queues.now.items in
-    let qs = queues_of c.loop-index.queues.items in
+    let qs0 = c.args.queues.now.items in
+    let qs = c.loop-index.queues.items in
     let unique : IsDistinct nat_eq keys = c.len-index-end.ensures.unique in
     let next : i + 1 ≡ suc i = omega arith in
     elim c.match-get_index.branch [
@@ -36,8 +34,8 @@ loop-index-preserved c =
           let o = w.in-Some.observer.now in
           let at : slice_get keys i ≡ Some o = sym c.get_index.ensures.key ∙ ap option_copied w.in-Some.is in
           let some : (length w.take_from-records.result.items == 0) ≡ false = ap (λ l. l == 0) (sym w.take_from-records.result.ok.0) ∙ sym w.is_empty.ensures ∙ w.if-not-is_empty.true in
-          let left = left-next qs0 qs (queues_of w.take_from-records.new.queues.items) keys i o at unique inv.left w.take_from-records.ensures.emptied in
-          let told = told-some qs0 qs (queues_of w.take_from-records.new.queues.items) keys i o at unique inv.left w.take_from-records.ensures.emptied w.take_from-records.result.items w.take_from-records.ensures.records some (told_of c.loop-index.told.items) inv.told in
+          let left = left-next qs0 qs w.take_from-records.new.queues.items keys i o at unique inv.left w.take_from-records.ensures.emptied in
+          let told = told-some qs0 qs w.take_from-records.new.queues.items keys i o at unique inv.left w.take_from-records.ensures.emptied w.take_from-records.result.items w.take_from-records.ensures.records some (told_of c.loop-index.told.items) inv.told in
           rw (w.queues-is, w.told-is) (record {
             len = emptied_length c.loop-index.queues.items w.take_from-records.new.queues.items o w.take_from-records.ensures.emptied ∙ inv.len;
             told = ap told_of w.in_ok-push.ensures.items ∙ told_of-push c.loop-index.told.items (o, w.take_from-records.result) ∙ told ∙ ap (λ j. filter has_records (map (waiting_for qs0) (take j keys))) (sym next);
@@ -47,8 +45,8 @@ loop-index-preserved c =
           let o = w.in-Some.observer.now in
           let at : slice_get keys i ≡ Some o = sym c.get_index.ensures.key ∙ ap option_copied w.in-Some.is in
           let none : (length w.take_from-records.result.items == 0) ≡ true = ap (λ l. l == 0) (sym w.take_from-records.result.ok.0) ∙ sym w.is_empty.ensures ∙ w.if-not-is_empty.false in
-          let left = left-next qs0 qs (queues_of w.take_from-records.new.queues.items) keys i o at unique inv.left w.take_from-records.ensures.emptied in
-          let told = told-none qs0 qs (queues_of w.take_from-records.new.queues.items) keys i o at unique inv.left w.take_from-records.ensures.emptied w.take_from-records.result.items w.take_from-records.ensures.records none in
+          let left = left-next qs0 qs w.take_from-records.new.queues.items keys i o at unique inv.left w.take_from-records.ensures.emptied in
+          let told = told-none qs0 qs w.take_from-records.new.queues.items keys i o at unique inv.left w.take_from-records.ensures.emptied w.take_from-records.result.items w.take_from-records.ensures.records none in
           rw (w.queues-is, w.told-is) (record {
             len = emptied_length c.loop-index.queues.items w.take_from-records.new.queues.items o w.take_from-records.ensures.emptied ∙ inv.len;
             told = inv.told ∙ told ∙ ap (λ j. filter has_records (map (waiting_for qs0) (take j keys))) (sym next);

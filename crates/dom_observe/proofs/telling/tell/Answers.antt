@@ -8,9 +8,7 @@ use Rattle.dom_model.specs.Worlds.World.{Mutation}
 use Rattle.dom_model.specs.MutationObservers.Record.{Record}
 use Rattle.dom_model.specs.MutationObservers.Records.{record_with}
 use Rattle.dom_model.specs.MutationAlgorithms.Discarding.{nodes_of_record}
-use Rattle.dom_observe.specs.Kept.{queues_of}
 use Rattle.dom_observe.specs.Telling.{delivered}
-use Rattle.dom_observe.specs.Naming.{TellsNone}
 use Rattle.dom_observe.proofs.Holding.{tells-delivered}
 use Rattle.dom_observe.proofs.Hearing.{lookup-take, key-at, lookup-next, take-none}
 use Rattle.dom_observe.proofs.telling.tell.Goals as goal
@@ -28,7 +26,7 @@ one_more m old here next r asks false before after h n a fresh told = n ∙ h �
 
 pub returns-in_err-told-clause-others : goal.returns-in_err-told-clause-others
 returns-in_err-told-clause-others c = λ p none.
-    let old = slice_index_or (queues_of c.args.queues.now.items) p [] in
+    let old = slice_index_or c.args.queues.now.items p [] in
     c.loop-index.invariant.told p ∙ ap (λ v. old ++ delivered c.args.mutation.now v) (lookup-take p c.args.heard.now.entries c.loop-index.index none) ∙ append-nil old
 
 pub deliver-requires : goal.deliver-requires
@@ -39,7 +37,7 @@ deliver-requires c =
 
 pub returns-in_err-deliver-clause-others : goal.returns-in_err-deliver-clause-others
 returns-in_err-deliver-clause-others c = λ p none.
-    let old = slice_index_or (queues_of c.args.queues.now.items) p [] in
+    let old = slice_index_or c.args.queues.now.items p [] in
     ap (λ qs. slice_index_or qs p []) c.in_err-deliver.ensures.err
     ∙ c.loop-index.invariant.told p ∙ ap (λ v. old ++ delivered c.args.mutation.now v) (lookup-take p c.args.heard.now.entries c.loop-index.index none) ∙ append-nil old
 
@@ -64,7 +62,7 @@ loop-index-preserved c =
           let none : slice_get es i ≡ None = sym c.get_index.ensures.entry ∙ ap (option_map (λ (p : Bor ℕ × Bor Bool). (p.0.now, p.1.now))) w.in_default.is in
           rw w.queues-is (record {
             len = inv.len;
-            told = λ p. inv.told p ∙ sym (ap (λ k. slice_index_or (queues_of c.args.queues.now.items) p [] ++ delivered m (lookup (nat_eq p) k)) (ap (λ k. take k es) next ∙ take-none es i none));
+            told = λ p. inv.told p ∙ sym (ap (λ k. slice_index_or c.args.queues.now.items p [] ++ delivered m (lookup (nat_eq p) k)) (ap (λ k. take k es) next ∙ take-none es i none));
           })
     ]
 
@@ -80,16 +78,16 @@ returns-clause-len c = search (tests, rules)
 -- records of those who have theirs name nothing else
 pub returns-in_err-told-clause-names : goal.returns-in_err-told-clause-names
 returns-in_err-told-clause-names c = λ p nameless none o.
-    let old = slice_index_or (queues_of c.args.queues.now.items) o [] in
+    let old = slice_index_or c.args.queues.now.items o [] in
     ap (list_any (λ r. list_any p (nodes_of_record r))) (c.loop-index.invariant.told o) ∙ tells-delivered p c.args.mutation.now (lookup (nat_eq o) (take c.loop-index.index c.args.heard.now.entries)) old nameless (none o)
 
 pub returns-in_err-deliver-clause-names : goal.returns-in_err-deliver-clause-names
 returns-in_err-deliver-clause-names c = λ p nameless none o.
-    let old = slice_index_or (queues_of c.args.queues.now.items) o [] in
+    let old = slice_index_or c.args.queues.now.items o [] in
     ap (list_any (λ r. list_any p (nodes_of_record r))) (ap (λ qs. slice_index_or qs o []) c.in_err-deliver.ensures.err ∙ c.loop-index.invariant.told o)
     ∙ tells-delivered p c.args.mutation.now (lookup (nat_eq o) (take c.loop-index.index c.args.heard.now.entries)) old nameless (none o)
 
 pub returns-clause-names : goal.returns-clause-names
 returns-clause-names c = λ p nameless none o.
-    let old = slice_index_or (queues_of c.args.queues.now.items) o [] in
+    let old = slice_index_or c.args.queues.now.items o [] in
     ap (list_any (λ r. list_any p (nodes_of_record r))) (c.loop-index.invariant.told o) ∙ tells-delivered p c.args.mutation.now (lookup (nat_eq o) (take c.loop-index.index c.args.heard.now.entries)) old nameless (none o)

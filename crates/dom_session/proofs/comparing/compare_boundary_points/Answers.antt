@@ -8,11 +8,11 @@ same_root-requires-clause-a_held c = grind (arith, common_steps)
 pub same_root-requires-clause-b_held : goal.same_root-requires-clause-b_held
 same_root-requires-clause-b_held c = grind (arith, common_steps)
 
-pub order-requires-clause-a_held : goal.order-requires-clause-a_held
-order-requires-clause-a_held c = grind (arith, common_steps)
+pub found_order-requires-clause-a_held : goal.found_order-requires-clause-a_held
+found_order-requires-clause-a_held c = grind (arith, common_steps)
 
-pub order-requires-clause-b_held : goal.order-requires-clause-b_held
-order-requires-clause-b_held c = grind (arith, common_steps)
+pub found_order-requires-clause-b_held : goal.found_order-requires-clause-b_held
+found_order-requires-clause-b_held c = grind (arith, common_steps)
 
-pub order-requires-clause-one_root : goal.order-requires-clause-one_root
-order-requires-clause-one_root c = grind (arith, common_steps)
+pub found_order-requires-clause-one_root : goal.found_order-requires-clause-one_root
+found_order-requires-clause-one_root c = grind (arith, common_steps)

@@ -1,4 +1,4 @@
-use Rattle.std.proofs.Common.{◌≡◌, true, sym, ◌∙◌, subst, arith}
+use Rattle.std.proofs.Common.{◌≡◌, true, refl, ap, sym, ◌∙◌, subst, arith}
 use Rattle.std.proofs.lemmas.Grind.{common_steps}
 use Rattle.std.specs.Prelude.{is_some}
 use Rattle.dom_model.specs.Forests.Forest.{entry_in}
@@ -26,10 +26,12 @@ returns-in-Ok c =
     let there : is_some (entry_in f n) ≡ true = cc in
     let root : same_root f n range.start.node ≡ true = subst (λ (q : Point). same_root f n q.node ≡ true) c.start.view_is (sym c.same_root.ensures ∙ c.if-not-same_root.false) in
     let check = passed (check_point unit_count f p) c.in-Ok.field-0 (sym c.in-Ok.is ∙ c.checked_point.ensures) in
-    let placed : c.is_inside.result ≡ is_point_in f p range = c.is_inside.ensures in
+    let placed : c.is_inside.result ≡ is_point_in f p range = c.is_inside.ensures.inside in
+    let same = c.is_inside.ensures.unchanged in
     record {
-      step = λ b. rw placed (step-stays b (IsPointInRange r n c.args.offset) (Done (Flag (is_point_in f p range))) v
+      step = λ b. rw (placed, same) (step-stays b (IsPointInRange r n c.args.offset) (Done (Flag (is_point_in f p range))) v
           (λ w shown. answer-is_point_in_range v b w shown r n live there c.args.offset range c.ends.ensures.ends root check));
+      unchanged = ap (λ t. record v { tree = t }) same;
     }
 
 pub returns-in-Err : goal.returns-in-Err
@@ -47,6 +49,7 @@ returns-in-Err c =
     record {
       step = λ b. step-stays b (IsPointInRange r n c.args.offset) (Dom c.in-Err.error) v
           (λ w shown. refusal-is_point_in_range v b w shown r n live there c.args.offset range c.ends.ensures.ends root c.in-Err.error check);
+      unchanged = refl;
     }
 
 pub same_root-requires-clause-b_held : goal.same_root-requires-clause-b_held

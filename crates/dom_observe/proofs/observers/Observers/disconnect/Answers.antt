@@ -6,24 +6,24 @@ use Rattle.dom_model.specs.MutationObservers.Records.{disconnected}
 use Rattle.dom_observe.specs.declared.registration.Ended.TheVariants.{Of}
 use Rattle.dom_observe.specs.Watchers.{Watchers, Watches, on}
 use Rattle.dom_observe.specs.Registrations.{at, listed, spares}
-use Rattle.dom_observe.specs.Kept.{nodes_of, queues_of, keys_by, IsKept, IsIndexed}
+use Rattle.dom_observe.specs.Kept.{nodes_of, keys_by, IsKept, IsIndexed}
 use Rattle.dom_observe.proofs.Indexing.{disconnected-left, disconnected-swept, disconnected-indexed}
 use Rattle.dom_observe.specs.Naming.{TellsNone}
 use Rattle.dom_observe.proofs.Holding.{names-only, none-ended, tells-emptied}
-use Rattle.dom_observe.proofs.Keeping.{on-nodes_of, queues_of-length, kept-emptied, kept_table, found-ended, stand-ended}
+use Rattle.dom_observe.proofs.Keeping.{on-nodes_of, kept-emptied, kept_table, found-ended, stand-ended}
 use Rattle.dom_observe.proofs.Watching.{watches-filtered, watches-taken}
 use Rattle.dom_observe.proofs.observers.Observers.disconnect.Goals as goal
 
 pub take_from-requires : goal.take_from-requires
 take_from-requires c =
     let lt = subst (λ (o : Watchers). c.args.observer < length o.queues) (sym c.self.view_is) c.requires.held in
-    omega (arith, lt, queues_of-length c.self.inside.queues.items)
+    omega (arith, lt)
 
 pub invariant_of-self : goal.invariant_of-self
 invariant_of-self c =
     let a = c.self.inside in
     let ix = c.self.invariant.1 in
-    let made = length (queues_of a.queues.items) in
+    let made = length a.queues.items in
     let ls = keys_by a.lasting.items in
     let ps = keys_by a.passing.items in
     let u1 = at c.end_own.new.table in
@@ -39,11 +39,11 @@ invariant_of-self c =
     let v = at c.end_own-2.new.table in
     let lists = listed a.nodes.entries in
     let lists' = listed c.end_own-2.new.nodes.entries in
-    let stand = stand-ended u v (Of c.args.observer) lists lists' left_all swept_all (length (queues_of a.queues.items)) c.self.invariant.0.stand in
-    let kept = kept_table a.table a.nodes.entries (queues_of a.queues.items) a.pending.keys c.self.invariant.0 c.end_own-2.new.table c.end_own-2.new.nodes.entries c.end_own-2.ensures.unique stand (c.end_own-2.ensures.full (c.end_own.ensures.full c.self.invariant.0.full)) in
-    let same_length = ap length c.take_from.ensures.emptied ∙ length-set (queues_of a.queues.items) c.args.observer [] in (
+    let stand = stand-ended u v (Of c.args.observer) lists lists' left_all swept_all (length a.queues.items) c.self.invariant.0.stand in
+    let kept = kept_table a.table a.nodes.entries a.queues.items a.pending.keys c.self.invariant.0 c.end_own-2.new.table c.end_own-2.new.nodes.entries c.end_own-2.ensures.unique stand (c.end_own-2.ensures.full (c.end_own.ensures.full c.self.invariant.0.full)) in
+    let same_length = ap length c.take_from.ensures.emptied ∙ length-set a.queues.items c.args.observer [] in (
       subst (λ (qs : List (List Record)). IsKept c.end_own-2.new.table c.end_own-2.new.nodes.entries qs a.pending.keys) (sym c.take_from.ensures.emptied)
-          (kept-emptied c.end_own-2.new.table c.end_own-2.new.nodes.entries (queues_of a.queues.items) a.pending.keys kept c.args.observer),
+          (kept-emptied c.end_own-2.new.table c.end_own-2.new.nodes.entries a.queues.items a.pending.keys kept c.args.observer),
       subst (IsIndexed (at c.end_own-2.new.table) (listed c.end_own-2.new.nodes.entries) ls1 ps1 a.fleeting.keys) (sym same_length)
           (disconnected-indexed u u1 v lists lists1 lists' ls ls1 ps ps1 a.fleeting.keys made c.args.observer ix within
           c.end_own.ensures.placed c.end_own.ensures.left c.end_own.ensures.keys c.end_own-2.ensures.placed c.end_own-2.ensures.left c.end_own-2.ensures.keys),
@@ -53,7 +53,7 @@ pub returns-clause-ended : goal.returns-clause-ended
 returns-clause-ended c = λ x w.
     let a = c.self.inside in
     let ix = c.self.invariant.1 in
-    let made = length (queues_of a.queues.items) in
+    let made = length a.queues.items in
     let ls = keys_by a.lasting.items in
     let ps = keys_by a.passing.items in
     let u1 = at c.end_own.new.table in
@@ -66,7 +66,7 @@ returns-clause-ended c = λ x w.
     let swept_all = disconnected-swept (at a.table) u1 (at c.end_own-2.new.table) (listed a.nodes.entries) lists1 (listed c.end_own-2.new.nodes.entries) ls ls1 ps ps1 a.fleeting.keys made c.args.observer ix within
     c.end_own.ensures.placed c.end_own.ensures.left c.end_own.ensures.keys c.end_own-2.ensures.placed c.end_own-2.ensures.left c.end_own-2.ensures.keys c.end_own.ensures.swept c.end_own-2.ensures.swept in
     let nodes' = nodes_of c.end_own-2.new.table c.end_own-2.new.nodes.entries in
-    let o : Watchers = record { nodes = nodes_of a.table a.nodes.entries; queues = queues_of a.queues.items; pending = a.pending.keys } in
+    let o : Watchers = record { nodes = nodes_of a.table a.nodes.entries; queues = a.queues.items; pending = a.pending.keys } in
     let shown = subst (λ (o : Watchers). Watches o x) (sym c.self.view_is) w in
     let lt = subst (λ (o : Watchers). c.args.observer < length o.queues) (sym c.self.view_is) c.requires.held in
     let keep = spares (Of c.args.observer) in
@@ -82,7 +82,7 @@ pub returns-clause-names : goal.returns-clause-names
 returns-clause-names c =
     let a = c.self.inside in
     let ix = c.self.invariant.1 in
-    let made = length (queues_of a.queues.items) in
+    let made = length a.queues.items in
     let ls = keys_by a.lasting.items in
     let ps = keys_by a.passing.items in
     let u1 = at c.end_own.new.table in
@@ -96,16 +96,16 @@ returns-clause-names c =
     c.end_own.ensures.placed c.end_own.ensures.left c.end_own.ensures.keys c.end_own-2.ensures.placed c.end_own-2.ensures.left c.end_own-2.ensures.keys c.end_own.ensures.swept c.end_own-2.ensures.swept in
     let u = at a.table in
     let v = at c.end_own-2.new.table in
-    let qs = queues_of a.queues.items in
+    let qs = a.queues.items in
     let lists = listed a.nodes.entries in
     let lists' = listed c.end_own-2.new.nodes.entries in
     let stand = stand-ended u v (Of c.args.observer) lists lists' left_all swept_all (length qs) c.self.invariant.0.stand in
     let kept = kept_table a.table a.nodes.entries qs a.pending.keys c.self.invariant.0 c.end_own-2.new.table c.end_own-2.new.nodes.entries c.end_own-2.ensures.unique stand (c.end_own-2.ensures.full (c.end_own.ensures.full c.self.invariant.0.full)) in
     let emptied = subst (λ (qs : List (List Record)). IsKept c.end_own-2.new.table c.end_own-2.new.nodes.entries qs a.pending.keys) (sym c.take_from.ensures.emptied)
     (kept-emptied c.end_own-2.new.table c.end_own-2.new.nodes.entries qs a.pending.keys kept c.args.observer) in
-    names-only a.table a.nodes.entries qs a.pending.keys c.args.self.now c.self.view_is c.end_own-2.new.table c.end_own-2.new.nodes.entries (queues_of c.take_from.new.queues.items) a.pending.keys emptied []
+    names-only a.table a.nodes.entries qs a.pending.keys c.args.self.now c.self.view_is c.end_own-2.new.table c.end_own-2.new.nodes.entries c.take_from.new.queues.items a.pending.keys emptied []
     (λ p _ names tells. (none-ended p u v (Of c.args.observer) lists lists' left_all swept_all names, subst (TellsNone p) (sym c.take_from.ensures.emptied) (tells-emptied p qs c.args.observer tells)))
 
 pub returns-clause-made : goal.returns-clause-made
 returns-clause-made c =
-    ap length c.take_from.ensures.emptied ∙ length-set (queues_of c.self.inside.queues.items) c.args.observer [] ∙ ap (λ o. length o.queues) c.self.view_is
+    ap length c.take_from.ensures.emptied ∙ length-set c.self.inside.queues.items c.args.observer [] ∙ ap (λ o. length o.queues) c.self.view_is

@@ -8,11 +8,11 @@ use Rattle.dom_model.specs.MutationObservers.Record.{Record}
 use Rattle.dom_model.specs.MutationObservers.Records.{has_records, told_in}
 use Rattle.dom_observe.specs.Watchers.{Watchers, Watches}
 use Rattle.dom_observe.specs.Registrations.{at, listed}
-use Rattle.dom_observe.specs.Kept.{nodes_of, queues_of, keys_by, IsKept, IsIndexed}
+use Rattle.dom_observe.specs.Kept.{nodes_of, keys_by, IsKept, IsIndexed}
 use Rattle.dom_observe.proofs.Holding.{names-only, none-ended}
 use Rattle.dom_observe.specs.declared.registration.Ended.TheVariants.{Transient}
 use Rattle.dom_observe.proofs.Indexing.{indexed-notified}
-use Rattle.dom_observe.proofs.Keeping.{on-nodes_of, queues_of-length, keys_by-length, stand_grown, stand-ended, found-ended, kept_queues}
+use Rattle.dom_observe.proofs.Keeping.{on-nodes_of, keys_by-length, stand_grown, stand-ended, found-ended, kept_queues}
 use Rattle.dom_observe.proofs.Tables.{all_imply}
 use Rattle.dom_observe.proofs.Gathered.{waiting-told}
 use Rattle.dom_observe.proofs.Watching.{watches-notified}
@@ -28,14 +28,14 @@ all_empty pending old new waiting emptied empty p = go (among p pending) refl
     go false e = empty p (waiting p e)
 
 pub gather-requires : goal.gather-requires
-gather-requires c = subst (λ l. AllByRecursion (λ o. o < l) c.self.inside.pending.keys) (queues_of-length c.self.inside.queues.items) c.self.invariant.0.made
+gather-requires c = c.self.invariant.0.made
 
 pub invariant_of-self-2 : goal.invariant_of-self-2
 invariant_of-self-2 c =
     let a = c.self.inside in
-    let qs = queues_of a.queues.items in
-    let qs' = queues_of c.gather.new.queues.items in
-    let lengths : length qs' ≡ length qs = queues_of-length c.gather.new.queues.items ∙ c.gather.ensures.len ∙ sym (queues_of-length a.queues.items) in
+    let qs = a.queues.items in
+    let qs' = c.gather.new.queues.items in
+    let lengths : length qs' ≡ length qs = c.gather.ensures.len in
     let stand = stand-ended (at a.table) (at c.end_transients.new.table) Transient (listed a.nodes.entries) (listed c.end_transients.new.nodes.entries) c.end_transients.ensures.left c.end_transients.ensures.swept (length qs) c.self.invariant.0.stand in
     let empty = all_empty a.pending.keys qs qs' c.self.invariant.0.waiting c.in_ok-told.ensures.emptied c.gather.ensures.empty in
     let kept : IsKept c.end_transients.new.table c.end_transients.new.nodes.entries qs' c.clear.new.self.keys = record {
@@ -54,7 +54,7 @@ invariant_of-self-2 c =
 pub returns-clause-told : goal.returns-clause-told
 returns-clause-told c = λ x w.
     let a = c.self.inside in
-    let qs = queues_of a.queues.items in
+    let qs = a.queues.items in
     let shown = subst (λ (o : Watchers). Watches o x) (sym c.self.view_is) w in
     c.in_ok-told.ensures.told
     ∙ ap (filter has_records) (waiting-told qs x shown.queues a.pending.keys c.self.invariant.0.made)
@@ -63,11 +63,11 @@ returns-clause-told c = λ x w.
 pub returns-clause-after : goal.returns-clause-after
 returns-clause-after c = λ x w.
     let a = c.self.inside in
-    let qs = queues_of a.queues.items in
-    let qs' = queues_of c.gather.new.queues.items in
+    let qs = a.queues.items in
+    let qs' = c.gather.new.queues.items in
     let o : Watchers = record { nodes = nodes_of a.table a.nodes.entries; queues = qs; pending = a.pending.keys } in
     let shown = subst (λ (o : Watchers). Watches o x) (sym c.self.view_is) w in
-    let lengths : length qs' ≡ length qs = queues_of-length c.gather.new.queues.items ∙ c.gather.ensures.len ∙ sym (queues_of-length a.queues.items) in
+    let lengths : length qs' ≡ length qs = c.gather.ensures.len in
     let empty = all_empty a.pending.keys qs qs' c.self.invariant.0.waiting c.in_ok-told.ensures.emptied c.gather.ensures.empty in
     let found = λ (n : ℕ). found-ended (at a.table) (at c.end_transients.new.table) Transient (listed a.nodes.entries) (listed c.end_transients.new.nodes.entries) c.end_transients.ensures.left c.end_transients.ensures.swept n in
     watches-notified o x shown (nodes_of c.end_transients.new.table c.end_transients.new.nodes.entries) qs' c.clear.new.self.keys
@@ -77,21 +77,21 @@ returns-clause-after c = λ x w.
 pub returns-in_err-told-clause-names : goal.returns-in_err-told-clause-names
 returns-in_err-told-clause-names c =
     let a = c.self.inside in
-    let qs = queues_of a.queues.items in
-    let qs' = queues_of c.gather.new.queues.items in
-    let lengths : length qs' ≡ length qs = queues_of-length c.gather.new.queues.items ∙ c.gather.ensures.len ∙ sym (queues_of-length a.queues.items) in
+    let qs = a.queues.items in
+    let qs' = c.gather.new.queues.items in
+    let lengths : length qs' ≡ length qs = c.gather.ensures.len in
     let kept = kept_queues a.table a.nodes.entries qs a.pending.keys c.self.invariant.0 qs' (omega (arith, lengths)) (λ o free. c.gather.ensures.empty o (c.self.invariant.0.waiting o free)) in
     names-only a.table a.nodes.entries qs a.pending.keys c.args.self.now c.self.view_is a.table a.nodes.entries qs' a.pending.keys kept [] (λ p _ names tells. (names, c.gather.ensures.names p tells))
 
 pub returns-in_err-told-clause-made : goal.returns-in_err-told-clause-made
-returns-in_err-told-clause-made c = queues_of-length c.gather.new.queues.items ∙ c.gather.ensures.len ∙ sym (queues_of-length c.self.inside.queues.items) ∙ ap (λ o. length o.queues) c.self.view_is
+returns-in_err-told-clause-made c = c.gather.ensures.len ∙ ap (λ o. length o.queues) c.self.view_is
 
 pub returns-clause-names : goal.returns-clause-names
 returns-clause-names c =
     let a = c.self.inside in
-    let qs = queues_of a.queues.items in
-    let qs' = queues_of c.gather.new.queues.items in
-    let lengths : length qs' ≡ length qs = queues_of-length c.gather.new.queues.items ∙ c.gather.ensures.len ∙ sym (queues_of-length a.queues.items) in
+    let qs = a.queues.items in
+    let qs' = c.gather.new.queues.items in
+    let lengths : length qs' ≡ length qs = c.gather.ensures.len in
     let stand = stand-ended (at a.table) (at c.end_transients.new.table) Transient (listed a.nodes.entries) (listed c.end_transients.new.nodes.entries) c.end_transients.ensures.left c.end_transients.ensures.swept (length qs) c.self.invariant.0.stand in
     let empty = all_empty a.pending.keys qs qs' c.self.invariant.0.waiting c.in_ok-told.ensures.emptied c.gather.ensures.empty in
     let kept : IsKept c.end_transients.new.table c.end_transients.new.nodes.entries qs' c.clear.new.self.keys = record {
@@ -105,20 +105,20 @@ returns-clause-names c =
     (λ p _ names tells. (none-ended p (at a.table) (at c.end_transients.new.table) Transient (listed a.nodes.entries) (listed c.end_transients.new.nodes.entries) c.end_transients.ensures.left c.end_transients.ensures.swept names, c.gather.ensures.names p tells))
 
 pub returns-clause-made : goal.returns-clause-made
-returns-clause-made c = queues_of-length c.gather.new.queues.items ∙ c.gather.ensures.len ∙ sym (queues_of-length c.self.inside.queues.items) ∙ ap (λ o. length o.queues) c.self.view_is
+returns-clause-made c = c.gather.ensures.len ∙ ap (λ o. length o.queues) c.self.view_is
 
 pub end_transients-requires-clause-made : goal.end_transients-requires-clause-made
 end_transients-requires-clause-made c =
     let a = c.self.inside in
     let r = c.self.invariant.1.passing_room in
-    all_imply (λ o. o < length (queues_of a.queues.items)) (λ o. o < length a.passing.items) (λ o lt. omega (arith, r, keys_by-length a.passing.items)) a.fleeting.keys c.self.invariant.1.known
+    all_imply (λ o. o < length a.queues.items) (λ o. o < length a.passing.items) (λ o lt. omega (arith, r, keys_by-length a.passing.items)) a.fleeting.keys c.self.invariant.1.known
 
 pub invariant_of-self : goal.invariant_of-self
 invariant_of-self c =
     let a = c.self.inside in
-    let qs = queues_of a.queues.items in
-    let qs' = queues_of c.gather.new.queues.items in
-    let lengths : length qs' ≡ length qs = queues_of-length c.gather.new.queues.items ∙ c.gather.ensures.len ∙ sym (queues_of-length a.queues.items) in (
+    let qs = a.queues.items in
+    let qs' = c.gather.new.queues.items in
+    let lengths : length qs' ≡ length qs = c.gather.ensures.len in (
       kept_queues a.table a.nodes.entries qs a.pending.keys c.self.invariant.0 qs' (omega (arith, lengths)) (λ o free. c.gather.ensures.empty o (c.self.invariant.0.waiting o free)),
       subst (IsIndexed (at a.table) (listed a.nodes.entries) (keys_by a.lasting.items) (keys_by a.passing.items) a.fleeting.keys) (sym lengths) c.self.invariant.1,
     )

@@ -7,7 +7,7 @@ use Rattle.dom_model.specs.MutationObservers.Observing.{registered_on}
 use Rattle.dom_model.specs.MutationObservers.Records.{is_registered, is_transient_from, with_options, new_registration}
 use Rattle.dom_observe.specs.Watchers.{Watchers, Watches, on}
 use Rattle.dom_observe.specs.Registrations.{plain, at, listed, own_at, AllStand}
-use Rattle.dom_observe.specs.Kept.{nodes_of, queues_of, keys_by, IsIndexed}
+use Rattle.dom_observe.specs.Kept.{nodes_of, keys_by, IsIndexed}
 use Rattle.dom_observe.proofs.Indexing.{from-left, indexed-changed, indexed-passing_ended, indexed-lasting}
 use Rattle.dom_observe.proofs.Outcomes.{on_ok, by_outcome, by_two}
 use Rattle.dom_observe.proofs.Counting.{tally, count-filter}
@@ -26,11 +26,11 @@ invariant_of-self c =
     let found_key : find (own_at (at a.table) c.args.observer c.args.node) (on c.args.node (listed a.nodes.entries)) ≡ Some c.in-Some.key =
     ap (find (own_at (at a.table) c.args.observer c.args.node)) (sym c.keys_on.ensures) ∙ sym c.own_key-own.ensures ∙ c.in-Some.is in
     let stand = stand-again (at a.table) (at c.end_own.new.table) (at c.set_options.new.table) (listed a.nodes.entries) (listed c.end_own.new.nodes.entries) c.args.observer c.args.node c.in-Some.key c.args.options
-    (from-left (at a.table) (at c.end_own.new.table) (listed a.nodes.entries) (keys_by a.lasting.items) (keys_by a.passing.items) a.fleeting.keys (length (queues_of a.queues.items)) c.args.observer c.args.node c.self.invariant.1 c.end_own.ensures.left) c.end_own.ensures.swept found_key c.set_options.ensures.changed c.set_options.ensures.others (length (queues_of a.queues.items)) c.self.invariant.0.stand in
+    (from-left (at a.table) (at c.end_own.new.table) (listed a.nodes.entries) (keys_by a.lasting.items) (keys_by a.passing.items) a.fleeting.keys (length a.queues.items) c.args.observer c.args.node c.self.invariant.1 c.end_own.ensures.left) c.end_own.ensures.swept found_key c.set_options.ensures.changed c.set_options.ensures.others (length a.queues.items) c.self.invariant.0.stand in
     let within = subst (λ (o : Watchers). c.args.observer < length o.queues) (sym c.self.view_is) c.requires.held in (
-      kept_table a.table a.nodes.entries (queues_of a.queues.items) a.pending.keys c.self.invariant.0 c.set_options.new.table c.end_own.new.nodes.entries c.end_own.ensures.unique stand (c.end_own.ensures.full c.self.invariant.0.full),
-      indexed-changed (at c.end_own.new.table) (at c.set_options.new.table) (listed c.end_own.new.nodes.entries) (keys_by a.lasting.items) (keys_by c.end_own.new.lists.items) a.fleeting.keys (length (queues_of a.queues.items)) c.in-Some.key c.args.options c.set_options.ensures.changed c.set_options.ensures.others
-          (indexed-passing_ended (at a.table) (at c.end_own.new.table) (listed a.nodes.entries) (listed c.end_own.new.nodes.entries) (keys_by a.lasting.items) (keys_by a.passing.items) a.fleeting.keys (length (queues_of a.queues.items)) c.args.observer (From c.args.observer c.args.node) c.self.invariant.1 c.end_own.ensures.placed (keys_by c.end_own.new.lists.items)
+      kept_table a.table a.nodes.entries a.queues.items a.pending.keys c.self.invariant.0 c.set_options.new.table c.end_own.new.nodes.entries c.end_own.ensures.unique stand (c.end_own.ensures.full c.self.invariant.0.full),
+      indexed-changed (at c.end_own.new.table) (at c.set_options.new.table) (listed c.end_own.new.nodes.entries) (keys_by a.lasting.items) (keys_by c.end_own.new.lists.items) a.fleeting.keys (length a.queues.items) c.in-Some.key c.args.options c.set_options.ensures.changed c.set_options.ensures.others
+          (indexed-passing_ended (at a.table) (at c.end_own.new.table) (listed a.nodes.entries) (listed c.end_own.new.nodes.entries) (keys_by a.lasting.items) (keys_by a.passing.items) a.fleeting.keys (length a.queues.items) c.args.observer (From c.args.observer c.args.node) c.self.invariant.1 c.end_own.ensures.placed (keys_by c.end_own.new.lists.items)
           (let r = c.self.invariant.1.passing_room in omega arith) c.end_own.ensures.left c.end_own.ensures.keys),
     )
 
@@ -41,7 +41,7 @@ returns-in-Some-clause-ok c = λ x w.
     let n = c.args.node in
     let u = at a.table in
     let lists = listed a.nodes.entries in
-    let o : Watchers = record { nodes = nodes_of a.table a.nodes.entries; queues = queues_of a.queues.items; pending = a.pending.keys } in
+    let o : Watchers = record { nodes = nodes_of a.table a.nodes.entries; queues = a.queues.items; pending = a.pending.keys } in
     let shown = subst (λ (o : Watchers). Watches o x) (sym c.self.view_is) w in
     let found_key : find (own_at u i n) (on n lists) ≡ Some c.in-Some.key = ap (find (own_at u i n)) (sym c.keys_on.ensures) ∙ sym c.own_key-own.ensures ∙ c.in-Some.is in
     let here : filter_map u (on n lists) ≡ registered_on n x.registrations = sym (on-nodes_of a.table n a.nodes.entries) ∙ shown.registrations n in
@@ -50,7 +50,7 @@ returns-in-Some-clause-ok c = λ x w.
     let few : tally (is_registered i n) (registered_on n x.registrations) ≤ 1 = omega arith in
     let once = subst (λ (rs : List Registration). tally (is_registered i n) rs ≤ 1) (sym here) few in
     let again = found-again u (at c.end_own.new.table) (at c.set_options.new.table) lists (listed c.end_own.new.nodes.entries) i n c.in-Some.key c.args.options
-    (from-left (at a.table) (at c.end_own.new.table) (listed a.nodes.entries) (keys_by a.lasting.items) (keys_by a.passing.items) a.fleeting.keys (length (queues_of a.queues.items)) c.args.observer c.args.node c.self.invariant.1 c.end_own.ensures.left) c.end_own.ensures.swept found_key c.set_options.ensures.changed c.set_options.ensures.others (length (queues_of a.queues.items)) c.self.invariant.0.stand once in
+    (from-left (at a.table) (at c.end_own.new.table) (listed a.nodes.entries) (keys_by a.lasting.items) (keys_by a.passing.items) a.fleeting.keys (length a.queues.items) c.args.observer c.args.node c.self.invariant.1 c.end_own.ensures.left) c.end_own.ensures.swept found_key c.set_options.ensures.changed c.set_options.ensures.others (length a.queues.items) c.self.invariant.0.stand once in
     watches-observed_again o x shown i n c.args.options (nodes_of c.set_options.new.table c.end_own.new.nodes.entries)
     (ap (list_any (is_registered i n)) (on-nodes_of a.table n a.nodes.entries) ∙ any_own u i n (on n lists) (Some c.in-Some.key) found_key)
     (λ m. on-nodes_of c.set_options.new.table m c.end_own.new.nodes.entries ∙ again m
@@ -59,7 +59,7 @@ returns-in-Some-clause-ok c = λ x w.
 pub invariant_of-self-in-None : goal.invariant_of-self-in-None
 invariant_of-self-in-None c =
     let a = c.self.inside in
-    let made = length (queues_of a.queues.items) in
+    let made = length a.queues.items in
     let lt = subst (λ (o : Watchers). c.args.observer < length o.queues) (sym c.self.view_is) c.requires.held in
     let lists' = listed c.add.new.nodes.entries in
     let stand : AllStand (at c.add.new.table) made lists' =
@@ -80,7 +80,7 @@ invariant_of-self-in-None c =
     subst (λ ss. IsIndexed (λ k. option_map plain (slice_index_or ss k None)) lists' (keys_by (slice_set ls c.args.observer c.add.new.keys)) (keys_by a.passing.items) a.fleeting.keys made) (sym slots)
     (subst (λ l. IsIndexed (at a.table) l (keys_by (slice_set ls c.args.observer c.add.new.keys)) (keys_by a.passing.items) a.fleeting.keys made) (sym keys)
     (subst (λ l. IsIndexed (at a.table) (listed a.nodes.entries) l (keys_by a.passing.items) a.fleeting.keys made) (sym same_keys) c.self.invariant.1))) in (
-      kept_table a.table a.nodes.entries (queues_of a.queues.items) a.pending.keys c.self.invariant.0 c.add.new.table c.add.new.nodes.entries c.add.ensures.unique stand (c.add.ensures.full c.self.invariant.0.full),
+      kept_table a.table a.nodes.entries a.queues.items a.pending.keys c.self.invariant.0 c.add.new.table c.add.new.nodes.entries c.add.ensures.unique stand (c.add.ensures.full c.self.invariant.0.full),
       subst (λ i. IsIndexed (at c.add.new.table) lists' (keys_by (slice_set ls i c.add.new.keys)) (keys_by a.passing.items) a.fleeting.keys made) (sym c.number.ensures) indexed,
     )
 
@@ -92,10 +92,10 @@ returns-in-None-clause-ok c =
     let n = c.args.node in
     let u = at a.table in
     let lists = listed a.nodes.entries in
-    let o : Watchers = record { nodes = nodes_of a.table a.nodes.entries; queues = queues_of a.queues.items; pending = a.pending.keys } in
+    let o : Watchers = record { nodes = nodes_of a.table a.nodes.entries; queues = a.queues.items; pending = a.pending.keys } in
     let shown = subst (λ (o : Watchers). Watches o x) (sym c.self.view_is) w in
     let no_key : find (own_at u i n) (on n lists) ≡ None = ap (find (own_at u i n)) (sym c.keys_on.ensures) ∙ sym c.own_key-own.ensures ∙ c.in-None.is in
-    let live = λ (m : ℕ). live_of_stands u (length (queues_of a.queues.items)) m (on m lists) (c.self.invariant.0.stand m) in
+    let live = λ (m : ℕ). live_of_stands u (length a.queues.items) m (on m lists) (c.self.invariant.0.stand m) in
     watches-observed o x shown i n c.args.options (nodes_of c.add.new.table c.add.new.nodes.entries)
     (ap (list_any (is_registered i n)) (on-nodes_of a.table n a.nodes.entries) ∙ any_own u i n (on n lists) None no_key)
     (λ m. on-nodes_of c.add.new.table m c.add.new.nodes.entries
@@ -105,18 +105,18 @@ returns-in-None-clause-ok c =
 pub returns-in-Some-clause-names : goal.returns-in-Some-clause-names
 returns-in-Some-clause-names c =
     let a = c.self.inside in
-    let qs = queues_of a.queues.items in
+    let qs = a.queues.items in
     let lists = listed a.nodes.entries in
     let lists' = listed c.end_own.new.nodes.entries in
     let found_key : find (own_at (at a.table) c.args.observer c.args.node) (on c.args.node lists) ≡ Some c.in-Some.key =
     ap (find (own_at (at a.table) c.args.observer c.args.node)) (sym c.keys_on.ensures) ∙ sym c.own_key-own.ensures ∙ c.in-Some.is in
     let stand = stand-again (at a.table) (at c.end_own.new.table) (at c.set_options.new.table) lists lists' c.args.observer c.args.node c.in-Some.key c.args.options
-    (from-left (at a.table) (at c.end_own.new.table) (listed a.nodes.entries) (keys_by a.lasting.items) (keys_by a.passing.items) a.fleeting.keys (length (queues_of a.queues.items)) c.args.observer c.args.node c.self.invariant.1 c.end_own.ensures.left) c.end_own.ensures.swept found_key c.set_options.ensures.changed c.set_options.ensures.others (length qs) c.self.invariant.0.stand in
+    (from-left (at a.table) (at c.end_own.new.table) (listed a.nodes.entries) (keys_by a.lasting.items) (keys_by a.passing.items) a.fleeting.keys (length a.queues.items) c.args.observer c.args.node c.self.invariant.1 c.end_own.ensures.left) c.end_own.ensures.swept found_key c.set_options.ensures.changed c.set_options.ensures.others (length qs) c.self.invariant.0.stand in
     let kept = kept_table a.table a.nodes.entries qs a.pending.keys c.self.invariant.0 c.set_options.new.table c.end_own.new.nodes.entries c.end_own.ensures.unique stand (c.end_own.ensures.full c.self.invariant.0.full) in
     names-only a.table a.nodes.entries qs a.pending.keys c.args.self.now c.self.view_is c.set_options.new.table c.end_own.new.nodes.entries qs a.pending.keys kept (c.args.node ∷ [])
     (λ p _ names tells. (
       none-changed p (at c.end_own.new.table) (at c.set_options.new.table) c.in-Some.key c.args.options lists' c.set_options.ensures.changed c.set_options.ensures.others
-          (none-ended p (at a.table) (at c.end_own.new.table) (From c.args.observer c.args.node) lists lists' (from-left (at a.table) (at c.end_own.new.table) (listed a.nodes.entries) (keys_by a.lasting.items) (keys_by a.passing.items) a.fleeting.keys (length (queues_of a.queues.items)) c.args.observer c.args.node c.self.invariant.1 c.end_own.ensures.left) c.end_own.ensures.swept names),
+          (none-ended p (at a.table) (at c.end_own.new.table) (From c.args.observer c.args.node) lists lists' (from-left (at a.table) (at c.end_own.new.table) (listed a.nodes.entries) (keys_by a.lasting.items) (keys_by a.passing.items) a.fleeting.keys (length a.queues.items) c.args.observer c.args.node c.self.invariant.1 c.end_own.ensures.left) c.end_own.ensures.swept names),
       tells,
     ))
 
@@ -125,7 +125,7 @@ returns-in-None-clause-names c =
     let a = c.self.inside in
     let u = at a.table in
     let v = at c.add.new.table in
-    let qs = queues_of a.queues.items in
+    let qs = a.queues.items in
     let made = length qs in
     let lt = subst (λ (o : Watchers). c.args.observer < length o.queues) (sym c.self.view_is) c.requires.held in
     let lists = listed a.nodes.entries in

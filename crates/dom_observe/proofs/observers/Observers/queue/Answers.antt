@@ -1,8 +1,6 @@
 -- Each observer that the mutation interests gets its record, and is pending.
-use Rattle.std.proofs.Common.{◌≡◌, ◌<◌, ℕ, List, [], ◌∷◌, ◌++◌, length, filter, refl, ap, sym, ◌∙◌, subst, arith}
+use Rattle.std.proofs.Common.{◌≡◌, ℕ, List, [], ◌∷◌, ◌++◌, length, filter, refl, ap, sym, ◌∙◌, subst, arith}
 use Rattle.std.specs.Prelude.{flat_map, filter_map, slice_index_or}
-use Rattle.std.specs.List.{AllByRecursion}
-use Rattle.std.specs.Map.{keys_of}
 use Rattle.dom_model.specs.Forests.Forest.{ancestors}
 use Rattle.dom_model.specs.Worlds.World.{Mutation}
 use Rattle.dom_model.specs.MutationObservers.Observing.{standing_on, registered_on}
@@ -11,12 +9,12 @@ use Rattle.dom_model.specs.PlainLists.LastOnce.{with_all_last}
 use Rattle.dom_observe.specs.Names.{text_of}
 use Rattle.dom_observe.specs.Watchers.{Watchers, Watches, on}
 use Rattle.dom_observe.specs.Registrations.{at, listed}
-use Rattle.dom_observe.specs.Kept.{nodes_of, queues_of, keys_by, IsIndexed}
+use Rattle.dom_observe.specs.Kept.{nodes_of, keys_by, IsIndexed}
 use Rattle.dom_observe.specs.Telling.{listeners, delivered}
 use Rattle.dom_observe.specs.Held.{nodes_of_mutation}
 use Rattle.dom_observe.proofs.Holding.{names-only, names-same}
 use Rattle.dom_observe.proofs.Outcomes.{on_ok}
-use Rattle.dom_observe.proofs.Keeping.{on-nodes_of, queues_of-length, nobody}
+use Rattle.dom_observe.proofs.Keeping.{on-nodes_of, nobody}
 use Rattle.dom_observe.proofs.Queued.{standing_on-none, standing_stands, unheard, kept-queued, told-queued, pended-queued}
 use Rattle.dom_observe.proofs.Watching.{watches-noted, watches-unheard}
 use Rattle.dom_observe.proofs.observers.Observers.queue.Goals as goal
@@ -38,28 +36,28 @@ returns-then-is_empty-clause-queued g c = λ x w.
 pub invariant_of-self : goal.invariant_of-self
 invariant_of-self g c =
     let a = c.self.inside in
-    let qs = queues_of a.queues.items in
+    let qs = a.queues.items in
     let bounded = standing_stands (at a.table) (length qs) (listed a.nodes.entries) _ c.as_slice.result.now c.self.invariant.0.stand (c.as_slice.ensures.value ∙ c.in_ok-standing.ensures) in
     (kept-queued a.table a.nodes.entries qs a.pending.keys c.self.invariant.0 qs c.listen.new.pending.keys refl c.listen.ensures.stay (c.listen.ensures.made (length qs) bounded c.self.invariant.0.made) (λ p off. refl), c.self.invariant.1)
 
 pub tell-requires-clause-made : goal.tell-requires-clause-made
 tell-requires-clause-made g c =
     let a = c.self.inside in
-    let qs = queues_of a.queues.items in
+    let qs = a.queues.items in
     let bounded = standing_stands (at a.table) (length qs) (listed a.nodes.entries) _ c.as_slice.result.now c.self.invariant.0.stand (c.as_slice.ensures.value ∙ c.in_ok-standing.ensures) in
-    subst (λ l. AllByRecursion (λ o. o < l) (keys_of c.in_ok-heard.heard.entries)) (queues_of-length a.queues.items) (c.in_ok-heard.ensures.known (length qs) bounded)
+    (c.in_ok-heard.ensures.known (length qs) bounded)
 
 pub invariant_of-self-2 : goal.invariant_of-self-2
 invariant_of-self-2 g c =
     let a = c.self.inside in
     let q = c.question-question.result in
-    let qs = queues_of a.queues.items in
-    let qs' = queues_of c.tell.new.queues.items in
+    let qs = a.queues.items in
+    let qs' = c.tell.new.queues.items in
     let ls = listeners (at a.table) q.what q.target (text_of q.name) c.as_slice.result.now in
     let bounded = standing_stands (at a.table) (length qs) (listed a.nodes.entries) _ c.as_slice.result.now c.self.invariant.0.stand (c.as_slice.ensures.value ∙ c.in_ok-standing.ensures) in
-    let same_length = queues_of-length c.tell.new.queues.items ∙ c.tell.ensures.len ∙ sym (queues_of-length a.queues.items) in (
+    let same_length = c.tell.ensures.len in (
       kept-queued a.table a.nodes.entries qs a.pending.keys c.self.invariant.0 qs' c.listen.new.pending.keys
-          (queues_of-length c.tell.new.queues.items ∙ c.tell.ensures.len ∙ sym (queues_of-length a.queues.items))
+          c.tell.ensures.len
           c.listen.ensures.stay (c.listen.ensures.made (length qs) bounded c.self.invariant.0.made)
           (λ p off. c.tell.ensures.others p (c.in_ok-heard.ensures.heard p ∙ unheard p ls a.pending.keys c.listen.new.pending.keys c.in_ok-heard.ensures.pending off)),
       subst (IsIndexed (at a.table) (listed a.nodes.entries) (keys_by a.lasting.items) (keys_by a.passing.items) a.fleeting.keys) (sym same_length) c.self.invariant.1,
@@ -75,8 +73,8 @@ returns-clause-queued g c =
     let u = at a.table in
     let lists = listed a.nodes.entries in
     let keys = c.as_slice.result.now in
-    let qs = queues_of a.queues.items in
-    let qs' = queues_of c.tell.new.queues.items in
+    let qs = a.queues.items in
+    let qs' = c.tell.new.queues.items in
     let o : Watchers = record { nodes = nodes_of a.table a.nodes.entries; queues = qs; pending = a.pending.keys } in
     let shown = subst (λ (o : Watchers). Watches o x) (sym c.self.view_is) w in
     let has : (n : ℕ) → filter_map u (on n lists) ≡ registered_on n x.registrations = λ n. sym (on-nodes_of a.table n a.nodes.entries) ∙ shown.registrations n in
@@ -85,7 +83,7 @@ returns-clause-queued g c =
     let target = ap (λ (k : Mutation). k.target) c.mutation.view_is in
     let is : keys ≡ flat_map (λ n. on n lists) ns = c.as_slice.ensures.value ∙ c.in_ok-standing.ensures ∙ ap (λ t. flat_map (λ n. on n lists) (ancestors t c.args.tree.now.forest)) target in
     watches-noted o x shown (record (c.args.mutation.now) { standing = standing_on ns x.registrations }) qs' c.listen.new.pending.keys
-    (queues_of-length c.tell.new.queues.items ∙ c.tell.ensures.len ∙ sym (queues_of-length a.queues.items))
+    c.tell.ensures.len
     (λ p. given p
     ∙ ap (λ v. slice_index_or qs p [] ++ delivered m v) (c.in_ok-heard.ensures.heard p)
     ∙ ap (λ rs. slice_index_or qs p [] ++ rs) (told-queued u lists x.registrations has m ns keys is ls heard p))
@@ -94,12 +92,12 @@ returns-clause-queued g c =
 pub returns-then-is_empty-clause-names : goal.returns-then-is_empty-clause-names
 returns-then-is_empty-clause-names g c =
     let a = c.self.inside in
-    names-same a.table a.nodes.entries (queues_of a.queues.items) a.pending.keys c.self.invariant.0 c.args.self.now c.self.view_is (nodes_of_mutation c.args.mutation.now)
+    names-same a.table a.nodes.entries a.queues.items a.pending.keys c.self.invariant.0 c.args.self.now c.self.view_is (nodes_of_mutation c.args.mutation.now)
 
 pub returns-in_err-heard-clause-names : goal.returns-in_err-heard-clause-names
 returns-in_err-heard-clause-names g c =
     let a = c.self.inside in
-    let qs = queues_of a.queues.items in
+    let qs = a.queues.items in
     let bounded = standing_stands (at a.table) (length qs) (listed a.nodes.entries) _ c.as_slice.result.now c.self.invariant.0.stand (c.as_slice.ensures.value ∙ c.in_ok-standing.ensures) in
     let kept = kept-queued a.table a.nodes.entries qs a.pending.keys c.self.invariant.0 qs c.listen.new.pending.keys refl c.listen.ensures.stay (c.listen.ensures.made (length qs) bounded c.self.invariant.0.made) (λ p off. refl) in
     names-only a.table a.nodes.entries qs a.pending.keys c.args.self.now c.self.view_is a.table a.nodes.entries qs c.listen.new.pending.keys kept (nodes_of_mutation c.args.mutation.now) (λ p _ names tells. (names, tells))
@@ -108,21 +106,21 @@ pub returns-clause-names : goal.returns-clause-names
 returns-clause-names g c =
     let a = c.self.inside in
     let q = c.question-question.result in
-    let qs = queues_of a.queues.items in
-    let qs' = queues_of c.tell.new.queues.items in
+    let qs = a.queues.items in
+    let qs' = c.tell.new.queues.items in
     let ls = listeners (at a.table) q.what q.target (text_of q.name) c.as_slice.result.now in
     let bounded = standing_stands (at a.table) (length qs) (listed a.nodes.entries) _ c.as_slice.result.now c.self.invariant.0.stand (c.as_slice.ensures.value ∙ c.in_ok-standing.ensures) in
     let kept = kept-queued a.table a.nodes.entries qs a.pending.keys c.self.invariant.0 qs' c.listen.new.pending.keys
-    (queues_of-length c.tell.new.queues.items ∙ c.tell.ensures.len ∙ sym (queues_of-length a.queues.items))
+    c.tell.ensures.len
     c.listen.ensures.stay (c.listen.ensures.made (length qs) bounded c.self.invariant.0.made)
     (λ p off. c.tell.ensures.others p (c.in_ok-heard.ensures.heard p ∙ unheard p ls a.pending.keys c.listen.new.pending.keys c.in_ok-heard.ensures.pending off)) in
     names-only a.table a.nodes.entries qs a.pending.keys c.args.self.now c.self.view_is a.table a.nodes.entries qs' c.listen.new.pending.keys kept (nodes_of_mutation c.args.mutation.now)
     (λ p nameless names tells. (names, c.tell.ensures.names p nameless tells))
 
 pub returns-clause-made : goal.returns-clause-made
-returns-clause-made g c = queues_of-length c.tell.new.queues.items ∙ c.tell.ensures.len ∙ sym (queues_of-length c.self.inside.queues.items) ∙ ap (λ o. length o.queues) c.self.view_is
+returns-clause-made g c = c.tell.ensures.len ∙ ap (λ o. length o.queues) c.self.view_is
 
 pub returns-in_err-standing-clause-names : goal.returns-in_err-standing-clause-names
 returns-in_err-standing-clause-names g c =
     let a = c.self.inside in
-    names-same a.table a.nodes.entries (queues_of a.queues.items) a.pending.keys c.self.invariant.0 c.args.self.now c.self.view_is (nodes_of_mutation c.args.mutation.now)
+    names-same a.table a.nodes.entries a.queues.items a.pending.keys c.self.invariant.0 c.args.self.now c.self.view_is (nodes_of_mutation c.args.mutation.now)

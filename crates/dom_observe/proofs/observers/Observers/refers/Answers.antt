@@ -1,6 +1,6 @@
 -- What the registrations and the queues name is what the definitions have as observed.
-use Rattle.std.proofs.Common.{◌≡◌, ℕ, ◌||◌, ◌+◌, List, Vec, Global, ap, sym, ◌∙◌, subst, nat_eq, arith}
-use Rattle.std.specs.List.{list_any, IsDistinct}
+use Rattle.std.proofs.Common.{◌≡◌, ℕ, ◌||◌, ◌+◌, ◌<◌, List, length, ap, sym, ◌∙◌, subst, nat_eq, arith}
+use Rattle.std.specs.List.{list_any, IsDistinct, AllByRecursion}
 use Rattle.dom_model.specs.PlainLists.Lists.{among}
 use Rattle.dom_model.specs.Forests.Forest.{inclusive_descendants}
 use Rattle.dom_model.specs.MutationObservers.Record.{Record}
@@ -8,12 +8,16 @@ use Rattle.dom_model.specs.Worlds.World.{Registration}
 use Rattle.dom_model.specs.MutationObservers.Records.{queue_of}
 use Rattle.dom_model.specs.MutationAlgorithms.Discarding.{nodes_of_registration, nodes_of_record, queued_records}
 use Rattle.dom_observe.specs.Watchers.{Watchers, Watches}
-use Rattle.dom_observe.specs.Kept.{nodes_of, queues_of}
+use Rattle.dom_observe.specs.Kept.{nodes_of}
 use Rattle.dom_observe.specs.Held.{named}
-use Rattle.dom_observe.proofs.Finding.{list_any-map}
 use Rattle.dom_observe.proofs.Holding.{named-parts}
-use Rattle.dom_observe.proofs.Named.{any-registered, queues-waiting, keys-nodes_of, any-nodes_of, any-queues_of, any-observed}
+use Rattle.dom_observe.proofs.Named.{any-flat, any-registered, queues-waiting, keys-nodes_of, any-nodes_of, any-observed}
+use Rattle.dom_observe.proofs.Waiting.{any-told}
 use Rattle.dom_observe.proofs.observers.Observers.refers.Goals as goal
+
+-- there is a queue for each pending observer
+pub is_told-requires-clause-made : goal.is_told-requires-clause-made
+is_told-requires-clause-made g c = subst (λ (qs : List (List Record)). AllByRecursion (λ o. o < length qs) c.self.inside.pending.keys) (sym c.as_slice.ensures.value) c.self.invariant.0.made
 
 pub returns-then-is_named-clause-observed : goal.returns-then-is_named-clause-observed
 returns-then-is_named-clause-observed g c = λ x w.
@@ -38,10 +42,10 @@ returns-else-is_named-clause-observed g c = λ x w.
     let named : c.is_named.result ≡ list_any one x.registrations =
     c.is_named.ensures ∙ any-nodes_of a.table p a.nodes.entries ∙ any-registered one (nodes_of a.table a.nodes.entries) x.registrations distinct shown.registrations in
     let end : (i : ℕ) → i ≡ i + 0 = λ i. omega arith in
-    let waiting = queues-waiting x x.places (queues_of a.queues.items) 0 shown.made (λ i lt. shown.queues i lt ∙ ap (λ k. queue_of k x) (end i)) in
+    let waiting = queues-waiting x x.places a.queues.items 0 shown.made (λ i lt. shown.queues i lt ∙ ap (λ k. queue_of k x) (end i)) in
     c.is_told.ensures
-    ∙ ap (list_any (λ q. list_any told q.items)) c.as_slice.ensures.value
-    ∙ any-queues_of told a.queues.items
+    ∙ any-told p c.as_slice.result.now a.queues.items a.pending.keys c.as_slice.ensures.value c.self.invariant.0.waiting
+    ∙ sym (any-flat told (λ q. q) a.queues.items)
     ∙ ap (list_any told) (sym waiting)
     ∙ sym (any-observed p x ∙ ap (λ b. b || list_any told (queued_records x)) (sym named ∙ c.if-is_named.false))
 
@@ -51,8 +55,8 @@ returns-then-is_named-clause-named g c =
     let p = λ (m : ℕ). among m (inclusive_descendants c.args.tree.now.forest c.args.top) in
     let there = sym (c.is_named.ensures ∙ any-nodes_of a.table p a.nodes.entries) ∙ c.if-is_named.true in
     c.if-is_named.true
-    ∙ sym (ap (λ (o : Watchers). list_any p (named o)) (sym c.self.view_is) ∙ named-parts p (record { nodes = nodes_of a.table a.nodes.entries; queues = queues_of a.queues.items; pending = a.pending.keys })
-    ∙ ap (λ b. b || list_any (λ (q : List Record). list_any (λ r. list_any p (nodes_of_record r)) q) (queues_of a.queues.items)) there)
+    ∙ sym (ap (λ (o : Watchers). list_any p (named o)) (sym c.self.view_is) ∙ named-parts p (record { nodes = nodes_of a.table a.nodes.entries; queues = a.queues.items; pending = a.pending.keys })
+    ∙ ap (λ b. b || list_any (λ (q : List Record). list_any (λ r. list_any p (nodes_of_record r)) q) a.queues.items) there)
 
 pub returns-else-is_named-clause-named : goal.returns-else-is_named-clause-named
 returns-else-is_named-clause-named g c =
@@ -61,7 +65,6 @@ returns-else-is_named-clause-named g c =
     let told = λ (r : Record). list_any p (nodes_of_record r) in
     let there = sym (c.is_named.ensures ∙ any-nodes_of a.table p a.nodes.entries) ∙ c.if-is_named.false in
     c.is_told.ensures
-    ∙ ap (list_any (λ q. list_any told q.items)) c.as_slice.ensures.value
-    ∙ sym (list_any-map (list_any told) (λ (q : Vec Record Global). q.items) a.queues.items)
-    ∙ sym (ap (λ (o : Watchers). list_any p (named o)) (sym c.self.view_is) ∙ named-parts p (record { nodes = nodes_of a.table a.nodes.entries; queues = queues_of a.queues.items; pending = a.pending.keys })
-    ∙ ap (λ b. b || list_any (λ (q : List Record). list_any told q) (queues_of a.queues.items)) there)
+    ∙ any-told p c.as_slice.result.now a.queues.items a.pending.keys c.as_slice.ensures.value c.self.invariant.0.waiting
+    ∙ sym (ap (λ (o : Watchers). list_any p (named o)) (sym c.self.view_is) ∙ named-parts p (record { nodes = nodes_of a.table a.nodes.entries; queues = a.queues.items; pending = a.pending.keys })
+    ∙ ap (λ b. b || list_any (λ (q : List Record). list_any told q) a.queues.items) there)

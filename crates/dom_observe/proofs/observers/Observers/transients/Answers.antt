@@ -8,7 +8,7 @@ use Rattle.dom_model.specs.Worlds.World.{Registration}
 use Rattle.dom_model.specs.MutationObservers.Observing.{standing_on}
 use Rattle.dom_observe.specs.Watchers.{Watchers, Watches, on}
 use Rattle.dom_observe.specs.Registrations.{at, found, listed, is_live, AllLive, Stands, with_added_transients}
-use Rattle.dom_observe.specs.Kept.{nodes_of, queues_of, keys_by}
+use Rattle.dom_observe.specs.Kept.{nodes_of, keys_by}
 use Rattle.dom_observe.specs.Naming.{names_one}
 use Rattle.dom_observe.proofs.Holding.{names-only, names-same}
 use Rattle.dom_observe.proofs.Named.{or-left}
@@ -47,30 +47,30 @@ returns-then-is_empty-clause-left g c = λ x w.
 pub add_transients-requires-clause-live : goal.add_transients-requires-clause-live
 add_transients-requires-clause-live g c = λ n.
     let a = c.self.inside in
-    live_of_stands (at a.table) (length (queues_of a.queues.items)) n (on n (listed a.nodes.entries)) (c.self.invariant.0.stand n)
+    live_of_stands (at a.table) (length a.queues.items) n (on n (listed a.nodes.entries)) (c.self.invariant.0.stand n)
 
 pub add_transients-requires-clause-standing : goal.add_transients-requires-clause-standing
 add_transients-requires-clause-standing g c =
     let a = c.self.inside in
-    let live = λ (n : ℕ). live_of_stands (at a.table) (length (queues_of a.queues.items)) n (on n (listed a.nodes.entries)) (c.self.invariant.0.stand n) in
+    let live = λ (n : ℕ). live_of_stands (at a.table) (length a.queues.items) n (on n (listed a.nodes.entries)) (c.self.invariant.0.stand n) in
     subst (AllLive (at a.table)) (sym (c.as_slice.ensures.value ∙ c.in_ok-standing.ensures))
     (all_deep (at a.table) (λ k. is_live (at a.table) k ≡ true) (listed a.nodes.entries) live (ancestors c.args.parent c.args.tree.now.forest))
 
 pub invariant_of-self : goal.invariant_of-self
 invariant_of-self g c =
     let a = c.self.inside in
-    let made = length (queues_of a.queues.items) in
+    let made = length a.queues.items in
     let bounded = subst (AllByRecursion (Stands (at a.table) made)) (sym (c.as_slice.ensures.value ∙ c.in_ok-standing.ensures))
     (all_deep (at a.table) (Stands (at a.table) made) (listed a.nodes.entries) (λ n. stands_of (at a.table) made n (on n (listed a.nodes.entries)) (c.self.invariant.0.stand n)) (ancestors c.args.parent c.args.tree.now.forest)) in
     let stand = c.add_transients.ensures.all_stand made bounded c.self.invariant.0.stand in
-    (kept_table a.table a.nodes.entries (queues_of a.queues.items) a.pending.keys c.self.invariant.0 c.add_transients.new.table c.add_transients.new.nodes.entries c.add_transients.ensures.unique stand (c.add_transients.ensures.full c.self.invariant.0.full), c.add_transients.ensures.indexed (keys_by a.lasting.items) made bounded c.self.invariant.1)
+    (kept_table a.table a.nodes.entries a.queues.items a.pending.keys c.self.invariant.0 c.add_transients.new.table c.add_transients.new.nodes.entries c.add_transients.ensures.unique stand (c.add_transients.ensures.full c.self.invariant.0.full), c.add_transients.ensures.indexed (keys_by a.lasting.items) made bounded c.self.invariant.1)
 
 pub returns-clause-left : goal.returns-clause-left
 returns-clause-left g c =
     on_ok c.add_transients.result c.add_transients.ensures.ok (λ added x w.
     let a = c.self.inside in
     let ns = ancestors c.args.parent c.args.tree.now.forest in
-    let o : Watchers = record { nodes = nodes_of a.table a.nodes.entries; queues = queues_of a.queues.items; pending = a.pending.keys } in
+    let o : Watchers = record { nodes = nodes_of a.table a.nodes.entries; queues = a.queues.items; pending = a.pending.keys } in
     let shown = subst (λ (o : Watchers). Watches o x) (sym c.self.view_is) w in
     let stood = found_deep (at a.table) (listed a.nodes.entries) x.registrations (λ n. sym (on-nodes_of a.table n a.nodes.entries) ∙ shown.registrations n) ns in
     let seen : found a.table c.as_slice.result.now ≡ filter (λ (r : Registration). r.options.subtree) (standing_on ns x.registrations) = ap (found a.table) (c.as_slice.ensures.value ∙ c.in_ok-standing.ensures) ∙ stood in
@@ -82,7 +82,7 @@ returns-clause-left g c =
 pub returns-clause-names : goal.returns-clause-names
 returns-clause-names g c =
     let a = c.self.inside in
-    let qs = queues_of a.queues.items in
+    let qs = a.queues.items in
     let made = length qs in
     let ns = ancestors c.args.parent c.args.tree.now.forest in
     let lists = listed a.nodes.entries in
@@ -101,17 +101,17 @@ returns-clause-names g c =
 pub returns-then-is_empty-clause-names : goal.returns-then-is_empty-clause-names
 returns-then-is_empty-clause-names g c =
     let a = c.self.inside in
-    names-same a.table a.nodes.entries (queues_of a.queues.items) a.pending.keys c.self.invariant.0 c.args.self.now c.self.view_is (c.args.node ∷ [])
+    names-same a.table a.nodes.entries a.queues.items a.pending.keys c.self.invariant.0 c.args.self.now c.self.view_is (c.args.node ∷ [])
 
 pub returns-in_err-standing-clause-names : goal.returns-in_err-standing-clause-names
 returns-in_err-standing-clause-names g c =
     let a = c.self.inside in
-    names-same a.table a.nodes.entries (queues_of a.queues.items) a.pending.keys c.self.invariant.0 c.args.self.now c.self.view_is (c.args.node ∷ [])
+    names-same a.table a.nodes.entries a.queues.items a.pending.keys c.self.invariant.0 c.args.self.now c.self.view_is (c.args.node ∷ [])
 
 pub add_transients-requires-clause-made : goal.add_transients-requires-clause-made
 add_transients-requires-clause-made g c =
     let a = c.self.inside in
-    let made = length (queues_of a.queues.items) in
+    let made = length a.queues.items in
     let bounded = all_deep (at a.table) (Stands (at a.table) made) (listed a.nodes.entries) (λ n. stands_of (at a.table) made n (on n (listed a.nodes.entries)) (c.self.invariant.0.stand n)) (ancestors c.args.parent c.args.tree.now.forest) in
     subst (AllByRecursion (Stands (at a.table) (length a.passing.items))) (sym (c.as_slice.ensures.value ∙ c.in_ok-standing.ensures))
     (all_imply (Stands (at a.table) made) (Stands (at a.table) (length a.passing.items))

@@ -1,24 +1,15 @@
--- One walker after another.
-use Rattle.std.proofs.Common.{◌≡◌, ◌<◌, List, length, get_or, arith, ap, sym, ◌∙◌, subst}
-use Rattle.std.proofs.lemmas.Grind.{common_steps}
+-- The nodes that walkers name are their roots and current nodes.
+use Rattle.std.proofs.Common.{ap, ◌∙◌}
+use Rattle.std.specs.List.{list_any, flat_map}
 use Rattle.dom_model.specs.PlainLists.Lists.{among}
 use Rattle.dom_model.specs.Forests.Forest.{inclusive_descendants}
 use Rattle.dom_model.specs.Worlds.World.{Walker}
 use Rattle.dom_model.specs.MutationAlgorithms.Discarding.{nodes_of_walker}
-use Rattle.dom_traverse.proofs.Referring.{any-later}
+use Rattle.dom_traverse.proofs.Found.{found-names}
 use Rattle.dom_traverse.proofs.walkers.Walkers.refers.Goals as goal
 
-pub loop-walker-preserved : goal.loop-walker-preserved
-loop-walker-preserved g c =
-    let same : c.deref-walker-items.result.now ≡ c.args.self.now = c.deref-walker-items.ensures.value ∙ c.self.view_is in
-    let lengths = ap length same in
-    let lt : c.loop-walker.walker-index < length c.args.self.now = omega arith in
-    let is = subst (λ (is : List Walker). c.walker-item.result ≡ get_or is c.loop-walker.walker-index c.walker-item.result) same c.walker-item.is in
-    c.loop-walker.invariant
-    ∙ any-later (λ m. among m (inclusive_descendants c.args.tree.now.forest c.args.top)) nodes_of_walker c.args.self.now c.loop-walker.walker-index c.walker-item.result lt is (sym c.stands_in.ensures ∙ c.if-stands_in.false)
-
-pub returns-then-stands_in : goal.returns-then-stands_in
-returns-then-stands_in g c = grind (arith, common_steps)
-
-pub returns : goal.returns
-returns g c = grind (arith, common_steps)
+pub returns-in-Some : goal.returns-in-Some
+returns-in-Some g c =
+    c.in-Some.ensures (flat_map nodes_of_walker c.self.inside.walkers.items)
+    (found-names (λ (k : Walker). k.root) (λ (k : Walker). k.current) c.self.inside.walkers.items c.self.inside.roots c.self.inside.currents c.self.invariant)
+    ∙ ap (λ ks. list_any (λ m. among m (inclusive_descendants c.args.tree.now.forest c.args.top)) (flat_map nodes_of_walker ks)) c.self.view_is

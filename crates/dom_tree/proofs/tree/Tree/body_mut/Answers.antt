@@ -3,6 +3,7 @@ use Rattle.std.proofs.Common.{refl}
 use Rattle.dom_model.specs.Forests.Forest.{Node, with_node}
 use Rattle.dom_tree.specs.Bodies.{with_body}
 use Rattle.dom_tree.proofs.Trees.{slot-held, alter-done, keeps-shown, part-read}
+use Rattle.dom_tree.proofs.OwnedTrees.{alter-tree}
 use Rattle.dom_tree.proofs.tree.Tree.body_mut.Goals as goal
 
 pub slot_of-slot-requires : goal.slot_of-slot-requires
@@ -10,7 +11,7 @@ slot_of-slot-requires g c = slot-held c.self.invariant c.self.view_is c.args.id 
 
 pub invariant_of-self-lent : goal.invariant_of-self-lent
 invariant_of-self-lent g c =
-    λ w. (alter-done c.self.invariant c.self.view_is c.args.id c.slot_of-slot.result c.slot_of-slot.ensures (with_body w) (λ q. refl) (λ q. refl)).kept
+    λ w. alter-tree c.self.invariant c.args.id c.slot_of-slot.result c.slot_of-slot.ensures (with_body w) (λ q. refl) (λ q. refl) (λ q. refl)
 
 pub returns : goal.returns
 returns g c = (

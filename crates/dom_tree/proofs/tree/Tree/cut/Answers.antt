@@ -1,6 +1,7 @@
 -- A child cut by slot is cut by number.
 use Rattle.dom_model.specs.Forests.Forest.{cut}
 use Rattle.dom_tree.proofs.Trees.{slot-of_child, parent-there, parents-held, parent-still, cut-done, changed-shown}
+use Rattle.dom_tree.proofs.OwnedTrees.{cut-tree}
 use Rattle.dom_tree.proofs.tree.Tree.cut.Goals as goal
 
 pub slot_of-slot-requires : goal.slot_of-slot-requires
@@ -19,7 +20,8 @@ unlink-requires g c =
 
 pub invariant_of-self : goal.invariant_of-self
 invariant_of-self g c =
-    (cut-done c.self.invariant c.self.view_is c.sound.ensures c.args.child c.slot_of-slot.result c.slot_of-slot.ensures c.requires c.number_cut.new.links c.unlink.new.self c.number_cut.ensures c.unlink.ensures).kept
+    cut-tree c.self.invariant c.args.child c.slot_of-slot.result c.number_cut.new.links c.unlink.new.self c.number_cut.ensures c.unlink.ensures
+    (cut-done c.self.invariant c.self.view_is c.sound.ensures c.args.child c.slot_of-slot.result c.slot_of-slot.ensures c.requires c.number_cut.new.links c.unlink.new.self c.number_cut.ensures c.unlink.ensures)
 
 pub returns : goal.returns
 returns g c =

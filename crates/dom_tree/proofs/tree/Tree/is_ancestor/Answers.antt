@@ -7,14 +7,15 @@ use Rattle.dom_model.specs.Forests.Forest.{ancestors}
 use Rattle.dom_model.proofs.Forests.Above.{above}
 use Rattle.dom_model.proofs.Forests.ToTheRoot.{shorter, among-above, among-here, among-top}
 use Rattle.dom_tree.proofs.Trees.{slot-held, holds-read}
-use Rattle.dom_tree.proofs.Referring.{inside-same, nothing-under}
+use Rattle.dom_model.proofs.Forests.ToTheRoot.{inside-same}
+use Rattle.dom_tree.proofs.Referring.{nothing-under}
 use Rattle.dom_tree.proofs.Steps.{called, begins, stands, meets, up, topmost}
 use Rattle.dom_tree.proofs.tree.Tree.is_ancestor.Goals as goal
 
 pub returns-in_default : goal.returns-in_default
 returns-in_default g c =
     let e = sym (holds-read c.self.invariant c.self.view_is c.args.above) ∙ ap is_some (sym c.slot_at.ensures ∙ c.in_default.is) in
-    sym (nothing-under c.sound.ensures c.args.above e c.args.id) ∙ inside-same c.sound.ensures c.args.above c.args.id
+    sym (nothing-under c.sound.ensures c.args.above e c.args.id) ∙ sym (inside-same c.sound.ensures c.args.above c.args.id)
 
 pub slot_of-here-requires : goal.slot_of-here-requires
 slot_of-here-requires g c = slot-held c.self.invariant c.self.view_is c.args.id c.requires

@@ -4,7 +4,8 @@ use Rattle.dom_model.specs.PlainLists.Lists.{head_of}
 use Rattle.dom_model.specs.Forests.Forest.{HasNode, children_of}
 use Rattle.dom_tree.proofs.Trees.{holds-read}
 use Rattle.dom_tree.proofs.Steps.{begins, stands, childless}
-use Rattle.dom_tree.proofs.Referring.{inside-same, inside-none, nothing-under, inside-alone}
+use Rattle.dom_model.proofs.Forests.ToTheRoot.{inside-same}
+use Rattle.dom_tree.proofs.Referring.{inside-none, nothing-under, inside-alone}
 use Rattle.dom_tree.proofs.tree.Tree.is_inside.Goals as goal
 
 pub returns-in_default : goal.returns-in_default
@@ -21,7 +22,7 @@ returns-in-None g c =
     c.eq.ensures ∙ sym (inside-alone c.sound.ensures c.args.top h z c.args.node)
 
 pub returns-then-holds : goal.returns-then-holds
-returns-then-holds g c = c.is_ancestor.ensures ∙ sym (inside-same c.sound.ensures c.args.top c.args.node)
+returns-then-holds g c = c.is_ancestor.ensures ∙ inside-same c.sound.ensures c.args.top c.args.node
 
 pub returns-else-holds : goal.returns-else-holds
 returns-else-holds g c =

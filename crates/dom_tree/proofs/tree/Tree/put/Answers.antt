@@ -3,6 +3,7 @@ use Rattle.std.proofs.lemmas.Grind.{common_steps}
 -- A root put by slot is put by number.
 use Rattle.dom_model.specs.Forests.Forest.{put}
 use Rattle.dom_tree.proofs.Trees.{slot-held, slots-held, parent-none, parent-same, no_cycle-slots, put-child, put-before, put-done, changed-shown}
+use Rattle.dom_tree.proofs.OwnedTrees.{put-tree}
 use Rattle.dom_tree.proofs.tree.Tree.put.Goals as goal
 
 pub slot_of-above-requires : goal.slot_of-above-requires
@@ -36,7 +37,9 @@ number_put-requires-clause-before_held g c =
     put-before c.self.invariant c.self.view_is c.sound.ensures c.args.before c.args.parent c.slot_of-above.result c.slot_of-below.result c.slot_of_any-next.result c.slot_of-above.ensures c.slot_of_any-next.ensures c.requires.before_under c.link.new.self c.link.ensures
 
 pub invariant_of-self : goal.invariant_of-self
-invariant_of-self g c = (put-done c.self.invariant c.self.view_is c.sound.ensures c.args.parent c.slot_of-above.result c.args.child c.slot_of-below.result c.args.before c.slot_of_any-next.result c.slot_of-above.ensures c.slot_of-below.ensures c.slot_of_any-next.ensures c.requires.no_parent c.requires.no_cycle c.requires.before_under c.requires.kinds c.link.new.self c.number_put.new.links c.link.ensures c.number_put.ensures).kept
+invariant_of-self g c =
+    put-tree c.self.invariant c.self.view_is c.args.parent c.slot_of-above.result c.args.child c.slot_of-below.result c.args.before c.slot_of_any-next.result c.requires.parent_held c.requires.child_held c.requires.no_parent c.requires.no_cycle c.link.new.self c.number_put.new.links c.link.ensures c.number_put.ensures
+    (put-done c.self.invariant c.self.view_is c.sound.ensures c.args.parent c.slot_of-above.result c.args.child c.slot_of-below.result c.args.before c.slot_of_any-next.result c.slot_of-above.ensures c.slot_of-below.ensures c.slot_of_any-next.ensures c.requires.no_parent c.requires.no_cycle c.requires.before_under c.requires.kinds c.link.new.self c.number_put.new.links c.link.ensures c.number_put.ensures)
 
 pub returns : goal.returns
 returns g c =

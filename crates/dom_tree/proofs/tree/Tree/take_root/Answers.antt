@@ -1,28 +1,27 @@
-use Rattle.std.proofs.Common.{arith}
-use Rattle.std.proofs.lemmas.Grind.{common_steps}
--- The root's slot is emptied, and its place in the table.
-use Rattle.dom_tree.proofs.Trees.{slot-held, parent-none, children-none, take-live, take-done, take-shown}
+-- The root goes into itself first.
+use Rattle.std.proofs.Common.{refl, ap, ◌∙◌}
+use Rattle.dom_model.specs.Forests.Forest.{Grove, parent_of, children_of, without, in_document}
+use Rattle.dom_tree.specs.Owned.{document_in}
+use Rattle.dom_tree.proofs.DocumentsKept.{documents-set, parent-set, children-set, without-with_node}
 use Rattle.dom_tree.proofs.tree.Tree.take_root.Goals as goal
 
-pub slot_of-slot-requires : goal.slot_of-slot-requires
-slot_of-slot-requires g c = slot-held c.self.invariant c.self.view_is c.args.id c.requires.held
+pub take_alone-requires-clause-no_parent : goal.take_alone-requires-clause-no_parent
+take_alone-requires-clause-no_parent g c =
+    ap (λ (q : Grove g.row.X.Denot). parent_of q.forest c.args.id) c.move_to.ensures
+    ∙ parent-set c.args.self.now.forest c.sound.ensures.once c.args.id c.args.id c.args.id ∙ c.requires.no_parent
 
-pub take-item-requires-clause-no_parent : goal.take-item-requires-clause-no_parent
-take-item-requires-clause-no_parent g c =
-    parent-none c.self.invariant c.self.view_is c.args.id c.slot_of-slot.result c.slot_of-slot.ensures c.requires.no_parent
+pub take_alone-requires-clause-no_child : goal.take_alone-requires-clause-no_child
+take_alone-requires-clause-no_child g c =
+    ap (λ (q : Grove g.row.X.Denot). children_of q.forest c.args.id) c.move_to.ensures
+    ∙ children-set c.args.self.now.forest c.sound.ensures.once c.args.id c.args.id c.args.id ∙ c.requires.no_child
 
-pub take-item-requires-clause-no_child : goal.take-item-requires-clause-no_child
-take-item-requires-clause-no_child g c =
-    children-none c.self.invariant c.self.view_is c.args.id c.slot_of-slot.result c.slot_of-slot.ensures c.requires.no_child
-
-pub overflow_sub-self : goal.overflow_sub-self
-overflow_sub-self g c = take-live c.self.invariant c.self.view_is c.sound.ensures c.args.id c.slot_of-slot.result c.slot_of-slot.ensures c.requires.no_parent c.requires.no_child c.take-item.new.self c.take-item.ensures.taken c.sound-2.ensures
-
-pub invariant_of-self : goal.invariant_of-self
-invariant_of-self g c = (take-done c.self.invariant c.self.view_is c.sound.ensures c.args.id c.slot_of-slot.result c.slot_of-slot.ensures c.requires.no_parent c.requires.no_child c.take-item.new.self c.take-item.ensures.taken c.sound-2.ensures c.number.result c.clear.new.self.items c.number.ensures c.clear.ensures.items).kept
+pub take_alone-requires-clause-itself : goal.take_alone-requires-clause-itself
+take_alone-requires-clause-itself g c =
+    ap (λ (q : Grove g.row.X.Denot). document_in q.forest c.args.id) c.move_to.ensures
+    ∙ documents-set c.args.self.now.forest c.sound.ensures.once c.args.id c.args.id c.requires.held
 
 pub returns : goal.returns
-returns g c = take-shown c.self.invariant c.self.view_is c.sound.ensures c.args.id c.slot_of-slot.result c.slot_of-slot.ensures c.requires.no_parent c.requires.no_child c.take-item.new.self c.take-item.ensures.taken c.sound-2.ensures c.number.result c.clear.new.self.items c.number.ensures c.clear.ensures.items
-
-pub take-item-requires-clause-held : goal.take-item-requires-clause-held
-take-item-requires-clause-held g c = grind (arith, common_steps)
+returns g c =
+    c.take_alone.ensures
+    ∙ ap (λ (q : Grove g.row.X.Denot). record q { forest = without c.args.id q.forest }) c.move_to.ensures
+    ∙ ap (λ f. record c.args.self.now { forest = f }) (without-with_node c.args.id (in_document c.args.id) (λ x. refl) c.args.self.now.forest)

@@ -1,0 +1,10 @@
+-- Those that gave way wait, and the others stay.
+use Rattle.dom_model.specs.MutationAlgorithms.PreRemoval.{pre_removed}
+use Rattle.dom_traverse.proofs.Leaving.{standing, AreLeaving}
+use Rattle.dom_traverse.proofs.giving_way.give_way.Given as goal
+
+abbrev pub invariant-loop-id : goal.invariant-loop-id
+invariant-loop-id g l = AreLeaving (pre_removed l.tree.forest l.node) l.fn.iterators l.iterators l.references
+
+abbrev pub decreases-loop-id : goal.decreases-loop-id
+decreases-loop-id g l = standing l.references

@@ -1,0 +1,18 @@
+-- Iterators found by their references, and how they give way before a node is removed.
+use Rattle.std.specs.Prelude.{◌≡◌, ℕ, ◌<◌, List, length, map, slice_index_or, Option, Some, None, ◌⊎◌}
+use Rattle.dom_model.specs.Worlds.World.{Iterator}
+use Rattle.dom_traverse.specs.Whereabouts.{node_in}
+
+-- the reference nodes
+abbrev pub references_of : List Iterator → List (Option ℕ)
+references_of is = map (λ (i : Iterator). Some i.reference) is
+
+-- each iterator that has its reference at a node has taken a step, and the others have or stayed
+pub record GaveWay (step : Iterator → Iterator) (node : ℕ) (old new : List Iterator) : Type 0 where
+  pub long : length new ≡ length old
+  pub each : (k : ℕ) (i : Iterator) → k < length old → (slice_index_or new k i ≡ step (slice_index_or old k i)) ⊎ ((slice_index_or new k i ≡ slice_index_or old k i) × ((slice_index_or old k i).reference ≡ node → ⊥))
+
+-- each iterator is at its reference, or waits
+pub record StandOrWait (is : List Iterator) (nodes : List (Option ℕ)) : Type 0 where
+  pub long : length nodes ≡ length is
+  pub each : (k : ℕ) (i : Iterator) → k < length is → (node_in nodes k ≡ None) ⊎ (node_in nodes k ≡ Some (slice_index_or is k i).reference)
