@@ -19,6 +19,8 @@ mod range_scenes;
 #[cfg(test)]
 mod ranges;
 #[cfg(test)]
+mod slots;
+#[cfg(test)]
 mod traversal;
 #[cfg(test)]
 mod tree;

@@ -11,11 +11,16 @@ use std::alloc::{AllocError, Global};
 use std::process::Abort;
 use std::test::Fail;
 
+// Covers a thousand nodes, and then ten of them again.
+fn cover(ranges: &mut Ranges) -> Result<(), AllocError> {
+    ranges.cover(1000)?;
+    ranges.cover(10)
+}
+
 #[test]
 fn room_for_nodes(rt: HostRuntime) -> Result<(), Fail> {
     let mut ranges = Ranges::new(rt.alloc());
-    ranges.cover(1000)?;
-    ranges.cover(10)?;
+    cover(&mut ranges)?;
     assert_eq!(rt; ranges.made(), 0);
     assert!(rt; ranges.is_covered(NodeId::new(0)) && ranges.is_covered(NodeId::new(999)));
     assert!(rt; !ranges.is_covered(NodeId::new(1000)));
@@ -57,110 +62,6 @@ fn made_and_released(rt: HostRuntime) -> Result<(), Fail> {
     release(&rt, &mut ranges, r);
     assert!(rt; !ranges.stands_in(NodeId::new(2)));
     assert_eq!(rt; ranges.made(), 1);
-    Ok(())
-}
-
-// A range from a unit of t to its last is made and released, beside one that stays.
-fn comes_and_goes(
-    rt: &impl Abort,
-    ranges: &mut Ranges,
-    tree: &Tree<Units>,
-    n: u32,
-) -> Result<(), AllocError> {
-    let (start, end) = (at(3, n as usize % 10), at(3, 10));
-    let r = ranged(rt, ranges, tree, start, end)?;
-    assert_eq!(rt; r, RangeId::new(n));
-    lies(rt, ranges, r, start, end);
-    lies(rt, ranges, RangeId::new(0), at(0, 1), at(0, 2));
-    release(rt, ranges, r);
-    assert!(rt; !ranges.stands_in(NodeId::new(3)));
-    Ok(())
-}
-
-// A range is made and released over and over, beside one that stays. Each has the next number and ends of its own, and the table of ends
-// does not grow.
-#[test]
-fn made_again_and_again(rt: HostRuntime) -> Result<(), Fail> {
-    let tree = with_texts(&rt, rt.alloc())?;
-    let mut ranges = Ranges::new(rt.alloc());
-    let _ = ranged(&rt, &mut ranges, &tree, at(0, 1), at(0, 2))?;
-    for n in 1..201 {
-        comes_and_goes(&rt, &mut ranges, &tree, n)?;
-    }
-    assert_eq!(rt; (ranges.made(), ranges.slots()), (201, 1));
-    Ok(())
-}
-
-// Where the range of a number starts and ends, of those that are made by turns.
-fn by_number(n: u32) -> (Point, Point) {
-    (at(3, n as usize % 10), at(3, 10))
-}
-
-// A range is made, and where ten more are live the first of them is released.
-fn takes_its_turn(
-    rt: &impl Abort,
-    ranges: &mut Ranges,
-    tree: &Tree<Units>,
-    n: u32,
-) -> Result<(), AllocError> {
-    let (start, end) = by_number(n);
-    let r = ranged(rt, ranges, tree, start, end)?;
-    assert_eq!(rt; r, RangeId::new(n));
-    if n >= 10 {
-        let first = RangeId::new(n - 10);
-        lies(rt, ranges, first, start, end);
-        release(rt, ranges, first);
-    }
-    Ok(())
-}
-
-// Ranges are made and released by turns, ten of them live at a time, over more numbers than a page has. Each starts where its number says.
-#[test]
-fn made_and_released_by_turns(rt: HostRuntime) -> Result<(), Fail> {
-    let tree = with_texts(&rt, rt.alloc())?;
-    let mut ranges = Ranges::new(rt.alloc());
-    for n in 0..3_000 {
-        takes_its_turn(&rt, &mut ranges, &tree, n)?;
-    }
-    assert!(rt; !ranges.holds(RangeId::new(0)) && !ranges.holds(RangeId::new(2_989)));
-    for n in 2_990..3_000 {
-        let (start, end) = by_number(n);
-        lies(&rt, &ranges, RangeId::new(n), start, end);
-    }
-    assert_eq!(rt; (ranges.made(), ranges.slots()), (3_000, 10));
-    Ok(())
-}
-
-// Where three ranges start and end.
-fn later() -> [(Point, Point); 3] {
-    [
-        (at(3, 3), at(3, 4)),
-        (at(4, 5), at(4, 6)),
-        (at(3, 7), at(4, 0)),
-    ]
-}
-
-// Two ranges that were released, the first before the second, so that each was in the last slot or had the last one come into its slot. Three
-// that are made later have slots of their own.
-#[test]
-fn made_in_released_slots(rt: HostRuntime) -> Result<(), Fail> {
-    let tree = with_texts(&rt, rt.alloc())?;
-    let mut ranges = Ranges::new(rt.alloc());
-    for (start, end) in [(at(0, 1), at(0, 2)), (at(3, 1), at(3, 2))] {
-        let _ = ranged(&rt, &mut ranges, &tree, start, end)?;
-    }
-    release(&rt, &mut ranges, RangeId::new(0));
-    release(&rt, &mut ranges, RangeId::new(1));
-    for (start, end) in later() {
-        let _ = ranged(&rt, &mut ranges, &tree, start, end)?;
-    }
-    assert!(rt; !ranges.holds(RangeId::new(0)) && !ranges.holds(RangeId::new(1)));
-    let mut n = 2;
-    for (start, end) in later() {
-        lies(&rt, &ranges, RangeId::new(n), start, end);
-        n = n.saturating_add(1);
-    }
-    assert_eq!(rt; ranges.slots(), 3);
     Ok(())
 }
 
@@ -251,21 +152,44 @@ fn forget(rt: &impl Abort, ranges: &mut Ranges, tree: &Tree<Units>, top: NodeId)
     ranges.forget(tree, top);
 }
 
+// Forgets the nodes of a tree, and covers nodes again: those below 5 stay forgotten.
+fn forget_and_cover(
+    rt: &impl Abort,
+    ranges: &mut Ranges,
+    tree: &Tree<Units>,
+) -> Result<(), AllocError> {
+    forget(rt, ranges, tree, NodeId::new(0));
+    ranges.cover(1000)?;
+    for n in 0..10 {
+        assert_eq!(rt; ranges.is_covered(NodeId::new(n)), n >= 5);
+    }
+    Ok(())
+}
+
+// Two trees, of which the second is node 5 alone.
+fn two_trees(rt: &impl Abort, alloc: Global) -> Result<Tree<Units>, AllocError> {
+    let mut tree = with_texts(rt, alloc)?;
+    assert_eq!(rt; element(rt, alloc, &mut tree)?, NodeId::new(5));
+    Ok(tree)
+}
+
+// Twice the same.
+fn forget_twice(
+    rt: &impl Abort,
+    ranges: &mut Ranges,
+    tree: &Tree<Units>,
+) -> Result<(), AllocError> {
+    forget_and_cover(rt, ranges, tree)?;
+    forget_and_cover(rt, ranges, tree)
+}
+
 // The nodes of a tree in which no end stands are forgotten, and stay so when nodes are covered again. Those of another tree stay.
 #[test]
 fn forgotten(rt: HostRuntime) -> Result<(), Fail> {
-    let mut tree = with_texts(&rt, rt.alloc())?;
-    let (root, other) = (NodeId::new(0), NodeId::new(5));
-    assert_eq!(rt; element(&rt, rt.alloc(), &mut tree)?, other);
+    let tree = two_trees(&rt, rt.alloc())?;
     let mut ranges = alone(&rt, rt.alloc(), &tree, at(5, 0), at(5, 0))?;
-    for _ in 0..2 {
-        forget(&rt, &mut ranges, &tree, root);
-        ranges.cover(1000)?;
-        for n in 0..10 {
-            assert_eq!(rt; ranges.is_covered(NodeId::new(n)), n >= 5);
-        }
-    }
-    assert!(rt; ranges.stands_in(other) && !ranges.stands_in(root));
+    forget_twice(&rt, &mut ranges, &tree)?;
+    assert!(rt; ranges.stands_in(NodeId::new(5)) && !ranges.stands_in(NodeId::new(0)));
     lies(&rt, &ranges, RangeId::new(0), at(5, 0), at(5, 0));
     Ok(())
 }

@@ -133,16 +133,22 @@ fn a_child_in_front_moves_the_others_on(rt: HostRuntime) -> Result<(), Fail> {
     Ok(())
 }
 
+// Five children from the first on, from one of them on, and of a node without any.
+fn list_children(rt: &impl Abort, alloc: Global, tree: &Tree<u32>) -> Result<(), AllocError> {
+    let all = children(rt, alloc, tree, NodeId::new(1))?;
+    assert_eq!(rt; all.as_slice(), [6, 2, 3, 4, 5].as_slice());
+    let later = children_from(rt, alloc, tree, NodeId::new(3))?;
+    assert_eq!(rt; later.as_slice(), [3, 4, 5].as_slice());
+    let last = children_from(rt, alloc, tree, NodeId::new(5))?;
+    assert_eq!(rt; last.as_slice(), [5].as_slice());
+    assert!(rt; children(rt, alloc, tree, NodeId::new(2))?.is_empty());
+    Ok(())
+}
+
 #[test]
 fn children_come_in_order(rt: HostRuntime) -> Result<(), Fail> {
     let tree = five_children(&rt, rt.alloc())?;
-    let all = children(&rt, rt.alloc(), &tree, NodeId::new(1))?;
-    assert_eq!(rt; all.as_slice(), [6, 2, 3, 4, 5].as_slice());
-    let later = children_from(&rt, rt.alloc(), &tree, NodeId::new(3))?;
-    assert_eq!(rt; later.as_slice(), [3, 4, 5].as_slice());
-    let last = children_from(&rt, rt.alloc(), &tree, NodeId::new(5))?;
-    assert_eq!(rt; last.as_slice(), [5].as_slice());
-    assert!(rt; children(&rt, rt.alloc(), &tree, NodeId::new(2))?.is_empty());
+    list_children(&rt, rt.alloc(), &tree)?;
     assert!(rt; tree.children_from(NodeId::new(1), None).next().is_none());
     Ok(())
 }

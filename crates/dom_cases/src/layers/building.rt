@@ -190,8 +190,8 @@ fn prepare(rt: &impl Abort, world: &mut World, alloc: Global) -> Result<(), Allo
     watch(rt, world, NodeId::new(6))
 }
 
-// A world with document 0 alone. What it stands for is left out, so that what follows stays cheap to prove.
-fn first(alloc: Global) -> Result<World, AllocError>
+/// A world with document 0 alone. What it stands for is left out, so that what follows stays cheap to prove.
+pub fn first(alloc: Global) -> Result<World, AllocError>
     ensures { IfOk result IsWhole }
 {
     World::new(alloc)

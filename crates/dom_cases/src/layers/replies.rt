@@ -156,30 +156,48 @@ fn removal(alloc: Global) -> Result<Record, AllocError> {
     })
 }
 
-#[test]
-fn printed_records(rt: HostRuntime) -> Result<(), Fail> {
-    let alloc = rt.alloc();
-    let change = Record {
+// A record of an attribute that was set anew.
+fn change(alloc: Global) -> Result<Record, AllocError> {
+    let name = String::from_str(alloc, "x")?;
+    let old_value = Units::from_str(alloc, "1")?;
+    Ok(Record {
         what: RecordType::Attributes,
         target: NodeId::new(2),
         added: Vec::new(alloc),
         removed: Vec::new(alloc),
         previous: None,
         next: None,
-        name: Some(String::from_str(alloc, "x")?),
-        old_value: Some(Units::from_str(alloc, "1")?),
-    };
-    let records = vec![in alloc; removal(alloc)?, change]?;
-    let wanted =
-        "[[\"childList\",1,[],[2],null,3,null,null],[\"attributes\",2,[],[],null,null,\"x\",\"1\"]]";
-    assert!(rt; prints(alloc, Answer::Records(records), wanted)?);
+        name: Some(name),
+        old_value: Some(old_value),
+    })
+}
+
+// A removal, and that record.
+fn two_records(alloc: Global) -> Result<Vec<Record>, Fail> {
+    let removal = removal(alloc)?;
+    let change = change(alloc)?;
+    Ok(vec![in alloc; removal, change]?)
+}
+
+// What one observer is told.
+fn told(alloc: Global) -> Result<Vec<Told>, Fail> {
+    let removal = removal(alloc)?;
+    let records = vec![in alloc; removal]?;
     let told = Told {
         observer: ObserverId::new(0),
-        records: vec![in alloc; removal(alloc)?]?,
+        records,
     };
-    let told = vec![in alloc; told]?;
+    Ok(vec![in alloc; told]?)
+}
+
+#[test]
+fn printed_records(rt: HostRuntime) -> Result<(), Fail> {
+    let alloc = rt.alloc();
+    let wanted =
+        "[[\"childList\",1,[],[2],null,3,null,null],[\"attributes\",2,[],[],null,null,\"x\",\"1\"]]";
+    assert!(rt; prints(alloc, Answer::Records(two_records(alloc)?), wanted)?);
     let wanted = "[[0,[[\"childList\",1,[],[2],null,3,null,null]]]]";
-    assert!(rt; prints(alloc, Answer::Notified(told), wanted)?);
+    assert!(rt; prints(alloc, Answer::Notified(told(alloc)?), wanted)?);
     Ok(())
 }
 

@@ -257,11 +257,16 @@ fn name_recorded(
     Ok(())
 }
 
+// What registrations name, and then what records do.
+fn name(rt: &impl Abort, observers: &mut Observers, tree: &Tree<u8>) -> Result<(), AllocError> {
+    name_registered(rt, observers, tree)?;
+    name_recorded(rt, observers, tree)
+}
+
 #[test]
 fn what_is_named(rt: HostRuntime) -> Result<(), Fail> {
     let tree = roots(&rt, rt.alloc())?;
     let mut observers = Observers::new(rt.alloc());
-    name_registered(&rt, &mut observers, &tree)?;
-    name_recorded(&rt, &mut observers, &tree)?;
+    name(&rt, &mut observers, &tree)?;
     Ok(())
 }

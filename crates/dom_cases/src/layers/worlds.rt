@@ -2,6 +2,7 @@
 
 ghost use Rattle.dom_wrap.specs.dom_edit.Whole.{IsWhole};
 
+use crate::layers::building::first;
 use dom_wrap::of_attrs::Attrs;
 use dom_wrap::of_edit::{Content, Refusal, World};
 use dom_wrap::of_kinds::{DomError, Kind, Label};
@@ -11,25 +12,42 @@ use std::alloc::{AllocError, Global};
 use std::process::Abort;
 use std::test::Fail;
 
-#[test]
-fn copied_content(rt: HostRuntime) -> Result<(), Fail> {
-    let alloc = rt.alloc();
-    let mut attrs = Attrs::new(alloc);
+// Sets two attributes, not in the order of their names.
+fn fill(attrs: &mut Attrs, alloc: Global) -> Result<(), Fail> {
     let _ = attrs.set(String::from_str(alloc, "b")?, Units::from_str(alloc, "1")?)?;
     let _ = attrs.set(String::from_str(alloc, "a")?, Units::new(alloc))?;
-    let content = Content {
+    Ok(())
+}
+
+// A text, and these attributes.
+fn filled(alloc: Global) -> Result<Content, Fail> {
+    let mut attrs = Attrs::new(alloc);
+    fill(&mut attrs, alloc)?;
+    Ok(Content {
         text: Units::from_str(alloc, "é!")?,
         attrs,
-    };
-    let copy = content.try_clone(alloc)?;
+    })
+}
+
+// That the attribute at an index has that name and that value.
+fn expect_attribute(rt: &impl Abort, attrs: &Attrs, index: usize, name: &str, value: &[u16]) {
+    match attrs.at(index) {
+        None => assert!(rt; false, "there is none"),
+        Some((found, units)) => {
+            assert_eq!(rt; found, name);
+            assert_eq!(rt; units.units(), value);
+        }
+    }
+}
+
+#[test]
+fn copied_content(rt: HostRuntime) -> Result<(), Fail> {
+    let content = filled(rt.alloc())?;
+    let copy = content.try_clone(rt.alloc())?;
     assert_eq!(rt; copy.text.units(), [233, 33].as_slice());
     assert_eq!(rt; copy.attrs.len(), 2);
-    let (name, value) = copy.attrs.at(0).ok_or("first")?;
-    assert_eq!(rt; name, "b");
-    assert_eq!(rt; value.units(), [49].as_slice());
-    let (name, value) = copy.attrs.at(1).ok_or("second")?;
-    assert_eq!(rt; name, "a");
-    assert!(rt; value.is_empty());
+    expect_attribute(&rt, &copy.attrs, 0, "b", &[49]);
+    expect_attribute(&rt, &copy.attrs, 1, "a", &[]);
     Ok(())
 }
 
@@ -88,26 +106,43 @@ fn adopted(
     Ok(world.tree.document_of(node))
 }
 
-#[test]
-fn adopted_texts(rt: HostRuntime) -> Result<(), Fail> {
-    let alloc = rt.alloc();
-    let mut world = World::new(alloc)?;
+// Text 2 of document 0 is adopted into document 1, and no document is.
+fn adopt(rt: &impl Abort, world: &mut World, alloc: Global) -> Result<(), AllocError>
+    requires { IsWhole world.old }
+    ensures { IsWhole world.new }
+{
     let first = NodeId::new(0);
-    let second = made(&rt, &mut world, alloc, None)?;
-    let text = made(&rt, &mut world, alloc, Some(first))?;
-    assert!(rt; adopted(&rt, &mut world, alloc, second, text) == Ok(second));
+    let second = made(rt, world, alloc, None)?;
+    let text = made(rt, world, alloc, Some(first))?;
+    assert!(rt; second.number() == 1 && text.number() == 2);
+    assert!(rt; adopted(rt, world, alloc, second, text) == Ok(second));
     assert!(rt;
-        adopted(&rt, &mut world, alloc, first, second)
-            == Err(Refusal::Dom(DomError::NotSupportedError))
+        adopted(rt, world, alloc, first, second) == Err(Refusal::Dom(DomError::NotSupportedError))
     );
-    for (node, free) in [(first, true), (second, false), (text, true)] {
+    Ok(())
+}
+
+// Document 1 is in use then, and the Text is no child.
+fn ask(rt: &impl Abort, world: &mut World, alloc: Global)
+    requires { IsWhole world.old }
+{
+    for (node, free) in [(0, true), (1, false), (2, true)] {
+        let node = NodeId::new(node);
         assert!(rt; world.tree.holds(node));
         assert!(rt; world.can_discard(node) == free);
     }
+    let (first, text) = (NodeId::new(0), NodeId::new(2));
     assert!(rt; world.tree.holds(first));
     assert!(rt; world.tree.holds(text));
     assert!(rt;
         world.remove_child(alloc, first, text) == Err(Refusal::Dom(DomError::NotFoundError))
     );
+}
+
+#[test]
+fn adopted_texts(rt: HostRuntime) -> Result<(), Fail> {
+    let mut world = first(rt.alloc())?;
+    adopt(&rt, &mut world, rt.alloc())?;
+    ask(&rt, &mut world, rt.alloc());
     Ok(())
 }
