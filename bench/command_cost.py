@@ -3,8 +3,7 @@
 
 A word leaves only the pairs whose name has it. For each pair two scenes are made under callgrind, uncounted, and then the commands are
 counted; what one command (or one node copied or taken) costs is told, and the run fails where the larger is more than a tenth above the
-smaller. Counts are those of the whole program: reading the line, the edit and the reply. The tree has groups of a hundred leaves below
-element 1.
+smaller. Counts are those of the whole program: reading the line, the edit and the reply.
 """
 import json
 import os
@@ -13,298 +12,11 @@ import sys
 import tempfile
 
 sys.path.insert(0, os.path.join(os.path.dirname(os.path.dirname(os.path.abspath(__file__))), "tools"))
+from command_scenes import PAIRS
 from running import words_of
 
-COMMANDS = 1000
 # so few lines that their replies fit into a pipe
 BATCH = 100
-GROUP = 101
-
-
-def tree(nodes):
-    """The lines that make an element 1, groups under it, and a hundred leaves under each group."""
-    yield ["createElement", 0, "r"]
-    group = None
-    for number in range(2, nodes):
-        yield ["createElement", 0, "e"]
-        if number % GROUP == 2:
-            group = number
-            yield ["appendChild", 1, number]
-        else:
-            yield ["appendChild", group, number]
-
-
-def groups(nodes):
-    return [number for number in range(2, nodes) if number % GROUP == 2 and number + GROUP - 1 < nodes]
-
-
-def made_leaves(nodes):
-    return [["createElement", 0, "n"] for _ in range(COMMANDS)]
-
-
-def appended(nodes):
-    at = groups(nodes)
-    return [["appendChild", at[k % len(at)], nodes + k] for k in range(COMMANDS)]
-
-
-def inserted(nodes):
-    at = groups(nodes)
-    return [["insertBefore", at[k % len(at)], nodes + k, at[k % len(at)] + 50] for k in range(COMMANDS)]
-
-
-def removed(nodes):
-    return [["remove", nodes + k] for k in range(COMMANDS)]
-
-
-def append_scene(nodes):
-    """New nodes go last under one group after another."""
-    return list(tree(nodes)) + made_leaves(nodes), appended(nodes), COMMANDS
-
-
-def insert_scene(nodes):
-    """New nodes go in before a leaf in the middle of a group."""
-    return list(tree(nodes)) + made_leaves(nodes), inserted(nodes), COMMANDS
-
-
-def remove_scene(nodes):
-    """Leaves that were put in last go again."""
-    return list(tree(nodes)) + made_leaves(nodes) + appended(nodes), removed(nodes), COMMANDS
-
-
-def ranges_elsewhere(ranges, text):
-    """Live ranges in a Text of its own, under element 1; the Text is the node of that number."""
-    lines = [["createText", 0, "a" * 1000], ["appendChild", 1, text]]
-    for number in range(ranges):
-        lines += [["createRange", 0], ["setStart", number, text, number % 500], ["setEnd", number, text, 500 + number % 500]]
-    return lines
-
-
-def inserts_beside(ranges):
-    nodes = 1000
-    making, commands, count = insert_scene(nodes)
-    return making + ranges_elsewhere(ranges, nodes + COMMANDS), commands, count
-
-
-def removes_beside(ranges):
-    nodes = 1000
-    making, commands, count = remove_scene(nodes)
-    return making + ranges_elsewhere(ranges, nodes + COMMANDS), commands, count
-
-
-def data_beside(ranges):
-    """Units go one by one into Texts of a hundred units."""
-    return [["createElement", 0, "r"]] + [["createText", 0, "b" * 100] for _ in range(COMMANDS)] + ranges_elsewhere(
-        ranges, COMMANDS + 2), [["insertData", 2 + k, 50, "c"] for k in range(COMMANDS)], COMMANDS
-
-
-def watched(nodes, observers):
-    """Attributes of an element at depth 10 are set, with observers of element 1 and all below it."""
-    deep = [["createElement", 0, "d"] for _ in range(8)]
-    deep += [["appendChild", groups(nodes)[0] if k == 0 else nodes + k - 1, nodes + k] for k in range(8)]
-    for number in range(observers):
-        deep += [["createObserver"], ["observe", number, 1, {"attributes": True, "subtree": True}]]
-    return list(tree(nodes)) + deep, [["setAttribute", nodes + 7, "a", "v"] for _ in range(COMMANDS)], COMMANDS
-
-
-def compared(nodes):
-    """Two live ranges in leaves of two groups are compared."""
-    first, last = groups(nodes)[0], groups(nodes)[-1]
-    ends = [["createRange", 0], ["createRange", 0], ["selectNodeContents", 0, first + 10], ["selectNodeContents", 1, last + 90]]
-    return list(tree(nodes)) + ends, [["compareBoundaryPoints", 0, k % 4, 1] for k in range(COMMANDS)], COMMANDS
-
-
-def steps(nodes):
-    """An iterator goes over the tree from its first nodes on."""
-    return list(tree(nodes)) + [["createIterator", 1, 4294967295, []]], [["nextNode", 0] for _ in range(900)], 900
-
-
-def walks(nodes):
-    """A walker goes over the tree from its first nodes on."""
-    return list(tree(nodes)) + [["createWalker", 1, 4294967295, []]], [["walk", 0, "nextNode"] for _ in range(900)], 900
-
-
-def cloned(nodes):
-    """The whole tree is copied; counted for each node."""
-    return list(tree(nodes)), [["cloneNode", 1, True]], nodes - 1
-
-
-def paragraphs(count):
-    """A body with paragraphs, each with a Text."""
-    lines = [["createElement", 0, "body"], ["appendChild", 0, 1]]
-    for k in range(count):
-        lines += [["createElement", 0, "p"], ["appendChild", 1, 2 * k + 2], ["createText", 0, "some text"], ["appendChild", 2 * k + 2, 2 * k + 3]]
-    return lines
-
-
-def contents_deleted(count):
-    """Ten paragraphs in the middle are deleted, from within a Text to within a Text; counted for each node taken."""
-    first = 2 * (count // 2) + 3
-    last = first + 22
-    return paragraphs(count) + [["createRange", 0], ["setStart", 0, first, 4], ["setEnd", 0, last, 4]], [["deleteContents", 0]], 20
-
-
-def chain(depth):
-    """The lines that make a chain of elements below the Document, numbered from the top."""
-    for number in range(1, depth + 1):
-        yield ["createElement", 0, "e"]
-        yield ["appendChild", number - 1, number]
-
-
-def compared_in_a_chain(depth):
-    """Two points of one chain, at its top and at its foot; counted for each level between them."""
-    ends = [["createRange", 0], ["createRange", 0], ["selectNodeContents", 0, 1], ["setStart", 1, depth, 0]]
-    return list(chain(depth)) + ends, [["compareBoundaryPoints", 0, k % 4, 1] for k in range(COMMANDS)], COMMANDS * depth
-
-
-def root_of_a_chain(depth):
-    return list(chain(depth)), [["root", depth] for _ in range(COMMANDS)], COMMANDS * depth
-
-
-def contained_in_a_chain(depth):
-    return list(chain(depth)), [["contains", 1, depth] for _ in range(COMMANDS)], COMMANDS * depth
-
-
-def removes_beside_iterators(iterators):
-    """Leaves go while iterators stand elsewhere."""
-    nodes = 1000
-    making, commands, count = remove_scene(nodes)
-    return making + [["createIterator", groups(nodes)[0], 4294967295, []] for _ in range(iterators)], commands, count
-
-
-def changes_beside_observers(observers):
-    """Attributes of an element are set that nobody observes, while observers of other nodes stand beside it."""
-    nodes = 1000
-    making = list(tree(nodes)) + [["createElement", 0, "o"] for _ in range(observers)]
-    for number in range(observers):
-        making += [["createObserver"], ["observe", number, nodes + number, {"attributes": True}]]
-    return making, [["setAttribute", groups(nodes)[0] + 7, "a", "v"] for _ in range(COMMANDS)], COMMANDS
-
-
-def disconnected(observers):
-    """Each of a hundred observers is disconnected, among so many that each observe a node of their own."""
-    making = [["createElement", 0, "o"] for _ in range(observers)]
-    for number in range(observers):
-        making += [["createObserver"], ["observe", number, 1 + number, {"childList": True}]]
-    return making, [["disconnect", number] for number in range(100)], 100
-
-
-def notified(observers):
-    """A notice with one transient registration to end, among observers of other nodes."""
-    making = [["createElement", 0, "p"], ["createElement", 0, "c"], ["createObserver"], ["observe", 0, 1, {"childList": True, "subtree": True}]]
-    making += [["createElement", 0, "o"] for _ in range(observers)]
-    for number in range(observers):
-        making += [["createObserver"], ["observe", 1 + number, 3 + number, {"childList": True}]]
-    return making, [["appendChild", 1, 2], ["remove", 2], ["notify"]] * 100, 100
-
-
-def discarded_beside_records(records):
-    """Texts without a parent go, while records of other nodes wait."""
-    texts = [["createText", 0, "a"] for _ in range(COMMANDS)]
-    watch = [["createElement", 0, "p"], ["createObserver"], ["observe", 0, 1, {"attributes": True}]]
-    return watch + texts + [["setAttribute", 1, "a", "v"] for _ in range(records)], [["discard", 2 + k] for k in range(COMMANDS)], COMMANDS
-
-
-def discarded_beside_static_ranges(ranges):
-    """Texts without a parent go, while static ranges of another node stand."""
-    texts = [["createText", 0, "a"] for _ in range(COMMANDS)]
-    return [["createElement", 0, "p"]] + texts + [["createStaticRange", 1, 0, 1, 0] for _ in range(ranges)], [
-        ["discard", 2 + k] for k in range(COMMANDS)], COMMANDS
-
-
-def discarded_beside_walks(walks):
-    """Texts without a parent go, while iterators and walkers of another node stand."""
-    texts = [["createText", 0, "a"] for _ in range(COMMANDS)]
-    making = [["createElement", 0, "p"]] + texts
-    for _ in range(walks):
-        making += [["createIterator", 1, 4294967295, []], ["createWalker", 1, 4294967295, []]]
-    return making, [["discard", 2 + k] for k in range(COMMANDS)], COMMANDS
-
-
-def documents_discarded(gone):
-    """Documents go, after so many other nodes went."""
-    making = []
-    for number in range(1, gone + 1):
-        making += [["createComment", 0, ""], ["discard", number]]
-    making += [["newDocument"] for _ in range(100)]
-    return making, [["discard", gone + 1 + k] for k in range(100)], 100
-
-
-def put_in_front(children):
-    """Children that were each put in front of those before."""
-    making = [["createElement", 0, "p"]]
-    for number in range(2, children + 2):
-        making += [["createElement", 0, "e"], ["insertBefore", 1, number, number - 1 if number > 2 else None]]
-    return making
-
-
-def selected_in_the_midst(children):
-    """A range is set around a child in the midst of children that were each put in front."""
-    select = ["selectNode", 0, children // 2]
-    return put_in_front(children) + [["createRange", 0], select], [["selectNode", 0, children // 2 + 1] for _ in range(100)], 100
-
-
-def compared_in_the_midst(children):
-    """Points among children that were each put in front are compared with a range inside a child in their midst."""
-    ends = [["createRange", 0], ["selectNodeContents", 0, children // 2], ["comparePoint", 0, 1, 1]]
-    return put_in_front(children) + ends, [["comparePoint", 0, 1, children // 2 + k % 3] for k in range(100)], 100
-
-
-def moved_beside_released(ranges):
-    """A group of a hundred leaves moves to and fro, while ranges stand that were released, and one that is live."""
-    nodes = 1000
-    making = list(tree(nodes)) + [["createRange", 0] for _ in range(ranges)] + [["releaseRange", number] for number in range(ranges)]
-    at = groups(nodes)
-    moves = [["appendChild", at[1 + k % 2], at[0]] for k in range(100)]
-    return making + [["createRange", 0], ["selectNode", ranges, at[3]]], moves, 100
-
-
-def taken_out_of_a_chain(depth):
-    """What lies behind the foot of a chain is extracted, from there to the end of its top; counted for each level."""
-    making = list(chain(depth)) + [["createText", 0, "some text"], ["appendChild", depth, depth + 1]]
-    making += [["createRange", 0], ["setStart", 0, depth + 1, 4], ["setEnd", 0, 0, 1]]
-    return making, [["extractContents", 0]], depth
-
-
-def cloned_out_of_a_chain(depth):
-    making, _, count = taken_out_of_a_chain(depth)
-    return making, [["cloneContents", 0]], count
-
-
-SIZES = ("among 1,000 nodes", "among 100,000")
-LEVELS = ("300 deep", "3,000 deep")
-RANGES = ("with no range elsewhere", "with 10,000 ends")
-
-PAIRS = (
-    ("append", SIZES, append_scene, (1000, 100000)),
-    ("insert before", SIZES, insert_scene, (1000, 100000)),
-    ("remove", SIZES, remove_scene, (1000, 100000)),
-    ("insert before", RANGES, inserts_beside, (0, 5000)),
-    ("remove", RANGES, removes_beside, (0, 5000)),
-    ("insertData", ("with no range elsewhere", "with 10,000"), data_beside, (0, 10000)),
-    ("a change that nobody watches", SIZES, lambda nodes: watched(nodes, 0), (1000, 100000)),
-    ("a change that one observer watches", SIZES, lambda nodes: watched(nodes, 1), (1000, 100000)),
-    ("compareBoundaryPoints", SIZES, compared, (1000, 100000)),
-    ("nextNode of an iterator", SIZES, steps, (1000, 100000)),
-    ("nextNode of a walker", SIZES, walks, (1000, 100000)),
-    ("cloneNode, for each node", SIZES, cloned, (1000, 100000)),
-    ("deleteContents, for each node", ("in 100 paragraphs", "in 100,000"), contents_deleted, (100, 100000)),
-    ("compareBoundaryPoints in a chain, for each level", LEVELS, compared_in_a_chain, (300, 3000)),
-    ("root in a chain, for each level", LEVELS, root_of_a_chain, (300, 3000)),
-    ("contains in a chain, for each level", LEVELS, contained_in_a_chain, (300, 3000)),
-    ("remove", ("with no iterator elsewhere", "with 10,000"), removes_beside_iterators, (0, 10000)),
-    ("a change that nobody watches", ("beside one observer of another node", "beside 10,000"), changes_beside_observers, (1, 10000)),
-    ("disconnect", ("among 100 observers", "among 10,000"), disconnected, (100, 10000)),
-    ("a child that comes, goes and is told of", ("with no other observer", "beside 10,000 of other nodes"), notified, (0, 10000)),
-    ("discard of a Text", ("with no record that waits", "beside 50,000"), discarded_beside_records, (0, 50000)),
-    ("discard of a Text", ("with no static range", "beside 50,000"), discarded_beside_static_ranges, (0, 50000)),
-    ("discard of a Text", ("with no iterator or walker", "beside 10,000 of each"), discarded_beside_walks, (0, 10000)),
-    ("discard of a Document", ("after 100 other nodes went", "after 100,000"), documents_discarded, (100, 100000)),
-    ("selectNode in the midst", ("of 100 children", "of 50,000"), selected_in_the_midst, (100, 50000)),
-    ("comparePoint in the midst", ("of 100 children", "of 50,000"), compared_in_the_midst, (100, 50000)),
-    ("a group that moves", ("with no released range", "beside 10,000"), moved_beside_released, (0, 10000)),
-    ("extractContents out of a chain, for each level", ("40 deep", "4,000 deep"), taken_out_of_a_chain, (40, 4000)),
-    ("cloneContents out of a chain, for each level", ("40 deep", "4,000 deep"), cloned_out_of_a_chain, (40, 4000)),
-)
 
 
 def answered(program, lines):
@@ -347,19 +59,24 @@ def takes_words(parser):
     parser.add_argument("words", nargs="*", metavar="WORD", help="only the pairs whose name has each of these words")
 
 
+def is_apart(name, sides, counts):
+    """Tells the counts of a pair, and answers whether the second is more than a tenth above the first."""
+    first, second = counts
+    too_many = second > 1.1 * first
+    print(f"{name}: {first:.0f} {sides[0]}, {second:.0f} {sides[1]}{': more than a tenth apart' if too_many else ''}", flush=True)
+    return too_many
+
+
 def main():
     given, apart = words_of(__doc__, takes_words), False
+    pairs = [pair for pair in PAIRS if all(word in pair[0] for word in given.words)]
+    if not pairs:
+        sys.exit(f"command_cost.py: no pair's name has {' and '.join(given.words)}")
     with tempfile.TemporaryDirectory() as work:
-        for name, sides, scene, sizes in PAIRS:
-            if not all(word in name for word in given.words):
-                continue
-            counts = []
-            for size in sizes:
-                making, commands, count = scene(size)
-                counts.append(instructions(given.program, making, commands, work) / count)
-            is_apart = counts[1] > 1.1 * counts[0]
-            apart = apart or is_apart
-            print(f"{name}: {counts[0]:.0f} {sides[0]}, {counts[1]:.0f} {sides[1]}{': more than a tenth apart' if is_apart else ''}", flush=True)
+        for name, sides, scene, sizes in pairs:
+            scenes = [scene(size) for size in sizes]
+            counts = [instructions(given.program, making, commands, work) / count for making, commands, count in scenes]
+            apart = is_apart(name, sides, counts) or apart
     sys.exit(apart)
 
 

@@ -54,6 +54,7 @@ impl World {
         if !self.ranges.stands_in(parent) {
             return;
         }
+        // fewer nodes are live than a number of the machine can tell, so the index and the offsets past it are such numbers too
         let _ = self.tree.live();
         let index = self.tree.found_index(child);
         self.ranges.gap(parent, index, nodes.len());

@@ -8,9 +8,6 @@ use crate::page::{PAGE, Page};
 use std::alloc::{AllocError, Global};
 use std::marker::Model;
 
-// Numbers of 32 bits can tell apart so many.
-const MOST: usize = 4294967296;
-
 /// What stands under each number that was given out.
 #[derive(Drop)]
 pub struct Pages<T> {
@@ -79,14 +76,12 @@ impl<T: Copy> Pages<T> {
         Ok(())
     }
 
-    /// Makes room for so many more numbers. Where that is more than 32 bits can tell apart there is no memory either.
+    /// Makes room for so many more numbers, as long as 32 bits can tell them all apart.
     pub fn reserve(&mut self, additional: usize) -> Result<(), AllocError>
+        requires { length self.old.items + additional ≤ 4294967296 }
         ensures room { OnOk result (additional ≤ self.new.room) }
         ensures items { self.new.items ≡ self.old.items }
     {
-        if additional > MOST - self.len {
-            return Err(AllocError);
-        }
         while self.room() < additional {
             self.add_page()?;
         }

@@ -114,6 +114,7 @@ impl Ranges {
         ensures made { OnOk result (self.new ≡ record self.old { ranges = self.old.ranges ++ Some (record { start = start; end = end }) ∷ [] }) }
         ensures unchanged { OnErr result (self.new ≡ self.old) }
     {
+        // only what is asked of the two points names the tree
         let _ = tree;
         self.slots.reserve(1)?;
         self.numbers.reserve(1)?;

@@ -66,10 +66,7 @@ fn none_at_first(rt: HostRuntime) {
 }
 
 // Each is set over those before it; only the third finds its name, with the empty text.
-#[test]
-fn set_in_place_or_last(rt: HostRuntime) -> Result<(), Fail> {
-    let alloc = rt.alloc();
-    let mut attrs = Attrs::new(alloc);
+fn set_each(rt: &impl Abort, alloc: Global, attrs: &mut Attrs) -> Result<(), AllocError> {
     for (name, value, is_there, pairs) in [
         ("k", "", false, [("k", "")].as_slice()),
         ("a", "1", false, [("k", ""), ("a", "1")].as_slice()),
@@ -81,13 +78,20 @@ fn set_in_place_or_last(rt: HostRuntime) -> Result<(), Fail> {
             [("k", "2"), ("a", "1"), ("", "3")].as_slice(),
         ),
     ] {
-        match set(alloc, &mut attrs, name, value)? {
+        match set(alloc, attrs, name, value)? {
             None => assert!(rt; !is_there, "{name}"),
             Some(old) => assert!(rt; is_there && old.is_empty(), "{name}"),
         }
         assert!(rt; !attrs.is_empty());
-        expect(&rt, &attrs, pairs);
+        expect(rt, attrs, pairs);
     }
+    Ok(())
+}
+
+#[test]
+fn set_in_place_or_last(rt: HostRuntime) -> Result<(), Fail> {
+    let mut attrs = Attrs::new(rt.alloc());
+    set_each(&rt, rt.alloc(), &mut attrs)?;
     Ok(())
 }
 
@@ -135,10 +139,22 @@ fn the_order_stays(rt: HostRuntime) -> Result<(), Fail> {
     Ok(())
 }
 
-#[test]
-fn compared_as_sets(rt: HostRuntime) -> Result<(), Fail> {
-    let alloc = rt.alloc();
-    let first = made(alloc, &[("a", "1"), ("b", "2")])?;
+// That attributes of these names and texts are the same as others, or not, both ways.
+fn compare(
+    rt: &impl Abort,
+    alloc: Global,
+    first: &Attrs,
+    pairs: &[(&str, &str)],
+    wanted: bool,
+) -> Result<(), AllocError> {
+    let second = made(alloc, pairs)?;
+    assert!(rt; first.same(&second) == wanted);
+    assert!(rt; second.same(first) == wanted);
+    Ok(())
+}
+
+// Each beside a=1 b=2.
+fn compare_each(rt: &impl Abort, alloc: Global, first: &Attrs) -> Result<(), AllocError> {
     for (pairs, wanted) in [
         ([("b", "2"), ("a", "1")].as_slice(), true),
         ([("a", "1")].as_slice(), false),
@@ -147,31 +163,43 @@ fn compared_as_sets(rt: HostRuntime) -> Result<(), Fail> {
         ([("a", "1"), ("c", "2")].as_slice(), false),
         ([].as_slice(), false),
     ] {
-        let second = made(alloc, pairs)?;
-        assert!(rt; first.same(&second) == wanted);
-        assert!(rt; second.same(&first) == wanted);
+        compare(rt, alloc, first, pairs, wanted)?;
     }
     assert!(rt; Attrs::new(alloc).same(&Attrs::new(alloc)));
     Ok(())
 }
 
+#[test]
+fn compared_as_sets(rt: HostRuntime) -> Result<(), Fail> {
+    let first = made(rt.alloc(), &[("a", "1"), ("b", "2")])?;
+    compare_each(&rt, rt.alloc(), &first)?;
+    Ok(())
+}
+
 // A call that is refused leaves the attributes as they were.
+fn try_to_set(
+    rt: &impl Abort,
+    alloc: Global,
+    attrs: &mut Attrs,
+    name: &str,
+) -> Result<(), AllocError> {
+    let key = String::from_str(alloc, name)?;
+    let before = attrs.len();
+    match attrs.set(key, Units::new(alloc)) {
+        Ok(_) => assert!(rt; attrs.get(name).is_some()),
+        Err(_) => {
+            assert!(rt; attrs.get(name).is_none());
+            assert!(rt; attrs.len() == before);
+        }
+    }
+    Ok(())
+}
+
 #[test]
 fn refused_growth(rt: HostRuntime) -> Result<(), Fail> {
-    let alloc = rt.alloc();
-    let mut attrs = Attrs::new(alloc);
-    let names = ["a", "b", "c", "d", "e", "f", "g", "h", "i", "j", "k", "l"];
-    for name in names {
-        let value = Units::new(alloc);
-        let key = String::from_str(alloc, name)?;
-        let before = attrs.len();
-        match attrs.set(key, value) {
-            Ok(_) => assert!(rt; attrs.get(name).is_some()),
-            Err(_) => {
-                assert!(rt; attrs.get(name).is_none());
-                assert!(rt; attrs.len() == before);
-            }
-        }
+    let mut attrs = Attrs::new(rt.alloc());
+    for name in ["a", "b", "c", "d", "e", "f", "g", "h", "i", "j", "k", "l"] {
+        try_to_set(&rt, rt.alloc(), &mut attrs, name)?;
     }
     Ok(())
 }

@@ -2,6 +2,7 @@
 use dom_kinds::{
     DomError, Exception, Kind, Label, NodeType, is_attribute_name, is_doctype_name, is_element_name,
 };
+use std::alloc::{AllocError, Global};
 use std::test::Fail;
 
 #[test]
@@ -55,16 +56,20 @@ fn numbers_and_names(rt: HostRuntime) {
     assert!(rt; DomError::HierarchyRequestError.name() == "HierarchyRequestError");
 }
 
-#[test]
-fn copied_label(rt: HostRuntime) -> Result<(), Fail> {
-    let alloc = rt.alloc();
-    let label = Label {
+// The label of a doctype with a public id.
+fn doctype(alloc: Global) -> Result<Label, AllocError> {
+    Ok(Label {
         kind: Kind::DocumentType,
         name: String::from_str(alloc, "html")?,
         public_id: String::from_str(alloc, "é")?,
         system_id: String::new(alloc),
-    };
-    let copy = label.try_clone(alloc)?;
+    })
+}
+
+#[test]
+fn copied_label(rt: HostRuntime) -> Result<(), Fail> {
+    let label = doctype(rt.alloc())?;
+    let copy = label.try_clone(rt.alloc())?;
     assert!(rt; copy.kind == Kind::DocumentType);
     assert!(rt; copy.name.as_str() == "html");
     assert!(rt; copy.public_id.as_str() == "é");

@@ -1,5 +1,7 @@
 //! Ranges over a small tree: made, read, set anew, adjusted, released; and room that is refused.
 
+ghost use Rattle.std.specs.Prelude.{◌≡◌, [], ◌∷◌, Some, IfOk};
+
 use super::range_scenes::{
     Units, alone, at, child, element, grown, leaves, lies, ranged, refers, release, stands,
     with_texts,
@@ -17,31 +19,42 @@ fn cover(ranges: &mut Ranges) -> Result<(), AllocError> {
     ranges.cover(10)
 }
 
-#[test]
-fn room_for_nodes(rt: HostRuntime) -> Result<(), Fail> {
-    let mut ranges = Ranges::new(rt.alloc());
-    cover(&mut ranges)?;
+// That there is room in a thousand nodes, and no end in any.
+fn has_room(rt: &impl Abort, ranges: &Ranges) {
     assert_eq!(rt; ranges.made(), 0);
     assert!(rt; ranges.is_covered(NodeId::new(0)) && ranges.is_covered(NodeId::new(999)));
     assert!(rt; !ranges.is_covered(NodeId::new(1000)));
     assert!(rt; !ranges.stands_in(NodeId::new(5)) && !ranges.stands_in(NodeId::new(5000)));
+}
+
+#[test]
+fn room_for_nodes(rt: HostRuntime) -> Result<(), Fail> {
+    let mut ranges = Ranges::new(rt.alloc());
+    cover(&mut ranges)?;
+    has_room(&rt, &ranges);
     Ok(())
+}
+
+// Covers a thousand nodes, and tries once more where the growth is refused.
+fn cover_at_last(ranges: &mut Ranges) -> Result<(), AllocError> {
+    match ranges.cover(1000) {
+        Ok(()) => Ok(()),
+        Err(AllocError) => ranges.cover(1000),
+    }
 }
 
 // Where the first growth is refused there is no room, and the next try makes it.
 #[test]
 fn refused_room(rt: HostRuntime) -> Result<(), Fail> {
     let mut ranges = Ranges::new(rt.alloc());
-    if ranges.cover(1000).is_err() {
-        ranges.cover(1000)?;
-    }
-    assert_eq!(rt; ranges.made(), 0);
+    cover_at_last(&mut ranges)?;
+    has_room(&rt, &ranges);
     Ok(())
 }
 
-#[test]
-fn static_ranges(rt: HostRuntime) -> Result<(), Fail> {
-    let mut statics = Statics::new(rt.alloc());
+// A static range is made, and stays where it was put.
+fn keep_static(rt: &impl Abort, statics: &mut Statics) -> Result<(), AllocError> {
+    assert_eq!(rt; statics.made(), 0);
     let u = statics.make(at(3, 4), at(5, 6))?;
     assert_eq!(rt; statics.made(), 1);
     assert!(rt; statics.holds(u));
@@ -50,29 +63,59 @@ fn static_ranges(rt: HostRuntime) -> Result<(), Fail> {
     Ok(())
 }
 
-// 0 [ 1 [ 2 ] 3 ]: from inside 1 to behind it
 #[test]
-fn made_and_released(rt: HostRuntime) -> Result<(), Fail> {
-    let tree = grown(&rt, rt.alloc(), &[0, 1, 0])?;
-    let mut ranges = Ranges::new(rt.alloc());
-    let r = ranged(&rt, &mut ranges, &tree, at(2, 0), at(0, 2))?;
-    lies(&rt, &ranges, r, at(2, 0), at(0, 2));
+fn static_ranges(rt: HostRuntime) -> Result<(), Fail> {
+    let mut statics = Statics::new(rt.alloc());
+    keep_static(&rt, &mut statics)?;
+    Ok(())
+}
+
+// 0 [ 1 [ 2 ] 3 ]
+fn nested(rt: &impl Abort, alloc: Global) -> Result<Tree<Units>, AllocError> {
+    grown(rt, alloc, &[0, 1, 0])
+}
+
+// A range from inside 1 to behind it is made and released.
+fn make_and_release(
+    rt: &impl Abort,
+    ranges: &mut Ranges,
+    tree: &Tree<Units>,
+) -> Result<(), AllocError> {
+    let r = ranged(rt, ranges, tree, at(2, 0), at(0, 2))?;
+    lies(rt, ranges, r, at(2, 0), at(0, 2));
     assert!(rt; ranges.stands_in(NodeId::new(2)) && !ranges.stands_in(NodeId::new(3)));
-    assert!(rt; refers(&rt, &ranges, &tree, 1) && !refers(&rt, &ranges, &tree, 3));
-    release(&rt, &mut ranges, r);
+    assert!(rt; refers(rt, ranges, tree, 1) && !refers(rt, ranges, tree, 3));
+    release(rt, ranges, r);
     assert!(rt; !ranges.stands_in(NodeId::new(2)));
     assert_eq!(rt; ranges.made(), 1);
     Ok(())
 }
 
-// 0 [ 1 [ 2 ] 3 ]; 1 leaves, and what was inside it goes to where it stood.
+#[test]
+fn made_and_released(rt: HostRuntime) -> Result<(), Fail> {
+    let tree = nested(&rt, rt.alloc())?;
+    let mut ranges = Ranges::new(rt.alloc());
+    make_and_release(&rt, &mut ranges, &tree)?;
+    Ok(())
+}
+
+// 1 leaves, and what was inside it goes to where it stood.
+fn make_and_remove(
+    rt: &impl Abort,
+    ranges: &mut Ranges,
+    tree: &Tree<Units>,
+) -> Result<(), AllocError> {
+    let r = ranged(rt, ranges, tree, at(2, 0), at(0, 2))?;
+    leaves(rt, ranges, tree, 1);
+    lies(rt, ranges, r, at(0, 0), at(0, 1));
+    Ok(())
+}
+
 #[test]
 fn removed(rt: HostRuntime) -> Result<(), Fail> {
-    let tree = grown(&rt, rt.alloc(), &[0, 1, 0])?;
+    let tree = nested(&rt, rt.alloc())?;
     let mut ranges = Ranges::new(rt.alloc());
-    let r = ranged(&rt, &mut ranges, &tree, at(2, 0), at(0, 2))?;
-    leaves(&rt, &mut ranges, &tree, 1);
-    lies(&rt, &ranges, r, at(0, 0), at(0, 1));
+    make_and_remove(&rt, &mut ranges, &tree)?;
     Ok(())
 }
 
@@ -87,26 +130,36 @@ fn with_many(rt: &impl Abort, alloc: Global) -> Result<Tree<Units>, AllocError> 
 }
 
 // Of three ranges one stands in the last children of 1, one from the first child to behind 1, and one in 101.
-fn three_ranges(rt: &impl Abort, alloc: Global, tree: &Tree<Units>) -> Result<Ranges, AllocError> {
-    let mut ranges = Ranges::new(alloc);
+fn make_three(rt: &impl Abort, ranges: &mut Ranges, tree: &Tree<Units>) -> Result<(), AllocError> {
     ranges.cover(1000)?;
-    let _ = ranged(rt, &mut ranges, tree, at(99, 0), at(100, 0))?;
-    assert!(rt; refers(rt, &ranges, tree, 1));
+    let _ = ranged(rt, ranges, tree, at(99, 0), at(100, 0))?;
+    assert!(rt; refers(rt, ranges, tree, 1));
     for (start, end) in [(at(2, 0), at(0, 2)), (at(101, 0), at(101, 0))] {
-        let _ = ranged(rt, &mut ranges, tree, start, end)?;
+        let _ = ranged(rt, ranges, tree, start, end)?;
     }
-    Ok(ranges)
+    Ok(())
+}
+
+// Three ranges, and 1 leaves.
+fn make_three_and_remove(
+    rt: &impl Abort,
+    ranges: &mut Ranges,
+    tree: &Tree<Units>,
+) -> Result<(), AllocError> {
+    make_three(rt, ranges, tree)?;
+    leaves(rt, ranges, tree, 1);
+    lies(rt, ranges, RangeId::new(0), at(0, 0), at(0, 0));
+    lies(rt, ranges, RangeId::new(1), at(0, 0), at(0, 1));
+    lies(rt, ranges, RangeId::new(2), at(101, 0), at(101, 0));
+    assert!(rt; !refers(rt, ranges, tree, 1));
+    Ok(())
 }
 
 #[test]
 fn removed_with_many_inside(rt: HostRuntime) -> Result<(), Fail> {
     let tree = with_many(&rt, rt.alloc())?;
-    let mut ranges = three_ranges(&rt, rt.alloc(), &tree)?;
-    leaves(&rt, &mut ranges, &tree, 1);
-    lies(&rt, &ranges, RangeId::new(0), at(0, 0), at(0, 0));
-    lies(&rt, &ranges, RangeId::new(1), at(0, 0), at(0, 1));
-    lies(&rt, &ranges, RangeId::new(2), at(101, 0), at(101, 0));
-    assert!(rt; !refers(&rt, &ranges, &tree, 1));
+    let mut ranges = Ranges::new(rt.alloc());
+    make_three_and_remove(&rt, &mut ranges, &tree)?;
     Ok(())
 }
 
@@ -128,10 +181,7 @@ fn set(rt: &impl Abort, ranges: &mut Ranges, tree: &Tree<Units>, is_start: bool,
 }
 
 // An end that comes to stand on the other's wrong side takes it along, and one past the length is refused.
-#[test]
-fn set_anew(rt: HostRuntime) -> Result<(), Fail> {
-    let tree = with_texts(&rt, rt.alloc())?;
-    let mut ranges = alone(&rt, rt.alloc(), &tree, at(2, 0), at(0, 2))?;
+fn set_each(rt: &impl Abort, ranges: &mut Ranges, tree: &Tree<Units>) {
     for (is_start, p, is_set, start, end) in [
         (true, at(0, 1), true, at(0, 1), at(0, 2)),
         (false, at(2, 0), true, at(2, 0), at(2, 0)),
@@ -139,9 +189,16 @@ fn set_anew(rt: HostRuntime) -> Result<(), Fail> {
         (false, at(3, 11), false, at(3, 4), at(3, 4)),
         (false, at(3, 10), true, at(3, 4), at(3, 10)),
     ] {
-        assert_eq!(rt; set(&rt, &mut ranges, &tree, is_start, p), is_set);
-        lies(&rt, &ranges, RangeId::new(0), start, end);
+        assert_eq!(rt; set(rt, ranges, tree, is_start, p), is_set);
+        lies(rt, ranges, RangeId::new(0), start, end);
     }
+}
+
+#[test]
+fn set_anew(rt: HostRuntime) -> Result<(), Fail> {
+    let tree = with_texts(&rt, rt.alloc())?;
+    let mut ranges = alone(&rt, rt.alloc(), &tree, at(2, 0), at(0, 2))?;
+    set_each(&rt, &mut ranges, &tree);
     Ok(())
 }
 
@@ -201,6 +258,21 @@ fn begins(alloc: Global) -> Result<(), AllocError> {
     mark.reserve(7777)
 }
 
+// A live range alone that stands there, and the mark.
+fn ready(
+    rt: &impl Abort,
+    alloc: Global,
+    tree: &Tree<Units>,
+    start: Point,
+    end: Point,
+) -> Result<Ranges, AllocError>
+    ensures { IfOk result (λ ranges. ranges.ranges ≡ Some (record { start = start; end = end }) ∷ []) }
+{
+    let ranges = alone(rt, alloc, tree, start, end)?;
+    begins(alloc)?;
+    Ok(ranges)
+}
+
 // That the range has come to these ends, and no growth was asked for.
 fn has_come(rt: &impl Abort, alloc: Global, ranges: &Ranges, start: Point, end: Point) {
     lies(rt, ranges, RangeId::new(0), start, end);
@@ -211,8 +283,7 @@ fn has_come(rt: &impl Abort, alloc: Global, ranges: &Ranges, start: Point, end: 
 #[test]
 fn a_gap_without_a_growth(rt: HostRuntime) -> Result<(), Fail> {
     let tree = with_texts(&rt, rt.alloc())?;
-    let mut ranges = alone(&rt, rt.alloc(), &tree, at(0, 1), at(0, 3))?;
-    begins(rt.alloc())?;
+    let mut ranges = ready(&rt, rt.alloc(), &tree, at(0, 1), at(0, 3))?;
     ranges.gap(NodeId::new(0), 1, 2);
     has_come(&rt, rt.alloc(), &ranges, at(0, 1), at(0, 5));
     Ok(())
@@ -221,8 +292,7 @@ fn a_gap_without_a_growth(rt: HostRuntime) -> Result<(), Fail> {
 #[test]
 fn data_spliced_without_a_growth(rt: HostRuntime) -> Result<(), Fail> {
     let tree = with_texts(&rt, rt.alloc())?;
-    let mut ranges = alone(&rt, rt.alloc(), &tree, at(3, 2), at(3, 8))?;
-    begins(rt.alloc())?;
+    let mut ranges = ready(&rt, rt.alloc(), &tree, at(3, 2), at(3, 8))?;
     ranges.spliced(NodeId::new(3), 1, 3, 5);
     has_come(&rt, rt.alloc(), &ranges, at(3, 1), at(3, 10));
     Ok(())
@@ -232,8 +302,7 @@ fn data_spliced_without_a_growth(rt: HostRuntime) -> Result<(), Fail> {
 fn a_text_split_without_a_growth(rt: HostRuntime) -> Result<(), Fail> {
     let tree = with_texts(&rt, rt.alloc())?;
     let (root, t, new) = (NodeId::new(0), NodeId::new(3), NodeId::new(9));
-    let mut ranges = alone(&rt, rt.alloc(), &tree, at(3, 7), at(0, 2))?;
-    begins(rt.alloc())?;
+    let mut ranges = ready(&rt, rt.alloc(), &tree, at(3, 7), at(0, 2))?;
     assert!(rt; ranges.is_covered(new));
     assert!(rt; ranges.is_covered(root));
     ranges.was_split(t, 4, new, root, 1);
@@ -245,8 +314,7 @@ fn a_text_split_without_a_growth(rt: HostRuntime) -> Result<(), Fail> {
 fn texts_merged_without_a_growth(rt: HostRuntime) -> Result<(), Fail> {
     let tree = with_texts(&rt, rt.alloc())?;
     let (root, t, u) = (NodeId::new(0), NodeId::new(3), NodeId::new(4));
-    let mut ranges = alone(&rt, rt.alloc(), &tree, at(0, 2), at(4, 5))?;
-    begins(rt.alloc())?;
+    let mut ranges = ready(&rt, rt.alloc(), &tree, at(0, 2), at(4, 5))?;
     assert!(rt; ranges.is_covered(t));
     ranges.merged(u, t, 10, root, 2);
     has_come(&rt, rt.alloc(), &ranges, at(3, 10), at(3, 15));
@@ -256,8 +324,7 @@ fn texts_merged_without_a_growth(rt: HostRuntime) -> Result<(), Fail> {
 #[test]
 fn a_node_removed_without_a_growth(rt: HostRuntime) -> Result<(), Fail> {
     let tree = with_texts(&rt, rt.alloc())?;
-    let mut ranges = alone(&rt, rt.alloc(), &tree, at(2, 0), at(0, 2))?;
-    begins(rt.alloc())?;
+    let mut ranges = ready(&rt, rt.alloc(), &tree, at(2, 0), at(0, 2))?;
     leaves(&rt, &mut ranges, &tree, 1);
     has_come(&rt, rt.alloc(), &ranges, at(0, 0), at(0, 1));
     Ok(())

@@ -31,6 +31,7 @@ fn come_and_go(rt: &impl Abort, ranges: &mut Ranges, tree: &Tree<Units>) -> Resu
     for n in 1..201 {
         comes_and_goes(rt, ranges, tree, n)?;
     }
+    assert_eq!(rt; (ranges.made(), ranges.slots()), (201, 1));
     Ok(())
 }
 
@@ -41,7 +42,6 @@ fn made_again_and_again(rt: HostRuntime) -> Result<(), Fail> {
     let tree = with_texts(&rt, rt.alloc())?;
     let mut ranges = Ranges::new(rt.alloc());
     come_and_go(&rt, &mut ranges, &tree)?;
-    assert_eq!(rt; (ranges.made(), ranges.slots()), (201, 1));
     Ok(())
 }
 
@@ -68,21 +68,23 @@ fn takes_its_turn(
     Ok(())
 }
 
-// Three thousand ranges take their turns.
-fn take_turns(rt: &impl Abort, ranges: &mut Ranges, tree: &Tree<Units>) -> Result<(), AllocError> {
-    for n in 0..3_000 {
-        takes_its_turn(rt, ranges, tree, n)?;
-    }
-    Ok(())
-}
-
-// Of these the last ten are live, each where its number says.
+// Of three thousand ranges the last ten are live, each where its number says.
 fn expect_last_ten(rt: &impl Abort, ranges: &Ranges) {
+    assert_eq!(rt; (ranges.made(), ranges.slots()), (3_000, 10));
     assert!(rt; !ranges.holds(RangeId::new(0)) && !ranges.holds(RangeId::new(2_989)));
     for n in 2_990..3_000 {
         let (start, end) = by_number(n);
         lies(rt, ranges, RangeId::new(n), start, end);
     }
+}
+
+// Three thousand ranges take their turns.
+fn take_turns(rt: &impl Abort, ranges: &mut Ranges, tree: &Tree<Units>) -> Result<(), AllocError> {
+    for n in 0..3_000 {
+        takes_its_turn(rt, ranges, tree, n)?;
+    }
+    expect_last_ten(rt, ranges);
+    Ok(())
 }
 
 // Ranges are made and released by turns, ten of them live at a time, over more numbers than a page has. Each starts where its number says.
@@ -91,8 +93,6 @@ fn made_and_released_by_turns(rt: HostRuntime) -> Result<(), Fail> {
     let tree = with_texts(&rt, rt.alloc())?;
     let mut ranges = Ranges::new(rt.alloc());
     take_turns(&rt, &mut ranges, &tree)?;
-    expect_last_ten(&rt, &ranges);
-    assert_eq!(rt; (ranges.made(), ranges.slots()), (3_000, 10));
     Ok(())
 }
 
@@ -118,6 +118,15 @@ fn make_all(
     Ok(())
 }
 
+// That the ranges from that number on start and end there.
+fn expect_all(rt: &impl Abort, ranges: &Ranges, from: u32, all: &[(Point, Point)]) {
+    let mut n = from;
+    for (start, end) in all {
+        lies(rt, ranges, RangeId::new(n), *start, *end);
+        n = n.saturating_add(1);
+    }
+}
+
 // Two ranges are made and released, and three are made then.
 fn make_in_slots(
     rt: &impl Abort,
@@ -128,16 +137,11 @@ fn make_in_slots(
     make_all(rt, ranges, tree, &first)?;
     release(rt, ranges, RangeId::new(0));
     release(rt, ranges, RangeId::new(1));
-    make_all(rt, ranges, tree, &later())
-}
-
-// That the ranges from that number on start and end there.
-fn expect_all(rt: &impl Abort, ranges: &Ranges, from: u32, all: &[(Point, Point)]) {
-    let mut n = from;
-    for (start, end) in all {
-        lies(rt, ranges, RangeId::new(n), *start, *end);
-        n = n.saturating_add(1);
-    }
+    make_all(rt, ranges, tree, &later())?;
+    assert!(rt; !ranges.holds(RangeId::new(0)) && !ranges.holds(RangeId::new(1)));
+    expect_all(rt, ranges, 2, &later());
+    assert_eq!(rt; ranges.slots(), 3);
+    Ok(())
 }
 
 // Two ranges that were released, the first before the second, so that each was in the last slot or had the last one come into its slot. Three
@@ -147,8 +151,5 @@ fn made_in_released_slots(rt: HostRuntime) -> Result<(), Fail> {
     let tree = with_texts(&rt, rt.alloc())?;
     let mut ranges = Ranges::new(rt.alloc());
     make_in_slots(&rt, &mut ranges, &tree)?;
-    assert!(rt; !ranges.holds(RangeId::new(0)) && !ranges.holds(RangeId::new(1)));
-    expect_all(&rt, &ranges, 2, &later());
-    assert_eq!(rt; ranges.slots(), 3);
     Ok(())
 }

@@ -167,12 +167,21 @@ fn small(rt: &impl Abort, alloc: Global) -> Result<Tree<()>, AllocError> {
     Ok(tree)
 }
 
-// An iterator of the element 1 that shows all.
+// An iterator of the element 1 that shows all, the first one.
+fn show_all(
+    rt: &impl Abort,
+    alloc: Global,
+    iterators: &mut NodeIterators,
+) -> Result<(), AllocError> {
+    let id = new_iterator(iterators, 1, filter(alloc, &[])?)?;
+    assert_eq!(rt; id.number(), 0);
+    Ok(())
+}
+
+// The same alone.
 fn iterates_all(rt: &impl Abort, alloc: Global) -> Result<NodeIterators, AllocError> {
     let mut iterators = NodeIterators::new(alloc);
-    let all = filter(alloc, &[])?;
-    let id = new_iterator(&mut iterators, 1, all)?;
-    assert_eq!(rt; id.number(), 0);
+    show_all(rt, alloc, &mut iterators)?;
     Ok(iterators)
 }
 
@@ -199,25 +208,32 @@ fn an_iterator_steps_off_what_is_removed(rt: HostRuntime) -> Result<(), Fail> {
 }
 
 // Two walkers of the element 1: the first skips what is named a, the second rejects it.
-fn two_walkers(rt: &impl Abort, alloc: Global) -> Result<Walkers, AllocError> {
-    let mut walkers = Walkers::new(alloc);
+fn skip_and_reject(
+    rt: &impl Abort,
+    alloc: Global,
+    walkers: &mut Walkers,
+) -> Result<(), AllocError> {
     for (verdict, number) in [(Verdict::Skip, 0), (Verdict::Reject, 1)] {
-        let filter = filter(alloc, &[("a", verdict)])?;
-        let id = new_walker(&mut walkers, 1, filter)?;
+        let id = new_walker(walkers, 1, filter(alloc, &[("a", verdict)])?)?;
         assert_eq!(rt; id.number(), number);
     }
+    Ok(())
+}
+
+// The same alone.
+fn two_walkers(rt: &impl Abort, alloc: Global) -> Result<Walkers, AllocError> {
+    let mut walkers = Walkers::new(alloc);
+    skip_and_reject(rt, alloc, &mut walkers)?;
     Ok(walkers)
 }
 
-#[test]
-fn walkers_that_skip_and_reject(rt: HostRuntime) -> Result<(), Fail> {
-    let mut tree = small(&rt, rt.alloc())?;
-    let mut walkers = two_walkers(&rt, rt.alloc())?;
+// The two walk in the small tree, then from elsewhere in a larger one.
+fn walk_both(rt: &impl Abort, walkers: &mut Walkers, tree: &mut Tree<()>) {
     let (first, second) = (WalkerId::new(0), WalkerId::new(1));
     walk_all(
-        &rt,
-        &mut walkers,
-        &tree,
+        rt,
+        walkers,
+        tree,
         &[
             (first, Move::NextNode, Some(3)),
             (second, Move::NextNode, Some(4)),
@@ -228,14 +244,14 @@ fn walkers_that_skip_and_reject(rt: HostRuntime) -> Result<(), Fail> {
             (first, Move::PreviousSibling, Some(3)),
         ],
     );
-    append(&rt, &mut tree, 5, 1);
-    append(&rt, &mut tree, 5, 6);
-    set_current(&rt, &mut walkers, first, 6);
-    set_current(&rt, &mut walkers, second, 2);
+    append(rt, tree, 5, 1);
+    append(rt, tree, 5, 6);
+    set_current(rt, walkers, first, 6);
+    set_current(rt, walkers, second, 2);
     walk_all(
-        &rt,
-        &mut walkers,
-        &tree,
+        rt,
+        walkers,
+        tree,
         &[
             (first, Move::NextNode, None),
             (first, Move::PreviousNode, Some(4)),
@@ -243,6 +259,13 @@ fn walkers_that_skip_and_reject(rt: HostRuntime) -> Result<(), Fail> {
             (second, Move::PreviousNode, None),
         ],
     );
+}
+
+#[test]
+fn walkers_that_skip_and_reject(rt: HostRuntime) -> Result<(), Fail> {
+    let mut tree = small(&rt, rt.alloc())?;
+    let mut walkers = two_walkers(&rt, rt.alloc())?;
+    walk_both(&rt, &mut walkers, &mut tree);
     Ok(())
 }
 

@@ -112,23 +112,29 @@ fn appended_children_know_their_index(rt: HostRuntime) -> Result<(), Fail> {
     Ok(())
 }
 
+// That a child has come to a place: an index that is known is this one, and so is the one found.
+fn has_moved_on(rt: &impl Abort, tree: &Tree<u32>, id: NodeId, place: usize) {
+    let known = kept(rt, tree, id);
+    assert!(rt; known.is_none() || known == Some(place));
+    assert_eq!(rt; index(rt, tree, id), place);
+}
+
 #[test]
 fn a_child_in_front_moves_the_others_on(rt: HostRuntime) -> Result<(), Fail> {
-    let mut tree = five_children(&rt, rt.alloc())?;
-    let first = NodeId::new(6);
-    for place in 0..4 {
-        let id = NodeId::new(2 + place);
-        let moved = place as usize + 1;
-        let known = kept(&rt, &tree, id);
-        assert!(rt; known.is_none() || known == Some(moved));
-        assert_eq!(rt; index(&rt, &tree, id), moved);
+    let tree = five_children(&rt, rt.alloc())?;
+    for (id, place) in [(2, 1), (3, 2), (4, 3), (5, 4)] {
+        has_moved_on(&rt, &tree, NodeId::new(id), place);
     }
-    assert_eq!(rt; index(&rt, &tree, first), 0);
+    assert_eq!(rt; index(&rt, &tree, NodeId::new(6)), 0);
+    Ok(())
+}
+
+#[test]
+fn numbered_children_know_their_index(rt: HostRuntime) -> Result<(), Fail> {
+    let mut tree = five_children(&rt, rt.alloc())?;
     number_children(&rt, &mut tree, NodeId::new(1));
-    assert_eq!(rt; kept(&rt, &tree, first), Some(0));
-    for place in 0..4 {
-        let id = NodeId::new(2 + place);
-        assert_eq!(rt; kept(&rt, &tree, id), Some(place as usize + 1));
+    for (id, place) in [(6, 0), (2, 1), (3, 2), (4, 3), (5, 4)] {
+        assert_eq!(rt; kept(&rt, &tree, NodeId::new(id)), Some(place));
     }
     Ok(())
 }

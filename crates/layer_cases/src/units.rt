@@ -1,41 +1,64 @@
 //! Examples of texts: pairs, lone surrogates and the empty text, and parts replaced.
 use dom_units::Units;
+use std::alloc::{AllocError, Global};
+use std::process::Abort;
 use std::test::Fail;
+
+// A text of the characters at the edges of what one, two, three and four bytes of UTF-8 hold, and its units.
+const EDGES: &str = "\u{0}\u{7F}\u{80}\u{7FF}\u{800}\u{D7FF}\u{E000}\u{FFFF}\u{10000}\u{10FFFF}";
+
+const UNITS_OF_EDGES: [u16; 12] = [
+    0, 0x7F, 0x80, 0x7FF, 0x800, 0xD7FF, 0xE000, 0xFFFF, 0xD800, 0xDC00, 0xDBFF, 0xDFFF,
+];
+
+// That a text has these units.
+fn has_units(rt: &impl Abort, alloc: Global, text: &str, wanted: &[u16]) -> Result<(), AllocError> {
+    let units = Units::from_str(alloc, text)?;
+    assert!(rt; units.len() == wanted.len());
+    assert!(rt; units.units() == wanted);
+    Ok(())
+}
 
 #[test]
 fn text_to_units(rt: HostRuntime) -> Result<(), Fail> {
-    let alloc = rt.alloc();
-    let none = Units::from_str(alloc, "")?;
-    assert!(rt; none.len() == 0);
-    let smile = Units::from_str(alloc, "a😀b")?;
-    assert!(rt; smile.units() == [97, 55357, 56832, 98].as_slice());
+    for (text, wanted) in [
+        ("", [].as_slice()),
+        ("a😀b", [97, 55357, 56832, 98].as_slice()),
+        (EDGES, UNITS_OF_EDGES.as_slice()),
+    ] {
+        has_units(&rt, rt.alloc(), text, wanted)?;
+    }
+    Ok(())
+}
+
+#[test]
+fn a_part_that_cuts_a_pair(rt: HostRuntime) -> Result<(), Fail> {
+    let smile = Units::from_str(rt.alloc(), "a😀b")?;
+    assert!(rt; smile.len() == 4);
     assert!(rt; smile.slice(2, 2) == [56832, 98].as_slice());
-    let edges = Units::from_str(
-        alloc,
-        "\u{0}\u{7F}\u{80}\u{7FF}\u{800}\u{D7FF}\u{E000}\u{FFFF}\u{10000}\u{10FFFF}",
-    )?;
-    let wanted = [
-        0, 0x7F, 0x80, 0x7FF, 0x800, 0xD7FF, 0xE000, 0xFFFF, 0xD800, 0xDC00, 0xDBFF, 0xDFFF,
-    ];
-    assert!(rt; edges.units() == wanted.as_slice());
+    Ok(())
+}
+
+// That units are well formed, and are this text.
+fn reads(rt: &impl Abort, alloc: Global, units: &Units, wanted: &str) -> Result<(), AllocError> {
+    assert!(rt; units.is_well_formed());
+    match units.to_text(alloc)? {
+        None => assert!(rt; false, "{wanted}"),
+        Some(text) => assert!(rt; text.as_str() == wanted, "{wanted}"),
+    }
     Ok(())
 }
 
 #[test]
 fn units_to_text(rt: HostRuntime) -> Result<(), Fail> {
-    let alloc = rt.alloc();
-    let edges = [
-        0, 0x7F, 0x80, 0x7FF, 0x800, 0xD7FF, 0xE000, 0xFFFF, 0xD800, 0xDC00, 0xDBFF, 0xDFFF,
-    ];
-    let edges = Units::from_units(alloc, &edges)?;
-    assert!(rt; edges.is_well_formed());
-    let text = edges.to_text(alloc)?.ok_or("edges")?;
-    assert!(rt;
-        text.as_str()
-            == "\u{0}\u{7F}\u{80}\u{7FF}\u{800}\u{D7FF}\u{E000}\u{FFFF}\u{10000}\u{10FFFF}"
-    );
-    let text = Units::new(alloc).to_text(alloc)?.ok_or("empty")?;
-    assert!(rt; text.as_str() == "");
+    let edges = Units::from_units(rt.alloc(), &UNITS_OF_EDGES)?;
+    reads(&rt, rt.alloc(), &edges, EDGES)?;
+    Ok(())
+}
+
+#[test]
+fn no_units_to_text(rt: HostRuntime) -> Result<(), Fail> {
+    reads(&rt, rt.alloc(), &Units::new(rt.alloc()), "")?;
     Ok(())
 }
 
@@ -80,16 +103,22 @@ fn replaced_parts(rt: HostRuntime) -> Result<(), Fail> {
     Ok(())
 }
 
-#[test]
-fn emptied_beside_a_copy(rt: HostRuntime) -> Result<(), Fail> {
-    let alloc = rt.alloc();
-    let mut data = Units::from_units(alloc, &[97, 98])?;
-    let copy = data.try_clone(alloc)?;
+// A text of two units is emptied and gets another.
+fn empty_and_fill(rt: &impl Abort, data: &mut Units) -> Result<(), AllocError> {
     assert!(rt; data.len() == 2);
     data.splice(0, 2, &[])?;
     assert!(rt; data.is_empty());
     data.splice(0, 0, &[88])?;
-    assert!(rt; (data.units(), copy.units()) == ([88].as_slice(), [97, 98].as_slice()));
+    assert!(rt; data.units() == [88].as_slice());
+    Ok(())
+}
+
+#[test]
+fn emptied_beside_a_copy(rt: HostRuntime) -> Result<(), Fail> {
+    let data = Units::from_units(rt.alloc(), &[97, 98])?;
+    let mut copy = data.try_clone(rt.alloc())?;
+    empty_and_fill(&rt, &mut copy)?;
+    assert!(rt; data.units() == [97, 98].as_slice());
     Ok(())
 }
 

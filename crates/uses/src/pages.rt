@@ -1,6 +1,6 @@
 //! Calls of `dom_pages`.
 
-ghost use Rattle.std.specs.Prelude.{◌≡◌, ◌≢◌, ℕ, Some, None, IfOk, OnErr};
+ghost use Rattle.std.specs.Prelude.{◌≡◌, ◌≢◌, ℕ, ◌+◌, ◌≤◌, length, Some, None, IfOk, OnErr};
 ghost use Rattle.dom_pages.specs.Numbered.{item_at};
 
 use dom_pages::Pages;
@@ -12,6 +12,7 @@ pub fn number_two(
     first: u32,
     second: u32,
 ) -> Result<(usize, usize), AllocError>
+    requires room { length table.old.items + 2 ≤ 4294967296 }
     ensures first { IfOk result (λ numbers. item_at table.new.items numbers.0 ≡ Some first) }
     ensures second { IfOk result (λ numbers. item_at table.new.items numbers.1 ≡ Some second) }
     ensures differ { IfOk result (λ numbers. numbers.0 ≢ numbers.1) }
