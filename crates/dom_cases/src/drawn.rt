@@ -27,26 +27,32 @@ struct Case {
     after: &'static str,
 }
 
-// The lines that ask for the tree of the first node and for the live ranges.
-fn questions(alloc: Global, ranges: usize) -> Result<String, AllocError> {
-    let mut lines = String::from_str(alloc, "[\"tree\",1]\n")?;
+// Puts the lines that ask for the tree of the first node and for the live ranges behind others.
+fn ask(lines: &mut String, ranges: usize) -> Result<(), AllocError> {
+    lines.push_str("[\"tree\",1]\n")?;
     for range in 0..ranges {
-        let line = format!(in alloc; "[\"range\",{range}]\n")?;
-        lines.push_str(line.as_str())?;
+        write!(lines, "[\"range\",{range}]\n")?;
     }
-    Ok(lines)
+    Ok(())
 }
 
-// The lines of the dialogue up to the edit and with it, the questions before it and after it.
-fn asked(alloc: Global, case: &Case) -> Result<Vec<u8>, AllocError> {
-    let questions = questions(alloc, case.ranges)?;
+// Puts the lines of the dialogue up to the edit and with it, and the questions before it and after it, behind others.
+fn give(lines: &mut Vec<u8>, case: &Case, questions: &str) -> Result<(), AllocError> {
     let front = first_lines(case.input, case.lines);
     let with_edit = first_lines(case.input, case.lines.saturating_add(1));
     let edit = with_edit.get(front.len()..).unwrap_or(with_edit);
-    let mut lines = Vec::from_slice(alloc, front)?;
+    lines.extend_from_slice(front)?;
     lines.extend_from_slice(questions.as_bytes())?;
     lines.extend_from_slice(edit)?;
-    lines.extend_from_slice(questions.as_bytes())?;
+    lines.extend_from_slice(questions.as_bytes())
+}
+
+// These lines alone.
+fn asked(alloc: Global, case: &Case) -> Result<Vec<u8>, AllocError> {
+    let mut questions = String::new(alloc);
+    ask(&mut questions, case.ranges)?;
+    let mut lines = Vec::new(alloc);
+    give(&mut lines, case, questions.as_str())?;
     Ok(lines)
 }
 
@@ -77,21 +83,54 @@ fn is_drawn(rt: &impl Abort, alloc: Global, told: &Told, text: &str) -> Result<(
     Ok(())
 }
 
-// That the text of what is told before the edit becomes, edited alone, that of what is told after it.
+// That an edited text is, with its markers in order, the text of what is told.
+fn is_text_of(
+    rt: &impl Abort,
+    alloc: Global,
+    edited: &[Token],
+    told: &Told,
+    text: &str,
+) -> Result<(), AllocError> {
+    let ordered = in_order(alloc, edited)?;
+    let due = draw(alloc, told)?;
+    assert!(rt; ordered.as_slice() == due.as_slice(), "{text}");
+    Ok(())
+}
+
+// That a text becomes, edited alone, that of what is told after the edit.
 fn is_edited(
+    rt: &impl Abort,
+    alloc: Global,
+    case: &Case,
+    text: &[Token],
+    after: &Told,
+) -> Result<(), AllocError> {
+    let edited = edited_text(alloc, text, case.edit)?;
+    stand_in_gaps(rt, alloc, edited.as_slice(), after.ranges.as_slice())?;
+    is_text_of(rt, alloc, edited.as_slice(), after, case.after)
+}
+
+// That what is told before the edit and after it is drawn as it is due, and that the first text becomes the second.
+fn are_as_due(
     rt: &impl Abort,
     alloc: Global,
     case: &Case,
     before: &Told,
     after: &Told,
 ) -> Result<(), AllocError> {
+    is_drawn(rt, alloc, before, case.before)?;
+    is_drawn(rt, alloc, after, case.after)?;
     let text = draw(alloc, before)?;
-    let edited = edited_text(alloc, text.as_slice(), case.edit)?;
-    stand_in_gaps(rt, alloc, edited.as_slice(), after.ranges.as_slice())?;
-    let ordered = in_order(alloc, edited.as_slice())?;
-    let due = draw(alloc, after)?;
-    let text = case.after;
-    assert!(rt; ordered.as_slice() == due.as_slice(), "{text}");
+    is_edited(rt, alloc, case, text.as_slice(), after)
+}
+
+// That the replies tell this.
+fn tell_as_due(rt: &impl Abort, alloc: Global, case: &Case, replies: &[u8]) -> Result<(), Fail> {
+    let replies = str::from_utf8(replies)?;
+    let behind = case.lines.saturating_add(case.ranges).saturating_add(2);
+    let before = told_from(alloc, replies, case.lines, case.ranges)?;
+    let after = told_from(alloc, replies, behind, case.ranges)?;
+    are_as_due(rt, alloc, case, &before, &after)?;
     Ok(())
 }
 
@@ -99,14 +138,7 @@ fn is_drawn_and_edited(rt: &impl Abort, alloc: Global, case: &Case) -> Result<()
     let lines = asked(alloc, case)?;
     let served = serve_all(rt, alloc, USUAL, in_pieces(lines.as_slice(), 65536));
     assert!(rt; served.ended.is_ok());
-    let replies = str::from_utf8(served.written.as_slice())?;
-    let before = told_from(alloc, replies, case.lines, case.ranges)?;
-    let behind = case.lines.saturating_add(case.ranges).saturating_add(2);
-    let after = told_from(alloc, replies, behind, case.ranges)?;
-    is_drawn(rt, alloc, &before, case.before)?;
-    is_drawn(rt, alloc, &after, case.after)?;
-    is_edited(rt, alloc, case, &before, &after)?;
-    Ok(())
+    tell_as_due(rt, alloc, case, served.written.as_slice())
 }
 
 #[test]

@@ -149,6 +149,13 @@ fn fills_the_room(rt: &impl Abort, alloc: Global, dialogue: &Dialogue, room: usi
     );
 }
 
+// The same of each room up to that of the whole output.
+fn fills_each_room(rt: &impl Abort, alloc: Global, dialogue: &Dialogue) {
+    for room in 0..=dialogue.output().len() {
+        fills_the_room(rt, alloc, dialogue, room);
+    }
+}
+
 /// That in pieces of 1, 7 and 65,536 bytes each read, write and flush fails in turn as it should, and that a writer is filled to its last byte.
 pub fn is_told_of_each_fault(rt: &impl Abort, alloc: Global, dialogue: &Dialogue) {
     for most in [1, 7, 65536] {
@@ -156,9 +163,7 @@ pub fn is_told_of_each_fault(rt: &impl Abort, alloc: Global, dialogue: &Dialogue
         fails_at_each_write(rt, alloc, dialogue, most);
         fails_at_each_flush(rt, alloc, dialogue, most);
     }
-    for room in 0..=dialogue.output().len() {
-        fills_the_room(rt, alloc, dialogue, room);
-    }
+    fills_each_room(rt, alloc, dialogue);
 }
 
 // A slice takes no more bytes once it is full.

@@ -53,24 +53,28 @@ fn first_dialogue_under_refusals(rt: HostRuntime) {
     is_answered_or_wants(&rt, rt.alloc(), &TREE_PRINTED);
 }
 
+// That serving to a writer that takes so many writes ends there, or at a want of memory.
+fn fails_or_wants(rt: &impl Abort, alloc: Global, mut writer: Taker, writes: u8) {
+    let dialogue = &TREE_PRINTED;
+    let output = dialogue.output();
+    writer.writes = u64::from(writes);
+    let mut reader = in_pieces(dialogue.input(), 65536);
+    let ended = serve(alloc, USUAL, &mut reader, &mut writer);
+    let text = writer.taken.as_slice();
+    if ended == Err(Fault::Memory) {
+        assert!(rt; is_cut_by_want(output, text));
+    } else {
+        assert_eq!(rt; ended, Err(Fault::Write));
+        assert!(rt; text == first_lines(output, usize::from(writes)));
+    }
+}
+
 // Each reply is one write, and so is the line that says that memory was wanting.
 #[test]
 fn failing_writers_under_refusals(rt: HostRuntime) {
-    let dialogue = &TREE_PRINTED;
-    let output = dialogue.output();
     for writes in 0..3u8 {
-        let Ok(mut writer) = roomy(rt.alloc()) else {
-            return;
-        };
-        writer.writes = u64::from(writes);
-        let mut reader = in_pieces(dialogue.input(), 65536);
-        let ended = serve(rt.alloc(), USUAL, &mut reader, &mut writer);
-        let text = writer.taken.as_slice();
-        if ended == Err(Fault::Memory) {
-            assert!(rt; is_cut_by_want(output, text));
-        } else {
-            assert_eq!(rt; ended, Err(Fault::Write));
-            assert!(rt; text == first_lines(output, usize::from(writes)));
+        if let Ok(writer) = roomy(rt.alloc()) {
+            fails_or_wants(&rt, rt.alloc(), writer, writes);
         }
     }
 }

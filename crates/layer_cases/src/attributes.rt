@@ -225,18 +225,33 @@ fn expect_numbered(rt: &impl Abort, alloc: Global, attrs: &Attrs, number: u16) -
     Ok(())
 }
 
-#[test]
-fn twenty_thousand(rt: HostRuntime) -> Result<(), Fail> {
-    let alloc = rt.alloc();
-    let mut attrs = Attrs::new(alloc);
+fn set_all(rt: &impl Abort, alloc: Global, attrs: &mut Attrs) -> Result<(), Fail> {
     for number in 0..20_000u16 {
-        set_numbered(&rt, alloc, &mut attrs, number)?;
+        set_numbered(rt, alloc, attrs, number)?;
     }
     assert!(rt; attrs.len() == 20_000);
+    Ok(())
+}
+
+fn expect_all(rt: &impl Abort, alloc: Global, attrs: &Attrs) -> Result<(), Fail> {
     for number in 0..20_000u16 {
-        expect_numbered(&rt, alloc, &attrs, number)?;
+        expect_numbered(rt, alloc, attrs, number)?;
     }
-    let copy = attrs.try_clone(alloc)?;
+    Ok(())
+}
+
+#[test]
+fn twenty_thousand(rt: HostRuntime) -> Result<(), Fail> {
+    let mut attrs = Attrs::new(rt.alloc());
+    set_all(&rt, rt.alloc(), &mut attrs)?;
+    expect_all(&rt, rt.alloc(), &attrs)
+}
+
+#[test]
+fn a_copy_is_the_same(rt: HostRuntime) -> Result<(), Fail> {
+    let mut attrs = Attrs::new(rt.alloc());
+    set_all(&rt, rt.alloc(), &mut attrs)?;
+    let copy = attrs.try_clone(rt.alloc())?;
     assert!(rt; copy.same(&attrs));
     Ok(())
 }

@@ -1,6 +1,6 @@
 //! Slots that are linked, cut, taken and taken again, and the memory under them.
 use dom_links::{Links, NodePtr, Pool, Slot};
-use std::alloc::Global;
+use std::alloc::{AllocError, Global};
 use std::cell::Cell;
 use std::process::Abort;
 use std::rc::Rc;
@@ -56,10 +56,9 @@ fn cut(rt: &impl Abort, links: &mut Links<u32>, child: Slot) {
     assert!(rt; links.next(child).is_none() && links.prev(child).is_none());
 }
 
-/// The children of a parent, from the first on and from the last back.
-fn has_children(rt: &impl Abort, links: &Links<u32>, parent: Slot, children: &[Slot]) {
+/// The children of a parent, from the first on.
+fn come_in_order(rt: &impl Abort, links: &Links<u32>, parent: Slot, children: &[Slot]) {
     assert!(rt; links.holds(parent));
-    assert!(rt; links.count(parent) == children.len());
     let mut at = links.first(parent);
     for child in children {
         assert!(rt; at == Some(*child) && links.holds(*child));
@@ -67,12 +66,25 @@ fn has_children(rt: &impl Abort, links: &Links<u32>, parent: Slot, children: &[S
         at = links.next(*child);
     }
     assert!(rt; at.is_none());
-    at = links.last(parent);
+}
+
+/// The same from the last back.
+fn come_in_reverse(rt: &impl Abort, links: &Links<u32>, parent: Slot, children: &[Slot]) {
+    assert!(rt; links.holds(parent));
+    let mut at = links.last(parent);
     for child in children.iter().rev() {
         assert!(rt; at == Some(*child) && links.holds(*child));
         at = links.prev(*child);
     }
     assert!(rt; at.is_none());
+}
+
+/// Both, and how many there are.
+fn has_children(rt: &impl Abort, links: &Links<u32>, parent: Slot, children: &[Slot]) {
+    assert!(rt; links.holds(parent));
+    assert!(rt; links.count(parent) == children.len());
+    come_in_order(rt, links, parent, children);
+    come_in_reverse(rt, links, parent, children);
 }
 
 #[test]
@@ -118,30 +130,71 @@ fn taken_slots_come_again(rt: HostRuntime) {
     assert!(rt; *links.value(a) == 7);
 }
 
+// Adds a thousand nodes, each with its number, and tells where they are.
+fn add_thousand(
+    rt: &impl Abort,
+    links: &mut Links<u32>,
+    slots: &mut Vec<Slot>,
+) -> Result<(), AllocError> {
+    for value in 0..1000u32 {
+        slots.push(added(rt, links, value))?;
+    }
+    Ok(())
+}
+
+// Puts roots last under a parent, one after another.
+fn put_all(rt: &impl Abort, links: &mut Links<u32>, parent: Slot, slots: &[Slot]) {
+    for slot in slots {
+        put(rt, links, parent, *slot, None);
+    }
+}
+
+fn cut_all(rt: &impl Abort, links: &mut Links<u32>, slots: &[Slot]) {
+    for slot in slots {
+        cut(rt, links, *slot);
+    }
+}
+
+// That each node has its number.
+fn have_numbers(rt: &impl Abort, links: &Links<u32>, slots: &[Slot]) {
+    let mut value = 0u32;
+    for slot in slots {
+        assert!(rt; links.holds(*slot));
+        assert!(rt; *links.value(*slot) == value);
+        value = value.wrapping_add(1);
+    }
+}
+
+fn take_all(rt: &impl Abort, links: &mut Links<u32>, slots: &[Slot]) {
+    for slot in slots {
+        assert!(rt; taken(rt, links, *slot) < 1000);
+    }
+}
+
+// A thousand nodes are put in, cut and taken out, and the last slot comes again.
+fn come_and_go(
+    rt: &impl Abort,
+    links: &mut Links<u32>,
+    slots: &mut Vec<Slot>,
+) -> Result<(), AllocError> {
+    let top = added(rt, links, 5000);
+    add_thousand(rt, links, slots)?;
+    put_all(rt, links, top, slots.as_slice());
+    has_children(rt, links, top, slots.as_slice());
+    have_numbers(rt, links, slots.as_slice());
+    cut_all(rt, links, slots.as_slice());
+    has_children(rt, links, top, &[]);
+    take_all(rt, links, slots.as_slice());
+    let last = slots.pop();
+    assert!(rt; Some(added(rt, links, 1)) == last);
+    Ok(())
+}
+
 #[test]
 fn a_thousand_children(rt: HostRuntime) -> Result<(), Fail> {
     let mut links = Links::new(rt.alloc());
     let mut slots = Vec::new(rt.alloc());
-    let top = added(&rt, &mut links, 5000);
-    for value in 0..1000u32 {
-        let slot = added(&rt, &mut links, value);
-        slots.push(slot)?;
-        put(&rt, &mut links, top, slot, None);
-    }
-    has_children(&rt, &links, top, slots.as_slice());
-    let mut value = 0u32;
-    for slot in &slots {
-        assert!(rt; links.holds(*slot));
-        assert!(rt; *links.value(*slot) == value);
-        value = value.wrapping_add(1);
-        cut(&rt, &mut links, *slot);
-    }
-    has_children(&rt, &links, top, &[]);
-    for slot in &slots {
-        assert!(rt; taken(&rt, &mut links, *slot) < 1000);
-    }
-    let last = slots.pop();
-    assert!(rt; Some(added(&rt, &mut links, 1)) == last);
+    come_and_go(&rt, &mut links, &mut slots)?;
     Ok(())
 }
 
@@ -152,18 +205,12 @@ fn a_thousand_links_without_a_growth(rt: HostRuntime) -> Result<(), Fail> {
     let mut links = Links::new(rt.alloc());
     let mut slots = Vec::new(rt.alloc());
     let top = added(&rt, &mut links, 5000);
-    for value in 0..1000u32 {
-        slots.push(added(&rt, &mut links, value))?;
-    }
+    add_thousand(&rt, &mut links, &mut slots)?;
     let mut mark: Vec<u8> = Vec::new(rt.alloc());
     mark.reserve(7777)?;
-    for slot in &slots {
-        put(&rt, &mut links, top, *slot, None);
-    }
+    put_all(&rt, &mut links, top, slots.as_slice());
     has_children(&rt, &links, top, slots.as_slice());
-    for slot in &slots {
-        cut(&rt, &mut links, *slot);
-    }
+    cut_all(&rt, &mut links, slots.as_slice());
     has_children(&rt, &links, top, &[]);
     let mut last: Vec<u8> = Vec::new(rt.alloc());
     let _refused = last.reserve(1);

@@ -137,11 +137,22 @@ fn points_of_siblings_far_apart(rt: HostRuntime) -> Result<(), Fail> {
 fn wide_tree(rt: &impl Abort, alloc: Global, leaves: u32) -> Result<Tree<()>, AllocError> {
     let mut tree = grown(rt, alloc, &[0, 0])?;
     for group in 1..3 {
-        for _ in 0..leaves {
-            let _ = child(rt, alloc, &mut tree, NodeId::new(group))?;
-        }
+        add_leaves(rt, alloc, &mut tree, NodeId::new(group), leaves)?;
     }
     Ok(tree)
+}
+
+fn add_leaves(
+    rt: &impl Abort,
+    alloc: Global,
+    tree: &mut Tree<()>,
+    group: NodeId,
+    leaves: u32,
+) -> Result<(), AllocError> {
+    for _ in 0..leaves {
+        let _ = child(rt, alloc, tree, group)?;
+    }
+    Ok(())
 }
 
 // Points of leaves near one another, of neighbouring groups, and of the root.

@@ -59,18 +59,15 @@ fn row_in(alloc: Global, row: &Value) -> Result<Row, Fail> {
     })
 }
 
-fn rows_in(alloc: Global, line: &str) -> Result<Vec<Row>, Fail> {
-    let reply = Value::from_str(alloc, line)?;
+fn push_rows(rows: &mut Vec<Row>, alloc: Global, reply: &Value) -> Result<(), Fail> {
     let items = reply.get("ok").and_then(Value::as_array);
-    let mut rows = Vec::new(alloc);
     for item in items.ok_or("rows are due")? {
         rows.push(row_in(alloc, item)?)?;
     }
-    Ok(rows)
+    Ok(())
 }
 
-fn ends_in(alloc: Global, line: &str) -> Result<Ends, Fail> {
-    let reply = Value::from_str(alloc, line)?;
+fn ends_in(reply: &Value) -> Result<Ends, Fail> {
     let items = reply.get("ok").ok_or("ends are due")?;
     let start = Point {
         node: number_at(items, 0)?,
@@ -81,6 +78,18 @@ fn ends_in(alloc: Global, line: &str) -> Result<Ends, Fail> {
         offset: number_at(items, 3)?,
     };
     Ok(Ends { start, end })
+}
+
+impl Told {
+    // Takes a reply: the first one tells the tree, each other a live range.
+    fn take(&mut self, alloc: Global, place: usize, line: &str) -> Result<(), Fail> {
+        let reply = Value::from_str(alloc, line)?;
+        if place == 0 {
+            return push_rows(&mut self.rows, alloc, &reply);
+        }
+        self.ranges.push(ends_in(&reply)?)?;
+        Ok(())
+    }
 }
 
 /// What the replies from a line on tell: one a tree, and each of so many after it a live range.
@@ -95,11 +104,7 @@ pub fn told_from(alloc: Global, replies: &str, first: usize, ranges: usize) -> R
         .take(ranges.saturating_add(1))
         .enumerate()
     {
-        if place == 0 {
-            told.rows = rows_in(alloc, line)?;
-        } else {
-            told.ranges.push(ends_in(alloc, line)?)?;
-        }
+        told.take(alloc, place, line)?;
     }
     Ok(told)
 }

@@ -2,7 +2,7 @@
 
 ghost use Rattle.dom_wrap.specs.dom_edit.Whole.{IsWhole};
 
-use crate::layers::building::{begun, expect_held, expect_units, name, units};
+use crate::layers::building::{Scene, expect_held, expect_units, name, played, units};
 use dom_wrap::of_data::{remove_attribute, set_attribute, toggle_attribute};
 use dom_wrap::of_edit::World;
 use dom_wrap::of_kinds::Kind;
@@ -48,30 +48,30 @@ fn expect_value(rt: &impl Abort, world: &World, key: &str, value: &str) {
 }
 
 // An attribute is set, and then set to another value.
-fn set_twice(rt: &impl Abort, world: &mut World, alloc: Global) -> Result<(), AllocError>
-    requires { IsWhole world.old }
-{
-    if let Err(AllocError) = set(rt, world, alloc, "id", "mn") {
-        expect_held(rt, world, 13);
-        assert_eq!(rt; count(rt, world), 0);
-        set(rt, world, alloc, "id", "mn")?;
-    }
-    assert_eq!(rt; count(rt, world), 1);
-    expect_value(rt, world, "id", "mn");
-    if let Err(AllocError) = set(rt, world, alloc, "id", "op") {
+struct AnAttributeIsSet;
+
+impl Scene for AnAttributeIsSet {
+    fn play(rt: &impl Abort, world: &mut World, alloc: Global) -> Result<(), Fail> {
+        if let Err(AllocError) = set(rt, world, alloc, "id", "mn") {
+            expect_held(rt, world, 13);
+            assert_eq!(rt; count(rt, world), 0);
+            set(rt, world, alloc, "id", "mn")?;
+        }
+        assert_eq!(rt; count(rt, world), 1);
         expect_value(rt, world, "id", "mn");
-        set(rt, world, alloc, "id", "op")?;
+        if let Err(AllocError) = set(rt, world, alloc, "id", "op") {
+            expect_value(rt, world, "id", "mn");
+            set(rt, world, alloc, "id", "op")?;
+        }
+        assert_eq!(rt; count(rt, world), 1);
+        expect_value(rt, world, "id", "op");
+        Ok(())
     }
-    assert_eq!(rt; count(rt, world), 1);
-    expect_value(rt, world, "id", "op");
-    Ok(())
 }
 
 #[test]
 fn an_attribute_is_set(rt: HostRuntime) -> Result<(), Fail> {
-    let mut world = begun(&rt, rt.alloc())?;
-    set_twice(&rt, &mut world, rt.alloc())?;
-    Ok(())
+    played::<AnAttributeIsSet>(&rt, rt.alloc())
 }
 
 // Removes the attribute "id" of element 1.
@@ -86,26 +86,26 @@ fn remove(rt: &impl Abort, world: &mut World, alloc: Global) -> Result<(), Alloc
 }
 
 // An attribute is set, and removed.
-fn set_and_remove(rt: &impl Abort, world: &mut World, alloc: Global) -> Result<(), AllocError>
-    requires { IsWhole world.old }
-{
-    if let Err(AllocError) = set(rt, world, alloc, "id", "mn") {
-        set(rt, world, alloc, "id", "mn")?;
+struct AnAttributeIsRemoved;
+
+impl Scene for AnAttributeIsRemoved {
+    fn play(rt: &impl Abort, world: &mut World, alloc: Global) -> Result<(), Fail> {
+        if let Err(AllocError) = set(rt, world, alloc, "id", "mn") {
+            set(rt, world, alloc, "id", "mn")?;
+        }
+        if let Err(AllocError) = remove(rt, world, alloc) {
+            expect_held(rt, world, 13);
+            expect_value(rt, world, "id", "mn");
+            remove(rt, world, alloc)?;
+        }
+        assert_eq!(rt; count(rt, world), 0);
+        Ok(())
     }
-    if let Err(AllocError) = remove(rt, world, alloc) {
-        expect_held(rt, world, 13);
-        expect_value(rt, world, "id", "mn");
-        remove(rt, world, alloc)?;
-    }
-    assert_eq!(rt; count(rt, world), 0);
-    Ok(())
 }
 
 #[test]
 fn an_attribute_is_removed(rt: HostRuntime) -> Result<(), Fail> {
-    let mut world = begun(&rt, rt.alloc())?;
-    set_and_remove(&rt, &mut world, rt.alloc())?;
-    Ok(())
+    played::<AnAttributeIsRemoved>(&rt, rt.alloc())
 }
 
 // Adds the attribute "id" of element 1 or removes it, and answers whether it is there.
@@ -121,34 +121,34 @@ fn toggle(rt: &impl Abort, world: &mut World, alloc: Global) -> Result<bool, All
 }
 
 // An attribute is added with the empty value, and removed.
-fn toggle_twice(rt: &impl Abort, world: &mut World, alloc: Global) -> Result<(), AllocError>
-    requires { IsWhole world.old }
-{
-    let on = match toggle(rt, world, alloc) {
-        Ok(on) => on,
-        Err(_) => {
-            assert_eq!(rt; count(rt, world), 0);
-            toggle(rt, world, alloc)?
-        }
-    };
-    assert!(rt; on);
-    assert_eq!(rt; count(rt, world), 1);
-    expect_value(rt, world, "id", "");
-    let on = match toggle(rt, world, alloc) {
-        Ok(on) => on,
-        Err(_) => {
-            expect_value(rt, world, "id", "");
-            toggle(rt, world, alloc)?
-        }
-    };
-    assert!(rt; !on);
-    assert_eq!(rt; count(rt, world), 0);
-    Ok(())
+struct AnAttributeIsToggled;
+
+impl Scene for AnAttributeIsToggled {
+    fn play(rt: &impl Abort, world: &mut World, alloc: Global) -> Result<(), Fail> {
+        let on = match toggle(rt, world, alloc) {
+            Ok(on) => on,
+            Err(_) => {
+                assert_eq!(rt; count(rt, world), 0);
+                toggle(rt, world, alloc)?
+            }
+        };
+        assert!(rt; on);
+        assert_eq!(rt; count(rt, world), 1);
+        expect_value(rt, world, "id", "");
+        let on = match toggle(rt, world, alloc) {
+            Ok(on) => on,
+            Err(_) => {
+                expect_value(rt, world, "id", "");
+                toggle(rt, world, alloc)?
+            }
+        };
+        assert!(rt; !on);
+        assert_eq!(rt; count(rt, world), 0);
+        Ok(())
+    }
 }
 
 #[test]
 fn an_attribute_is_toggled(rt: HostRuntime) -> Result<(), Fail> {
-    let mut world = begun(&rt, rt.alloc())?;
-    toggle_twice(&rt, &mut world, rt.alloc())?;
-    Ok(())
+    played::<AnAttributeIsToggled>(&rt, rt.alloc())
 }

@@ -11,6 +11,7 @@ use dom_wrap::of_tree::NodeId;
 use dom_wrap::of_units::Units;
 use std::alloc::{AllocError, Global};
 use std::process::Abort;
+use std::test::Fail;
 
 /// The units of a text. Where a growth is refused, they are made at the second try.
 pub fn units(alloc: Global, text: &str) -> Result<Units, AllocError> {
@@ -208,13 +209,26 @@ fn tried(rt: &impl Abort, alloc: Global) -> Result<World, AllocError>
 
 /// Three trees: document 0 has element 1, which has Text 2 ("ab"), element 3 with Text 4 ("cd") in it, and Text 5 ("ef"); element 6 has
 /// Text 7 without data, Text 8 ("gh") and Text 9 ("ij"); fragment 10 has Comment 11 ("kl") and element 12. The first two are watched.
-pub fn begun(rt: &impl Abort, alloc: Global) -> Result<World, AllocError>
+fn begun(rt: &impl Abort, alloc: Global) -> Result<World, AllocError>
     ensures { IfOk result IsWhole }
 {
     match tried(rt, alloc) {
         Ok(world) => Ok(world),
         Err(_) => tried(rt, alloc),
     }
+}
+
+/// What a test does in the small world.
+pub trait Scene {
+    /// Plays it.
+    fn play(rt: &impl Abort, world: &mut World, alloc: Global) -> Result<(), Fail>
+        requires { IsWhole world.old };
+}
+
+/// Plays a scene in a small world of its own. It alone owns the world and lets it go, which is dear to prove.
+pub fn played<S: Scene>(rt: &impl Abort, alloc: Global) -> Result<(), Fail> {
+    let mut world = begun(rt, alloc)?;
+    S::play(rt, &mut world, alloc)
 }
 
 /// A second document, numbered 13. Where a growth is refused, it is made at the second try.

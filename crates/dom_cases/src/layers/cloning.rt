@@ -3,8 +3,8 @@
 ghost use Rattle.dom_wrap.specs.dom_edit.Whole.{IsWhole};
 
 use crate::layers::building::{
-    allowed, begun, expect_children, expect_data, expect_document, expect_held, expect_root,
-    second_document,
+    Scene, allowed, expect_children, expect_data, expect_document, expect_held, expect_root,
+    played, second_document,
 };
 use dom_wrap::of_clone::{clone_node, import, is_equal};
 use dom_wrap::of_edit::World;
@@ -44,57 +44,57 @@ fn expect_copy(rt: &impl Abort, world: &World, copy: NodeId, document: u32) {
 }
 
 // A copy of element 1 with all below it.
-fn copy_tree(rt: &impl Abort, world: &mut World, alloc: Global) -> Result<(), AllocError>
-    requires { IsWhole world.old }
-{
-    match copied(rt, world, alloc, true) {
-        Ok(copy) => {
-            expect_copy(rt, world, copy, 0);
-            expect_children(rt, world, 13, &[14, 15, 17]);
-            expect_children(rt, world, 15, &[16]);
-            expect_data(rt, world, 14, "ab");
-            expect_data(rt, world, 16, "cd");
-            expect_data(rt, world, 17, "ef");
+struct ATreeIsCopied;
+
+impl Scene for ATreeIsCopied {
+    fn play(rt: &impl Abort, world: &mut World, alloc: Global) -> Result<(), Fail> {
+        match copied(rt, world, alloc, true) {
+            Ok(copy) => {
+                expect_copy(rt, world, copy, 0);
+                expect_children(rt, world, 13, &[14, 15, 17]);
+                expect_children(rt, world, 15, &[16]);
+                expect_data(rt, world, 14, "ab");
+                expect_data(rt, world, 16, "cd");
+                expect_data(rt, world, 17, "ef");
+            }
+            Err(_) => {
+                expect_held(rt, world, 13);
+                let copy = copied(rt, world, alloc, true)?;
+                expect_copy(rt, world, copy, 0);
+            }
         }
-        Err(_) => {
-            expect_held(rt, world, 13);
-            let copy = copied(rt, world, alloc, true)?;
-            expect_copy(rt, world, copy, 0);
-        }
+        Ok(())
     }
-    Ok(())
 }
 
 #[test]
 fn a_tree_is_copied(rt: HostRuntime) -> Result<(), Fail> {
-    let mut world = begun(&rt, rt.alloc())?;
-    copy_tree(&rt, &mut world, rt.alloc())?;
-    Ok(())
+    played::<ATreeIsCopied>(&rt, rt.alloc())
 }
 
 // A copy of element 1 alone.
-fn copy_node(rt: &impl Abort, world: &mut World, alloc: Global) -> Result<(), AllocError>
-    requires { IsWhole world.old }
-{
-    let copy = match copied(rt, world, alloc, false) {
-        Ok(copy) => copy,
-        Err(_) => {
-            expect_held(rt, world, 13);
-            expect_children(rt, world, 1, &[2, 3, 5]);
-            copied(rt, world, alloc, false)?
-        }
-    };
-    assert_eq!(rt; copy.number(), 13);
-    expect_root(rt, world, 13);
-    expect_children(rt, world, 13, &[]);
-    Ok(())
+struct ANodeIsCopiedAlone;
+
+impl Scene for ANodeIsCopiedAlone {
+    fn play(rt: &impl Abort, world: &mut World, alloc: Global) -> Result<(), Fail> {
+        let copy = match copied(rt, world, alloc, false) {
+            Ok(copy) => copy,
+            Err(_) => {
+                expect_held(rt, world, 13);
+                expect_children(rt, world, 1, &[2, 3, 5]);
+                copied(rt, world, alloc, false)?
+            }
+        };
+        assert_eq!(rt; copy.number(), 13);
+        expect_root(rt, world, 13);
+        expect_children(rt, world, 13, &[]);
+        Ok(())
+    }
 }
 
 #[test]
 fn a_node_is_copied_alone(rt: HostRuntime) -> Result<(), Fail> {
-    let mut world = begun(&rt, rt.alloc())?;
-    copy_node(&rt, &mut world, rt.alloc())?;
-    Ok(())
+    played::<ANodeIsCopiedAlone>(&rt, rt.alloc())
 }
 
 // Copies element 1 and what stands below it into a document.
@@ -117,28 +117,28 @@ fn imported(
 }
 
 // A copy of element 1 with all below it, in a second document.
-fn import_tree(rt: &impl Abort, world: &mut World, alloc: Global) -> Result<(), AllocError>
-    requires { IsWhole world.old }
-{
-    let document = second_document(rt, world, alloc)?;
-    let copy = match imported(rt, world, alloc, document) {
-        Ok(copy) => {
-            expect_children(rt, world, 14, &[15, 16, 18]);
-            expect_data(rt, world, 17, "cd");
-            copy
-        }
-        Err(_) => {
-            expect_held(rt, world, 14);
-            imported(rt, world, alloc, document)?
-        }
-    };
-    expect_copy(rt, world, copy, 13);
-    Ok(())
+struct ATreeIsImported;
+
+impl Scene for ATreeIsImported {
+    fn play(rt: &impl Abort, world: &mut World, alloc: Global) -> Result<(), Fail> {
+        let document = second_document(rt, world, alloc)?;
+        let copy = match imported(rt, world, alloc, document) {
+            Ok(copy) => {
+                expect_children(rt, world, 14, &[15, 16, 18]);
+                expect_data(rt, world, 17, "cd");
+                copy
+            }
+            Err(_) => {
+                expect_held(rt, world, 14);
+                imported(rt, world, alloc, document)?
+            }
+        };
+        expect_copy(rt, world, copy, 13);
+        Ok(())
+    }
 }
 
 #[test]
 fn a_tree_is_imported(rt: HostRuntime) -> Result<(), Fail> {
-    let mut world = begun(&rt, rt.alloc())?;
-    import_tree(&rt, &mut world, rt.alloc())?;
-    Ok(())
+    played::<ATreeIsImported>(&rt, rt.alloc())
 }

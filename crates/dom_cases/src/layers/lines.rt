@@ -3,7 +3,7 @@
 use dom_serve::{ReadError, read_line};
 use dom_session::{
     Asking, Attributes, Command, Copying, Editing, Making, Move, Observing, OwnError, RawOptions,
-    Texts, Traversing, Verdict,
+    Rule, Texts, Traversing, Verdict,
 };
 use std::alloc::{AllocError, Global};
 use std::test::Fail;
@@ -16,15 +16,19 @@ fn is_refused(alloc: Global, line: &[u8], refusal: OwnError) -> Result<bool, All
     }
 }
 
+// Puts that many brackets behind a line.
+fn push_brackets(line: &mut Vec<u8>, bracket: u8, depth: usize) -> Result<(), AllocError> {
+    for _pushed in 0..depth {
+        line.push(bracket)?;
+    }
+    Ok(())
+}
+
 // That many arrays, each the only item of the one around it.
 fn nested(alloc: Global, depth: usize) -> Result<Vec<u8>, AllocError> {
     let mut line = Vec::new(alloc);
-    for _opened in 0..depth {
-        line.push(b'[')?;
-    }
-    for _closed in 0..depth {
-        line.push(b']')?;
-    }
+    push_brackets(&mut line, b'[', depth)?;
+    push_brackets(&mut line, b']', depth)?;
     Ok(line)
 }
 
@@ -82,27 +86,52 @@ fn told(alloc: Global, line: &[u8]) -> Result<Vec<u32>, AllocError> {
 
 fn numbers_of(alloc: Global, command: &Command) -> Result<Vec<u32>, AllocError> {
     let mut told = Vec::new(alloc);
+    tell(&mut told, command)?;
+    Ok(told)
+}
+
+// The bytes of a name.
+fn tell_name(told: &mut Vec<u32>, name: &str) -> Result<(), AllocError> {
+    for byte in name.as_bytes() {
+        told.push(u32::from(*byte))?;
+    }
+    Ok(())
+}
+
+// The units of a text.
+fn tell_units(told: &mut Vec<u32>, units: &[u16]) -> Result<(), AllocError> {
+    for unit in units {
+        told.push(u32::from(*unit))?;
+    }
+    Ok(())
+}
+
+fn tell(told: &mut Vec<u32>, command: &Command) -> Result<(), AllocError> {
     match command {
         Command::Making(Making::NewDocument) => told.push(0)?,
         Command::Making(Making::CreateElement(document, name)) => {
             told.extend_from_slice(&[1, document.number()])?;
-            for byte in name.as_bytes() {
-                told.push(u32::from(*byte))?;
-            }
+            tell_name(told, name)?;
         }
         Command::Making(Making::CreateText(document, text)) => {
             told.extend_from_slice(&[2, document.number()])?;
-            for unit in text.units() {
-                told.push(u32::from(*unit))?;
-            }
+            tell_units(told, text.units())?;
         }
         Command::Editing(Editing::AppendChild(parent, child)) => {
             told.extend_from_slice(&[3, parent.number(), child.number()])?;
         }
         Command::Asking(Asking::Tree(top)) => told.extend_from_slice(&[4, top.number()])?,
-        other => last_argument(&mut told, other)?,
+        other => last_argument(told, other)?,
     }
-    Ok(told)
+    Ok(())
+}
+
+// Whether each rule of a filter rejects.
+fn tell_rules(told: &mut Vec<u32>, rules: &[Rule]) -> Result<(), AllocError> {
+    for rule in rules {
+        told.push(u32::from(rule.verdict == Verdict::Reject))?;
+    }
+    Ok(())
 }
 
 // The number of a flag that may be missing.
@@ -119,11 +148,7 @@ fn last_argument(told: &mut Vec<u32>, command: &Command) -> Result<(), AllocErro
     match command {
         Command::Editing(Editing::InsertBefore(_, _, None)) => {}
         Command::Editing(Editing::InsertBefore(_, _, Some(child))) => told.push(child.number())?,
-        Command::Texts(Texts::SetTextContent(_, text)) => {
-            for unit in text.units() {
-                told.push(u32::from(*unit))?;
-            }
-        }
+        Command::Texts(Texts::SetTextContent(_, text)) => tell_units(told, text.units())?,
         Command::Copying(Copying::CloneNode(_, deep)) => told.push(u32::from(*deep))?,
         Command::Attributes(Attributes::ToggleAttribute(_, _, force)) => told.push(flag_number(
             *force,
@@ -132,9 +157,7 @@ fn last_argument(told: &mut Vec<u32>, command: &Command) -> Result<(), AllocErro
             *direction == Move::PreviousSibling,
         ))?,
         Command::Traversing(Traversing::CreateIterator(_, filter)) => {
-            for rule in &filter.rules {
-                told.push(u32::from(rule.verdict == Verdict::Reject))?;
-            }
+            tell_rules(told, filter.rules.as_slice())?;
         }
         Command::Observing(Observing::Observe(_, _, options)) => options_told(told, options)?,
         _ => told.push(6)?,
@@ -142,7 +165,7 @@ fn last_argument(told: &mut Vec<u32>, command: &Command) -> Result<(), AllocErro
     Ok(())
 }
 
-// Whether children and what is below are watched, and the lengths of the names in the filter.
+// Whether children and what is below are watched, and the names in the filter.
 fn options_told(told: &mut Vec<u32>, options: &RawOptions) -> Result<(), AllocError> {
     told.extend_from_slice(&[
         flag_number(options.child_list),
@@ -150,9 +173,7 @@ fn options_told(told: &mut Vec<u32>, options: &RawOptions) -> Result<(), AllocEr
     ])?;
     if let Some(names) = &options.attribute_filter {
         for name in names {
-            for byte in name.as_bytes() {
-                told.push(u32::from(*byte))?;
-            }
+            tell_name(told, name)?;
         }
     }
     Ok(())

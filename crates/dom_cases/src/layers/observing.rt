@@ -117,7 +117,7 @@ fn twice(rt: &impl Abort, observers: &mut Observers, node: NodeId) -> Result<(),
 }
 
 // An observer is registered on a hundred nodes, and disconnected.
-fn watch_a_hundred(rt: &impl Abort, observers: &mut Observers) -> Result<(), AllocError> {
+fn watch_a_hundred(rt: &impl Abort, observers: &mut Observers) -> Result<(), Fail> {
     assert_eq!(rt; observers.made(), 0);
     if observers.make().is_err() {
         let _ = observers.make()?;
@@ -137,6 +137,5 @@ fn watch_a_hundred(rt: &impl Abort, observers: &mut Observers) -> Result<(), All
 #[test]
 fn a_hundred_nodes(rt: HostRuntime) -> Result<(), Fail> {
     let mut observers = Observers::new(rt.alloc());
-    watch_a_hundred(&rt, &mut observers)?;
-    Ok(())
+    watch_a_hundred(&rt, &mut observers)
 }

@@ -5,6 +5,7 @@ use dom_session::{
     Answer, Content, Description, DomError, Kind, Label, NodeId, ObserverId, OwnError, Point,
     Record, RecordType, Reply, Told, TreeRow, Units,
 };
+use dom_wrap::of_attrs::Attrs;
 use std::alloc::{AllocError, Global};
 use std::cmp::Ordering;
 use std::test::Fail;
@@ -45,28 +46,36 @@ fn short_replies(rt: HostRuntime) -> Result<(), Fail> {
     Ok(())
 }
 
-#[test]
-fn printed_tree(rt: HostRuntime) -> Result<(), Fail> {
-    let alloc = rt.alloc();
-    let mut rows = Vec::new(alloc);
+// Puts rows of a Document, of an element in it, and of two Texts in that behind others.
+fn push_rows(rows: &mut Vec<TreeRow>, alloc: Global) -> Result<(), AllocError> {
     let document = label(alloc, Kind::Document, "")?;
     rows.push(row(alloc, 0, 0, document, Units::new(alloc)))?;
     let element = label(alloc, Kind::Element, "p")?;
     rows.push(row(alloc, 1, 1, element, Units::new(alloc)))?;
-    let lone = label(alloc, Kind::Text, "")?;
-    rows.push(row(alloc, 2, 3, lone, Units::from_units(alloc, &[55357])?))?;
-    let quoted = label(alloc, Kind::Text, "")?;
-    rows.push(row(
-        alloc,
-        2,
-        4294967295,
-        quoted,
-        Units::from_str(alloc, "a\"b")?,
-    ))?;
-    let line = write_reply(alloc, &Reply::Done(Answer::Rows(rows)))?;
+    push_text(rows, alloc, 3, &[55357])?;
+    push_text(rows, alloc, 4294967295, &[97, 34, 98])
+}
+
+fn push_text(
+    rows: &mut Vec<TreeRow>,
+    alloc: Global,
+    number: u32,
+    units: &[u16],
+) -> Result<(), AllocError> {
+    let label = label(alloc, Kind::Text, "")?;
+    let data = Units::from_units(alloc, units)?;
+    rows.push(row(alloc, 2, number, label, data))?;
+    Ok(())
+}
+
+#[test]
+fn printed_tree(rt: HostRuntime) -> Result<(), Fail> {
+    let alloc = rt.alloc();
+    let mut rows = Vec::new(alloc);
+    push_rows(&mut rows, alloc)?;
     let wanted =
-        "{\"ok\":[[0,0,9,\"#document\"],[1,1,1,\"p\",[]],[2,3,3,\"#text\",[55357]],[2,4294967295,3,\"#text\",\"a\\\"b\"]]}\n";
-    assert_eq!(rt; line.as_slice(), wanted.as_bytes());
+        "[[0,0,9,\"#document\"],[1,1,1,\"p\",[]],[2,3,3,\"#text\",[55357]],[2,4294967295,3,\"#text\",\"a\\\"b\"]]";
+    assert!(rt; prints(alloc, Answer::Rows(rows), wanted)?);
     Ok(())
 }
 
@@ -99,7 +108,7 @@ fn printed_values(rt: HostRuntime) -> Result<(), Fail> {
 }
 
 #[test]
-fn printed_places(rt: HostRuntime) -> Result<(), Fail> {
+fn printed_nodes(rt: HostRuntime) -> Result<(), Fail> {
     let alloc = rt.alloc();
     let mut node = Description {
         document: NodeId::new(8),
@@ -121,6 +130,12 @@ fn printed_places(rt: HostRuntime) -> Result<(), Fail> {
     let wanted =
         "{\"document\":0,\"name\":\"html\",\"next\":null,\"parent\":null,\"previous\":null,\"public\":\"\",\"system\":\"\",\"type\":10}";
     assert!(rt; prints(alloc, Answer::NodeAt(node), wanted)?);
+    Ok(())
+}
+
+#[test]
+fn printed_places(rt: HostRuntime) -> Result<(), Fail> {
+    let alloc = rt.alloc();
     let start = Point {
         node: NodeId::new(1),
         offset: 0,
@@ -201,18 +216,28 @@ fn printed_records(rt: HostRuntime) -> Result<(), Fail> {
     Ok(())
 }
 
-#[test]
-fn printed_attributes(rt: HostRuntime) -> Result<(), Fail> {
-    let alloc = rt.alloc();
-    let mut body = Content::of_text(alloc, Units::new(alloc));
-    let _ = body.attrs.set(String::from_str(alloc, "k")?, Units::from_str(alloc, "v")?)?;
-    let element = TreeRow {
+fn set_one(attrs: &mut Attrs, alloc: Global) -> Result<(), AllocError> {
+    let _ = attrs.set(String::from_str(alloc, "k")?, Units::from_str(alloc, "v")?)?;
+    Ok(())
+}
+
+// The row of an element with one attribute.
+fn attributed(alloc: Global) -> Result<TreeRow, AllocError> {
+    let mut attrs = Attrs::new(alloc);
+    set_one(&mut attrs, alloc)?;
+    let text = Units::new(alloc);
+    Ok(TreeRow {
         depth: 0,
         number: NodeId::new(1),
         label: label(alloc, Kind::Element, "p")?,
-        body,
-    };
-    let rows = vec![in alloc; element]?;
+        body: Content { text, attrs },
+    })
+}
+
+#[test]
+fn printed_attributes(rt: HostRuntime) -> Result<(), Fail> {
+    let alloc = rt.alloc();
+    let rows = vec![in alloc; attributed(alloc)?]?;
     assert!(rt; prints(alloc, Answer::Rows(rows), "[[0,1,1,\"p\",[[\"k\",\"v\"]]]]")?);
     Ok(())
 }

@@ -46,20 +46,34 @@ fn ranged(
     }
 }
 
-/// Live range 0, from behind the first unit of Text 2 to behind the first of Text 5.
+// Behind the first unit of a Text.
+fn behind_the_first_unit(text: u32) -> Point {
+    Point {
+        node: NodeId::new(text),
+        offset: 1,
+    }
+}
+
+/// Live range 0, from behind the first unit of one Text to behind the first of another.
+pub fn select_between(
+    rt: &impl Abort,
+    world: &mut World,
+    first: u32,
+    last: u32,
+) -> Result<RangeId, AllocError>
+    requires { IsWhole world.old }
+    ensures { IsWhole world.new }
+{
+    let (start, end) = (behind_the_first_unit(first), behind_the_first_unit(last));
+    ranged(rt, world, start, end)
+}
+
+/// Live range 0, from Text 2 to Text 5.
 pub fn select(rt: &impl Abort, world: &mut World) -> Result<RangeId, AllocError>
     requires { IsWhole world.old }
     ensures { IsWhole world.new }
 {
-    let start = Point {
-        node: NodeId::new(2),
-        offset: 1,
-    };
-    let end = Point {
-        node: NodeId::new(5),
-        offset: 1,
-    };
-    ranged(rt, world, start, end)
+    select_between(rt, world, 2, 5)
 }
 
 /// That both ends of a live range stand in element 1, at these offsets.

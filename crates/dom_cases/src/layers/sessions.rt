@@ -79,21 +79,34 @@ fn has_a_text_below(reply: &Reply) -> bool {
     }
 }
 
-// The steps of each test borrow the session, so that no early return has to let go of it.
-fn make_and_print(rt: &impl Abort, alloc: Global, session: &mut Session) -> Result<(), AllocError> {
-    assert!(rt; gives(session, element(alloc, "p")?, 1)?);
-    assert!(rt; gives(session, text(alloc, "hi")?, 2)?);
-    let moved = Command::Editing(Editing::AppendChild(NodeId::new(1), NodeId::new(2)));
-    assert!(rt; gives(session, moved, 2)?);
-    let printed = replied(session, Command::Asking(Asking::Tree(NodeId::new(1))))?;
-    assert!(rt; has_a_text_below(&printed));
-    Ok(())
+// What a test does in a session.
+trait Scene {
+    fn play(rt: &impl Abort, alloc: Global, session: &mut Session) -> Result<(), AllocError>;
+}
+
+// Plays a scene in a session of its own. It alone lets go of the session, which is dear to prove.
+fn played<S: Scene>(rt: &impl Abort, alloc: Global) -> Result<(), AllocError> {
+    let mut session = begun(alloc)?;
+    S::play(rt, alloc, &mut session)
+}
+
+struct NodesAreMadeAndPrinted;
+
+impl Scene for NodesAreMadeAndPrinted {
+    fn play(rt: &impl Abort, alloc: Global, session: &mut Session) -> Result<(), AllocError> {
+        assert!(rt; gives(session, element(alloc, "p")?, 1)?);
+        assert!(rt; gives(session, text(alloc, "hi")?, 2)?);
+        let moved = Command::Editing(Editing::AppendChild(NodeId::new(1), NodeId::new(2)));
+        assert!(rt; gives(session, moved, 2)?);
+        let printed = replied(session, Command::Asking(Asking::Tree(NodeId::new(1))))?;
+        assert!(rt; has_a_text_below(&printed));
+        Ok(())
+    }
 }
 
 #[test]
 fn nodes_are_made_and_printed(rt: HostRuntime) -> Result<(), Fail> {
-    let mut session = begun(rt.alloc())?;
-    make_and_print(&rt, rt.alloc(), &mut session)?;
+    played::<NodesAreMadeAndPrinted>(&rt, rt.alloc())?;
     Ok(())
 }
 
@@ -103,31 +116,25 @@ fn has_dom(session: &mut Session, command: Command, error: DomError) -> Result<b
     Ok(is_dom(&reply, error))
 }
 
-fn spend_all_numbers(
-    rt: &impl Abort,
-    alloc: Global,
-    session: &mut Session,
-) -> Result<(), AllocError> {
-    let misnamed = element(alloc, "1a")?;
-    assert!(rt; has_dom(session, misnamed, DomError::InvalidCharacterError)?);
-    let unknown = Command::Asking(Asking::Tree(NodeId::new(1)));
-    assert!(rt; has_own(session, unknown, OwnError::NoSuchObject)?);
-    for number in 1..4u32 {
-        assert!(rt; gives(session, Command::Making(Making::NewDocument), number)?);
+struct RefusalsSpendNoNumber;
+
+impl Scene for RefusalsSpendNoNumber {
+    fn play(rt: &impl Abort, alloc: Global, session: &mut Session) -> Result<(), AllocError> {
+        let misnamed = element(alloc, "1a")?;
+        assert!(rt; has_dom(session, misnamed, DomError::InvalidCharacterError)?);
+        let unknown = Command::Asking(Asking::Tree(NodeId::new(1)));
+        assert!(rt; has_own(session, unknown, OwnError::NoSuchObject)?);
+        for number in 1..4u32 {
+            assert!(rt; gives(session, Command::Making(Making::NewDocument), number)?);
+        }
+        let last = Command::Making(Making::NewDocument);
+        assert!(rt; has_own(session, last, OwnError::Limit)?);
+        Ok(())
     }
-    assert!(rt;
-        has_own(
-            session,
-            Command::Making(Making::NewDocument),
-            OwnError::Limit
-        )?
-    );
-    Ok(())
 }
 
 #[test]
 fn refusals_spend_no_number(rt: HostRuntime) -> Result<(), Fail> {
-    let mut session = begun(rt.alloc())?;
-    spend_all_numbers(&rt, rt.alloc(), &mut session)?;
+    played::<RefusalsSpendNoNumber>(&rt, rt.alloc())?;
     Ok(())
 }

@@ -3,8 +3,8 @@
 ghost use Rattle.dom_wrap.specs.dom_edit.Whole.{IsWhole};
 
 use crate::layers::building::{
-    allowed, begun, expect_children, expect_data, expect_held, expect_root, expect_roots,
-    expect_units, units,
+    Scene, allowed, expect_children, expect_data, expect_held, expect_root, expect_roots,
+    expect_units, played, units,
 };
 use dom_wrap::of_data::{
     normalize, replace_data, set_data, set_text_content, split, substring, text_content,
@@ -33,11 +33,18 @@ fn read_text(rt: &impl Abort, world: &World, alloc: Global) -> Result<(), AllocE
     Ok(())
 }
 
+struct TheTextOfAnElement;
+
+impl Scene for TheTextOfAnElement {
+    fn play(rt: &impl Abort, world: &mut World, alloc: Global) -> Result<(), Fail> {
+        read_text(rt, world, alloc)?;
+        Ok(())
+    }
+}
+
 #[test]
 fn the_text_of_an_element(rt: HostRuntime) -> Result<(), Fail> {
-    let world = begun(&rt, rt.alloc())?;
-    read_text(&rt, &world, rt.alloc())?;
-    Ok(())
+    played::<TheTextOfAnElement>(&rt, rt.alloc())
 }
 
 // Makes a text the text content of a node.
@@ -58,51 +65,51 @@ fn fill(
 }
 
 // A Text takes the place of the children of element 1.
-fn fill_element(rt: &impl Abort, world: &mut World, alloc: Global) -> Result<(), AllocError>
-    requires { IsWhole world.old }
-{
-    let node = NodeId::new(1);
-    let mut child = 13;
-    if let Err(AllocError) = fill(rt, world, alloc, node, "mn") {
-        expect_held(rt, world, 13);
-        // the first call may have made a Text
-        child = if world.tree.made() == 13 { 13 } else { 14 };
-        fill(rt, world, alloc, node, "mn")?;
+struct AnElementIsFilled;
+
+impl Scene for AnElementIsFilled {
+    fn play(rt: &impl Abort, world: &mut World, alloc: Global) -> Result<(), Fail> {
+        let node = NodeId::new(1);
+        let mut child = 13;
+        if let Err(AllocError) = fill(rt, world, alloc, node, "mn") {
+            expect_held(rt, world, 13);
+            // the first call may have made a Text
+            child = if world.tree.made() == 13 { 13 } else { 14 };
+            fill(rt, world, alloc, node, "mn")?;
+        }
+        expect_children(rt, world, 1, &[child]);
+        expect_data(rt, world, child, "mn");
+        expect_children(rt, world, 3, &[4]);
+        expect_roots(rt, world, &[2, 3, 5]);
+        Ok(())
     }
-    expect_children(rt, world, 1, &[child]);
-    expect_data(rt, world, child, "mn");
-    expect_children(rt, world, 3, &[4]);
-    expect_roots(rt, world, &[2, 3, 5]);
-    Ok(())
 }
 
 #[test]
 fn an_element_is_filled(rt: HostRuntime) -> Result<(), Fail> {
-    let mut world = begun(&rt, rt.alloc())?;
-    fill_element(&rt, &mut world, rt.alloc())?;
-    Ok(())
+    played::<AnElementIsFilled>(&rt, rt.alloc())
 }
 
 // All data of Text 2 is replaced.
-fn fill_text(rt: &impl Abort, world: &mut World, alloc: Global) -> Result<(), AllocError>
-    requires { IsWhole world.old }
-{
-    let node = NodeId::new(2);
-    if let Err(AllocError) = fill(rt, world, alloc, node, "mnop") {
-        expect_held(rt, world, 13);
-        expect_data(rt, world, 2, "ab");
-        fill(rt, world, alloc, node, "mnop")?;
+struct ATextIsFilled;
+
+impl Scene for ATextIsFilled {
+    fn play(rt: &impl Abort, world: &mut World, alloc: Global) -> Result<(), Fail> {
+        let node = NodeId::new(2);
+        if let Err(AllocError) = fill(rt, world, alloc, node, "mnop") {
+            expect_held(rt, world, 13);
+            expect_data(rt, world, 2, "ab");
+            fill(rt, world, alloc, node, "mnop")?;
+        }
+        expect_data(rt, world, 2, "mnop");
+        expect_children(rt, world, 1, &[2, 3, 5]);
+        Ok(())
     }
-    expect_data(rt, world, 2, "mnop");
-    expect_children(rt, world, 1, &[2, 3, 5]);
-    Ok(())
 }
 
 #[test]
 fn a_text_is_filled(rt: HostRuntime) -> Result<(), Fail> {
-    let mut world = begun(&rt, rt.alloc())?;
-    fill_text(&rt, &mut world, rt.alloc())?;
-    Ok(())
+    played::<ATextIsFilled>(&rt, rt.alloc())
 }
 
 // Puts "m", "n" and "o" in place of all that follows the first unit of Text 2.
@@ -117,23 +124,23 @@ fn replace(rt: &impl Abort, world: &mut World, alloc: Global) -> Result<(), Allo
 }
 
 // The data of Text 2 from an offset on is replaced.
-fn replace_units(rt: &impl Abort, world: &mut World, alloc: Global) -> Result<(), AllocError>
-    requires { IsWhole world.old }
-{
-    if let Err(AllocError) = replace(rt, world, alloc) {
-        expect_held(rt, world, 13);
-        expect_data(rt, world, 2, "ab");
-        replace(rt, world, alloc)?;
+struct UnitsAreReplaced;
+
+impl Scene for UnitsAreReplaced {
+    fn play(rt: &impl Abort, world: &mut World, alloc: Global) -> Result<(), Fail> {
+        if let Err(AllocError) = replace(rt, world, alloc) {
+            expect_held(rt, world, 13);
+            expect_data(rt, world, 2, "ab");
+            replace(rt, world, alloc)?;
+        }
+        expect_data(rt, world, 2, "amno");
+        Ok(())
     }
-    expect_data(rt, world, 2, "amno");
-    Ok(())
 }
 
 #[test]
 fn units_are_replaced(rt: HostRuntime) -> Result<(), Fail> {
-    let mut world = begun(&rt, rt.alloc())?;
-    replace_units(&rt, &mut world, rt.alloc())?;
-    Ok(())
+    played::<UnitsAreReplaced>(&rt, rt.alloc())
 }
 
 // Makes "m", "n" and "o" all data of comment 11.
@@ -148,23 +155,23 @@ fn set(rt: &impl Abort, world: &mut World, alloc: Global) -> Result<(), AllocErr
 }
 
 // All data of comment 11 is replaced.
-fn set_all(rt: &impl Abort, world: &mut World, alloc: Global) -> Result<(), AllocError>
-    requires { IsWhole world.old }
-{
-    if let Err(AllocError) = set(rt, world, alloc) {
-        expect_held(rt, world, 13);
-        expect_data(rt, world, 11, "kl");
-        set(rt, world, alloc)?;
+struct AllDataIsSet;
+
+impl Scene for AllDataIsSet {
+    fn play(rt: &impl Abort, world: &mut World, alloc: Global) -> Result<(), Fail> {
+        if let Err(AllocError) = set(rt, world, alloc) {
+            expect_held(rt, world, 13);
+            expect_data(rt, world, 11, "kl");
+            set(rt, world, alloc)?;
+        }
+        expect_data(rt, world, 11, "mno");
+        Ok(())
     }
-    expect_data(rt, world, 11, "mno");
-    Ok(())
 }
 
 #[test]
 fn all_data_is_set(rt: HostRuntime) -> Result<(), Fail> {
-    let mut world = begun(&rt, rt.alloc())?;
-    set_all(&rt, &mut world, rt.alloc())?;
-    Ok(())
+    played::<AllDataIsSet>(&rt, rt.alloc())
 }
 
 // Units of Text 5, cut at its end.
@@ -186,11 +193,18 @@ fn read_part(rt: &impl Abort, world: &World, alloc: Global) -> Result<(), AllocE
     Ok(())
 }
 
+struct APartOfTheData;
+
+impl Scene for APartOfTheData {
+    fn play(rt: &impl Abort, world: &mut World, alloc: Global) -> Result<(), Fail> {
+        read_part(rt, world, alloc)?;
+        Ok(())
+    }
+}
+
 #[test]
 fn a_part_of_the_data(rt: HostRuntime) -> Result<(), Fail> {
-    let world = begun(&rt, rt.alloc())?;
-    read_part(&rt, &world, rt.alloc())?;
-    Ok(())
+    played::<APartOfTheData>(&rt, rt.alloc())
 }
 
 // Splits Text 2 behind its first unit.
@@ -206,55 +220,55 @@ fn split_first(rt: &impl Abort, world: &mut World, alloc: Global) -> Result<Node
 }
 
 // Text 2 is split, and the new Text stands behind it.
-fn split_once(rt: &impl Abort, world: &mut World, alloc: Global) -> Result<(), AllocError>
-    requires { IsWhole world.old }
-{
-    match split_first(rt, world, alloc) {
-        Ok(new) => {
-            assert_eq!(rt; new.number(), 13);
-            expect_children(rt, world, 1, &[2, 13, 3, 5]);
-            expect_data(rt, world, 13, "b");
+struct ATextIsSplit;
+
+impl Scene for ATextIsSplit {
+    fn play(rt: &impl Abort, world: &mut World, alloc: Global) -> Result<(), Fail> {
+        match split_first(rt, world, alloc) {
+            Ok(new) => {
+                assert_eq!(rt; new.number(), 13);
+                expect_children(rt, world, 1, &[2, 13, 3, 5]);
+                expect_data(rt, world, 13, "b");
+            }
+            Err(_) => {
+                expect_held(rt, world, 13);
+                let new = split_first(rt, world, alloc)?;
+                expect_data(rt, world, new.number(), "b");
+                assert!(rt; world.tree.holds(new));
+                assert_eq!(rt; world.tree.prev(new), Some(NodeId::new(2)));
+            }
         }
-        Err(_) => {
-            expect_held(rt, world, 13);
-            let new = split_first(rt, world, alloc)?;
-            expect_data(rt, world, new.number(), "b");
-            assert!(rt; world.tree.holds(new));
-            assert_eq!(rt; world.tree.prev(new), Some(NodeId::new(2)));
-        }
+        expect_data(rt, world, 2, "a");
+        Ok(())
     }
-    expect_data(rt, world, 2, "a");
-    Ok(())
 }
 
 #[test]
 fn a_text_is_split(rt: HostRuntime) -> Result<(), Fail> {
-    let mut world = begun(&rt, rt.alloc())?;
-    split_once(&rt, &mut world, rt.alloc())?;
-    Ok(())
+    played::<ATextIsSplit>(&rt, rt.alloc())
 }
 
 // The Texts in element 6 become one.
-fn join(rt: &impl Abort, world: &mut World, alloc: Global) -> Result<(), AllocError>
-    requires { IsWhole world.old }
-{
-    let node = NodeId::new(6);
-    assert!(rt; world.tree.holds(node));
-    if let Err(AllocError) = normalize(world, alloc, node) {
-        expect_held(rt, world, 13);
+struct TextsAreJoined;
+
+impl Scene for TextsAreJoined {
+    fn play(rt: &impl Abort, world: &mut World, alloc: Global) -> Result<(), Fail> {
+        let node = NodeId::new(6);
         assert!(rt; world.tree.holds(node));
-        normalize(world, alloc, node)?;
+        if let Err(AllocError) = normalize(world, alloc, node) {
+            expect_held(rt, world, 13);
+            assert!(rt; world.tree.holds(node));
+            normalize(world, alloc, node)?;
+        }
+        expect_children(rt, world, 6, &[8]);
+        expect_data(rt, world, 8, "ghij");
+        expect_root(rt, world, 7);
+        expect_root(rt, world, 9);
+        Ok(())
     }
-    expect_children(rt, world, 6, &[8]);
-    expect_data(rt, world, 8, "ghij");
-    expect_root(rt, world, 7);
-    expect_root(rt, world, 9);
-    Ok(())
 }
 
 #[test]
 fn texts_are_joined(rt: HostRuntime) -> Result<(), Fail> {
-    let mut world = begun(&rt, rt.alloc())?;
-    join(&rt, &mut world, rt.alloc())?;
-    Ok(())
+    played::<TextsAreJoined>(&rt, rt.alloc())
 }

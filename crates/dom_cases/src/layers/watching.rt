@@ -114,26 +114,45 @@ fn changed(
     Ok(())
 }
 
+// What a test does with observers of a tree of two roots.
+trait Scene {
+    fn play(
+        rt: &impl Abort,
+        observers: &mut Observers,
+        tree: &Tree<u8>,
+        alloc: Global,
+    ) -> Result<(), AllocError>;
+}
+
+// Plays a scene with observers and a tree of its own. It alone lets go of them, which is dear to prove.
+fn played<S: Scene>(rt: &impl Abort, alloc: Global) -> Result<(), AllocError> {
+    let tree = roots(rt, alloc)?;
+    let mut observers = Observers::new(alloc);
+    S::play(rt, &mut observers, &tree, alloc)
+}
+
 // The observer gets its record.
-fn queue_one(
-    rt: &impl Abort,
-    observers: &mut Observers,
-    tree: &Tree<u8>,
-    alloc: Global,
-) -> Result<(), AllocError> {
-    begin(rt, observers)?;
-    changed(rt, observers, tree, alloc, NodeId::new(0))?;
-    assert!(rt; observers.pending(0) == Some(ObserverId::new(0)));
-    let records = take(rt, observers, ObserverId::new(0));
-    expect_one(rt, records.as_slice(), NodeId::new(0), "c");
-    Ok(())
+struct ARecordIsQueued;
+
+impl Scene for ARecordIsQueued {
+    fn play(
+        rt: &impl Abort,
+        observers: &mut Observers,
+        tree: &Tree<u8>,
+        alloc: Global,
+    ) -> Result<(), AllocError> {
+        begin(rt, observers)?;
+        changed(rt, observers, tree, alloc, NodeId::new(0))?;
+        assert!(rt; observers.pending(0) == Some(ObserverId::new(0)));
+        let records = take(rt, observers, ObserverId::new(0));
+        expect_one(rt, records.as_slice(), NodeId::new(0), "c");
+        Ok(())
+    }
 }
 
 #[test]
 fn a_record_is_queued(rt: HostRuntime) -> Result<(), Fail> {
-    let tree = roots(&rt, rt.alloc())?;
-    let mut observers = Observers::new(rt.alloc());
-    queue_one(&rt, &mut observers, &tree, rt.alloc())?;
+    played::<ARecordIsQueued>(&rt, rt.alloc())?;
     Ok(())
 }
 
@@ -164,26 +183,28 @@ fn tell(rt: &impl Abort, observers: &mut Observers) -> Result<(), AllocError> {
 }
 
 // The observer is told of node 1 until it was told once.
-fn tell_once(
-    rt: &impl Abort,
-    observers: &mut Observers,
-    tree: &Tree<u8>,
-    alloc: Global,
-) -> Result<(), AllocError> {
-    begin(rt, observers)?;
-    leave(rt, observers, tree)?;
-    changed(rt, observers, tree, alloc, NodeId::new(1))?;
-    tell(rt, observers)?;
-    changed(rt, observers, tree, alloc, NodeId::new(1))?;
-    assert_eq!(rt; told(observers)?, 0);
-    Ok(())
+struct ANodeThatLeftIsToldOfOnce;
+
+impl Scene for ANodeThatLeftIsToldOfOnce {
+    fn play(
+        rt: &impl Abort,
+        observers: &mut Observers,
+        tree: &Tree<u8>,
+        alloc: Global,
+    ) -> Result<(), AllocError> {
+        begin(rt, observers)?;
+        leave(rt, observers, tree)?;
+        changed(rt, observers, tree, alloc, NodeId::new(1))?;
+        tell(rt, observers)?;
+        changed(rt, observers, tree, alloc, NodeId::new(1))?;
+        assert_eq!(rt; told(observers)?, 0);
+        Ok(())
+    }
 }
 
 #[test]
 fn a_node_that_left_is_told_of_once(rt: HostRuntime) -> Result<(), Fail> {
-    let tree = roots(&rt, rt.alloc())?;
-    let mut observers = Observers::new(rt.alloc());
-    tell_once(&rt, &mut observers, &tree, rt.alloc())?;
+    played::<ANodeThatLeftIsToldOfOnce>(&rt, rt.alloc())?;
     Ok(())
 }
 
@@ -258,15 +279,22 @@ fn name_recorded(
 }
 
 // What registrations name, and then what records do.
-fn name(rt: &impl Abort, observers: &mut Observers, tree: &Tree<u8>) -> Result<(), AllocError> {
-    name_registered(rt, observers, tree)?;
-    name_recorded(rt, observers, tree)
+struct WhatIsNamed;
+
+impl Scene for WhatIsNamed {
+    fn play(
+        rt: &impl Abort,
+        observers: &mut Observers,
+        tree: &Tree<u8>,
+        _: Global,
+    ) -> Result<(), AllocError> {
+        name_registered(rt, observers, tree)?;
+        name_recorded(rt, observers, tree)
+    }
 }
 
 #[test]
 fn what_is_named(rt: HostRuntime) -> Result<(), Fail> {
-    let tree = roots(&rt, rt.alloc())?;
-    let mut observers = Observers::new(rt.alloc());
-    name(&rt, &mut observers, &tree)?;
+    played::<WhatIsNamed>(&rt, rt.alloc())?;
     Ok(())
 }

@@ -40,15 +40,24 @@ fn expect_attribute(rt: &impl Abort, attrs: &Attrs, index: usize, name: &str, va
     }
 }
 
+// That a content has that text and these attributes, in their order.
+fn expect_filled(rt: &impl Abort, content: &Content) {
+    assert_eq!(rt; content.text.units(), [233, 33].as_slice());
+    assert_eq!(rt; content.attrs.len(), 2);
+    expect_attribute(rt, &content.attrs, 0, "b", &[49]);
+    expect_attribute(rt, &content.attrs, 1, "a", &[]);
+}
+
+fn expect_copied(rt: &impl Abort, alloc: Global, content: &Content) -> Result<(), Fail> {
+    let copy = content.try_clone(alloc)?;
+    expect_filled(rt, &copy);
+    Ok(())
+}
+
 #[test]
 fn copied_content(rt: HostRuntime) -> Result<(), Fail> {
     let content = filled(rt.alloc())?;
-    let copy = content.try_clone(rt.alloc())?;
-    assert_eq!(rt; copy.text.units(), [233, 33].as_slice());
-    assert_eq!(rt; copy.attrs.len(), 2);
-    expect_attribute(&rt, &copy.attrs, 0, "b", &[49]);
-    expect_attribute(&rt, &copy.attrs, 1, "a", &[]);
-    Ok(())
+    expect_copied(&rt, rt.alloc(), &content)
 }
 
 // A node without a name: a Document, or a Text in a document.
@@ -139,10 +148,16 @@ fn ask(rt: &impl Abort, world: &mut World, alloc: Global)
     );
 }
 
+fn adopt_and_ask(rt: &impl Abort, world: &mut World, alloc: Global) -> Result<(), Fail>
+    requires { IsWhole world.old }
+{
+    adopt(rt, world, alloc)?;
+    ask(rt, world, alloc);
+    Ok(())
+}
+
 #[test]
 fn adopted_texts(rt: HostRuntime) -> Result<(), Fail> {
     let mut world = first(rt.alloc())?;
-    adopt(&rt, &mut world, rt.alloc())?;
-    ask(&rt, &mut world, rt.alloc());
-    Ok(())
+    adopt_and_ask(&rt, &mut world, rt.alloc())
 }

@@ -3,7 +3,7 @@
 ghost use Rattle.dom_wrap.specs.dom_edit.Whole.{IsWhole};
 
 use crate::layers::building::{
-    allowed, begun, expect_children, expect_data, expect_held, expect_roots,
+    Scene, allowed, expect_children, expect_data, expect_held, expect_roots, played,
 };
 use crate::layers::selecting::{expect_ends, select};
 use dom_wrap::of_edit::World;
@@ -32,30 +32,30 @@ fn insert(
 }
 
 // Text 2 is split there, and element 6 comes in between its parts.
-fn insert_once(rt: &impl Abort, world: &mut World, alloc: Global) -> Result<(), AllocError>
-    requires { IsWhole world.old }
-{
-    let range = select(rt, world)?;
-    if insert(rt, world, alloc, range).is_ok() {
-        expect_children(rt, world, 1, &[2, 6, 13, 3, 5]);
-        expect_data(rt, world, 13, "b");
-    } else {
-        expect_held(rt, world, 13);
-        insert(rt, world, alloc, range)?;
-        let node = NodeId::new(6);
-        assert!(rt; world.tree.holds(node));
-        assert_eq!(rt; world.tree.prev(node), Some(NodeId::new(2)));
+struct ANodeIsInsertedAtAStart;
+
+impl Scene for ANodeIsInsertedAtAStart {
+    fn play(rt: &impl Abort, world: &mut World, alloc: Global) -> Result<(), Fail> {
+        let range = select(rt, world)?;
+        if insert(rt, world, alloc, range).is_ok() {
+            expect_children(rt, world, 1, &[2, 6, 13, 3, 5]);
+            expect_data(rt, world, 13, "b");
+        } else {
+            expect_held(rt, world, 13);
+            insert(rt, world, alloc, range)?;
+            let node = NodeId::new(6);
+            assert!(rt; world.tree.holds(node));
+            assert_eq!(rt; world.tree.prev(node), Some(NodeId::new(2)));
+        }
+        expect_data(rt, world, 2, "a");
+        expect_children(rt, world, 6, &[7, 8, 9]);
+        Ok(())
     }
-    expect_data(rt, world, 2, "a");
-    expect_children(rt, world, 6, &[7, 8, 9]);
-    Ok(())
 }
 
 #[test]
 fn a_node_is_inserted_at_a_start(rt: HostRuntime) -> Result<(), Fail> {
-    let mut world = begun(&rt, rt.alloc())?;
-    insert_once(&rt, &mut world, rt.alloc())?;
-    Ok(())
+    played::<ANodeIsInsertedAtAStart>(&rt, rt.alloc())
 }
 
 // Puts what lies in a live range into element 6, and that in its place.
@@ -77,29 +77,29 @@ fn put_around(
 }
 
 // What lies in the range stands in element 6, and that where it stood.
-fn put_around_once(rt: &impl Abort, world: &mut World, alloc: Global) -> Result<(), AllocError>
-    requires { IsWhole world.old }
-{
-    let range = select(rt, world)?;
-    if put_around(rt, world, alloc, range).is_ok() {
-        expect_children(rt, world, 6, &[14, 3, 15]);
-        expect_data(rt, world, 14, "b");
-        expect_data(rt, world, 15, "e");
-    } else {
-        expect_held(rt, world, 13);
-        put_around(rt, world, alloc, range)?;
+struct ContentsAreSurrounded;
+
+impl Scene for ContentsAreSurrounded {
+    fn play(rt: &impl Abort, world: &mut World, alloc: Global) -> Result<(), Fail> {
+        let range = select(rt, world)?;
+        if put_around(rt, world, alloc, range).is_ok() {
+            expect_children(rt, world, 6, &[14, 3, 15]);
+            expect_data(rt, world, 14, "b");
+            expect_data(rt, world, 15, "e");
+        } else {
+            expect_held(rt, world, 13);
+            put_around(rt, world, alloc, range)?;
+        }
+        expect_children(rt, world, 1, &[2, 6, 5]);
+        expect_data(rt, world, 2, "a");
+        expect_data(rt, world, 5, "f");
+        expect_ends(rt, world, range, 1, 2);
+        expect_roots(rt, world, &[7, 8, 9]);
+        Ok(())
     }
-    expect_children(rt, world, 1, &[2, 6, 5]);
-    expect_data(rt, world, 2, "a");
-    expect_data(rt, world, 5, "f");
-    expect_ends(rt, world, range, 1, 2);
-    expect_roots(rt, world, &[7, 8, 9]);
-    Ok(())
 }
 
 #[test]
 fn contents_are_surrounded(rt: HostRuntime) -> Result<(), Fail> {
-    let mut world = begun(&rt, rt.alloc())?;
-    put_around_once(&rt, &mut world, rt.alloc())?;
-    Ok(())
+    played::<ContentsAreSurrounded>(&rt, rt.alloc())
 }
