@@ -10,10 +10,11 @@ if [ "${1:-}" = --program ] && [ $# -ge 2 ]; then program=$2; shift 2; fi
 takes 2 "$@"
 export program
 export step=${1:-37}
+is_count "$step"
 work=$(mktemp -d)
 export work
 trap 'rm -rf "$work"' EXIT
-cc -shared -fPIC -O2 -Wall -o "$work/refused.so" tools/refused_growths/refused_growths.c -ldl
+refusing "$work/refused.so"
 
 # watched INPUT OUT ERR [SETTING...]: the program's status over the input, under valgrind
 watched() {

@@ -8,10 +8,11 @@ set -euo pipefail
 . "$(dirname "$0")/words.sh"
 takes 1 "$@"
 last=${1:-1000}
+is_count "$last"
 tests=$PWD/crates/layer_cases/out/layer_cases_tests
 work=$(mktemp -d)
 trap 'rm -rf "$work"' EXIT
-cc -shared -fPIC -O2 -Wall -o "$work/refused.so" tools/refused_growths/refused_growths.c -ldl
+refusing "$work/refused.so"
 
 # refused SETTING TEST: how many growths were refused in that run, which must pass
 refused() {

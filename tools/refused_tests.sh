@@ -13,10 +13,11 @@ set -euo pipefail
 . "$(dirname "$0")/words.sh"
 takes 1 "$@"
 last=${1:-3000}
+is_count "$last"
 top=$PWD
 work=$(mktemp -d)
 trap 'rm -rf "$work"' EXIT
-cc -shared -fPIC -O2 -Wall -o "$work/refused.so" tools/refused_growths/refused_growths.c -ldl
+refusing "$work/refused.so"
 crates="layer_cases dom_cases"
 stands="layer_cases:links::a_refused_add_hands_the_value_back layer_cases:ranges::refused_room dom_cases:layers::observing::a_hundred_nodes"
 standing="attributes cloning contents editing texts watching wrapping"
