@@ -222,6 +222,14 @@ def discarded_beside_static_ranges(ranges):
         ["discard", 2 + k] for k in range(COMMANDS)], COMMANDS
 
 
+def groups_discarded_beside_static_ranges(ranges):
+    """Elements with two Texts in them go, while static ranges of another node stand."""
+    making = [["createElement", 0, "p"]] + [["createStaticRange", 1, 0, 1, 0] for _ in range(ranges)]
+    for top in range(2, 302, 3):
+        making += [["createElement", 0, "g"], ["createText", 0, "a"], ["createText", 0, "b"], ["appendChild", top, top + 1], ["appendChild", top, top + 2]]
+    return making, [["discard", top] for top in range(2, 302, 3)], 100
+
+
 def discarded_beside_walks(walks):
     """Texts without a parent go, while iterators and walkers of another node stand."""
     texts = [["createText", 0, "a"] for _ in range(COMMANDS)]
@@ -312,6 +320,7 @@ PAIRS = (
     ("a child that comes, goes and is told of", ("after 1 removal told of", "after 10,000 told of at once"), notified_after, (1, 10000)),
     ("discard of a Text", ("with no record that waits", "beside 50,000"), discarded_beside_records, (0, 50000)),
     ("discard of a Text", ("with no static range", "beside 50,000"), discarded_beside_static_ranges, (0, 50000)),
+    ("discard of an element with two Texts", ("with no static range", "beside 50,000"), groups_discarded_beside_static_ranges, (0, 50000)),
     ("discard of a Text", ("with no iterator or walker", "beside 10,000 of each"), discarded_beside_walks, (0, 10000)),
     ("discard of a Document", ("after 100 other nodes went", "after 100,000"), documents_discarded, (100, 100000)),
     ("selectNode in the midst", ("of 100 children", "of 50,000"), selected_in_the_midst, (100, 50000)),

@@ -166,14 +166,14 @@ impl Statics {
 
     /// Whether an end of a static range stands inside a node.
     ///
-    /// It walks the nodes inside, and where they are more than those that static ranges name it asks each static range.
+    /// It walks the nodes inside, and where they are more than there are static ranges it asks each of these.
     pub fn refers<X>(&self, tree: &Tree<X>, top: NodeId) -> bool
         requires { HasNode tree.now.forest top }
         ensures { result ≡ list_any (λ m. among m (inclusive_descendants tree.now.forest top)) (flat_map nodes_of_range self.now) }
     {
         tree.sound();
         let mut here = top;
-        for _step in 0..self.nodes.len() + 1 {
+        for _step in 0..self.table.len() {
             if self.names(here) {
                 return true;
             }
