@@ -8,7 +8,6 @@ pub mod Places
 pub mod Opens
 pub mod Lines
 pub mod Lists
-pub mod Codes
 pub mod Reading
 pub mod Rows
 pub mod Records

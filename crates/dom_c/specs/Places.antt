@@ -1,7 +1,6 @@
 -- Where things stand, as C reads it.
 use Rattle.std.specs.Prelude.{ℕ, Option, Some, None}
-use Rattle.dom_model.specs.declared.Kind.{Kind}
-use Rattle.dom_model.specs.declared.Kind.TheVariants.{Element, Text, ProcessingInstruction, Comment, Document, DocumentType, DocumentFragment}
+use Rattle.dom_model.specs.Forests.Kinds.{number_of_kind}
 use Rattle.dom_model.specs.Commands.Reply as model
 use Rattle.dom_c.specs.Told.{number_or_null, flag_number}
 use Rattle.dom_c.specs.declared.places.Ends.{Ends}
@@ -9,16 +8,6 @@ use Rattle.dom_c.specs.declared.places.StaticEnds.{StaticEnds}
 use Rattle.dom_c.specs.declared.places.IteratorAt.{IteratorAt}
 use Rattle.dom_c.specs.declared.places.WalkerAt.{WalkerAt}
 use Rattle.dom_c.specs.declared.places.Place.{Place}
-
--- `nodeType`
-abbrev pub kind_number : Kind → ℕ
-kind_number Element = 1
-kind_number Text = 3
-kind_number ProcessingInstruction = 7
-kind_number Comment = 8
-kind_number Document = 9
-kind_number DocumentType = 10
-kind_number DocumentFragment = 11
 
 abbrev pub ends_told : Option model.Answer → Ends → Ends
 ends_told (Some (model.Ends r)) before = record { start = r.start.node; start_offset = r.start.offset; end = r.end.node; end_offset = r.end.offset }
@@ -40,7 +29,7 @@ walker_at_told _ before = before
 abbrev pub place_told : Option model.Answer → Place → Place
 place_told (Some (model.NodeAt d)) before = record {
   document = d.document;
-  kind = kind_number d.label.kind;
+  kind = number_of_kind d.label.kind;
   next = number_or_null d.next;
   parent = number_or_null d.parent;
   previous = number_or_null d.previous;

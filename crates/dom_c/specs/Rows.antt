@@ -3,9 +3,8 @@ use Rattle.std.specs.Prelude.{ℕ, nat_eq, if◌then◌else◌, List, length, sl
 use Rattle.dom_model.specs.declared.Kind.{Kind}
 use Rattle.dom_model.specs.declared.Kind.TheVariants.{Element, Text, ProcessingInstruction, Comment, Document, DocumentType, DocumentFragment}
 use Rattle.dom_model.specs.Forests.Attributes.{Attribute}
-use Rattle.dom_model.specs.Forests.Kinds.{Label, is_character_data}
+use Rattle.dom_model.specs.Forests.Kinds.{Label, number_of_kind, is_character_data}
 use Rattle.dom_model.specs.Commands.Reply.{Answer, NodeAt, Rows, TreeRow}
-use Rattle.dom_c.specs.Places.{kind_number}
 use Rattle.dom_c.specs.declared.rows.Row.{Row}
 
 -- the name of an element or a doctype, or the target of a processing instruction
@@ -46,7 +45,7 @@ row_in i (Rows rs) = slice_get rs i
 row_in i _ = None
 
 abbrev pub row_told : TreeRow → Row
-row_told r = record { depth = r.depth; node = r.number; type_ = kind_number r.label.kind; attributes = length r.body.attributes }
+row_told r = record { depth = r.depth; node = r.number; type_ = number_of_kind r.label.kind; attributes = length r.body.attributes }
 
 abbrev pub row_at : ℕ → Answer → Option Row
 row_at i a = option_map row_told (row_in i a)

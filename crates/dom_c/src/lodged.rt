@@ -12,7 +12,7 @@ pub struct Lodged {
 impl Model for Lodged {
     ghost use Rattle.std.specs.Coded.{codes};
     ghost use Rattle.dom_model.specs.Forests.ForestCode.{grove_code};
-    ghost use Rattle.dom_c.specs.Codes.{content_code};
+    ghost use Rattle.dom_session.specs.Codes.{content_code};
     ghost use Rattle.dom_c.specs.declared.kept.Kept.{Kept as Parts};
 
     ghost Value = { Parts };

@@ -6,7 +6,8 @@ ghost use Rattle.dom_wire.specs.Sessions.{command_view, answer_view};
 ghost use Rattle.dom_c.specs.Answers.{Answers};
 ghost use Rattle.dom_c.specs.Reads.{Reads};
 ghost use Rattle.dom_c.specs.Told.{told, told_of, number_or_null};
-ghost use Rattle.dom_c.specs.Places.{kind_number, ends_told, static_ends_told, iterator_at_told, walker_at_told, place_told};
+ghost use Rattle.dom_model.specs.Forests.Kinds.{number_of_kind};
+ghost use Rattle.dom_c.specs.Places.{ends_told, static_ends_told, iterator_at_told, walker_at_told, place_told};
 
 use crate::fault::Fault;
 use crate::handle::Handle;
@@ -14,6 +15,7 @@ use crate::kept::Kept;
 use crate::places::{Ends, IteratorAt, Place, StaticEnds, WalkerAt};
 use crate::status::{HP_NONE, HP_OK};
 use crate::telling::flag_number;
+use dom_session::of_kinds::NodeType;
 use dom_session::{Answer, Kind, NodeId};
 use dom_wire::{Command, Reply};
 
@@ -27,19 +29,11 @@ pub(crate) fn node_number(node: Option<NodeId>) -> u32
     }
 }
 
-/// The standard's number of a kind.
-pub(crate) fn kind_number(kind: Kind) -> u8
-    ensures { result ≡ kind_number kind }
+// The standard's number of a kind.
+fn kind_number(kind: Kind) -> u8
+    ensures { result ≡ number_of_kind kind }
 {
-    match kind {
-        Kind::Element => 1,
-        Kind::Text => 3,
-        Kind::ProcessingInstruction => 7,
-        Kind::Comment => 8,
-        Kind::Document => 9,
-        Kind::DocumentType => 10,
-        Kind::DocumentFragment => 11,
-    }
+    kind.number() as u8
 }
 
 // Writes the ends of a live range.

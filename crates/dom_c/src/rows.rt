@@ -11,8 +11,8 @@ use crate::handle::Handle;
 use crate::kept::Kept;
 use crate::labels::name_part;
 use crate::lending::{Bytes, Text};
-use crate::placing::kind_number;
 use crate::status::{HP_CLOSED, HP_NOT_THERE, HP_OK, HP_OUT_OF_MEMORY};
+use dom_session::of_kinds::NodeType;
 use dom_session::{Answer, Kind, TreeRow};
 use dom_wire::Reply;
 
@@ -43,7 +43,7 @@ fn row_told(row: &TreeRow) -> Row
     Row {
         depth: row.depth,
         node: row.number.number(),
-        type_: u16::from(kind_number(row.label.kind)),
+        type_: row.label.kind.number(),
         attributes: row.body.attrs.len(),
     }
 }

@@ -3,7 +3,7 @@ ghost use Rattle.std.specs.Prelude.{◌≡◌, Option, Some, None, IsSome};
 ghost use Rattle.std.specs.Borrow.{sem};
 ghost use Rattle.std.specs.Coded.{codes};
 ghost use Rattle.dom_model.specs.Forests.ForestCode.{grove_code};
-ghost use Rattle.dom_c.specs.Codes.{content_code};
+ghost use Rattle.dom_session.specs.Codes.{content_code};
 ghost use Rattle.dom_c.specs.Ownership.{Told, held};
 
 use crate::lodged::Lodged;

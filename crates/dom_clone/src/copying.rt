@@ -60,7 +60,7 @@ pub fn import(
     ensures refused { IfErr result (λ e. IsRefused e (check_adopt world.old.tree.forest node) world.old world.new) }
     ensures whole { IsWhole world.new }
 {
-    if world.tree.label(node).kind == Kind::Document {
+    if world.tree.is_of_kind(node, Kind::Document) {
         return Err(Refusal::Dom(DomError::NotSupportedError));
     }
     let copy = copy_tree(world, alloc, node, deep, Some(document))?;

@@ -19,7 +19,7 @@ use Rattle.dom_model.proofs.Forests.ToTheRoot.{inside-root}
 use Rattle.dom_model.proofs.Forests.TreeOrder.Preceding.{order-step}
 use Rattle.dom_model.proofs.BoundaryPoints.PointOrder.{nat_cmp-same, nat_cmp-less, nat_cmp-greater}
 use Rattle.dom_model.proofs.TokenText.PointGaps.GapsInOrder.{gap-found, gaps-in_order}
-use Rattle.dom_clone.specs.dom_ranges.Inside.{IsAt, rest-next, rest-end}
+use Rattle.dom_model.proofs.Forests.TreeOrder.InsideWalks.{IsAt, rest-next, rest-end}
 use Rattle.dom_content.proofs.NodesInOrder.{ahead-after}
 
 pub less-false : (i j : ℕ) → j ≤ i → is_less (nat_cmp i j) ≡ false

@@ -169,15 +169,16 @@ module _ (g : Grove Content) (s : IsForest g) (parent child : ℕ) where
       (λ (le : hits child (children_of g.forest parent) ≤ 0). omega arith)
       (cases_lt 0 (hits child (children_of g.forest parent))))
 
-module _ (f : Forest Content) (once : (m : ℕ) → occurs m f ≤ 1) (parent : ℕ) (p : Point) where
+module _ (f : Forest Content) (parent n : ℕ) where
   -- the first on a way is a child
-  pub way-child : (path : List ℕ) (c : ℕ) → IsWay f parent path p.node → slice_get path 0 ≡ Some c → (0 < occurs c f) × (parent_of f c ≡ Some parent)
+  pub way-child : (path : List ℕ) (c : ℕ) → IsWay f parent path n → slice_get path 0 ≡ Some c → (0 < occurs c f) × (parent_of f c ≡ Some parent)
   way-child [] c w e = absurd (cc e)
   way-child (d ∷ path) c w e = let i : d ≡ c = cc e in subst (λ m. (0 < occurs m f) × (parent_of f m ≡ Some parent)) i (w.0, w.1)
 
-  pub way-held : (path : List ℕ) (c : ℕ) → IsWay f parent path p.node → slice_get path 0 ≡ Some c → HasNode f c
+  pub way-held : (path : List ℕ) (c : ℕ) → IsWay f parent path n → slice_get path 0 ≡ Some c → HasNode f c
   way-held path c w e = HasNode-occurs f c (way-child path c w e).0
 
+module _ (f : Forest Content) (once : (m : ℕ) → occurs m f ≤ 1) (parent : ℕ) (p : Point) where
   pub behind-some : (path : List ℕ) (c : ℕ) → IsWay f parent path p.node → slice_get path 0 ≡ Some c → next_of f c ≡ slice_get (children_of f parent) (index_behind f p path)
   behind-some [] c w e = absurd (cc e)
   behind-some (d ∷ path) c w e = let i : d ≡ c = cc e in ap (next_of f) (sym i) ∙ sym (next-child f once d parent w.0 w.1)

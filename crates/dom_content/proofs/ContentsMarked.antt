@@ -1,11 +1,9 @@
 -- Where the markers of live ranges stand once contents are deleted, extracted or copied, and the text between two of them.
-use Rattle.std.proofs.Common.{◌≡◌, ℕ, List, Some, None, false, refl, ap, sym, ◌∙◌}
+use Rattle.std.proofs.Common.{◌≡◌, ℕ, List, Some, None, ap, ◌∙◌}
 use Rattle.std.specs.Prelude.{IfSome}
-use Rattle.dom_model.specs.declared.Kind.TheVariants.{DocumentType}
 use Rattle.dom_model.specs.Forests.Forest.{root_of}
 use Rattle.dom_model.specs.Worlds.World.{Range}
-use Rattle.dom_model.specs.MutationAlgorithms.Checks.{has_kind}
-use Rattle.dom_model.specs.RangesAndContents.Contents.{contained_children, range_text, delete_contents, check_extract, extract, clone_contents}
+use Rattle.dom_model.specs.RangesAndContents.Contents.{for_range, range_text, delete_contents, check_draw, check_extract, extract, clone_contents}
 use Rattle.dom_model.specs.TokenText.Tokens.{texts_of}
 use Rattle.dom_model.specs.TokenText.Edits.{delete_contents_edits, extract_edits, clone_contents_edits}
 use Rattle.dom_model.specs.TokenText.Gaps.{text_among}
@@ -20,7 +18,6 @@ use Rattle.dom_clone.specs.dom_edit.Whole.{IsWhole, Follows, unwatched}
 use Rattle.dom_clone.specs.dom_edit.Markers.{StandByEdits}
 use Rattle.dom_clone.specs.dom_edit.Following.{sound-unwatched}
 use Rattle.dom_clone.specs.dom_edit.Marking.{stand-by_edits}
-use Rattle.dom_content.specs.Drawing.{AreParts}
 
 module _ (old new : World) (r : ℕ) (before : IsWhole old) (after : IsWhole new) where
   pub markers-deleted : Follows old new (delete_contents r) → StandByEdits old new (delete_contents_edits r)
@@ -33,11 +30,9 @@ module _ (old new : World) (r : ℕ) (before : IsWhole old) (after : IsWhole new
     pub markers-cloned : Follows old new (clone_contents r) → StandByEdits old new (clone_contents_edits r)
     markers-cloned f = stand-by_edits old new (clone_contents r) (clone_contents_edits r) before after f (leave-clone_contents r (unwatched old) (sound-unwatched old before) allowed)
 
--- contents without a doctype may be drawn
-pub may-draw : (v : World) (r : ℕ) (range : Range) (first contained last : List ℕ) → range_in v.ranges r ≡ Some range → AreParts v.tree.forest range first contained last → has_kind DocumentType v.tree.forest contained ≡ false → check_extract r (unwatched v) ≡ None
-may-draw v r range first contained last e parts none =
-    let d : has_kind DocumentType v.tree.forest (contained_children (unwatched v) range) ≡ false = ap (has_kind DocumentType v.tree.forest) (sym parts.contained) ∙ none in
-    rw (e, d) refl
+-- what is asked of a live range is asked of its two ends
+pub asked-range : (v : World) (r : ℕ) (range : Range) → range_in v.ranges r ≡ Some range → check_extract r (unwatched v) ≡ check_draw (unwatched v) range
+asked-range v r range e = ap (λ o. for_range o None (λ x. check_draw (unwatched v) x)) e
 
 -- the text of a live range is what lies between its markers
 pub text-between : (v : World) (r : ℕ) (text : List ℕ) → IsWhole v → IfSome (range_in v.ranges r) (λ range. text ≡ range_text (unwatched v) range)

@@ -16,7 +16,7 @@ use Rattle.dom_model.specs.DataAndCopies.Data.{data_of, replace_data, remove_eac
 use Rattle.dom_model.proofs.Forests.Changes.{seen, nothing, just}
 use Rattle.dom_model.proofs.Forests.Entries.{occurs-HasNode, HasNode-occurs}
 use Rattle.dom_model.proofs.Forests.TreeOrder.Flattened.{hits-numbers}
-use Rattle.dom_model.proofs.Soundness.SoundDeleting.{one, three, place_left}
+use Rattle.dom_model.proofs.Soundness.SoundDeleting.{one, place_left}
 use Rattle.dom_model.proofs.Soundness.SoundNormalizing.{each_kinds, filter-passed}
 use Rattle.dom_model.proofs.RangesAndContents.LiveRangesKept.{KeepsLive, remove_each-live, replace_data-live}
 use Rattle.dom_clone.specs.dom_edit.declared.world.World.{World}
@@ -107,17 +107,6 @@ module _ (v0 : World) (h : IsWhole v0) (r : ℕ) (range : Range) (is : IsRange v
 
         kept-third : Keeps v3 third
         kept-third = f3.keeps second kept-second
-
-        third-there : (n : ℕ) → HasNode v0.tree.forest n → HasNode third.forest n
-        third-there n j =
-            let tops = tops_in v0.tree.forest range in
-            let last = cut_up_to range.end.node range.end.offset (remove_each tops first) in
-            let there = removed-there tops first (one r range w sound is two).sound n (first-there n j) in
-            subst (λ ms. HasNode (cut_up_to range.end.node range.end.offset (remove_each ms first)).forest n) (sym e)
-            (HasNode-occurs last.forest n ((three r range w sound is two).there n (occurs-HasNode (remove_each tops first).forest n there)))
-
-        pub still-there : (n : ℕ) → HasNode v0.tree.forest n → HasNode v3.tree.forest n
-        still-there n j = subst (λ (g : Forest Content). HasNode g n) kept-third.forest (third-there n j)
 
         -- the place is within its node
         pub place-left : (place : model.Point) → place ≡ new_place v0.tree.forest range → IsRange v3.tree.forest (collapsed_at place)

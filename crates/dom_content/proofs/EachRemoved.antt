@@ -17,9 +17,6 @@ pub record IsLeaving (initial here : World) (nodes : List ℕ) (i : ℕ) : Type 
   pub there : (m : ℕ) → 0 < hits m nodes → HasNode here.tree.forest m
   pub rest : (final : World) → Follows here final (remove_each (drop i nodes)) → Follows initial final (remove_each nodes)
 
-pub leaving-first : (v : World) (nodes : List ℕ) → IsWhole v → ((m : ℕ) → 0 < hits m nodes → HasNode v.tree.forest m) → IsLeaving v v nodes 0
-leaving-first v nodes h there = record { whole = h; there = there; rest = λ final f. f }
-
 module _ (initial here : World) (nodes : List ℕ) (i : ℕ) (t : IsLeaving initial here nodes i) where
   pub leaving-node : (x : ℕ) → x ≡ slice_index_or nodes i x → i < length nodes → HasNode here.tree.forest x
   leaving-node x is lt = t.there x (item-hit nodes i x lt is)

@@ -27,7 +27,7 @@ use Rattle.dom_model.proofs.RangesAndContents.StartsAhead.{got_place}
 use Rattle.dom_model.proofs.RangesAndContents.WaysBelow.{way-below, way-above}
 use Rattle.dom_model.proofs.Soundness.SoundForests.{parent-passes}
 use Rattle.dom_model.proofs.Worlds.Measured.{length-parent}
-use Rattle.dom_clone.specs.dom_ranges.Inside.{rest-next}
+use Rattle.dom_model.proofs.Forests.TreeOrder.InsideWalks.{rest-next}
 use Rattle.dom_content.proofs.AlongGaps.{gap, before, order-is, from-less, there, step, later}
 use Rattle.dom_content.proofs.NodesInOrder.{ahead-after}
 use Rattle.dom_content.proofs.NodesPassed.{IsPassed, passed}

@@ -10,7 +10,7 @@ use Rattle.dom_model.proofs.Forests.Totals.{total-tree_at}
 use Rattle.dom_model.proofs.Forests.ToTheRoot.{among-here, inside, inside-root}
 use Rattle.dom_model.proofs.Forests.TreeOrder.Flattened.{hits-numbers, numbers-without}
 use Rattle.dom_model.proofs.TokenText.AlikeTrees.TreesWithin.{tree_within}
-use Rattle.dom_clone.specs.dom_ranges.Inside.{D-once, from-top}
+use Rattle.dom_model.proofs.Forests.TreeOrder.InsideWalks.{inside-one, from-top}
 use Rattle.dom_content.proofs.PartsBetween.{split}
 
 from-behind : (x : ℕ) (pre rest : List ℕ) → hits x pre ≡ 0 → from_first x (pre ++ x ∷ rest) ≡ x ∷ rest
@@ -81,5 +81,5 @@ module _ (g : Grove Content) (s : IsForest g) (root top : ℕ) where
           let a = ap (hits x) whole in
           let b = hits-append x ahead (below ++ behind) in
           let d = hits-append x below behind in
-          let e = D-once g s root x in
+          let e = inside-one g s root x in
           omega arith

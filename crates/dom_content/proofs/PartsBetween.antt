@@ -17,7 +17,7 @@ use Rattle.dom_model.proofs.Forests.Totals.{total-tree_at}
 use Rattle.dom_model.proofs.Forests.Below.{tree-there}
 use Rattle.dom_model.proofs.Forests.TreeOrder.Flattened.{hits-numbers, numbers-without}
 use Rattle.dom_model.proofs.BoundaryPoints.PointOrder.{order-one_node}
-use Rattle.dom_clone.specs.dom_ranges.Inside.{rest-next, rest-end}
+use Rattle.dom_model.proofs.Forests.TreeOrder.InsideWalks.{rest-next, rest-end}
 use Rattle.dom_content.proofs.AlongGaps.{from-less, from-not_less, from-offsets, place, order-is, there, step, walk-at, later}
 
 pub and-both : (a b : Bool) → (a && b) ≡ true → (a ≡ true) × (b ≡ true)

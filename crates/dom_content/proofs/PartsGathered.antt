@@ -54,7 +54,7 @@ module _ (g : Grove Content) (s : IsForest g) (r : Range) (is : IsRange g.forest
   path-none = let i = ancestors-there start g.forest hs in ap (λ ns. reverse (up_to start ns)) i.1 ∙ ap (λ ns. reverse ns) (up_to-front start i.0)
 
   module _ (one : r.start ≡ r.end) where
-    pub collapsed-top : r.start.node ≡ common_ancestor g.forest r.start.node r.end.node
+    collapsed-top : r.start.node ≡ common_ancestor g.forest r.start.node r.end.node
     collapsed-top = sym (common-same g.forest start hs) ∙ ap (λ (p : Point). common_ancestor g.forest start p.node) one
 
     none-first : [] ≡ path_below g.forest (common_ancestor g.forest r.start.node r.end.node) r.start.node
@@ -76,36 +76,41 @@ module _ (g : Grove Content) (s : IsForest g) (r : Range) (is : IsRange g.forest
         }
 
   -- the place behind the first part
-  module _ (a : ℕ) (e : a ≡ common_ancestor g.forest r.start.node r.end.node) where
-    abbrev other : List ℕ
-    other = ancestors r.end.node g.forest
 
-    at_start : among start other ≡ true → (first : List ℕ) → first ≡ path_below g.forest (common_ancestor g.forest r.start.node r.end.node) r.start.node → record { node = a; offset = index_behind g.forest r.start first } ≡ new_place g.forest r
-    at_start t first d =
-        let i = ancestors-there start g.forest hs in
-        let found : unwrap_or (head_of (filter (λ x. among x other) (start ∷ i.0))) start ≡ start = rw t refl in
-        let split : common_ancestor g.forest start r.end.node ≡ unwrap_or (head_of (filter (λ x. among x other) (start ∷ i.0))) start = ap (λ ns. unwrap_or (head_of (filter (λ x. among x other) ns)) start) i.1 in
-        let top : a ≡ start = e ∙ (split ∙ found) in
-        let none : first ≡ [] = d ∙ ap (λ x. path_below g.forest x start) (sym e ∙ top) ∙ path-none in
-        let place : new_place g.forest r ≡ r.start = rw t refl in
-        ap (λ ns. record { node = a; offset = index_behind g.forest r.start ns }) none ∙ ap (λ n. record { node = n; offset = r.start.offset }) top ∙ sym place
+  abbrev shared : ℕ
+  shared = common_ancestor g.forest r.start.node r.end.node
 
-    behind : among start other ≡ false → (first : List ℕ) → first ≡ path_below g.forest (common_ancestor g.forest r.start.node r.end.node) r.start.node → record { node = a; offset = index_behind g.forest r.start first } ≡ new_place g.forest r
-    behind t [] d =
-        let w : a ≡ start = first-way g s r is a e [] d in
-        absurd (elim (same_or start a) [ same _ u ↦ false≢true (sym (common-apart g s r is t a e) ∙ u) | apart ne u ↦ ne (sym w) ])
-    behind t (c ∷ path) d =
-        let w : IsWay g.forest a (c ∷ path) start = first-way g s r is a e (c ∷ path) d in
-        let top = common_ancestor g.forest r.start.node r.end.node in
-        let i = hits-first c path in
-        let j = ap (hits c) d in
-        let k = hits-reverse c (up_to top (ancestors start g.forest)) in
-        let l = hits-up_to c top (ancestors start g.forest) in
-        sym (place-behind g s r is t a c e w.1 (hits-among c (ancestors start g.forest) (omega arith)))
+  abbrev other : List ℕ
+  other = ancestors r.end.node g.forest
 
-    pub place-by_parts : (first : List ℕ) → first ≡ path_below g.forest (common_ancestor g.forest r.start.node r.end.node) r.start.node → record { node = a; offset = index_behind g.forest r.start first } ≡ new_place g.forest r
-    place-by_parts first d = go (among start other) refl
+  at_start : among start other ≡ true → (first : List ℕ) → first ≡ path_below g.forest shared r.start.node → record { node = shared; offset = index_behind g.forest r.start first } ≡ new_place g.forest r
+  at_start t first d =
+      let i = ancestors-there start g.forest hs in
+      let split : shared ≡ unwrap_or (head_of (filter (λ x. among x other) (start ∷ i.0))) start = ap (λ ns. unwrap_or (head_of (filter (λ x. among x other) ns)) start) i.1 in
+      let here : shared ≡ start = rw t at split in
+      let none : first ≡ [] = d ∙ ap (λ x. path_below g.forest x start) here ∙ path-none in
+      let place : new_place g.forest r ≡ r.start = rw t refl in
+      rw (none, here) (sym place)
+
+  behind : among start other ≡ false → (first : List ℕ) → first ≡ path_below g.forest shared r.start.node → record { node = shared; offset = index_behind g.forest r.start first } ≡ new_place g.forest r
+  behind t [] d =
+      let w : shared ≡ start = first-way g s r is shared refl [] d in
+      absurd (elim (same_or start shared) [ same _ u ↦ false≢true (sym (common-apart g s r is t shared refl) ∙ u) | apart ne u ↦ ne (sym w) ])
+  behind t (c ∷ path) d =
+      let w : IsWay g.forest shared (c ∷ path) start = first-way g s r is shared refl (c ∷ path) d in
+      let i = hits-first c path in
+      let j = ap (hits c) d in
+      let k = hits-reverse c (up_to shared (ancestors start g.forest)) in
+      let l = hits-up_to c shared (ancestors start g.forest) in
+      sym (place-behind g s r is t shared c refl w.1 (hits-among c (ancestors start g.forest) (omega arith)))
+
+  module _ (first : List ℕ) (d : first ≡ path_below g.forest (common_ancestor g.forest r.start.node r.end.node) r.start.node) where
+    pub way-from_top : (top : ℕ) × IsWay g.forest top first r.start.node
+    way-from_top = (shared, first-way g s r is shared refl first d)
+
+    pub place-by_parts : (place : Point) → ((top : ℕ) → IsWay g.forest top first r.start.node → place ≡ record { node = top; offset = index_behind g.forest r.start first }) → place ≡ new_place g.forest r
+    place-by_parts place told = told shared (first-way g s r is shared refl first d) ∙ go (among start other) refl
       where
-        go : (b : Bool) → among start other ≡ b → record { node = a; offset = index_behind g.forest r.start first } ≡ new_place g.forest r
+        go : (b : Bool) → among start other ≡ b → record { node = shared; offset = index_behind g.forest r.start first } ≡ new_place g.forest r
         go true t = at_start t first d
         go false t = behind t first d

@@ -1,8 +1,9 @@
 -- Pieces that go into a fragment: what is still held, and room for the numbers. DOM Standard, "Interface Range" (extract, clone the contents).
 use Rattle.std.proofs.Common.{◌≡◌, ℕ, ◌+◌, ◌-◌, ◌<◌, ◌≤◌, Bool, true, false, List, [], ◌∷◌, take, drop, length, min, slice_index_or, refl, ap, sym, ◌∙◌, subst, arith, length-drop, Some, None, IsSome, Option}
-use Rattle.std.specs.Prelude.{IfSome}
+use Rattle.std.specs.Prelude.{IfSome, OnOk, Result}
 use Rattle.dom_model.specs.Forests.Arena.{Entry}
 use Rattle.std.proofs.lemmas.List.{drop_more, take_min}
+use Rattle.std.proofs.lemmas.Result.{on_ok_weaker}
 use Rattle.dom_model.specs.Forests.Kinds.{is_character_data}
 use Rattle.dom_model.specs.Forests.Forest.{Node, Forest, empty, node, occurs, size, tree_at, map_nodes, entry_in, HasNode}
 use Rattle.dom_model.specs.Forests.Texts.{substring, spliced}
@@ -200,14 +201,15 @@ module _ (v : World) (h : IsWhole v) (n : ℕ) (held : HasNode v.tree.forest n) 
       let k = r.keeps.made in
       omega (arith, e, i, k)
 
-  pub follows-copied : (next : World) → IfSome (entry_in v.tree.forest n) (λ e. Follows v next (made_node e.value.document e.value.label (record { text = units; attributes = e.value.body.attributes }))) → Follows v next (clone_with units n)
-  follows-copied next made =
+  pub follows-copied : {T E : Type 0} (result : Result T E) (next : World) → IfSome (entry_in v.tree.forest n) (λ e. OnOk result (Follows v next (made_node e.value.document e.value.label (record { text = units; attributes = e.value.body.attributes })))) → OnOk result (Follows v next (clone_with units n))
+  follows-copied result next made =
       let t = alone v h n held in
-      let f : Follows v next (made_node t.top.document t.top.label (record { text = units; attributes = t.top.body.attributes })) = rw t.entry at made in
-      follows-as v next (made_node t.top.document t.top.label (record { text = units; attributes = t.top.body.attributes })) (clone_with units n)
+      let f : OnOk result (Follows v next (made_node t.top.document t.top.label (record { text = units; attributes = t.top.body.attributes }))) = rw t.entry at made in
+      on_ok_weaker result
+      (follows-as v next (made_node t.top.document t.top.label (record { text = units; attributes = t.top.body.attributes })) (clone_with units n)
       (λ w k.
       let doc : node_document w n ≡ t.top.document = ap (λ (g : Forest Content). document_in (entry_in g n)) k.forest ∙ ap document_in t.entry in
-      copied-as w k ∙ ap (λ (x : ℕ). made_node x t.top.label (record { text = units; attributes = t.top.body.attributes }) w) doc)
+      copied-as w k ∙ ap (λ (x : ℕ). made_node x t.top.label (record { text = units; attributes = t.top.body.attributes }) w) doc))
       f
 
 -- a part of the units goes into a fragment, and is cut where it moves

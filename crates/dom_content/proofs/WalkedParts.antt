@@ -14,7 +14,7 @@ use Rattle.dom_model.proofs.Forests.Changes.{seen, nothing, just}
 use Rattle.dom_model.proofs.Forests.Entries.{occurs-HasNode}
 use Rattle.dom_model.proofs.Forests.TreeOrder.Flattened.{hits-numbers}
 use Rattle.dom_model.proofs.BoundaryPoints.PointOrder.{nat_cmp-greater}
-use Rattle.dom_clone.specs.dom_ranges.Inside.{rest-next, rest-end}
+use Rattle.dom_model.proofs.Forests.TreeOrder.InsideWalks.{rest-next, rest-end}
 use Rattle.dom_content.proofs.AlongGaps.{gap, before, not-before, is-before, isnt-before, order-is, there, step, walk-at, later}
 use Rattle.dom_content.proofs.NodesAhead.{IsAheadOf}
 use Rattle.dom_content.proofs.NodesInOrder.{ahead-after}

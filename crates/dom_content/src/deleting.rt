@@ -19,10 +19,10 @@ ghost use Rattle.dom_content.specs.Left.{IsLeftOf};
 
 use crate::contained::contained_tops;
 use crate::data::is_in_one_data;
-use crate::parts::{Parts, head, parts_of};
+use crate::parts::{head, parts_of};
 use dom_clone::of_data::replace_data_checked;
 use dom_clone::of_edit::{Content, World, data_in};
-use dom_clone::of_point::Point;
+use dom_clone::of_point::{Point, point_after};
 use dom_clone::of_ranges::RangeId;
 use dom_clone::of_tree::{NodeId, Tree};
 use std::alloc::{AllocError, Global};
@@ -44,26 +44,15 @@ fn cut_units(
     replace_data_checked(world, alloc, node, offset, count, &[])
 }
 
-// Where both ends of a range stand once its contents are gone: behind the child of the common ancestor on the way to the start, or at the start in that
-// ancestor itself.
-pub(crate) fn new_place(tree: &Tree<Content>, start: Point, parts: &Parts) -> Point
-    requires held { HasNode tree.now.forest start.node }
-    requires way { IsWay tree.now.forest parts.now.ancestor parts.now.first.items start.node }
-    ensures { result ≡ record { node = parts.now.ancestor; offset = index_behind tree.now.forest start parts.now.first.items } }
+// Where both ends of a range stand once its contents are gone: behind the child of the common ancestor that the path to the start begins with, or at
+// the start, where that stands in the ancestor itself.
+pub(crate) fn new_place(tree: &Tree<Content>, start: Point, path: &[NodeId]) -> Point
+    requires way { (ancestor : ℕ) × IsWay tree.now.forest ancestor path.now start.node }
+    ensures { (ancestor : ℕ) → IsWay tree.now.forest ancestor path.now start.node → result ≡ record { node = ancestor; offset = index_behind tree.now.forest start path.now } }
 {
-    tree.sound();
-    let node = parts.ancestor;
-    let Some(child) = head(&parts.first) else {
-        return Point {
-            node,
-            offset: start.offset,
-        };
-    };
-    // an index is below the count, so the offset behind the child is a number of the machine too
-    let _ = tree.count(node);
-    Point {
-        node,
-        offset: tree.index(child) + 1,
+    match head(path) {
+        Some(child) => point_after(tree, child).unwrap(),
+        None => start,
     }
 }
 
@@ -136,7 +125,7 @@ fn delete_between(
     ensures whole { IsWhole world.new }
 {
     let parts = parts_of(&world.tree, alloc, start, end)?;
-    let place = new_place(&world.tree, start, &parts);
+    let place = new_place(&world.tree, start, &parts.first);
     let tops = contained_tops(world, alloc, start, end, &parts)?;
     cut_from(world, alloc, start)?;
     remove_each(world, alloc, &tops)?;
@@ -172,6 +161,5 @@ pub fn delete_contents(world: &mut World, alloc: Global, range: RangeId) -> Resu
     ensures left { OnOk result (IsLeftOf world.old world.new range) }
     ensures whole { IsWhole world.new }
 {
-    delete_range(world, alloc, range)?;
-    Ok(())
+    delete_range(world, alloc, range)
 }

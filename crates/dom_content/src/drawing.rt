@@ -7,8 +7,8 @@ ghost use Rattle.dom_model.specs.Forests.Forest.{HasNode};
 ghost use Rattle.dom_model.specs.Forests.Kinds.{is_character_data};
 ghost use Rattle.dom_model.specs.Soundness.Sound.{IsRange};
 ghost use Rattle.dom_model.specs.MutationAlgorithms.Checks.{has_kind};
-ghost use Rattle.dom_model.specs.Forests.Nodes.{kind_passes, is_of_kind};
-ghost use Rattle.dom_model.specs.RangesAndContents.Ranges.{is_collapsed as ends_meet, common_ancestor};
+ghost use Rattle.dom_model.specs.Forests.Nodes.{kind_passes};
+ghost use Rattle.dom_model.specs.RangesAndContents.Ranges.{is_collapsed};
 ghost use Rattle.dom_model.specs.RangesAndContents.Contents.{units_into, contents_drawn, check_draw, check_extract, extracted, extract, clone_contents};
 ghost use Rattle.dom_clone.specs.dom_ranges.Tables.{range_in};
 ghost use Rattle.dom_clone.specs.dom_edit.Inserting.{AreThere};
@@ -47,19 +47,27 @@ fn has_doctype(tree: &Tree<Content>, nodes: &[NodeId]) -> bool
     false
 }
 
-// Whether two points are one.
-fn is_collapsed(start: Point, end: Point) -> bool
-    ensures { result ≡ ends_meet (record { start = start; end = end }) }
+// The parts of a range whose contents may go into a fragment: no doctype is contained in it.
+fn drawable_parts(world: &World, alloc: Global, start: Point, end: Point) -> Result<Parts, Refusal>
+    requires whole { IsWhole world.now }
+    requires range { IsRange world.now.tree.forest (record { start = start; end = end }) }
+    ensures allowed { OnOk result (check_draw (unwatched world.now) (record { start = start; end = end }) ≡ None) }
+    ensures parts { IfOk result (λ parts. AreParts world.now.tree.forest (record { start = start; end = end }) parts.first.items parts.contained.items parts.last.items) }
+    ensures refused { IfErr result (λ e. IsRefused e (check_draw (unwatched world.now) (record { start = start; end = end })) world.now world.now) }
 {
-    start.node == end.node && start.offset == end.offset
+    let parts = parts_of(&world.tree, alloc, start, end)?;
+    if has_doctype(&world.tree, &parts.contained) {
+        return Err(Refusal::Dom(DomError::HierarchyRequestError));
+    }
+    Ok(parts)
 }
 
 // Whether the ends of a range follow the cut, once its contents are gone.
 fn follows_cut(tree: &Tree<Content>, start: Point, end: Point) -> bool
     requires held { HasNode tree.now.forest start.node }
-    ensures { result ≡ (ends_meet (record { start = start; end = end }) || in_one_data tree.now.forest (record { start = start; end = end })) }
+    ensures { result ≡ (is_collapsed (record { start = start; end = end }) || in_one_data tree.now.forest (record { start = start; end = end })) }
 {
-    is_collapsed(start, end) || is_in_one_data(tree, start, end)
+    start == end || is_in_one_data(tree, start, end)
 }
 
 // The units between two points of one node go into a fragment.
@@ -131,7 +139,7 @@ fn fill(
     ensures stays { OnOk result (Stays world.old world.new) }
     ensures whole { IsWhole world.new }
 {
-    if is_collapsed(start, end) {
+    if start == end {
         return Ok(());
     }
     if is_in_one_data(&world.tree, start, end) {
@@ -178,20 +186,18 @@ fn extract_parts(
     requires live { IsSome (range_in world.old.ranges range) }
     requires range { IsRange world.old.tree.forest (record { start = start; end = end }) }
     requires allowed { check_draw (unwatched world.old) (record { start = start; end = end }) ≡ None }
-    requires ancestor { parts.now.ancestor ≡ common_ancestor world.old.tree.forest start.node end.node }
     requires parts { AreParts world.old.tree.forest (record { start = start; end = end }) parts.now.first.items parts.now.contained.items parts.now.last.items }
     requires room { HasRoom world.old (contents_drawn true (record { start = start; end = end })) }
     ensures number { IfOk result (λ id. id ≡ world.old.tree.made) }
     ensures extracted { OnOk result (Follows world.old world.new (extracted range (record { start = start; end = end }))) }
     ensures whole { IsWhole world.new }
 {
-    let place = new_place(&world.tree, start, parts);
+    let place = new_place(&world.tree, start, &parts.first);
     let stays = follows_cut(&world.tree, start, end);
     let fragment = draw(world, alloc, true, start, end, parts)?;
-    if stays {
-        return Ok(fragment);
+    if !stays {
+        stand_at(world, range, place);
     }
-    stand_at(world, range, place);
     Ok(fragment)
 }
 
@@ -213,10 +219,7 @@ pub fn extract(world: &mut World, alloc: Global, range: RangeId) -> Result<NodeI
     ensures whole { IsWhole world.new }
 {
     let (start, end) = world.ranges.ends(range);
-    let parts = parts_of(&world.tree, alloc, start, end)?;
-    if has_doctype(&world.tree, &parts.contained) {
-        return Err(Refusal::Dom(DomError::HierarchyRequestError));
-    }
+    let parts = drawable_parts(world, alloc, start, end)?;
     let fragment = extract_parts(world, alloc, range, start, end, &parts)?;
     Ok(fragment)
 }
@@ -257,10 +260,7 @@ pub fn clone_contents(world: &mut World, alloc: Global, range: RangeId) -> Resul
     ensures whole { IsWhole world.new }
 {
     let (start, end) = world.ranges.ends(range);
-    let parts = parts_of(&world.tree, alloc, start, end)?;
-    if has_doctype(&world.tree, &parts.contained) {
-        return Err(Refusal::Dom(DomError::HierarchyRequestError));
-    }
+    let parts = drawable_parts(world, alloc, start, end)?;
     let fragment = draw(world, alloc, false, start, end, &parts)?;
     Ok(fragment)
 }

@@ -85,15 +85,8 @@ fn close_partial(
     ensures stays { OnOk result (Stays world.old world.new) }
     ensures whole { IsWhole world.new }
 {
-    children_into(
-        world,
-        alloc,
-        moves,
-        partial.inner,
-        partial.children.as_slice(),
-    )?;
-    put_last(world, alloc, partial.copy, partial.inner)?;
-    Ok(())
+    children_into(world, alloc, moves, partial.inner, &partial.children)?;
+    put_last(world, alloc, partial.copy, partial.inner)
 }
 
 // The same of several, the last one first.
@@ -135,6 +128,5 @@ pub(crate) fn copy_into(
     ensures whole { IsWhole world.new }
 {
     let partial = open_partial(world, alloc, into, node, children)?;
-    close_partial(world, alloc, moves, &partial)?;
-    Ok(())
+    close_partial(world, alloc, moves, &partial)
 }

@@ -5,7 +5,6 @@ ghost use Rattle.dom_model.specs.Forests.Forest.{HasNode, children_of, ancestors
 ghost use Rattle.dom_model.specs.Forests.Ways.{IsWay};
 ghost use Rattle.dom_model.specs.PlainLists.Lists.{up_to};
 ghost use Rattle.dom_model.specs.Worlds.Lengths.{unit_count};
-ghost use Rattle.dom_model.specs.Worlds.World.{Range};
 ghost use Rattle.dom_model.specs.Soundness.Sound.{IsRange};
 ghost use Rattle.dom_model.specs.RangesAndContents.Ranges.{is_contained, common_ancestor};
 ghost use Rattle.dom_model.specs.RangesAndContents.Contents.{path_below};
@@ -17,11 +16,10 @@ use dom_clone::of_point::{Point, common};
 use dom_clone::of_tree::{NodeId, Tree};
 use std::alloc::{AllocError, Global};
 
-/// What lies in a range in part and what whole: the common ancestor of its two nodes, the paths from there down to them, and the children of that
-/// ancestor that are contained.
+/// What lies in a range in part and what whole: the paths from the common ancestor of its two nodes down to them, and the children of that ancestor that
+/// are contained.
 #[derive(Drop)]
 pub(crate) struct Parts {
-    pub ancestor: NodeId,
     pub first: Vec<NodeId>,
     pub contained: Vec<NodeId>,
     pub last: Vec<NodeId>,
@@ -134,15 +132,13 @@ fn gather_parts(
     end: Point,
 ) -> Result<Parts, AllocError>
     requires range { IsRange tree.now.forest (record { start = start; end = end }) }
-    ensures ancestor { IfOk result (λ parts. parts.ancestor ≡ common_ancestor tree.now.forest start.node end.node) }
-    ensures parts { IfOk result (λ parts. AreParts tree.now.forest (record { start = start; end = end }) parts.first.items parts.contained.items parts.last.items) }
+    ensures { IfOk result (λ parts. AreParts tree.now.forest (record { start = start; end = end }) parts.first.items parts.contained.items parts.last.items) }
 {
     let ancestor = common(tree, start.node, end.node);
     let first = path_below(tree, alloc, ancestor, start.node)?;
     let last = path_below(tree, alloc, ancestor, end.node)?;
     let contained = contained_children(tree, alloc, ancestor, start, end, &first, &last)?;
     Ok(Parts {
-        ancestor,
         first,
         contained,
         last,
@@ -157,13 +153,11 @@ pub(crate) fn parts_of(
     end: Point,
 ) -> Result<Parts, AllocError>
     requires range { IsRange tree.now.forest (record { start = start; end = end }) }
-    ensures ancestor { IfOk result (λ parts. parts.ancestor ≡ common_ancestor tree.now.forest start.node end.node) }
-    ensures parts { IfOk result (λ parts. AreParts tree.now.forest (record { start = start; end = end }) parts.first.items parts.contained.items parts.last.items) }
+    ensures { IfOk result (λ parts. AreParts tree.now.forest (record { start = start; end = end }) parts.first.items parts.contained.items parts.last.items) }
 {
     tree.sound();
     if start == end {
         return Ok(Parts {
-            ancestor: start.node,
             first: Vec::new(alloc),
             contained: Vec::new(alloc),
             last: Vec::new(alloc),

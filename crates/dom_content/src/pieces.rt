@@ -1,9 +1,7 @@
 //! The pieces of contents that go into a fragment: units of a node, and children, moved or copied (DOM Standard, "Interface Range").
 
-ghost use Rattle.std.specs.Prelude.{◌≡◌, ◌<◌, ◌≤◌, ◌∷◌, [], length, true, None, IsSome, IfSome, IfOk, OnOk};
-ghost use Rattle.dom_model.specs.declared.Kind.TheVariants.{Document, DocumentFragment};
-ghost use Rattle.dom_model.specs.Worlds.World.{no_content};
-ghost use Rattle.dom_model.specs.Worlds.Making.{made_node, named};
+ghost use Rattle.std.specs.Prelude.{◌≡◌, ◌≤◌, ◌∷◌, [], length, true, None, IsSome, IfOk, OnOk};
+ghost use Rattle.dom_model.specs.declared.Kind.TheVariants.{Document};
 ghost use Rattle.dom_model.specs.Forests.Forest.{HasNode, entry_in, parent_of};
 ghost use Rattle.dom_model.specs.Forests.Kinds.{is_character_data};
 ghost use Rattle.dom_model.specs.Forests.Texts.{substring};
@@ -27,28 +25,6 @@ use dom_clone::of_tree::{NodeId, Tree};
 use dom_clone::of_units::Units;
 use std::alloc::{AllocError, Global};
 
-// Makes a node of the kind of fragments.
-fn make_fragment(world: &mut World, alloc: Global, document: NodeId) -> Result<NodeId, AllocError>
-    requires whole { IsWhole world.old }
-    requires document_kind { is_of_kind Document world.old.tree.forest document ≡ true }
-    requires room { world.old.tree.made < 4294967295 }
-    ensures number { IfOk result (λ id. id ≡ world.old.tree.made) }
-    ensures made { OnOk result (Follows world.old world.new (made_node document (named DocumentFragment []) no_content)) }
-    ensures whole { IsWhole world.new }
-{
-    let label = Label {
-        kind: Kind::DocumentFragment,
-        name: String::new(alloc),
-        public_id: String::new(alloc),
-        system_id: String::new(alloc),
-    };
-    let content = Content {
-        text: Units::new(alloc),
-        attrs: Attrs::new(alloc),
-    };
-    world.make(alloc, label, content, Some(document))
-}
-
 // Makes a fragment without children in a document. Its number is the next one.
 pub(crate) fn new_fragment(
     world: &mut World,
@@ -65,8 +41,17 @@ pub(crate) fn new_fragment(
     ensures texts { OnOk result (DataStays world.old world.new) }
     ensures whole { IsWhole world.new }
 {
-    let fragment = make_fragment(world, alloc, document)?;
-    Ok(fragment)
+    let label = Label {
+        kind: Kind::DocumentFragment,
+        name: String::new(alloc),
+        public_id: String::new(alloc),
+        system_id: String::new(alloc),
+    };
+    let content = Content {
+        text: Units::new(alloc),
+        attrs: Attrs::new(alloc),
+    };
+    world.make(alloc, label, content, Some(document))
 }
 
 // Puts a new node, or the children of a new fragment, last under a parent that may have it: no end of a live range stands inside it.
@@ -85,8 +70,7 @@ pub(crate) fn put_last(
     ensures texts { OnOk result (DataStays world.old world.new) }
     ensures whole { IsWhole world.new }
 {
-    world.insert_unreferred(alloc, parent, node, None)?;
-    Ok(())
+    world.insert_unreferred(alloc, parent, node, None)
 }
 
 // Moves a node from its parent last under another that may have it.
@@ -103,8 +87,7 @@ fn move_last(
     ensures stays { OnOk result (Stays world.old world.new) }
     ensures whole { IsWhole world.new }
 {
-    world.insert(alloc, parent, node, None)?;
-    Ok(())
+    world.insert(alloc, parent, node, None)
 }
 
 // Copies a node, with its descendants where the copy is deep. Its number is the next one.
@@ -125,8 +108,7 @@ pub(crate) fn copy_of(
     ensures texts { OnOk result (DataStays world.old world.new) }
     ensures whole { IsWhole world.new }
 {
-    let copy = clone_node(world, alloc, node, deep)?;
-    Ok(copy)
+    clone_node(world, alloc, node, deep)
 }
 
 // Units of a node's data from an offset on that is within the data: so many, or as many as there are.
@@ -146,28 +128,7 @@ fn part_of(
     Units::from_units(alloc, data.slice(offset, count))
 }
 
-// Makes a node of the label and the attributes of another, with data of its own.
-fn make_copy(
-    world: &mut World,
-    alloc: Global,
-    node: NodeId,
-    units: Units,
-) -> Result<NodeId, AllocError>
-    requires whole { IsWhole world.old }
-    requires held { HasNode world.old.tree.forest node }
-    requires room { world.old.tree.made < 4294967295 }
-    ensures number { IfOk result (λ id. id ≡ world.old.tree.made) }
-    ensures copied { IfSome (entry_in world.old.tree.forest node) (λ e. OnOk result (Follows world.old world.new (made_node e.value.document e.value.label (record { text = units; attributes = e.value.body.attributes })))) }
-    ensures whole { IsWhole world.new }
-{
-    let label = world.tree.label(node).try_clone(alloc)?;
-    let attrs = world.tree.body(node).attrs.try_clone(alloc)?;
-    let document = document_in(&world.tree, node);
-    let content = Content { text: units, attrs };
-    world.make(alloc, label, content, Some(document))
-}
-
-// Copies a node with other data. Its number is the next one.
+// Copies a node's label and attributes, with other data. Its number is the next one.
 fn copy_with(
     world: &mut World,
     alloc: Global,
@@ -185,8 +146,11 @@ fn copy_with(
     ensures texts { OnOk result (DataStays world.old world.new) }
     ensures whole { IsWhole world.new }
 {
-    let copy = make_copy(world, alloc, node, units)?;
-    Ok(copy)
+    let label = world.tree.label(node).try_clone(alloc)?;
+    let attrs = world.tree.body(node).attrs.try_clone(alloc)?;
+    let document = document_in(&world.tree, node);
+    let content = Content { text: units, attrs };
+    world.make(alloc, label, content, Some(document))
 }
 
 // Takes units of a node's data out from an offset on that is within the data, where the contents move.
@@ -208,8 +172,7 @@ fn cut_if(
     if !moves {
         return Ok(());
     }
-    replace_data_checked(world, alloc, node, offset, count, &[])?;
-    Ok(())
+    replace_data_checked(world, alloc, node, offset, count, &[])
 }
 
 // Puts a copy of a node with data into a fragment, with `count` of its units from `offset` on; where the contents move, they are cut.
@@ -234,8 +197,7 @@ pub(crate) fn units_into(
     let units = part_of(&world.tree, alloc, node, offset, count)?;
     let copy = copy_with(world, alloc, node, units)?;
     put_last(world, alloc, into, copy)?;
-    cut_if(world, alloc, moves, node, offset, count)?;
-    Ok(())
+    cut_if(world, alloc, moves, node, offset, count)
 }
 
 // Puts a node last into a fragment or, where the contents do not move, a copy of it with its descendants.
@@ -258,8 +220,7 @@ pub(crate) fn child_into(
         return move_last(world, alloc, into, node);
     }
     let copy = copy_of(world, alloc, node, true)?;
-    put_last(world, alloc, into, copy)?;
-    Ok(())
+    put_last(world, alloc, into, copy)
 }
 
 // The same of each of these nodes in turn.

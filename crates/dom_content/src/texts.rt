@@ -3,7 +3,6 @@
 ghost use Rattle.std.specs.Prelude.{◌≡◌, ◌-◌, ◌≤◌, ◌++◌, length, true, false, IfOk, OnOk, IfSome, IsSome};
 ghost use Rattle.dom_model.specs.declared.Kind.TheVariants.{Text};
 ghost use Rattle.dom_model.specs.Forests.Forest.{HasNode, entry_in, root_of};
-ghost use Rattle.dom_model.specs.Worlds.World.{Range};
 ghost use Rattle.dom_model.specs.Soundness.Sound.{IsRange};
 ghost use Rattle.dom_model.specs.Forests.Nodes.{is_of_kind};
 ghost use Rattle.dom_model.specs.RangesAndContents.Ranges.{is_before};
@@ -131,6 +130,5 @@ pub fn range_text(world: &World, alloc: Global, range: RangeId) -> Result<Units,
     ensures between { IfOk result (λ text. IfSome (range_in world.now.ranges range) (λ r. IfSome (root_of world.now.tree.forest r.start.node)
         (λ root. text ≡ text_of_range (unwatched world.now) range (text_among root (texts_of (unwatched world.now)))))) }
 {
-    let text = gather_text(world, alloc, range)?;
-    Ok(text)
+    gather_text(world, alloc, range)
 }

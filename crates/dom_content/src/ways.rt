@@ -52,8 +52,7 @@ fn open_tail(
     ensures whole { IsWhole world.new }
 {
     let behind = children_past(&world.tree, alloc, node, next)?;
-    let partial = open_partial(world, alloc, into, node, behind)?;
-    Ok(partial)
+    open_partial(world, alloc, into, node, behind)
 }
 
 // Puts what lies behind an offset of a node into a fragment.
@@ -74,15 +73,12 @@ fn tail_of_last(
     ensures stays { OnOk result (Stays world.old world.new) }
     ensures whole { IsWhole world.new }
 {
-    let is_data = world.tree.has_data(node);
-    if is_data {
+    if world.tree.has_data(node) {
         let count = units_past(&world.tree, node, offset);
-        units_into(world, alloc, moves, into, node, offset, count)?;
-        return Ok(());
+        return units_into(world, alloc, moves, into, node, offset, count);
     }
     let behind = children_from(&world.tree, alloc, node, offset)?;
-    copy_into(world, alloc, moves, into, node, behind)?;
-    Ok(())
+    copy_into(world, alloc, moves, into, node, behind)
 }
 
 // The same along a path that is not empty: its first node, and those below.
@@ -113,8 +109,7 @@ fn tail_along(
         partials.push(partial)?;
     }
     tail_of_last(world, alloc, moves, here, offset, node)?;
-    close_all(world, alloc, moves, partials)?;
-    Ok(())
+    close_all(world, alloc, moves, partials)
 }
 
 // Puts what lies from an offset of the path's last node to the end of its first into a fragment.
@@ -162,9 +157,8 @@ fn open_head(
     ensures whole { IsWhole world.new }
 {
     let ahead = children_ahead(&world.tree, alloc, node, next)?;
-    let none: Vec<NodeId> = Vec::new(alloc);
-    let partial = open_partial(world, alloc, into, node, none)?;
-    children_into(world, alloc, moves, partial.inner, ahead.as_slice())?;
+    let partial = open_partial(world, alloc, into, node, Vec::new(alloc))?;
+    children_into(world, alloc, moves, partial.inner, &ahead)?;
     Ok(partial)
 }
 
@@ -185,14 +179,11 @@ fn head_of_last(
     ensures stays { OnOk result (Stays world.old world.new) }
     ensures whole { IsWhole world.new }
 {
-    let is_data = world.tree.has_data(node);
-    if is_data {
-        units_into(world, alloc, moves, into, node, 0, offset)?;
-        return Ok(());
+    if world.tree.has_data(node) {
+        return units_into(world, alloc, moves, into, node, 0, offset);
     }
     let ahead = children_until(&world.tree, alloc, node, offset)?;
-    copy_into(world, alloc, moves, into, node, ahead)?;
-    Ok(())
+    copy_into(world, alloc, moves, into, node, ahead)
 }
 
 // The same along a path that is not empty: its first node, and those below.
@@ -223,8 +214,7 @@ fn head_along(
         partials.push(partial)?;
     }
     head_of_last(world, alloc, moves, here, offset, node)?;
-    close_all(world, alloc, moves, partials)?;
-    Ok(())
+    close_all(world, alloc, moves, partials)
 }
 
 // Puts what lies from the start of the path's first node to an offset of its last into a fragment.

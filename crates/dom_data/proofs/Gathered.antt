@@ -10,7 +10,7 @@ use Rattle.dom_model.specs.Forests.Forest.{Node, Forest, Grove, IsForest, HasNod
 use Rattle.dom_model.specs.Worlds.World.{Content}
 use Rattle.dom_model.specs.Forests.Nodes.{is_of_kind}
 use Rattle.dom_model.specs.DataAndCopies.Data.{content_in, joined_data, descendant_text, text_content, text_content_by, by_kind}
-use Rattle.dom_edit.specs.dom_ranges.Inside.{IsAt, from-top, at-top, at-next, here-inside, rest-next, rest-end}
+use Rattle.dom_model.proofs.Forests.TreeOrder.InsideWalks.{IsAt, from-top, at-top, at-next, here-inside, rest-next, rest-end}
 use Rattle.dom_model.proofs.PlainLists.Numbers.{same_or, same, apart}
 use Rattle.dom_edit.specs.declared.world.World.{World}
 use Rattle.dom_edit.specs.Whole.{unwatched}

@@ -5,7 +5,7 @@ use Rattle.dom_model.specs.PlainLists.Lists.{hits, after, from_first}
 use Rattle.dom_model.specs.Forests.Forest.{Forest, Grove, IsForest, HasNode, inclusive_descendants}
 use Rattle.dom_model.specs.Worlds.World.{Content}
 use Rattle.dom_model.specs.Forests.Nodes.{is_of_kind}
-use Rattle.dom_edit.specs.dom_ranges.Inside.{IsAt, from-top, at-top, at-next, here-inside, rest-next, rest-end}
+use Rattle.dom_model.proofs.Forests.TreeOrder.InsideWalks.{IsAt, from-top, at-top, at-next, here-inside, rest-next, rest-end}
 use Rattle.dom_model.proofs.PlainLists.Numbers.{same_or, same, apart}
 use Rattle.dom_data.specs.TextsAlone.{alone, texts_among}
 

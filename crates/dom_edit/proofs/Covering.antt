@@ -1,13 +1,13 @@
 -- The nodes that are held stay covered.
-use Rattle.std.proofs.Common.{◌≡◌, ℕ, zero, suc, ◌+◌, ◌-◌, ◌≤◌, ◌<◌, ◌==◌, Bool, true, false, List, [], ◌∷◌, length, set, refl, sym, ap, subst, ◌∙◌, ⊎_elim, arith, length-set, get_or-set_other}
+use Rattle.std.proofs.Common.{◌≡◌, ℕ, ◌+◌, ◌≤◌, ◌<◌, Bool, true, false, List, [], ◌∷◌, length, set, refl, sym, ap, ◌∙◌, ⊎_elim, arith, length-set, get_or-set_other}
 use Rattle.std.proofs.lemmas.Bool.{cases_lt, cases_eq}
 use Rattle.dom_model.specs.PlainLists.Lists.{hits}
-use Rattle.dom_model.specs.Forests.Forest.{Forest, Grove, HasNode, occurs, IsForest}
+use Rattle.dom_model.specs.Forests.Forest.{Grove, HasNode, occurs, IsForest}
 use Rattle.dom_model.specs.Worlds.World.{Content}
+use Rattle.dom_model.proofs.PlainLists.Heads.{hits-first, hits-rest}
 use Rattle.dom_model.proofs.Forests.Entries.{occurs-HasNode, HasNode-occurs}
 use Rattle.dom_ranges.specs.Chained.{covers, covered_to, uncovered}
 use Rattle.dom_ranges.proofs.Covers.{covers-to, covers-new, covered_to-length}
-use Rattle.dom_ranges.proofs.Walking.{hits-first, hits-rest}
 use Rattle.dom_edit.specs.Whole.{AreCovered}
 
 -- no node comes in, and as many nodes were made

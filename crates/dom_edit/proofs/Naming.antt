@@ -2,7 +2,7 @@
 use Rattle.std.specs.Prelude.{◌==◌, ◌||◌, is_some, map}
 use Rattle.std.specs.List.{list_any, flat_map}
 use Rattle.std.proofs.Common.{◌≡◌, ℕ, suc, Bool, true, false, List, [], ◌∷◌, ◌++◌, Option, Some, None, All, refl, ap, sym, ◌∙◌, subst, arith}
-use Rattle.std.proofs.lemmas.Bool.{false≢true}
+use Rattle.std.proofs.lemmas.Bool.{false≢true, or_parts}
 use Rattle.std.proofs.lemmas.List.Folds.{list_any-append}
 use Rattle.std.proofs.lemmas.List.Elements.{All-nil, All-cons, All-head, All-tail}
 use Rattle.dom_model.specs.declared.Kind.{Kind}
@@ -155,18 +155,14 @@ not_used v n named e none free =
     let others : list_any (λ m. among m (inclusive_descendants v.tree.forest n)) (named_in v) ≡ false = sym e ∙ none in
     rw (free, others) refl
 
-neither : (a b : Bool) → (a || b) ≡ false → (a ≡ false) × (b ≡ false)
-neither true b h = absurd (false≢true (sym h))
-neither false b h = (refl, h)
-
 -- What is left where a tree goes.
 
 statics-left : (f rest : Forest Content) (p : ℕ → Bool) → ((m : ℕ) → p m ≡ false → HasNode f m → HasNode rest m) → (rs : List Range)
     → All (AreHeld f) rs → list_any p (flat_map nodes_of_range rs) ≡ false → All (AreHeld rest) rs
 statics-left f rest p stays [] h k = All-nil (AreHeld rest)
 statics-left f rest p stays (r ∷ rs) h k =
-    let start = neither (p r.start.node) (p r.end.node || list_any p (flat_map nodes_of_range rs)) k in
-    let end = neither (p r.end.node) (list_any p (flat_map nodes_of_range rs)) start.1 in
+    let start = or_parts (p r.start.node) (p r.end.node || list_any p (flat_map nodes_of_range rs)) k in
+    let end = or_parts (p r.end.node) (list_any p (flat_map nodes_of_range rs)) start.1 in
     let first = All-head (AreHeld f) r rs h in
     All-cons (AreHeld rest) r rs (record { start = stays r.start.node start.0 first.start; end = stays r.end.node end.0 first.end })
     (statics-left f rest p stays rs (All-tail (AreHeld f) r rs h) end.1)
@@ -182,13 +178,13 @@ record NamesNothing (v : World) (n : ℕ) : Type 0 where
 names-nothing : (v : World) (n : ℕ) → is_used v n ≡ false → NamesNothing v n
 names-nothing v n free =
     let p : ℕ → Bool = λ m. among m (inclusive_descendants v.tree.forest n) in
-    let apart = neither (is_held_outside v.tree.forest n) (list_any (λ m. among m (inclusive_descendants v.tree.forest n)) (named_in v)) free in
+    let apart = or_parts (is_held_outside v.tree.forest n) (list_any (λ m. among m (inclusive_descendants v.tree.forest n)) (named_in v)) free in
     let a = list_any p (flat_map nodes_of_live v.ranges.ranges) in
     let b = list_any p (flat_map nodes_of_range v.statics) in
     let c = list_any p (flat_map nodes_of_iterator v.iterators) in
     let d = list_any p (flat_map nodes_of_walker v.walkers) in
-    let all = neither (((a || b) || c) || d) (list_any p (named v.observers)) (named-own v p ∙ apart.1) in
-    let first = neither a b (neither (a || b) c (neither ((a || b) || c) d all.0).0).0 in
+    let all = or_parts (((a || b) || c) || d) (list_any p (named v.observers)) (named-own v p ∙ apart.1) in
+    let first = or_parts a b (or_parts (a || b) c (or_parts ((a || b) || c) d all.0).0).0 in
     let others : list_any p (named_nodes (unwatched v)) ≡ false = sym (named-parts v (unwatched v) n (keeps-unwatched v) p refl) ∙ ap (λ t. t || false) all.0 in
     record { outside = apart.0; ranges = first.0; statics = first.1; observers = all.1; unwatched_too = rw (apart.0, others) refl }
 

@@ -2,7 +2,7 @@
 use Rattle.std.specs.Option.{ForSome}
 use Rattle.std.proofs.Common.{◌≡◌, ℕ, ◌<◌, Bool, true, false, if◌then◌else◌, List, [], ◌∷◌, Option, Some, None, refl, ap, sym, ◌∙◌, subst, arith}
 use Rattle.dom_model.specs.declared.Kind.TheVariants.{DocumentFragment}
-use Rattle.dom_model.specs.PlainLists.Lists.{hits, is_number}
+use Rattle.dom_model.specs.PlainLists.Lists.{is_number}
 use Rattle.dom_model.specs.Forests.Forest.{Forest, HasNode, occurs, children_of, previous_of, next_of}
 use Rattle.dom_model.specs.Worlds.World.{Content}
 use Rattle.dom_model.specs.Forests.Nodes.{is_of_kind}

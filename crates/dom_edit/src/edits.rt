@@ -276,7 +276,7 @@ impl World {
         ensures refused { IfErr result (λ e. IsRefused e (check_adopt self.old.tree.forest node) self.old self.new) }
         ensures whole { IsWhole self.new }
     {
-        if self.tree.label(node).kind == Kind::Document {
+        if self.tree.is_of_kind(node, Kind::Document) {
             return Err(Refusal::Dom(DomError::NotSupportedError));
         }
         self.remove_node(alloc, node, false)?;

@@ -44,8 +44,8 @@ pub mod of_observe {
 /// What crates above name of `dom_point`.
 pub mod of_point {
     pub use dom_ranges::of_point::{
-        Point, checked_point, common, found_before, found_order, is_before, order, point_after,
-        point_before, same_root,
+        Point, checked_point, common, found_around, found_before, found_order, is_before, order,
+        point_after, point_before, same_root,
     };
 }
 

@@ -1,5 +1,6 @@
 //! What a node is labelled with.
 ghost use Rattle.std.specs.Prelude.{◌≡◌, IfOk};
+ghost use Rattle.dom_model.specs.Forests.Kinds.{node_name};
 
 use dom_model::Kind;
 use std::alloc::{AllocError, Global};
@@ -40,5 +41,17 @@ impl Label {
             public_id,
             system_id,
         })
+    }
+    /// `nodeName` (DOM Standard, "Interface Node").
+    pub fn node_name(&self) -> &str
+        ensures { result.now ≡ node_name self.now }
+    {
+        match self.kind {
+            Kind::Element | Kind::ProcessingInstruction | Kind::DocumentType => self.name.as_str(),
+            Kind::Text => "#text",
+            Kind::Comment => "#comment",
+            Kind::Document => "#document",
+            Kind::DocumentFragment => "#document-fragment",
+        }
     }
 }

@@ -5,3 +5,5 @@ pub mod Places
 pub mod Members
 pub mod Mapped
 pub mod FromFirst
+pub mod Heads
+pub mod Searches

@@ -7,7 +7,7 @@ use Rattle.std.proofs.lemmas.Bool.{true≢false}
 use Rattle.dom_model.specs.Worlds.World.{Registration, Options}
 use Rattle.dom_model.specs.MutationObservers.Records.{is_registered, with_options}
 use Rattle.dom_model.proofs.PlainLists.Numbers.{same_or, same, apart}
-use Rattle.dom_observe.specs.declared.registration.Ended.TheVariants.{From, Transient}
+use Rattle.dom_observe.specs.declared.registration.Ended.TheVariants.{From}
 use Rattle.dom_observe.specs.Watchers.{on}
 use Rattle.dom_observe.specs.Registrations.{spares, left_by, is_live, own_at, with_new_options, StandsOn, AllStand}
 use Rattle.dom_observe.proofs.Counting.{tally, any-from_count}

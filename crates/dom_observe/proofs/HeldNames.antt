@@ -1,24 +1,16 @@
 -- What observers name stays held: after a step of theirs, and after a step of the tree that they watch.
-use Rattle.std.proofs.Common.{◌≡◌, ℕ, Bool, true, false, List, [], ◌∷◌, ◌++◌, refl, sym, subst, ◌⊎◌, inl, inr}
+use Rattle.std.proofs.Common.{◌≡◌, ℕ, true, false, List, [], ◌∷◌, ◌++◌, refl, ◌⊎◌, inl, inr}
 use Rattle.std.specs.List.{list_any}
-use Rattle.std.proofs.lemmas.Bool.{true≢false}
 use Rattle.dom_model.specs.PlainLists.Lists.{among}
 use Rattle.dom_model.specs.Forests.Forest.{Forest, HasNode}
 use Rattle.dom_model.proofs.PlainLists.Numbers.{same_or, same, apart}
+use Rattle.dom_model.proofs.PlainLists.Searches.{passes_not}
 use Rattle.dom_observe.specs.Watchers.{Watchers}
 use Rattle.dom_observe.specs.Held.{named, NamesHeld, NamesOnly}
-use Rattle.dom_observe.proofs.Named.{or-left, or-right}
 
 among-either : (n : ℕ) (xs ys : List ℕ) → among n (xs ++ ys) ≡ true → (among n xs ≡ true) ⊎ (among n ys ≡ true)
 among-either n [] ys h = inr h
 among-either n (x ∷ xs) ys h = elim (same_or x n) [ same e t ↦ inl (rw t refl) | apart ne t ↦ let k = rw t at h in rw t (among-either n xs ys k) ]
-
-none-among : (p : ℕ → Bool) (xs : List ℕ) (n : ℕ) → list_any p xs ≡ false → among n xs ≡ true → p n ≡ false
-none-among p [] n none h = absurd (true≢false (sym h))
-none-among p (x ∷ xs) n none h = elim (same_or x n) [
-  | same e t ↦ subst (λ m. p m ≡ false) e (or-left (p x) (list_any p xs) none)
-  | apart ne t ↦ let k = rw t at h in none-among p xs n (or-right (p x) (list_any p xs) none) k
-]
 
 module _ {X : Type 0} (f : Forest X) where
   -- the nodes that come in are held
@@ -38,4 +30,4 @@ module _ {X : Type 0} (f : Forest X) where
 
   -- the tree loses nodes of which none is named
   pub held-freed : (g : Forest X) (o : Watchers) (gone : List ℕ) → ((n : ℕ) → HasNode f n → among n gone ≡ false → HasNode g n) → list_any (λ m. among m gone) (named o) ≡ false → NamesHeld f o → NamesHeld g o
-  held-freed g o gone keeps none held = record { nodes = λ n there. keeps n (held.nodes n there) (none-among (λ m. among m gone) (named o) n none there); observers = held.observers }
+  held-freed g o gone keeps none held = record { nodes = λ n there. keeps n (held.nodes n there) (passes_not (λ m. among m gone) (named o) n none there); observers = held.observers }

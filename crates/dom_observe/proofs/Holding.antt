@@ -4,7 +4,7 @@ use Rattle.std.specs.Prelude.{Vec, slice_index_or, slice_set, flat_map}
 use Rattle.std.specs.Map.{keys_of}
 use Rattle.std.specs.Option.{option_map_or}
 use Rattle.std.specs.List.{list_any, IsDistinct, AllByRecursion}
-use Rattle.std.proofs.lemmas.Bool.{true≢false, cases_lt}
+use Rattle.std.proofs.lemmas.Bool.{true≢false, cases_lt, or_parts, or_from}
 use Rattle.std.proofs.lemmas.List.{get_or_past, get_or-set_same, get_or-set_other, length-set}
 use Rattle.std.proofs.lemmas.List.Folds.{list_any-append}
 use Rattle.slab.specs.Slab.{Slab}
@@ -26,28 +26,28 @@ use Rattle.dom_observe.specs.Telling.{delivered}
 use Rattle.dom_observe.proofs.Asked.{any-found}
 use Rattle.dom_observe.proofs.Finding.{list_any-map}
 use Rattle.dom_observe.proofs.Keeping.{on-nodes_of}
-use Rattle.dom_observe.proofs.Named.{or-left, or-right, neither, any-flat, none_under, some_under, keys-nodes_of}
+use Rattle.dom_observe.proofs.Named.{any-flat, none_under, some_under, keys-nodes_of}
 use Rattle.dom_observe.proofs.Tables.{all_imply, all_append, all_filter, all_at, transient_shape, alike-added}
 
 module _ {A : Type 0} (p : A → Bool) where
   pub none_all : (xs : List A) → list_any p xs ≡ false → AllByRecursion (λ x. p x ≡ false) xs
   none_all [] h = tt
-  none_all (x ∷ xs) h = (or-left (p x) (list_any p xs) h, none_all xs (or-right (p x) (list_any p xs) h))
+  none_all (x ∷ xs) h = ((or_parts (p x) (list_any p xs) h).0, none_all xs (or_parts (p x) (list_any p xs) h).1)
 
   pub all_none : (xs : List A) → AllByRecursion (λ x. p x ≡ false) xs → list_any p xs ≡ false
   all_none [] h = refl
-  all_none (x ∷ xs) h = neither (p x) (list_any p xs) h.0 (all_none xs h.1)
+  all_none (x ∷ xs) h = or_from (p x) (list_any p xs) h.0 (all_none xs h.1)
 
 -- each queue passes a test that no queue passes that is not there
 pub any_tells : (t : List Record → Bool) (qs : List (List Record)) → t [] ≡ false → list_any t qs ≡ false → (o : ℕ) → t (slice_index_or qs o []) ≡ false
 any_tells t [] nothing h zero = nothing
 any_tells t [] nothing h (suc o) = nothing
-any_tells t (q ∷ qs) nothing h zero = or-left (t q) (list_any t qs) h
-any_tells t (q ∷ qs) nothing h (suc o) = any_tells t qs nothing (or-right (t q) (list_any t qs) h) o
+any_tells t (q ∷ qs) nothing h zero = (or_parts (t q) (list_any t qs) h).0
+any_tells t (q ∷ qs) nothing h (suc o) = any_tells t qs nothing (or_parts (t q) (list_any t qs) h).1 o
 
 pub tells_any : (t : List Record → Bool) (qs : List (List Record)) → ((o : ℕ) → t (slice_index_or qs o []) ≡ false) → list_any t qs ≡ false
 tells_any t [] h = refl
-tells_any t (q ∷ qs) h = neither (t q) (list_any t qs) (h 0) (tells_any t qs (λ o. h (suc o)))
+tells_any t (q ∷ qs) h = or_from (t q) (list_any t qs) (h 0) (tells_any t qs (λ o. h (suc o)))
 
 -- what is named, by registrations and by records
 pub named-parts : (p : ℕ → Bool) (o : Watchers) → list_any p (named o)
@@ -57,12 +57,28 @@ named-parts p o =
     ∙ (λ i. any-flat p (λ (e : ℕ × List Registration). flat_map nodes_of_registration e.1) o.nodes i || any-flat p (λ (q : List Record). flat_map nodes_of_record q) o.queues i)
     ∙ (λ i. list_any (λ (e : ℕ × List Registration). any-flat p nodes_of_registration e.1 i) o.nodes || list_any (λ (q : List Record). any-flat p nodes_of_record q i) o.queues)
 
+-- What is registered on nodes, and what is under the keys that they have.
+module _ {A : Type 0} (table : Slab held.Registration) (entries : List (ℕ × Vec ℕ A)) where
+  -- no registration passes, and so none under a number does
+  pub none_under_keys : (q : Registration → Bool) → list_any (λ (e : ℕ × List Registration). list_any q e.1) (nodes_of table entries) ≡ false
+      → (n : ℕ) → AllByRecursion (λ k. option_map_or q (at table k) false ≡ false) (on n (listed entries))
+  none_under_keys q none n =
+      none_all (λ k. option_map_or q (at table k) false) (on n (listed entries))
+      (any-found q (at table) (on n (listed entries)) ∙ ap (list_any q) (sym (on-nodes_of table n entries)) ∙ some_under q n (nodes_of table entries) none)
+
+  -- no registration under a number passes, and so none does
+  pub none_registered : (q : Registration → Bool) → IsDistinct nat_eq (keys_of entries) → ((n : ℕ) → AllByRecursion (λ k. option_map_or q (at table k) false ≡ false) (on n (listed entries)))
+      → list_any (λ (e : ℕ × List Registration). list_any q e.1) (nodes_of table entries) ≡ false
+  none_registered q distinct all =
+      none_under q (nodes_of table entries) (subst (IsDistinct nat_eq) (sym (keys-nodes_of table entries)) distinct)
+      (λ n. ap (list_any q) (on-nodes_of table n entries) ∙ sym (any-found q (at table) (on n (listed entries))) ∙ all_none (λ k. option_map_or q (at table k) false) (on n (listed entries)) (all n))
+
 module _ {A : Type 0} (table : Slab held.Registration) (entries : List (ℕ × Vec ℕ A)) (queues : List (List Record)) (pending : List ℕ) where
   abbrev shown : Watchers
   shown = record { nodes = nodes_of table entries; queues = queues; pending = pending }
 
   pub none-named : (p : ℕ → Bool) → list_any p (named (record { nodes = nodes_of table entries; queues = queues; pending = pending })) ≡ false → NamesNone p (at table) (listed entries) × TellsNone p queues
-  none-named p none = (registered, any_tells (list_any told) queues refl (or-right (list_any (λ (e : ℕ × List Registration). list_any one e.1) (nodes_of table entries)) (list_any (list_any told) queues) parts))
+  none-named p none = (registered, any_tells (list_any told) queues refl (or_parts (list_any (λ (e : ℕ × List Registration). list_any one e.1) (nodes_of table entries)) (list_any (list_any told) queues) parts).1)
     where
       one : Registration → Bool
       one r = list_any p (nodes_of_registration r)
@@ -74,25 +90,14 @@ module _ {A : Type 0} (table : Slab held.Registration) (entries : List (ℕ × V
       parts = sym (named-parts p shown) ∙ none
 
       registered : NamesNone p (at table) (listed entries)
-      registered n =
-          none_all (λ k. names_one p (at table k)) (on n (listed entries))
-          (any-found one (at table) (on n (listed entries))
-          ∙ ap (list_any one) (sym (on-nodes_of table n entries))
-          ∙ some_under one n (nodes_of table entries) (or-left (list_any (λ (e : ℕ × List Registration). list_any one e.1) (nodes_of table entries)) (list_any (list_any told) queues) parts))
-
-  -- no registration under a number passes, and so none does
-  none_registered : (q : Registration → Bool) → IsDistinct nat_eq (keys_of entries) → ((n : ℕ) → AllByRecursion (λ k. option_map_or q (at table k) false ≡ false) (on n (listed entries)))
-      → list_any (λ (e : ℕ × List Registration). list_any q e.1) (nodes_of table entries) ≡ false
-  none_registered q distinct all =
-      none_under q (nodes_of table entries) (subst (IsDistinct nat_eq) (sym (keys-nodes_of table entries)) distinct)
-      (λ n. ap (list_any q) (on-nodes_of table n entries) ∙ sym (any-found q (at table) (on n (listed entries))) ∙ all_none (λ k. option_map_or q (at table k) false) (on n (listed entries)) (all n))
+      registered = none_under_keys table entries one (or_parts (list_any (λ (e : ℕ × List Registration). list_any one e.1) (nodes_of table entries)) (list_any (list_any told) queues) parts).0
 
   pub named-none : (p : ℕ → Bool) → IsDistinct nat_eq (keys_of entries) → NamesNone p (at table) (listed entries) → TellsNone p queues
       → list_any p (named (record { nodes = nodes_of table entries; queues = queues; pending = pending })) ≡ false
   named-none p distinct names tells =
       named-parts p shown
-      ∙ neither (list_any (λ (e : ℕ × List Registration). list_any (λ r. list_any p (nodes_of_registration r)) e.1) (nodes_of table entries)) (list_any (list_any (λ r. list_any p (nodes_of_record r))) queues)
-      (none_registered (λ r. list_any p (nodes_of_registration r)) distinct names) (tells_any (list_any (λ r. list_any p (nodes_of_record r))) queues tells)
+      ∙ or_from (list_any (λ (e : ℕ × List Registration). list_any (λ r. list_any p (nodes_of_registration r)) e.1) (nodes_of table entries)) (list_any (list_any (λ r. list_any p (nodes_of_record r))) queues)
+      (none_registered table entries (λ r. list_any p (nodes_of_registration r)) distinct names) (tells_any (list_any (λ r. list_any p (nodes_of_record r))) queues tells)
 
   all_among : (P : ℕ → Type 0) (xs : List ℕ) (i : ℕ) → AllByRecursion P xs → among i xs ≡ true → P i
   all_among P [] i h t = absurd (true≢false (sym t))
@@ -114,7 +119,7 @@ module _ {A : Type 0} (table : Slab held.Registration) (entries : List (ℕ × V
       unregistered le =
           any-flat (λ m. m == i) (λ (e : ℕ × List Registration). map (λ (r : Registration). r.observer) e.1) (nodes_of table entries)
           ∙ (λ j. list_any (λ (e : ℕ × List Registration). list_any-map (λ m. m == i) (λ (r : Registration). r.observer) e.1 j) (nodes_of table entries))
-          ∙ none_registered (λ (r : Registration). r.observer == i) kept.unique
+          ∙ none_registered table entries (λ (r : Registration). r.observer == i) kept.unique
           (λ n. all_imply (StandsOn (at table) (length queues) n) (λ k. option_map_or (λ (r : Registration). r.observer == i) (at table k) false ≡ false) (other le n) (on n (listed entries)) (kept.stand n))
 
       go : ((i < length queues) ⊎ (length queues ≤ i)) → i < length queues
@@ -138,9 +143,9 @@ module _ {A B : Type 0} (table : Slab held.Registration) (entries : List (ℕ ×
           go true e = refl
           go false e =
               let split : (list_any (λ m. m == n) (named old) || list_any (λ m. m == n) these) ≡ false = sym (list_any-append (λ m. m == n) (named old) these) ∙ sym (among-any n (named old ++ these)) ∙ e in
-              let none : list_any (λ m. m == n) (named (shown table entries queues pending)) ≡ false = ap (λ o. list_any (λ m. m == n) (named o)) is ∙ or-left (list_any (λ m. m == n) (named old)) (list_any (λ m. m == n) these) split in
+              let none : list_any (λ m. m == n) (named (shown table entries queues pending)) ≡ false = ap (λ o. list_any (λ m. m == n) (named o)) is ∙ (or_parts (list_any (λ m. m == n) (named old)) (list_any (λ m. m == n) these) split).0 in
               let before = none-named table entries queues pending (λ m. m == n) none in
-              let after = lets (λ m. m == n) (or-right (list_any (λ m. m == n) (named old)) (list_any (λ m. m == n) these) split) before.0 before.1 in
+              let after = lets (λ m. m == n) (or_parts (list_any (λ m. m == n) (named old)) (list_any (λ m. m == n) these) split).1 before.0 before.1 in
               absurd (true≢false (sym there ∙ among-any n (named (shown table' entries' queues' pending')) ∙ named-none table' entries' queues' pending' (λ m. m == n) kept.unique after.0 after.1))
 
 -- nothing changes
@@ -203,8 +208,8 @@ module _ (p : ℕ → Bool) where
   none-transient node r here none = go r.source refl none
     where
       go : (o : Option ℕ) → r.source ≡ o → list_any p (nodes_of_registration r) ≡ false → list_any p (nodes_of_registration (transient_of node r)) ≡ false
-      go None e h = rw e (neither (p node) (p r.node || false) here (let k = rw e at h in k))
-      go (Some n) e h = rw e (neither (p node) (p n || false) here (let k = rw e at h in or-right (p r.node) (p n || false) k))
+      go None e h = rw e (or_from (p node) (p r.node || false) here (let k = rw e at h in k))
+      go (Some n) e h = rw e (or_from (p node) (p n || false) here (let k = rw e at h in (or_parts (p r.node) (p n || false) k).1))
 
   pub none-made : (u0 u : ℕ → Option Registration) (node : ℕ) (standing : List ℕ) (i d : ℕ) → i < length standing → AllByRecursion (λ k. u k ≡ u0 k) standing → (r : Registration)
       → transient_under u node (slice_index_or standing i d) ≡ Some r → p node ≡ false → AllByRecursion (λ k. names_one p (u0 k) ≡ false) standing → list_any p (nodes_of_registration r) ≡ false
@@ -243,8 +248,8 @@ module _ (p : ℕ → Bool) where
       → list_any (λ r. list_any p (nodes_of_record r)) (q ++ delivered m v) ≡ false
   tells-delivered m v q nameless none =
       list_any-append (λ r. list_any p (nodes_of_record r)) q (delivered m v)
-      ∙ neither (list_any (λ r. list_any p (nodes_of_record r)) q) (list_any (λ r. list_any p (nodes_of_record r)) (delivered m v)) none (go v)
+      ∙ or_from (list_any (λ r. list_any p (nodes_of_record r)) q) (list_any (λ r. list_any p (nodes_of_record r)) (delivered m v)) none (go v)
     where
       go : (w : Option Bool) → list_any (λ r. list_any p (nodes_of_record r)) (delivered m w) ≡ false
       go None = refl
-      go (Some asks) = neither (list_any p (nodes_of_mutation m)) false nameless refl
+      go (Some asks) = or_from (list_any p (nodes_of_mutation m)) false nameless refl

@@ -1,12 +1,21 @@
 -- The keys that each node has, as the map from nodes to keys changes.
-use Rattle.std.proofs.Common.{◌≡◌, ℕ, zero, suc, ◌+◌, ◌==◌, Bool, true, false, cond, not, if◌then◌else◌, List, [], ◌∷◌, ◌++◌, length, filter, Option, option_map, Some, None, refl, ap, sym, ◌∙◌, subst, nat_eq, append-nil, arith}
-use Rattle.std.specs.Prelude.{Vec, slice_index_or}
+use Rattle.std.proofs.Common.{◌≡◌, ℕ, ◌==◌, Bool, true, false, cond, not, if◌then◌else◌, List, [], ◌∷◌, ◌++◌, length, filter, Option, option_map, Some, None, refl, ap, sym, ◌∙◌, subst, nat_eq, append-nil, arith}
+use Rattle.std.specs.Prelude.{Vec, is_some}
 use Rattle.std.specs.Map.{lookup, set_value, keys_of}
-use Rattle.std.specs.List.{IsDistinct, AllByRecursion}
 use Rattle.indexmap.specs.IndexMap.{insert_entry}
+use Rattle.dom_model.specs.PlainLists.Lists.{among}
 use Rattle.dom_model.proofs.PlainLists.Numbers.{Same, same_or, same, apart}
 use Rattle.dom_observe.specs.Watchers.{on}
 use Rattle.dom_observe.specs.Registrations.{listed, HaveKeys}
+
+-- a look-up finds what is among the numbers
+pub some-lookup : {A : Type 0} (n : ℕ) (es : List (ℕ × A)) → is_some (lookup (nat_eq n) es) ≡ among n (keys_of es)
+some-lookup n [] = refl
+some-lookup n (e ∷ es) =
+    elim (same_or n e.0) [
+      | same d t ↦ elim (same_or e.0 n) [ same _ u ↦ rw (t, u) refl | apart ne u ↦ absurd (ne (sym d)) ]
+      | apart ne t ↦ elim (same_or e.0 n) [ same d u ↦ absurd (ne (sym d)) | apart _ u ↦ rw (t, u) (some-lookup n es) ]
+    ]
 
 module _ {A : Type 0} where
   -- the keys of a node, by what a look-up found

@@ -8,15 +8,15 @@ pub mod Hearing
 pub mod HeldNames
 pub mod Holding
 pub mod Indexing
-pub mod Inside
 pub mod Keeping
+pub mod Keyed
 pub mod Keys
-pub mod Members
 pub mod Named
 pub mod NamedRecords
 pub mod Outcomes
 pub mod Owning
 pub mod Queued
+pub mod Sources
 pub mod Tables
 pub mod Waiting
 pub mod Watching

@@ -1,42 +1,21 @@
 -- The nodes that registrations and waiting records name, asked in the order of the code and in that of the definitions.
-use Rattle.std.proofs.Common.{◌≡◌, ℕ, suc, ◌+◌, ◌<◌, ◌==◌, Bool, true, false, ◌||◌, if◌then◌else◌, List, [], ◌∷◌, ◌++◌, length, map, filter, refl, ap, sym, ◌∙◌, nat_eq, arith, cond}
+use Rattle.std.proofs.Common.{◌≡◌, ℕ, suc, ◌+◌, ◌<◌, ◌==◌, Bool, true, false, ◌||◌, if◌then◌else◌, List, [], ◌∷◌, ◌++◌, length, filter, refl, ap, sym, ◌∙◌, nat_eq, arith, cond}
 use Rattle.std.specs.Prelude.{Vec, slice_index_or, flat_map}
 use Rattle.std.specs.Map.{keys_of}
 use Rattle.std.specs.List.{list_any, IsDistinct, AllByRecursion}
-use Rattle.std.proofs.lemmas.Bool.{true≢false}
 use Rattle.std.proofs.lemmas.List.Folds.{list_any-append}
 use Rattle.slab.specs.Slab.{Slab}
+use Rattle.std.proofs.lemmas.Bool.{or_parts, or_from}
 use Rattle.dom_model.specs.Worlds.World.{Registration, Observing}
 use Rattle.dom_model.specs.MutationObservers.Record.{Record}
 use Rattle.dom_model.specs.MutationObservers.Observing.{registered_on}
 use Rattle.dom_model.specs.MutationObservers.Records.{queue_of}
 use Rattle.dom_model.specs.MutationAlgorithms.Discarding.{nodes_of_registration, nodes_of_record, queues_from, queued_records, observed_nodes}
 use Rattle.dom_model.proofs.PlainLists.Numbers.{Same, same_or, same, apart}
+use Rattle.dom_model.proofs.PlainLists.Searches.{alike}
 use Rattle.dom_observe.specs.declared.registration.Registration as held
 use Rattle.dom_observe.specs.Watchers.{on}
-use Rattle.dom_observe.specs.Registrations.{at}
 use Rattle.dom_observe.specs.Kept.{nodes_of}
-use Rattle.dom_observe.specs.Naming.{names_one}
-use Rattle.dom_observe.proofs.Asked.{any-found}
-
-pub or-left : (a b : Bool) → (a || b) ≡ false → a ≡ false
-or-left true b h = absurd (true≢false h)
-or-left false b h = refl
-
-pub or-right : (a b : Bool) → (a || b) ≡ false → b ≡ false
-or-right true b h = absurd (true≢false h)
-or-right false b h = h
-
-pub neither : (a b : Bool) → a ≡ false → b ≡ false → (a || b) ≡ false
-neither true b h i = h
-neither false b h i = i
-
--- two answers that are no alike are the same
-pub alike : (a b : Bool) → (a ≡ false → b ≡ false) → (b ≡ false → a ≡ false) → a ≡ b
-alike true true f g = refl
-alike true false f g = g refl
-alike false true f g = sym (f refl)
-alike false false f g = refl
 
 -- a search in the lists that a function makes
 pub any-flat : {A B : Type 0} (p : B → Bool) (f : A → List B) (xs : List A) → list_any p (flat_map f xs) ≡ list_any (λ x. list_any p (f x)) xs
@@ -51,16 +30,16 @@ module _ {A : Type 0} (p : A → Bool) where
   -- none passes under any number
   pub some_under : (n : ℕ) (es : List (ℕ × List A)) → list_any (λ e. list_any p e.1) es ≡ false → list_any p (on n es) ≡ false
   some_under n [] h = refl
-  some_under n (e ∷ es) h = go (n == e.0) (some_under n es (or-right (list_any p e.1) (list_any (λ d. list_any p d.1) es) h))
+  some_under n (e ∷ es) h = go (n == e.0) (some_under n es (or_parts (list_any p e.1) (list_any (λ d. list_any p d.1) es) h).1)
     where
       go : (b : Bool) → list_any p (on n es) ≡ false → list_any p (if b then e.1 else on n es) ≡ false
-      go true i = or-left (list_any p e.1) (list_any (λ d. list_any p d.1) es) h
+      go true i = (or_parts (list_any p e.1) (list_any (λ d. list_any p d.1) es) h).0
       go false i = i
 
   pub none_under : (es : List (ℕ × List A)) → IsDistinct nat_eq (keys_of es) → ((n : ℕ) → list_any p (on n es) ≡ false) → list_any (λ e. list_any p e.1) es ≡ false
   unfolding IsDistinct
   none_under [] u h = refl
-  none_under (e ∷ es) u h = neither (list_any p e.1) (list_any (λ d. list_any p d.1) es) here (none_under es u.1 rest)
+  none_under (e ∷ es) u h = or_from (list_any p e.1) (list_any (λ d. list_any p d.1) es) here (none_under es u.1 rest)
     where
       here : list_any p e.1 ≡ false
       here = elim (same_or e.0 e.0) [ same d t ↦ rw t at (h e.0) | apart ne t ↦ absurd (ne refl) ]
@@ -74,25 +53,25 @@ module _ {A : Type 0} (p : A → Bool) where
 
   fewer : (q : A → Bool) (xs : List A) → list_any p xs ≡ false → list_any p (filter q xs) ≡ false
   fewer q [] h = refl
-  fewer q (x ∷ xs) h = go (q x) (fewer q xs (or-right (p x) (list_any p xs) h))
+  fewer q (x ∷ xs) h = go (q x) (fewer q xs (or_parts (p x) (list_any p xs) h).1)
     where
       go : (b : Bool) → list_any p (filter q xs) ≡ false → list_any p (cond b (x ∷ filter q xs) (filter q xs)) ≡ false
-      go true i = neither (p x) (list_any p (filter q xs)) (or-left (p x) (list_any p xs) h) i
+      go true i = or_from (p x) (list_any p (filter q xs)) (or_parts (p x) (list_any p xs) h).0 i
       go false i = i
 
 module _ (p : Registration → Bool) where
   none_on : (rs : List Registration) → ((n : ℕ) → list_any p (registered_on n rs) ≡ false) → list_any p rs ≡ false
   none_on [] h = refl
-  none_on (r ∷ rs) h = neither (p r) (list_any p rs) here (none_on rs rest)
+  none_on (r ∷ rs) h = or_from (p r) (list_any p rs) here (none_on rs rest)
     where
       here : p r ≡ false
-      here = elim (same_or r.node r.node) [ same d t ↦ or-left (p r) (list_any p (registered_on r.node rs)) (rw t at (h r.node)) | apart ne t ↦ absurd (ne refl) ]
+      here = elim (same_or r.node r.node) [ same d t ↦ (or_parts (p r) (list_any p (registered_on r.node rs)) (rw t at (h r.node))).0 | apart ne t ↦ absurd (ne refl) ]
 
       rest : (n : ℕ) → list_any p (registered_on n rs) ≡ false
       rest n = go (r.node == n) (h n)
         where
           go : (b : Bool) → list_any p (cond b (r ∷ registered_on n rs) (registered_on n rs)) ≡ false → list_any p (registered_on n rs) ≡ false
-          go true i = or-right (p r) (list_any p (registered_on n rs)) i
+          go true i = (or_parts (p r) (list_any p (registered_on n rs)) i).1
           go false i = i
 
   -- what is registered by node passes where what is registered does
@@ -122,12 +101,6 @@ module _ {A : Type 0} (table : Slab held.Registration) where
   pub keys-nodes_of : (es : List (ℕ × Vec ℕ A)) → keys_of (nodes_of table es) ≡ keys_of es
   keys-nodes_of [] = refl
   keys-nodes_of (e ∷ es) = ap (λ ks. e.0 ∷ ks) (keys-nodes_of es)
-
-  -- what is under the keys of all nodes
-  pub any-nodes_of : (p : ℕ → Bool) (es : List (ℕ × Vec ℕ A)) → list_any (λ keys. list_any (λ key. names_one p (at table key)) keys.items) (map (λ e. e.1) es)
-      ≡ list_any (λ e. list_any (λ r. list_any p (nodes_of_registration r)) e.1) (nodes_of table es)
-  any-nodes_of p [] = refl
-  any-nodes_of p (e ∷ es) = (λ i. any-found (λ r. list_any p (nodes_of_registration r)) (at table) e.1.items i || any-nodes_of p es i)
 
 -- the nodes that are named, in the order of the definitions
 pub any-observed : (p : ℕ → Bool) (x : Observing) → list_any p (observed_nodes x)

@@ -5,10 +5,10 @@ use Rattle.std.specs.List.{list_any}
 use Rattle.dom_model.specs.PlainLists.Lists.{among}
 use Rattle.dom_model.specs.MutationObservers.Record.{Record}
 use Rattle.dom_model.specs.MutationAlgorithms.Discarding.{nodes_of_record}
+use Rattle.dom_model.proofs.PlainLists.Searches.{among-both, any-same}
 use Rattle.indexmap.specs.IndexSet.{IndexSet, contains}
 use Rattle.dom_observe.specs.Naming.{NamesNodes}
 use Rattle.dom_observe.proofs.Hearing.{among-list_any}
-use Rattle.dom_observe.proofs.Members.{among-both, any-same}
 
 or-grouped : (a b c : Bool) → (a || (b || c)) ≡ ((a || b) || c)
 or-grouped true b c = refl

@@ -1,5 +1,7 @@
 -- Facts of one outcome of a call.
-use Rattle.std.specs.Prelude.{Result, Ok, Err, OnOk, OnErr}
+use Rattle.std.proofs.Common.{◌≡◌, Bool, Option, Some, None, ◌∙◌}
+use Rattle.std.specs.Prelude.{Result, Ok, Err, OnOk, OnErr, IfSome}
+use Rattle.std.specs.Option.{MatchOption}
 
 pub on_ok : {A E : Type 0} (r : Result A E) {P Q : Type 0} → OnOk r P → (P → Q) → OnOk r Q
 on_ok (Ok x) h f = f h
@@ -9,6 +11,10 @@ pub on_err : {A E : Type 0} (r : Result A E) {P Q : Type 0} → OnErr r P → (P
 on_err (Ok x) h f = h
 on_err (Err e) h f = f h
 
+pub by_one : {A E : Type 0} (r : Result A E) {P B Q : Type 0} → OnOk r P → OnErr r B → (P → Q) → (B → Q) → Q
+by_one (Ok x) h b f g = f h
+by_one (Err e) h b f g = g b
+
 pub by_outcome : {A E : Type 0} (r : Result A E) {P B C Q : Type 0} → OnOk r P → OnErr r B → OnErr r C → (P → Q) → (B → C → Q) → Q
 by_outcome (Ok x) h b c f g = f h
 by_outcome (Err e) h b c f g = g b c
@@ -16,3 +22,8 @@ by_outcome (Err e) h b c f g = g b c
 pub by_two : {A E : Type 0} (r : Result A E) {P O B C D Q : Type 0} → OnOk r P → OnOk r O → OnErr r B → OnErr r C → OnErr r D → (P → O → Q) → (B → C → D → Q) → Q
 by_two (Ok x) h o b c d f g = f h o
 by_two (Err e) h o b c d f g = g b c d
+
+-- a search that may have no answer, and one that then has it
+pub by_either : (first : Option Bool) (P : Type 0) (result truth : Bool) → MatchOption first P (λ any. result ≡ any) → IfSome first (λ any. any ≡ truth) → (P → result ≡ truth) → result ≡ truth
+by_either None P result truth m h f = f m
+by_either (Some any) P result truth m h f = m ∙ h

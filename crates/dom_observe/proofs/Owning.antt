@@ -6,7 +6,7 @@ use Rattle.std.proofs.lemmas.List.{get_or-set_same, get_or-set_other}
 use Rattle.dom_model.specs.PlainLists.Lists.{among, is_number}
 use Rattle.dom_model.specs.Worlds.World.{Registration, Options}
 use Rattle.dom_model.proofs.PlainLists.Numbers.{Same, same_or, same, apart}
-use Rattle.dom_observe.specs.declared.registration.Ended.TheVariants.{Transient, Of, From}
+use Rattle.dom_observe.specs.declared.registration.Ended.TheVariants.{Of, From}
 use Rattle.dom_observe.specs.Watchers.{on}
 use Rattle.dom_observe.specs.Registrations.{left_by, is_live, is_on, lasts_for, passes_for, Placed, Owned, Added, NewKey, with_new_options}
 use Rattle.dom_observe.proofs.EndedOnes.{among-filter, among-last}

@@ -5,9 +5,9 @@ use Rattle.std.specs.List.{list_any}
 use Rattle.dom_model.specs.PlainLists.Lists.{among}
 use Rattle.dom_model.specs.MutationObservers.Record.{Record}
 use Rattle.dom_model.specs.MutationAlgorithms.Discarding.{nodes_of_record}
+use Rattle.dom_model.proofs.PlainLists.Searches.{alike, passes_not, none-each}
 use Rattle.dom_observe.proofs.Holding.{any_tells, tells_any}
-use Rattle.dom_observe.proofs.Members.{passes_not, none-each}
-use Rattle.dom_observe.proofs.Named.{alike, any-flat}
+use Rattle.dom_observe.proofs.Named.{any-flat}
 
 module _ (t : List Record → Bool) (nothing : t [] ≡ false) (queues : List (List Record)) (pending : List ℕ) (waiting : (o : ℕ) → among o pending ≡ false → slice_index_or queues o [] ≡ []) where
   of_one : list_any (λ o. t (slice_index_or queues o [])) pending ≡ false → (o : ℕ) → t (slice_index_or queues o []) ≡ false

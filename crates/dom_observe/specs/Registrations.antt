@@ -99,6 +99,15 @@ Placed under lists = (n key : ℕ) → among key (on n lists) ≡ is_on n (under
 abbrev pub Owned : (ℕ → Option model.Registration → Bool) → (ℕ → Option model.Registration) → List (List ℕ) → Type 0
 Owned kind under lists = (i key : ℕ) → among key (slice_index_or lists i []) ≡ kind i (under key)
 
+-- the observer's registration on the node stands under a key
+pub record Observes (under : ℕ → Option model.Registration) (o n : ℕ) : Type 0 where
+  pub key : ℕ
+  pub own : own_at under o n key ≡ true
+
+-- the source of each transient registration stands: its observer's registration on that node
+abbrev pub HaveSources : (ℕ → Option model.Registration) → Type 0
+HaveSources under = (key : ℕ) (r : model.Registration) (n : ℕ) → under key ≡ Some r → r.source ≡ Some n → Observes under r.observer n
+
 -- the node of a registration that a step ends
 abbrev pub ended_node : Ended → Option model.Registration → Option ℕ
 ended_node ended None = None

@@ -6,7 +6,7 @@ ghost use Rattle.indexmap.specs.IndexMap.{IsUnique};
 ghost use Rattle.dom_model.specs.Forests.Forest.{HasNode, ancestors};
 ghost use Rattle.dom_observe.specs.Watchers.{on};
 ghost use Rattle.dom_observe.specs.Kept.{keys_by, IsIndexed};
-ghost use Rattle.dom_observe.specs.Registrations.{plain, at, found, listed, Added, NewKey, AllLive, Stands, AllStand, HaveKeys, deep_at, transient_under, with_added_transients};
+ghost use Rattle.dom_observe.specs.Registrations.{plain, at, found, listed, Added, NewKey, AllLive, Stands, AllStand, HaveKeys, HaveSources, deep_at, transient_under, with_added_transients};
 ghost use Rattle.dom_observe.specs.Naming.{names_one, NamesNone};
 
 use crate::observer_id::ObserverId;
@@ -82,6 +82,7 @@ pub fn add_transients(
     ensures names { (p : ℕ → Bool) → p node ≡ false → AllByRecursion (λ key. names_one p (at table.old key) ≡ false) standing.now → NamesNone p (at table.old) (listed nodes.old.entries) → NamesNone p (at table.new) (listed nodes.new.entries) }
     ensures full { HaveKeys (listed nodes.old.entries) → HaveKeys (listed nodes.new.entries) }
     ensures indexed { (lasts : List (List ℕ)) (made : ℕ) → AllByRecursion (Stands (at table.old) made) standing.now → IsIndexed (at table.old) (listed nodes.old.entries) lasts (keys_by passing.old.items) fleeting.old.keys made → IsIndexed (at table.new) (listed nodes.new.entries) lasts (keys_by passing.new.items) fleeting.new.keys made }
+    ensures sources { HaveSources (at table.old) → HaveSources (at table.new) }
     ensures len { length passing.new.items ≡ length passing.old.items }
     ensures unique { IsUnique nat_eq nodes.new }
 {

@@ -54,7 +54,7 @@ impl Model for Observers {
     ghost Value = { Watchers };
 
     ghost use Rattle.std.specs.Prelude.{length};
-    ghost use Rattle.dom_observe.specs.Registrations.{at, listed};
+    ghost use Rattle.dom_observe.specs.Registrations.{at, listed, HaveSources};
     ghost use Rattle.dom_observe.specs.Kept.{nodes_of, keys_by, IsKept, IsIndexed};
 
     ghost view = { λ o. record {
@@ -63,7 +63,7 @@ impl Model for Observers {
       pending = o.pending.keys;
     } };
 
-    ghost invariant = { λ o. IsKept o.table o.nodes.entries o.queues.items o.pending.keys × IsIndexed (at o.table) (listed o.nodes.entries) (keys_by o.lasting.items) (keys_by o.passing.items) o.fleeting.keys (length o.queues.items) };
+    ghost invariant = { λ o. IsKept o.table o.nodes.entries o.queues.items o.pending.keys × IsIndexed (at o.table) (listed o.nodes.entries) (keys_by o.lasting.items) (keys_by o.passing.items) o.fleeting.keys (length o.queues.items) × HaveSources (at o.table) };
 }
 
 impl Observers {
@@ -286,13 +286,14 @@ impl Observers {
 
     /// Whether a registration, or a record that waits, names a node inside another. It takes no memory.
     ///
-    /// It asks each registration, and each queue of a pending observer, which knows the nodes that its records name.
+    /// It walks the nodes inside, and asks of each whether a registration stands on it: so does one on the source of each transient one. Where they are
+    /// more than the nodes with registrations it asks these. It asks each queue of a pending observer in the same way, by the nodes that its records name.
     pub fn refers<X>(&self, tree: &Tree<X>, top: NodeId) -> bool
         requires { HasNode tree.now.forest top }
         ensures observed { (x : Observing) → Watches self.now x → result ≡ list_any (λ m. among m (inclusive_descendants tree.now.forest top)) (observed_nodes x) }
         ensures named { result ≡ list_any (λ m. among m (inclusive_descendants tree.now.forest top)) (named self.now) }
     {
-        is_named(tree, top, &self.table, &self.nodes)
+        is_named(tree, top, &self.nodes)
             || is_told(tree, top, self.queues.as_slice(), &self.pending)
     }
 }

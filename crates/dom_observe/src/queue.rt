@@ -74,18 +74,8 @@ impl Queue {
         requires { HasNode tree.now.forest top }
         ensures { result ≡ list_any (λ m. among m (inclusive_descendants tree.now.forest top)) (flat_map nodes_of_record self.now) }
     {
-        tree.sound();
-        let mut here = top;
-        for _step in 0..self.named.len() + 1 {
-            if self.names(here) {
-                return true;
-            }
-            match tree.next_inside(top, here) {
-                Some(next) => here = next,
-                None => return false,
-            }
-        }
-        self.has_name_inside(tree, top)
+        tree.any_inside(top, self.named.len(), |node| self.names(node))
+            .unwrap_or_else(|| self.has_name_inside(tree, top))
     }
 
     // Whether a record names a node.

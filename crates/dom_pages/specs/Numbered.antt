@@ -1,5 +1,5 @@
 -- What stands under each number that was given out.
-use Rattle.std.specs.Prelude.{ℕ, refl, List, slice_index_or, Option, Some, None}
+use Rattle.std.specs.Prelude.{ℕ, refl, List, slice_index_or, Option, None}
 use Rattle.std.specs.Coded.{Coded, code_by, coded×, coded_list, coded_ℕ, coded_option}
 
 -- by number what stands under it, none where the number was taken back; and how many more numbers have room

@@ -11,7 +11,10 @@ pub use ancestors::common;
 pub use laws::{one_gap_each, points_as_gaps};
 pub use ordering::{found_order, order};
 pub use point::Point;
-pub use questions::{checked_point, found_before, is_before, point_after, point_before, same_root};
+pub use questions::{
+    checked_point, found_around, found_before, is_before, point_after, point_before, points_around,
+    same_root,
+};
 
 /// What crates above name of `dom_kinds`.
 pub mod of_kinds {

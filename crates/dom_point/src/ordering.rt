@@ -1,8 +1,8 @@
 //! The order of boundary points (DOM Standard, "Boundary points").
 
-ghost use Rattle.std.specs.Prelude.{◌≡◌, if◌then◌else◌};
+ghost use Rattle.std.specs.Prelude.{◌≡◌, IsSome, if◌then◌else◌};
 ghost use Rattle.std.specs.declared.cmp.Ordering.TheVariants.{Less, Greater};
-ghost use Rattle.dom_model.specs.Forests.Forest.{HasNode, root_of};
+ghost use Rattle.dom_model.specs.Forests.Forest.{HasNode, parent_of, root_of};
 ghost use Rattle.dom_model.specs.BoundaryPoints.Points.{order_of};
 ghost use Rattle.dom_tree.specs.Ways.{IsOnWay, AreApart};
 
@@ -21,7 +21,7 @@ pub fn order<X>(tree: &Tree<X>, a: Point, b: Point) -> Ordering
     order_where_met(tree, met, a, b)
 }
 
-/// How two points of one root stand. Where that asks for an index that is not found near, all siblings are numbered, so that it is known when it is asked for again. It takes no memory.
+/// How two points of one root stand. Where that asks for an index, or for which of two children comes first, and it is not found near, all siblings are numbered, so that it is known when it is asked for again. It takes no memory.
 pub fn found_order<X>(tree: &mut Tree<X>, a: Point, b: Point) -> Ordering
     requires a_held { HasNode tree.old.forest a.node }
     requires b_held { HasNode tree.old.forest b.node }
@@ -34,6 +34,7 @@ pub fn found_order<X>(tree: &mut Tree<X>, a: Point, b: Point) -> Ordering
     match (meeting.first, meeting.second) {
         (None, Some(child)) if a.offset != 0 => find_index(tree, child),
         (Some(child), None) if b.offset != 0 => find_index(tree, child),
+        (Some(first), Some(second)) => find_order(tree, first, second),
         _ => {}
     }
     order_where_met(tree, meeting, a, b)
@@ -45,6 +46,17 @@ fn find_index<X>(tree: &mut Tree<X>, node: NodeId)
     ensures { tree.new ≡ tree.old }
 {
     let _ = tree.found_index(node);
+}
+
+// Finds which of two children of one parent comes first, so that what asks for it next has it at once.
+fn find_order<X>(tree: &mut Tree<X>, first: NodeId, second: NodeId)
+    requires first_held { HasNode tree.old.forest first }
+    requires second_held { HasNode tree.old.forest second }
+    requires one_parent { parent_of tree.old.forest first ≡ parent_of tree.old.forest second }
+    requires child { IsSome (parent_of tree.old.forest first) }
+    ensures { tree.new ≡ tree.old }
+{
+    let _ = tree.found_before(first, second);
 }
 
 // How two points stand whose ways up meet there.

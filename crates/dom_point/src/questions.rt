@@ -1,9 +1,9 @@
 //! What is asked of boundary points and of nodes beside them (DOM Standard, "Boundary points", "Interface Range").
 
-ghost use Rattle.std.specs.Prelude.{◌≡◌};
-ghost use Rattle.dom_model.specs.Forests.Forest.{HasNode, root_of};
+ghost use Rattle.std.specs.Prelude.{◌≡◌, ◌+◌, Some, option_map};
+ghost use Rattle.dom_model.specs.Forests.Forest.{HasNode, index_of, parent_of, root_of};
 ghost use Rattle.dom_model.specs.Forests.Nodes.{same_root as has_same_root};
-ghost use Rattle.dom_model.specs.RangesAndContents.Ranges.{is_before as comes_before, check_point, point_before as place_before, point_after as place_after};
+ghost use Rattle.dom_model.specs.RangesAndContents.Ranges.{is_before as comes_before, check_point, point_before as place_before, point_after as place_after, around};
 ghost use Rattle.dom_point.specs.Refusals.{refused};
 
 use crate::ordering::{found_order, order};
@@ -50,7 +50,7 @@ pub fn checked_point<X: Body>(tree: &Tree<X>, node: NodeId, offset: usize) -> Re
     requires { HasNode tree.now.forest node }
     ensures { result ≡ refused (check_point X.length tree.now.forest (record { node = node; offset = offset })) }
 {
-    if tree.label(node).kind == Kind::DocumentType {
+    if tree.is_of_kind(node, Kind::DocumentType) {
         return Err(DomError::InvalidNodeTypeError);
     }
     if tree.length(node) < offset {
@@ -76,12 +76,48 @@ pub fn point_after<X>(tree: &Tree<X>, node: NodeId) -> Option<Point>
     requires { HasNode tree.now.forest node }
     ensures { result ≡ place_after tree.now.forest node }
 {
-    tree.sound();
+    let (_, after) = points_around(tree, node)?;
+    Some(after)
+}
+
+/// The points ahead of a node and behind it in its parent; none without a parent.
+pub fn points_around<X>(tree: &Tree<X>, node: NodeId) -> Option<(Point, Point)>
+    requires { HasNode tree.now.forest node }
+    ensures { option_map (λ ends. record { start = ends.0; end = ends.1 }) result ≡ around tree.now.forest node }
+{
     let parent = tree.parent(node)?;
-    // an index is below the count, so the offset behind the node is a number of the machine too
+    Some(around_child(tree, parent, node, tree.index(node)))
+}
+
+/// The points ahead of a node and behind it in its parent; none without a parent. An index that this asks for is known when it is asked for again, as by [`Tree::found_index`].
+pub fn found_around<X>(tree: &mut Tree<X>, node: NodeId) -> Option<(Point, Point)>
+    requires { HasNode tree.old.forest node }
+    ensures around { option_map (λ ends. record { start = ends.0; end = ends.1 }) result ≡ around tree.old.forest node }
+    ensures unchanged { tree.new ≡ tree.old }
+{
+    let parent = tree.parent(node)?;
+    let index = tree.found_index(node);
+    Some(around_child(tree, parent, node, index))
+}
+
+// The points ahead of a child of a parent, whose index is given, and behind it.
+fn around_child<X>(tree: &Tree<X>, parent: NodeId, child: NodeId, index: usize) -> (Point, Point)
+    requires held { HasNode tree.now.forest child }
+    requires child { parent_of tree.now.forest child ≡ Some parent }
+    requires index { index ≡ index_of tree.now.forest child }
+    ensures ahead { result.0 ≡ record { node = parent; offset = index } }
+    ensures behind { result.1 ≡ record { node = parent; offset = index + 1 } }
+{
+    tree.sound();
+    // an index is below the count, so the offset behind the child is a number of the machine too
     let _ = tree.count(parent);
-    Some(Point {
+    let before = Point {
         node: parent,
-        offset: tree.index(node) + 1,
-    })
+        offset: index,
+    };
+    let after = Point {
+        node: parent,
+        offset: index + 1,
+    };
+    (before, after)
 }

@@ -1,8 +1,7 @@
 -- Ends asked one by one whether they stand inside a node.
-use Rattle.std.proofs.Common.{◌≡◌, ℕ, zero, suc, ◌+◌, ◌<◌, ◌≤◌, ◌==◌, true, false, nat_eq, Bool, if◌then◌else◌, List, [], ◌∷◌, ◌++◌, length, map, get_or, set, Option, Some, None, option_map, refl, sym, ap, ◌∙◌, ⊎_elim, arith}
+use Rattle.std.proofs.Common.{◌≡◌, ℕ, ◌+◌, ◌<◌, ◌≤◌, ◌==◌, true, false, nat_eq, Bool, if◌then◌else◌, List, [], ◌∷◌, ◌++◌, length, map, set, Option, Some, None, option_map, refl, sym, ap, ◌∙◌, ⊎_elim, arith}
 use Rattle.std.specs.List.{list_any, flat_map}
 use Rattle.std.proofs.lemmas.Bool.{cases_Bool, cases_eq, false≢true}
-use Rattle.std.proofs.lemmas.List.{ext_get_or, length-map}
 use Rattle.dom_model.specs.PlainLists.Lists.{among}
 use Rattle.dom_model.specs.Worlds.World.{Point, Range}
 use Rattle.dom_model.specs.MutationAlgorithms.Discarding.{nodes_of_live, nodes_of_range}
@@ -10,7 +9,7 @@ use Rattle.indexmap.specs.IndexSet.{IndexSet, contains}
 use Rattle.dom_ranges.specs.declared.chains.End.{End}
 use Rattle.dom_ranges.specs.Chained.{Heads, point_at, points_of, cover_of, HasChains, Rechains, moved_from}
 use Rattle.dom_ranges.specs.Tables.{RangeTable, live_nodes, paired, IsPaired, by_slot, moved_in, nodes_at, stands_among, NamesNodes, IsInOrder}
-use Rattle.dom_ranges.proofs.Steps.{points-at, points-length, same-length, point-written, point-kept, has-after}
+use Rattle.dom_ranges.proofs.Steps.{points-moved, same-length, point-written, point-kept, has-after}
 use Rattle.dom_ranges.proofs.Slots.{slots-any}
 use Rattle.dom_ranges.proofs.Pairs.{ranges-are}
 use Rattle.dom_model.proofs.RangesAndContents.RangesElsewhere.{among-any}
@@ -83,15 +82,7 @@ module _ (move : Point → Point) (t0 : List End) (heads0 : Heads) (t : List End
   }
 
   pub all-asked : length t0 ≤ index → points_of t ≡ map (λ (o : Option Point). option_map move o) (points_of t0)
-  all-asked past =
-      ext_get_or None (points_of t) (map (λ (o : Option Point). option_map move o) (points_of t0))
-      (points-length t ∙ are.long ∙ sym (points-length t0) ∙ sym (length-map (points_of t0) (λ (o : Option Point). option_map move o)))
-      (λ e l. points-at t e ∙ are.asked e (omega (arith, points-length t, are.long)) ∙ ap (option_map move) (sym (points-at t0 e)) ∙ sym (mapped (points_of t0) e))
-    where
-      mapped : (ps : List (Option Point)) (e : ℕ) → get_or (map (λ (o : Option Point). option_map move o) ps) e None ≡ option_map move (get_or ps e None)
-      mapped [] e = refl
-      mapped (x ∷ xs) zero = refl
-      mapped (x ∷ xs) (suc e) = mapped xs e
+  all-asked past = points-moved move t t0 are.long (λ e l. are.asked e (omega (arith, are.long)))
 
 -- the nodes of static ranges, once there is one more
 pub named-more : (rs : List Range) (p q : Point) (n : ℕ) → among n (flat_map nodes_of_range (rs ++ record { start = p; end = q } ∷ [])) ≡ (if q.node == n then true else (if p.node == n then true else among n (flat_map nodes_of_range rs)))

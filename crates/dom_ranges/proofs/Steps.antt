@@ -1,5 +1,5 @@
 -- The steps by which an end is taken out of its chain or put in come to the changed tables.
-use Rattle.std.proofs.Common.{◌≡◌, ℕ, zero, suc, ◌+◌, ◌<◌, ◌≤◌, ◌==◌, if◌then◌else◌, true, false, List, [], ◌∷◌, length, set, get_or, take, ◌++◌, Option, Some, None, is_some, refl, sym, ap, ◌∙◌, ⊎_elim, arith, length-set, get_or-set_same, get_or-set_other}
+use Rattle.std.proofs.Common.{◌≡◌, ℕ, zero, suc, ◌+◌, ◌<◌, ◌≤◌, ◌==◌, if◌then◌else◌, true, false, List, [], ◌∷◌, length, map, set, get_or, take, ◌++◌, Option, Some, None, option_map, is_some, refl, sym, ap, ◌∙◌, ⊎_elim, arith, length-set, get_or-set_same, get_or-set_other}
 use Rattle.std.specs.Option.{IsSome}
 use Rattle.std.proofs.lemmas.Bool.{cases_eq, cases_lt, eq-eqb, ne_eqb, false≢true}
 use Rattle.std.proofs.lemmas.List.{map-set, map-append, length-map, length-take, get_or_past, get_or-take, take-set-le, take-map}
@@ -105,6 +105,14 @@ points-at (x ∷ xs) (suc e) = points-at xs e
 
 pub points-length : (t : List End) → length (points_of t) ≡ length t
 points-length t = length-map t (λ (x : End). x.point)
+
+-- points that were moved one by one
+pub points-moved : (move : Point → Point) (t t0 : List End) → length t ≡ length t0 → ((e : ℕ) → e < length t → point_at t e ≡ option_map move (point_at t0 e)) → points_of t ≡ map (λ (o : Option Point). option_map move o) (points_of t0)
+points-moved move [] [] long each = refl
+points-moved move [] (y ∷ t0) long each = absurd (omega arith)
+points-moved move (x ∷ t) [] long each = absurd (omega arith)
+points-moved move (x ∷ t) (y ∷ t0) long each =
+    ap (λ o. o ∷ points_of t) (each 0 (omega arith)) ∙ ap (λ os. option_map move y.point ∷ os) (points-moved move t t0 (omega arith) (λ e l. each (suc e) (omega arith)))
 
 -- chains that are there after a change of chains
 pub has-after : (change : (ℕ → List ℕ) → ℕ → List ℕ) (t : List End) (heads : Heads) (t' : List End) (heads' : Heads) → HasChains t heads → Rechains change t heads t' heads' → HasChains t' heads'

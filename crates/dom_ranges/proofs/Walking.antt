@@ -1,56 +1,23 @@
 -- A walk along a chain shifts each end of the chain once, also where the ends go to other chains on the way.
-use Rattle.std.proofs.Common.{◌≡◌, ℕ, zero, suc, ◌+◌, ◌≤◌, ◌<◌, ◌^◌, ◌==◌, Bool, true, false, cond, if◌then◌else◌, List, [], ◌∷◌, length, map, get_or, set, subst, Option, Some, None, option_map, refl, sym, ap, ◌∙◌, ⊎_elim, arith}
+use Rattle.std.proofs.Common.{◌≡◌, ℕ, zero, suc, ◌≤◌, ◌<◌, ◌^◌, ◌==◌, Bool, true, false, cond, if◌then◌else◌, List, [], ◌∷◌, length, map, set, subst, Option, Some, None, option_map, refl, sym, ap, ◌∙◌, ⊎_elim, arith}
 use Rattle.std.specs.Option.{IsSome}
-use Rattle.std.proofs.lemmas.Bool.{cases_Bool, cases_eq, eq-eqb, ne_eqb, eqb-true, false≢true}
-use Rattle.std.proofs.lemmas.List.{ext_get_or, length-map}
+use Rattle.std.proofs.lemmas.Bool.{cases_Bool, cases_eq, eq-eqb, eqb-true, false≢true}
 use Rattle.dom_model.specs.PlainLists.Lists.{hits, among, is_number, head_of, after, left_out}
 use Rattle.dom_model.specs.Worlds.World.{Point}
+use Rattle.dom_model.proofs.Forests.Climbing.{hits-not_among, not_among-hits}
+use Rattle.dom_model.proofs.PlainLists.Heads.{hits-first, hits-rest, after-first, after-rest, among-first, among-rest}
 use Rattle.dom_point.specs.dom_links.Neighbours.{after-none, after-left_out, hits-left_out_other}
 use Rattle.dom_point.specs.dom_links.Counting.{length-le_from_once}
 use Rattle.dom_ranges.specs.declared.chains.End.{End}
 use Rattle.dom_ranges.specs.Chained.{Heads, end_at, point_at, points_of, covers, cover_of, head_at, stands_at, IsChained, HasChains, Rechains, moved_from, on_node, MovesWithin}
 use Rattle.dom_ranges.proofs.Chained.{in-stands, once, chained-within}
-use Rattle.dom_ranges.proofs.Steps.{points-at, points-length, same-length, point-written, point-kept, stays-there, goes-elsewhere}
+use Rattle.dom_ranges.proofs.Steps.{points-moved, same-length, point-written, point-kept, stays-there, goes-elsewhere}
 
 -- the ends along a list of links, no more than the fuel
 abbrev pub along : List End → ℕ → Option ℕ → List ℕ
 along t zero link = []
 along t (suc k) None = []
 along t (suc k) (Some e) = e ∷ along t k (end_at t e).next
-
--- hits in a list with a head
-pub hits-first : (e : ℕ) (xs : List ℕ) → hits e (e ∷ xs) ≡ 1 + hits e xs
-hits-first e xs = rw (eq-eqb e e refl) refl
-
-pub hits-rest : (k e : ℕ) (xs : List ℕ) → (k ≡ e → ⊥) → hits k (e ∷ xs) ≡ hits k xs
-hits-rest k e xs d = rw (ne_eqb e k (λ q. d (sym q))) (omega arith)
-
-pub after-first : (e : ℕ) (xs : List ℕ) → after e (e ∷ xs) ≡ head_of xs
-after-first e xs = rw (eq-eqb e e refl) refl
-
-pub after-rest : (k e : ℕ) (xs : List ℕ) → (k ≡ e → ⊥) → after k (e ∷ xs) ≡ after k xs
-after-rest k e xs d = rw (ne_eqb e k (λ q. d (sym q))) refl
-
-pub among-first : (e : ℕ) (xs : List ℕ) → among e (e ∷ xs) ≡ true
-among-first e xs = rw (eq-eqb e e refl) refl
-
-pub among-rest : (k e : ℕ) (xs : List ℕ) → (k ≡ e → ⊥) → among k (e ∷ xs) ≡ among k xs
-among-rest k e xs d = rw (ne_eqb e k (λ q. d (sym q))) refl
-
-pub among-absent : (e : ℕ) (xs : List ℕ) → hits e xs ≡ 0 → among e xs ≡ false
-among-absent e [] h = refl
-among-absent e (x ∷ xs) h =
-    ⊎_elim (λ (q : e ≡ x). let a : 1 + hits e xs ≡ 0 = sym (hits-first e xs) ∙ ap (λ y. hits e (y ∷ xs)) q ∙ h in absurd (omega arith))
-    (λ (d : e ≡ x → ⊥). among-rest e x xs d ∙ among-absent e xs (sym (hits-rest e x xs d) ∙ h)) (cases_eq e x)
-
-pub absent-among : (e : ℕ) (xs : List ℕ) → among e xs ≡ false → hits e xs ≡ 0
-absent-among e [] n = refl
-absent-among e (x ∷ xs) n =
-    ⊎_elim (λ (q : e ≡ x). let a : true ≡ false = sym (among-first e xs) ∙ ap (λ y. among e (y ∷ xs)) q ∙ n in absurd (false≢true (sym a)))
-    (λ (d : e ≡ x → ⊥). hits-rest e x xs d ∙ absent-among e xs (sym (among-rest e x xs d) ∙ n)) (cases_eq e x)
-
-pub among-there : (e : ℕ) (xs : List ℕ) → among e xs ≡ true → 0 < hits e xs
-among-there e xs h = ⊎_elim (λ (z : hits e xs ≡ 0). let a : false ≡ true = sym (among-absent e xs z) ∙ h in absurd (false≢true a)) (λ (d : hits e xs ≡ 0 → ⊥). omega arith) (cases_eq (hits e xs) 0)
 
 pub along-rest : (t : List End) (fuel : ℕ) (rest : List ℕ) → ((e : ℕ) → hits e rest ≤ 1) → ((e : ℕ) → 0 < hits e rest → (end_at t e).next ≡ after e rest) → length rest ≤ fuel → along t fuel (head_of rest) ≡ rest
 along-rest t zero [] one next few = refl
@@ -113,12 +80,12 @@ Walks-start node move t heads here has h = record {
     points : (e : ℕ) → point_at t e ≡ (if among e (has.chain node) then point_at t e else option_map (on_node node move) (point_at t e))
     points e =
         ⊎_elim (λ (z : hits e (has.chain node) ≡ 0).
-        let a = among-absent e (has.chain node) z in
+        let a = hits-not_among e (has.chain node) z in
         let s : stands_at node (point_at t e) ≡ 0 = sym (has.chained.counted e node) ∙ z in
         rw a (on_other node move (point_at t e) s))
         (λ (d : hits e (has.chain node) ≡ 0 → ⊥).
         ⊎_elim (λ (y : among e (has.chain node) ≡ true). rw y refl)
-        (λ (n : among e (has.chain node) ≡ false). absurd (d (absent-among e (has.chain node) n))) (cases_Bool (among e (has.chain node)))) (cases_eq (hits e (has.chain node)) 0)
+        (λ (n : among e (has.chain node) ≡ false). absurd (d (not_among-hits e (has.chain node) n))) (cases_Bool (among e (has.chain node)))) (cases_eq (hits e (has.chain node)) 0)
 
 module _ (node : ℕ) (move : Point → Point) (t0 : List End) (covered : List Bool) (t : List End) (heads : Heads) (chain : ℕ → List ℕ) where
   -- along the links lies just the rest
@@ -213,7 +180,7 @@ module _ (node : ℕ) (move : Point → Point) (t0 : List End) (covered : List B
         points : (k : ℕ) → point_at t' k ≡ (if among k es then point_at t0 k else option_map (on_node node move) (point_at t0 k))
         points k =
             ⊎_elim (λ (e : k ≡ id).
-            let a : among k es ≡ false = rw e (among-absent id es out) in
+            let a : among k es ≡ false = rw e (hits-not_among id es out) in
             let n : (p.node == node) ≡ true = eq-eqb p.node node (id-node p at) in
             let b : option_map (on_node node move) (Some p) ≡ Some q = rw n (ap Some (sym moves)) in
             let g : point_at t' k ≡ Some q = rw e (point-written t t' id (Some q) id-within written) in
@@ -273,14 +240,6 @@ module _ (node : ℕ) (move : Point → Point) (t0 : List End) (covered : List B
   pub walk-end : here ≡ None → points_of t ≡ map (λ (o : Option Point). option_map (on_node node move) o) (points_of t0)
   walk-end q = go walk.rest walk.walked (sym walk.starts ∙ q)
     where
-      mapped : (ps : List (Option Point)) (e : ℕ) → get_or (map (λ (o : Option Point). option_map (on_node node move) o) ps) e None ≡ option_map (on_node node move) (get_or ps e None)
-      mapped [] e = refl
-      mapped (x ∷ xs) zero = refl
-      mapped (x ∷ xs) (suc e) = mapped xs e
-
       go : (rest : List ℕ) → IsWalked node move t0 covered t heads walk.chain rest → head_of rest ≡ None → points_of t ≡ map (λ (o : Option Point). option_map (on_node node move) o) (points_of t0)
       go (x ∷ es) w h = cc
-      go [] w h =
-          ext_get_or None (points_of t) (map (λ (o : Option Point). option_map (on_node node move) o) (points_of t0))
-          (points-length t ∙ w.long ∙ sym (points-length t0) ∙ sym (length-map (points_of t0) (λ (o : Option Point). option_map (on_node node move) o)))
-          (λ e l. points-at t e ∙ w.points e ∙ ap (option_map (on_node node move)) (sym (points-at t0 e)) ∙ sym (mapped (points_of t0) e))
+      go [] w h = points-moved (on_node node move) t t0 w.long (λ e l. w.points e)

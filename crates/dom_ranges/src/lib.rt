@@ -26,8 +26,8 @@ pub mod of_kinds {
 /// What crates above name of `dom_point`.
 pub mod of_point {
     pub use dom_point::{
-        Point, checked_point, common, found_before, found_order, is_before, order, point_after,
-        point_before, same_root,
+        Point, checked_point, common, found_around, found_before, found_order, is_before, order,
+        point_after, point_before, same_root,
     };
 }
 

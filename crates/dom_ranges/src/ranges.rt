@@ -212,20 +212,12 @@ impl Ranges {
         requires { HasNode tree.now.forest top }
         ensures { result ≡ list_any (λ m. among m (inclusive_descendants tree.now.forest top)) (live_nodes self.now) }
     {
-        tree.sound();
         if self.is_idle() {
             return false;
         }
-        let mut here = top;
-        for _step in 0..self.steps() {
-            if self.stands_in(here) {
-                return true;
-            }
-            match tree.next_inside(top, here) {
-                Some(next) => here = next,
-                None => return false,
-            }
+        match tree.any_inside(top, self.steps(), |node| self.stands_in(node)) {
+            Some(answer) => answer,
+            None => self.chains.refer(tree, top),
         }
-        self.chains.refer(tree, top)
     }
 }

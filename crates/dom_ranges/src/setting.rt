@@ -13,72 +13,57 @@ use crate::numbers::RangeId;
 use crate::ranges::Ranges;
 use dom_point::of_kinds::{DomError, Kind};
 use dom_point::of_tree::{Body, NodeId, Tree};
-use dom_point::{Point, checked_point, is_before, same_root};
+use dom_point::{Point, checked_point, found_before, points_around, same_root};
 
 impl Ranges {
-    /// Sets the start. In another tree, or past the end, the end moves there too.
+    /// Sets the start. In another tree, or past the end, the end moves there too. An index that this asks for is known when it is asked for again.
     pub fn set_start<X: Body>(
         &mut self,
-        tree: &Tree<X>,
+        tree: &mut Tree<X>,
         r: RangeId,
         p: Point,
     ) -> Result<(), DomError>
         requires held { IsSome (range_in self.old r) }
-        requires node { HasNode tree.now.forest p.node }
+        requires node { HasNode tree.old.forest p.node }
         requires covered { IsCovered self.old p.node }
-        requires stands { ForSome (range_in self.old r) (StandsIn tree.now.forest) }
-        ensures refusal { result ≡ refused (check_point X.length tree.now.forest p) }
-        ensures set { OnOk result (IfSome (range_in self.old r) (λ range. self.new ≡ record self.old { ranges = slice_set self.old.ranges r (Some (start_set tree.now.forest p range)) })) }
+        requires stands { ForSome (range_in self.old r) (StandsIn tree.old.forest) }
+        ensures refusal { result ≡ refused (check_point X.length tree.old.forest p) }
+        ensures set { OnOk result (IfSome (range_in self.old r) (λ range. self.new ≡ record self.old { ranges = slice_set self.old.ranges r (Some (start_set tree.old.forest p range)) })) }
         ensures unchanged { OnErr result (self.new ≡ self.old) }
+        ensures kept { tree.new ≡ tree.old }
     {
-        let Point { node, offset } = p;
-        checked_point(tree, node, offset)?;
+        checked_point(tree, p.node, p.offset)?;
         let (start, end) = self.ends(r);
-        if same_root(tree, node, start.node) && !is_before(tree, end, Point { node, offset }) {
-            self.write(r, Point { node, offset }, end);
+        if same_root(tree, p.node, start.node) && !found_before(tree, end, p) {
+            self.write(r, p, end);
         } else {
-            self.write(r, Point { node, offset }, Point { node, offset });
+            self.collapse_at(r, p);
         }
         Ok(())
     }
 
-    /// Sets the end. In another tree, or ahead of the start, the start moves there too.
-    pub fn set_end<X: Body>(&mut self, tree: &Tree<X>, r: RangeId, p: Point) -> Result<(), DomError>
+    /// Sets the end. In another tree, or ahead of the start, the start moves there too. An index that this asks for is known when it is asked for again.
+    pub fn set_end<X: Body>(
+        &mut self,
+        tree: &mut Tree<X>,
+        r: RangeId,
+        p: Point,
+    ) -> Result<(), DomError>
         requires held { IsSome (range_in self.old r) }
-        requires node { HasNode tree.now.forest p.node }
+        requires node { HasNode tree.old.forest p.node }
         requires covered { IsCovered self.old p.node }
-        requires stands { ForSome (range_in self.old r) (StandsIn tree.now.forest) }
-        ensures refusal { result ≡ refused (check_point X.length tree.now.forest p) }
-        ensures set { OnOk result (IfSome (range_in self.old r) (λ range. self.new ≡ record self.old { ranges = slice_set self.old.ranges r (Some (end_set tree.now.forest p range)) })) }
+        requires stands { ForSome (range_in self.old r) (StandsIn tree.old.forest) }
+        ensures refusal { result ≡ refused (check_point X.length tree.old.forest p) }
+        ensures set { OnOk result (IfSome (range_in self.old r) (λ range. self.new ≡ record self.old { ranges = slice_set self.old.ranges r (Some (end_set tree.old.forest p range)) })) }
         ensures unchanged { OnErr result (self.new ≡ self.old) }
+        ensures kept { tree.new ≡ tree.old }
     {
-        let Point { node, offset } = p;
-        checked_point(tree, node, offset)?;
+        checked_point(tree, p.node, p.offset)?;
         let (start, _) = self.ends(r);
-        let Point {
-            node: top,
-            offset: at,
-        } = start;
-        if same_root(tree, node, top)
-            && !is_before(
-                tree,
-                Point { node, offset },
-                Point {
-                    node: top,
-                    offset: at,
-                },
-            )
-        {
-            self.write(
-                r,
-                Point {
-                    node: top,
-                    offset: at,
-                },
-                Point { node, offset },
-            );
+        if same_root(tree, p.node, start.node) && !found_before(tree, p, start) {
+            self.write(r, start, p);
         } else {
-            self.write(r, Point { node, offset }, Point { node, offset });
+            self.collapse_at(r, p);
         }
         Ok(())
     }
@@ -107,22 +92,8 @@ impl Ranges {
         requires covered { ForSome (parent_of tree.now.forest node) (IsCovered self.old) }
         ensures { IfSome (around tree.now.forest node) (λ range. self.new ≡ record self.old { ranges = slice_set self.old.ranges r (Some range) }) }
     {
-        tree.sound();
-        let parent = tree.parent(node).unwrap();
-        // an index is below the count, so the offset behind the node is a number of the machine too
-        let _ = tree.count(parent);
-        let index = tree.index(node);
-        self.write(
-            r,
-            Point {
-                node: parent,
-                offset: index,
-            },
-            Point {
-                node: parent,
-                offset: index + 1,
-            },
-        );
+        let (start, end) = points_around(tree, node).unwrap();
+        self.write(r, start, end);
     }
 
     /// Sets the range to all that a node contains. A doctype is refused.

@@ -1,6 +1,7 @@
 //! How a change of the tree moves the points that it concerns.
 
 ghost use Rattle.std.specs.Prelude.{◌≡◌, ◌^◌, ◌<◌};
+ghost use Rattle.dom_model.specs.BoundaryPoints.Points.{after_split, after_merge};
 ghost use Rattle.dom_ranges.specs.Shifting.{shifted, spliced_offset};
 
 use dom_point::Point;
@@ -44,49 +45,32 @@ impl Shift {
         requires { point.offset < 2 ^ 64 → (shifted self.now point).offset < 2 ^ 64 }
         ensures { result ≡ shifted self.now point }
     {
-        let Point { node, offset } = point;
         match *self {
             Shift::Splice {
                 inside,
                 at,
                 count,
                 added,
-            } if node == inside => Point {
-                node,
-                offset: spliced(offset, at, count, added),
+            } if point.node == inside => Point {
+                node: inside,
+                offset: spliced(point.offset, at, count, added),
             },
-            Shift::Split { text, at, new, .. } if node == text && at < offset => Point {
-                node: new,
-                offset: offset - at,
-            },
-            Shift::Split { parent, index, .. }
-                if node == parent && offset.checked_sub(1) == Some(index) => {
-                Point {
-                    node,
-                    offset: offset + 1,
-                }
-            }
+            Shift::Splice { .. } => point,
+            Shift::Split {
+                text,
+                at,
+                new,
+                parent,
+                index,
+            } => split(point, text, at, new, parent, index),
             Shift::Merge {
                 from,
                 into,
                 base,
-                ..
-            } if node == from => Point {
-                node: into,
-                offset: base + offset,
-            },
-            Shift::Merge {
-                into,
-                base,
                 parent,
                 index,
-                ..
-            } if node == parent && offset == index => Point {
-                node: into,
-                offset: base,
-            },
+            } => merged(point, from, into, base, parent, index),
             Shift::Gather { to } => to,
-            _ => point,
         }
     }
 }
@@ -103,4 +87,53 @@ fn spliced(offset: usize, at: usize, count: usize, added: usize) -> usize
     } else {
         offset - count + added
     }
+}
+
+// Where a point goes as a Text is split.
+fn split(point: Point, text: NodeId, at: usize, new: NodeId, parent: NodeId, index: usize) -> Point
+    requires { point.offset < 2 ^ 64 → (after_split text at new parent index point).offset < 2 ^ 64 }
+    ensures { result ≡ after_split text at new parent index point }
+{
+    let Point { node, offset } = point;
+    if node == text && at < offset {
+        return Point {
+            node: new,
+            offset: offset - at,
+        };
+    }
+    if node == parent && offset.checked_sub(1) == Some(index) {
+        return Point {
+            node,
+            offset: offset + 1,
+        };
+    }
+    point
+}
+
+// Where a point goes as a Text is joined to another.
+fn merged(
+    point: Point,
+    from: NodeId,
+    into: NodeId,
+    base: usize,
+    parent: NodeId,
+    index: usize,
+) -> Point
+    requires { point.offset < 2 ^ 64 → (after_merge from into base parent index point).offset < 2 ^ 64 }
+    ensures { result ≡ after_merge from into base parent index point }
+{
+    let Point { node, offset } = point;
+    if node == from {
+        return Point {
+            node: into,
+            offset: base + offset,
+        };
+    }
+    if node == parent && offset == index {
+        return Point {
+            node: into,
+            offset: base,
+        };
+    }
+    point
 }

@@ -14,7 +14,7 @@ ghost use Rattle.indexmap.specs.IndexSet.{contains, spare};
 
 use dom_point::of_kinds::{DomError, Kind};
 use dom_point::of_tree::{Body, NodeId, Tree};
-use dom_point::{Point, is_before, same_root};
+use dom_point::{Point, found_before, same_root};
 use indexmap::IndexSet;
 use std::alloc::{AllocError, Global};
 use std::marker::Model;
@@ -153,12 +153,13 @@ impl Statics {
         (start, end)
     }
 
-    /// Whether the range is valid as the tree stands. Both its nodes are held.
-    pub fn is_valid<X: Body>(&self, tree: &Tree<X>, u: StaticId) -> bool
+    /// Whether the range is valid as the tree stands. Both its nodes are held. An index that this asks for is known when it is asked for again.
+    pub fn is_valid<X: Body>(&self, tree: &mut Tree<X>, u: StaticId) -> bool
         requires made { IsSome (slice_get self.now u) }
-        requires start_held { ForSome (slice_get self.now u) (λ r. HasNode tree.now.forest r.start.node) }
-        requires end_held { ForSome (slice_get self.now u) (λ r. HasNode tree.now.forest r.end.node) }
-        ensures { IfSome (slice_get self.now u) (λ r. result ≡ is_valid_static X.length tree.now.forest r) }
+        requires start_held { ForSome (slice_get self.now u) (λ r. HasNode tree.old.forest r.start.node) }
+        requires end_held { ForSome (slice_get self.now u) (λ r. HasNode tree.old.forest r.end.node) }
+        ensures valid { IfSome (slice_get self.now u) (λ r. result ≡ is_valid_static X.length tree.old.forest r) }
+        ensures unchanged { tree.new ≡ tree.old }
     {
         let (start, end) = self.ends(u);
         are_valid(tree, start, end)
@@ -171,18 +172,10 @@ impl Statics {
         requires { HasNode tree.now.forest top }
         ensures { result ≡ list_any (λ m. among m (inclusive_descendants tree.now.forest top)) (flat_map nodes_of_range self.now) }
     {
-        tree.sound();
-        let mut here = top;
-        for _step in 0..self.table.len() {
-            if self.names(here) {
-                return true;
-            }
-            match tree.next_inside(top, here) {
-                Some(next) => here = next,
-                None => return false,
-            }
+        match tree.any_inside(top, self.table.len(), |node| self.names(node)) {
+            Some(answer) => answer,
+            None => self.refer(tree, top),
         }
-        self.refer(tree, top)
     }
 
     // Whether an end stands in a node.
@@ -223,28 +216,17 @@ fn is_within<X: Body>(tree: &Tree<X>, node: NodeId, offset: usize) -> bool
 }
 
 // Whether two points are the ends of a valid range.
-fn are_valid<X: Body>(tree: &Tree<X>, start: Point, end: Point) -> bool
-    requires start_held { HasNode tree.now.forest start.node }
-    requires end_held { HasNode tree.now.forest end.node }
-    ensures { result ≡ is_valid_static X.length tree.now.forest (record { start = start; end = end }) }
+fn are_valid<X: Body>(tree: &mut Tree<X>, start: Point, end: Point) -> bool
+    requires start_held { HasNode tree.old.forest start.node }
+    requires end_held { HasNode tree.old.forest end.node }
+    ensures valid { result ≡ is_valid_static X.length tree.old.forest (record { start = start; end = end }) }
+    ensures unchanged { tree.new ≡ tree.old }
 {
-    let Point { node, offset } = start;
-    let Point {
-        node: last,
-        offset: at,
-    } = end;
-    if !same_root(tree, node, last) {
+    if !same_root(tree, start.node, end.node) {
         return false;
     }
-    if !is_within(tree, node, offset) || !is_within(tree, last, at) {
+    if !is_within(tree, start.node, start.offset) || !is_within(tree, end.node, end.offset) {
         return false;
     }
-    !is_before(
-        tree,
-        Point {
-            node: last,
-            offset: at,
-        },
-        Point { node, offset },
-    )
+    !found_before(tree, end, start)
 }

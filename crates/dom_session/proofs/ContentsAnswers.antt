@@ -1,9 +1,8 @@
 -- The answers of the commands on the contents of ranges, where the objects are there and numbers are left.
 use Rattle.std.proofs.Common.{◌≡◌, ℕ, ◌+◌, ◌*◌, ◌≤◌, nat_lt, Bool, true, false, List, [], ◌∷◌, Option, Some, None, Ok, Err, refl, sym, ap, ◌∙◌, arith}
 use Rattle.std.proofs.lemmas.Bool.Decides.{nat_tests}
-use Rattle.std.specs.Prelude.{is_some, is_none, IfSome}
+use Rattle.std.specs.Prelude.{is_some, IfSome}
 use Rattle.dom_model.specs.declared.DomError.{DomError}
-use Rattle.dom_model.specs.declared.OwnError.TheVariants.{NoSuchObject, Limit}
 use Rattle.dom_model.specs.Forests.Forest.{Forest, size, entry_in}
 use Rattle.dom_model.specs.Worlds.World.{Content, Range}
 use Rattle.dom_model.specs.Worlds.World as model
@@ -23,7 +22,9 @@ use Rattle.dom_wrap.specs.dom_edit.declared.world.World.{World}
 use Rattle.dom_wrap.specs.dom_edit.Whole.{IsWhole, Keeps, Shows, unwatched}
 use Rattle.dom_wrap.specs.dom_edit.Leaving.{sound-unwatched}
 use Rattle.dom_wrap.specs.Outcomes.{left_by}
+use Rattle.dom_session.proofs.Stepping.{guarded-none}
 use Rattle.dom_session.proofs.TreeEdits.{not-none}
+use Rattle.dom_session.proofs.NodeData.{guarded-past_node, guarded-past_room}
 use Rattle.dom_session.proofs.Unfelt.{Beside, beside, insert_node-refusal, surround-refusal}
 
 -- Numbers that are left.
@@ -62,11 +63,6 @@ refused-of : (o : Outcome) (w : model.World) (e : DomError) → refusal_in o ≡
 refused-of (Ok x) w e h = absurd (cc h)
 refused-of (Err d) w e h = let same : d ≡ e = cc h in ap (λ x. refused (model_reply.Dom x) w) same
 
--- a test that does not hold
-guarded-past : (t : Bool) (reply : model_reply.Reply) (cs : List (Bool × model_reply.Reply)) (w : model.World) (s : Step) → t ≡ false → guarded ((t, reply) ∷ cs) w s ≡ guarded cs w s
-guarded-past true reply cs w s h = absurd (cc h)
-guarded-past false reply cs w s h = refl
-
 -- the second world is the one in which nobody observes, with an observing part
 beside-unwatched : (v : World) (w : model.World) → Keeps v w → Beside (unwatched v) w
 beside-unwatched v w k = go
@@ -76,24 +72,10 @@ beside-unwatched v w k = go
 
 module _ (v : World) (b : Bounds) (w : model.World) (shown : Shows v w) (r : ℕ) where
   guarded-past_range : (cs : List (Bool × model_reply.Reply)) (s : Step) → is_some (range_in v.ranges r) ≡ true → guarded (no_range r w ∷ cs) w s ≡ guarded cs w s
-  guarded-past_range cs s live =
-      let there : is_none (range_at w r) ≡ false = rw shown.keeps.ranges (not-none (range_in v.ranges r) live) in
-      guarded-past (is_none (range_at w r)) (model_reply.Own NoSuchObject) cs w s there
-
-  guarded-past_node : (n : ℕ) (cs : List (Bool × model_reply.Reply)) (s : Step) → is_some (entry_in v.tree.forest n) ≡ true → guarded (no_node n w ∷ cs) w s ≡ guarded cs w s
-  guarded-past_node n cs s held =
-      let there : is_none (entry_in w.forest n) ≡ false = rw shown.keeps.forest (not-none (entry_in v.tree.forest n) held) in
-      guarded-past (is_none (entry_in w.forest n)) (model_reply.Own NoSuchObject) cs w s there
-
-  guarded-past_room : (s : Step) → nat_lt b.numbers (v.tree.made + 1) ≡ false → guarded (no_room b w.made 1 ∷ []) w s ≡ s
-  guarded-past_room s room =
-      let there : nat_lt b.numbers (w.made + 1) ≡ false = rw shown.keeps.made room in
-      guarded-past (nat_lt b.numbers (w.made + 1)) (model_reply.Own Limit) [] w s there
+  guarded-past_range cs s live = guarded-none (no_range r w ∷ []) cs w s (rw (shown.keeps.ranges, not-none (range_in v.ranges r) live) refl)
 
   guarded-past_copies : (s : Step) → nat_lt b.numbers (v.tree.made + (2 * size v.tree.forest + 8)) ≡ false → guarded (no_room_for_copies b w ∷ []) w s ≡ s
-  guarded-past_copies s room =
-      let there : nat_lt b.numbers (w.made + (2 * size w.forest + 8)) ≡ false = rw (shown.keeps.made, shown.keeps.forest) room in
-      guarded-past (nat_lt b.numbers (w.made + (2 * size w.forest + 8))) (model_reply.Own Limit) [] w s there
+  guarded-past_copies s room = guarded-none (no_room_for_copies b w ∷ []) [] w s (rw (shown.keeps.made, shown.keeps.forest, room) refl)
 
   -- The text, and deletion.
 
@@ -146,7 +128,7 @@ module _ (v : World) (b : Bounds) (w : model.World) (shown : Shows v w) (r : ℕ
     insert-past : nat_lt b.numbers (v.tree.made + 1) ≡ false → answer b w (InsertNode r n) ≡ done_or_refused (insert_node r n w) w
     insert-past room =
         let s = done_or_refused (insert_node r n w) w in
-        guarded-past_range (no_node n w ∷ no_room b w.made 1 ∷ []) s live ∙ guarded-past_node n (no_room b w.made 1 ∷ []) s held ∙ guarded-past_room s room
+        guarded-past_range (no_node n w ∷ no_room b w.made 1 ∷ []) s live ∙ guarded-past_node v b w shown n (no_room b w.made 1 ∷ []) s held ∙ guarded-past_room v b w shown [] s room
 
     insert-same : refusal_in (insert_node r n w) ≡ refusal_in (insert_node r n (unwatched v))
     insert-same = insert_node-refusal r n (unwatched v) w (beside-unwatched v w shown.keeps)
@@ -160,7 +142,7 @@ module _ (v : World) (b : Bounds) (w : model.World) (shown : Shows v w) (r : ℕ
     surround-past : nat_lt b.numbers (v.tree.made + (2 * size v.tree.forest + 8)) ≡ false → answer b w (SurroundContents r n) ≡ done_or_refused (surround r n w) w
     surround-past room =
         let s = done_or_refused (surround r n w) w in
-        guarded-past_range (no_node n w ∷ no_room_for_copies b w ∷ []) s live ∙ guarded-past_node n (no_room_for_copies b w ∷ []) s held ∙ guarded-past_copies s room
+        guarded-past_range (no_node n w ∷ no_room_for_copies b w ∷ []) s live ∙ guarded-past_node v b w shown n (no_room_for_copies b w ∷ []) s held ∙ guarded-past_copies s room
 
     surround-same : check_whole_surround r n w ≡ check_whole_surround r n (unwatched v)
     surround-same = surround-refusal r n (unwatched v) w (beside-unwatched v w shown.keeps)

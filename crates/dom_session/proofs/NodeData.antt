@@ -1,11 +1,10 @@
 -- The answers of the commands on attributes, data and text, where nothing is refused before the step.
-use Rattle.std.proofs.Common.{◌≡◌, ℕ, suc, zero, ◌+◌, nat_lt, Bool, true, false, not, List, [], ◌∷◌, ◌++◌, Option, Some, None, refl, sym, ap, subst, ◌∙◌, take, slice_get, map, string_bytes}
-use Rattle.std.specs.Prelude.{String, is_some, is_none, IfSome, Result, Ok, Err, IfOk, filter, flat_map, drop, length}
+use Rattle.std.proofs.Common.{◌≡◌, ℕ, suc, zero, ◌+◌, nat_lt, Bool, true, false, List, [], ◌∷◌, ◌++◌, Option, Some, None, refl, sym, ap, subst, ◌∙◌, take, slice_get, map, string_bytes}
+use Rattle.std.specs.Prelude.{String, is_some, IfSome, Result, Ok, Err, IfOk, filter, flat_map, drop, length}
 use Rattle.dom_model.specs.declared.Kind.{Kind}
 use Rattle.dom_model.specs.declared.Kind.TheVariants.{Element, Text, ProcessingInstruction, Comment, Document, DocumentType, DocumentFragment}
 use Rattle.dom_model.specs.declared.DomError.{DomError}
-use Rattle.dom_model.specs.declared.DomError.TheVariants.{TypeError, IndexSizeError}
-use Rattle.dom_model.specs.declared.OwnError.TheVariants.{NoSuchObject, Limit}
+use Rattle.dom_model.specs.declared.DomError.TheVariants.{IndexSizeError}
 use Rattle.dom_model.specs.Forests.Kinds.{is_kind, is_character_data}
 use Rattle.dom_model.specs.Forests.Names.{is_attribute_name}
 use Rattle.dom_model.specs.Forests.Attributes.{Attribute, attribute_value, attribute_names}
@@ -16,7 +15,7 @@ use Rattle.dom_model.specs.Worlds.Lengths.{length_of, length_in, node_length, un
 use Rattle.dom_model.specs.Worlds.World.{Content}
 use Rattle.dom_model.specs.Worlds.World as model
 use Rattle.dom_model.specs.PlainLists.Lists.{first_refusal}
-use Rattle.dom_model.specs.Forests.Nodes.{kind_passes, is_of_kind}
+use Rattle.dom_model.specs.Forests.Nodes.{is_of_kind}
 use Rattle.dom_model.specs.DataAndCopies.Data.{content_in, cut_count, check_offset, replace_data, set_data, substring_data, split, normalize, text_content_by, text_content, set_text_content, by_kind, set_attribute, has_attribute, remove_attribute, is_toggled_on, toggle_attribute}
 use Rattle.dom_model.specs.Commands.Command.{Command, SetAttribute, GetAttribute, HasAttribute, RemoveAttribute, ToggleAttribute, AttributeNames, GetData, SetData, AppendData, ReplaceData, SubstringData, SplitText, Normalize, TextContent, SetTextContent}
 use Rattle.dom_model.specs.Commands.Reply as model_reply
@@ -24,23 +23,11 @@ use Rattle.dom_model.specs.Commands.Answer.{Bounds, Step, guarded, refused, answ
 use Rattle.dom_model.specs.Commands.Guards.{no_node, wrong_kind, bad_name, no_room, answers, does, checked}
 use Rattle.dom_wrap.specs.dom_edit.declared.world.World.{World}
 use Rattle.dom_wrap.specs.dom_edit.Whole.{Shows, unwatched}
-use Rattle.dom_session.specs.Limiting.{numbered}
 use Rattle.dom_session.specs.Refusing.{kind_refusal}
 use Rattle.dom_session.specs.declared.reply.Reply.{Reply}
 use Rattle.dom_session.specs.Stands.{IsStep}
+use Rattle.dom_session.proofs.Stepping.{guarded-none, guarded-some}
 use Rattle.dom_session.proofs.TreeEdits.{not-none}
-
--- where none of two tests refuses, the guards behind them decide
-guarded-past_two : (a b : Bool) (x y : model_reply.Reply) (cs : List (Bool × model_reply.Reply)) (w : model.World) (s : Step) → first_refusal ((a, x) ∷ (b, y) ∷ []) ≡ None → guarded ((a, x) ∷ (b, y) ∷ cs) w s ≡ guarded cs w s
-guarded-past_two true b x y cs w s h = cc
-guarded-past_two false true x y cs w s h = cc
-guarded-past_two false false x y cs w s h = refl
-
--- where one of them refuses, its refusal is the answer
-guarded-at_two : (a b : Bool) (x y : model_reply.Reply) (cs : List (Bool × model_reply.Reply)) (w : model.World) (s : Step) (r : model_reply.Reply) → first_refusal ((a, x) ∷ (b, y) ∷ []) ≡ Some r → guarded ((a, x) ∷ (b, y) ∷ cs) w s ≡ refused r w
-guarded-at_two true b x y cs w s r h = let same : x ≡ r = cc in ap (λ z. refused z w) same
-guarded-at_two false true x y cs w s r h = let same : y ≡ r = cc in ap (λ z. refused z w) same
-guarded-at_two false false x y cs w s r h = absurd (cc h)
 
 -- the text of a node, by its kind, is read off the forest
 content-by-same : (k : Kind) (w u : model.World) (n : ℕ) → w.forest ≡ u.forest → text_content_by k w n ≡ text_content_by k u n
@@ -66,6 +53,7 @@ step-same old new b c d reply same step = record {
   world_is = λ w shown.
       let P : model.World → Type 0 = λ u. Shows new u in
       subst P (sym (ap (λ (s : Step). s.world) (same w shown))) (step.world_is w shown);
+  refused = step.refused;
 }
 
 -- what holds of an outcome, and what follows from it
@@ -95,7 +83,7 @@ names-next (x ∷ xs) (suc i) a (n ∷ names) name h e is =
 module _ (v : World) (b : Bounds) (w : model.World) (shown : Shows v w) where
   guarded-kind : (test : Kind → Bool) (n : ℕ) (cs : List (Bool × model_reply.Reply)) (s : Step) → kind_refusal test v n ≡ None → guarded (no_node n w ∷ wrong_kind test n w ∷ cs) w s ≡ guarded cs w s
   guarded-kind test n cs s none =
-      guarded-past_two (is_none (entry_in w.forest n)) (not (kind_passes test w.forest n)) (model_reply.Own NoSuchObject) (model_reply.Dom TypeError) cs w s (rw shown.keeps.forest none)
+      guarded-none (no_node n w ∷ wrong_kind test n w ∷ []) cs w s (rw shown.keeps.forest none)
 
   pub answer-set_attribute : (e : ℕ) (name value : List ℕ) → kind_refusal (is_kind Element) v e ≡ None → is_attribute_name name ≡ true → answer b w (SetAttribute e name value) ≡ does (set_attribute e name value w)
   answer-set_attribute e name value none valid =
@@ -156,17 +144,11 @@ module _ (v : World) (b : Bounds) (w : model.World) (shown : Shows v w) where
 
   pub refused-substring_data : (n offset count : ℕ) (r : model_reply.Reply) → kind_refusal is_character_data v n ≡ Some r → answer b w (SubstringData n offset count) ≡ refused r w
   refused-substring_data n offset count r some =
-      guarded-at_two (is_none (entry_in w.forest n)) (not (kind_passes is_character_data w.forest n)) (model_reply.Own NoSuchObject) (model_reply.Dom TypeError) [] w (checked (check_offset w n offset) w (answers (model_reply.Units (substring_data w n offset count)) w)) r (rw shown.keeps.forest some)
+      guarded-some (no_node n w ∷ wrong_kind is_character_data n w ∷ []) [] w (checked (check_offset w n offset) w (answers (model_reply.Units (substring_data w n offset count)) w)) r (rw shown.keeps.forest some)
 
   -- one test, which does not hold
-  guarded-past_node : (n : ℕ) (cs : List (Bool × model_reply.Reply)) (s : Step) → is_some (entry_in v.tree.forest n) ≡ true → guarded (no_node n w ∷ cs) w s ≡ guarded cs w s
-  guarded-past_node n cs s held =
-      let there : is_none (entry_in w.forest n) ≡ false = rw shown.keeps.forest (not-none (entry_in v.tree.forest n) held) in
-      at (is_none (entry_in w.forest n)) there
-    where
-      at : (t : Bool) → t ≡ false → guarded ((t, model_reply.Own NoSuchObject) ∷ cs) w s ≡ guarded cs w s
-      at true e = cc
-      at false e = refl
+  pub guarded-past_node : (n : ℕ) (cs : List (Bool × model_reply.Reply)) (s : Step) → is_some (entry_in v.tree.forest n) ≡ true → guarded (no_node n w ∷ cs) w s ≡ guarded cs w s
+  guarded-past_node n cs s held = guarded-none (no_node n w ∷ []) cs w s (rw (shown.keeps.forest, not-none (entry_in v.tree.forest n) held) refl)
 
   pub answer-text_content : (n : ℕ) (text : Option (List ℕ)) → is_some (entry_in v.tree.forest n) ≡ true → text ≡ text_content (unwatched v) n → answer b w (TextContent n) ≡ answers (model_reply.MaybeUnits text) w
   answer-text_content n text held is =
@@ -182,14 +164,8 @@ module _ (v : World) (b : Bounds) (w : model.World) (shown : Shows v w) where
       ap (λ (x : ℕ). answer b w (ReplaceData n x 0 text)) there
 
   -- enough numbers are left
-  guarded-past_room : (cs : List (Bool × model_reply.Reply)) (s : Step) → nat_lt b.numbers (v.tree.made + 1) ≡ false → guarded (no_room b w.made 1 ∷ cs) w s ≡ guarded cs w s
-  guarded-past_room cs s room =
-      let there : nat_lt b.numbers (w.made + 1) ≡ false = rw shown.keeps.made room in
-      at (nat_lt b.numbers (w.made + 1)) there
-    where
-      at : (t : Bool) → t ≡ false → guarded ((t, model_reply.Own Limit) ∷ cs) w s ≡ guarded cs w s
-      at true e = cc
-      at false e = refl
+  pub guarded-past_room : (cs : List (Bool × model_reply.Reply)) (s : Step) → nat_lt b.numbers (v.tree.made + 1) ≡ false → guarded (no_room b w.made 1 ∷ cs) w s ≡ guarded cs w s
+  guarded-past_room cs s room = guarded-none (no_room b w.made 1 ∷ []) cs w s (rw (shown.keeps.made, room) refl)
 
   pub answer-set_text_content : (n : ℕ) (text : List ℕ) → is_some (entry_in v.tree.forest n) ≡ true → nat_lt b.numbers (v.tree.made + 1) ≡ false → answer b w (SetTextContent n text) ≡ does (set_text_content n text w)
   answer-set_text_content n text held room =
@@ -206,4 +182,4 @@ module _ (v : World) (b : Bounds) (w : model.World) (shown : Shows v w) where
 
   pub refused-split_text : (n offset : ℕ) (r : model_reply.Reply) → kind_refusal (is_kind Text) v n ≡ Some r → answer b w (SplitText n offset) ≡ refused r w
   refused-split_text n offset r some =
-      guarded-at_two (is_none (entry_in w.forest n)) (not (kind_passes (is_kind Text) w.forest n)) (model_reply.Own NoSuchObject) (model_reply.Dom TypeError) (no_room b w.made 1 ∷ []) w (checked (check_offset w n offset) w (record { reply = model_reply.Done (model_reply.Number w.made); world = split n offset w })) r (rw shown.keeps.forest some)
+      guarded-some (no_node n w ∷ wrong_kind (is_kind Text) n w ∷ []) (no_room b w.made 1 ∷ []) w (checked (check_offset w n offset) w (record { reply = model_reply.Done (model_reply.Number w.made); world = split n offset w })) r (rw shown.keeps.forest some)

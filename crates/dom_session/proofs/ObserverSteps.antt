@@ -1,5 +1,5 @@
 -- The steps that change the observers and nothing else, from a world that is shown.
-use Rattle.std.proofs.Common.{◌≡◌, ℕ, ◌+◌, nat_lt, true, false, List, [], ◌∷◌, length, subst, Option, Some, None, Ok, Err, refl}
+use Rattle.std.proofs.Common.{◌≡◌, ℕ, ◌+◌, nat_lt, true, false, List, [], ◌∷◌, length, subst, Option, Some, None, Ok, Err, refl, ap}
 use Rattle.std.specs.Prelude.{is_some}
 use Rattle.dom_model.specs.declared.DomError.{DomError}
 use Rattle.dom_model.specs.Forests.Forest.{HasNode, entry_in}
@@ -8,6 +8,7 @@ use Rattle.dom_model.specs.Worlds.World as model
 use Rattle.dom_model.specs.Commands.Command.{Command, CreateObserver, Observe, Disconnect, TakeRecords, Notify}
 use Rattle.dom_model.specs.MutationObservers.GivenOptions.{GivenOptions}
 use Rattle.dom_model.specs.Commands.Reply as model_reply
+use Rattle.dom_model.specs.Commands.Reply.{is_refusal}
 use Rattle.dom_model.specs.Commands.Answer.{Bounds, answer}
 use Rattle.dom_model.specs.Commands.AnswerObserving.{with_observing}
 use Rattle.dom_model.specs.MutationObservers.Records.{options_refusal, options_of, settled, settled_unless, with_observer, observed, disconnected, queue_of, records_taken, told, after_notify}
@@ -26,11 +27,11 @@ use Rattle.dom_session.proofs.TreeEdits.{not-none}
 
 module _ (v : World) (whole : IsWhole v) where
   -- the observers are others, which watch what the step makes of it
-  pub step-observers : (b : Bounds) (c : Command) (reply : Reply) (o : Watchers) (step : Observing → Observing) → ((w : model.World) → Shows v w → answer b w c ≡ record { reply = reply_view reply; world = with_observing (step w.observing) w }) → ((x : Observing) → Watches v.observers x → Watches o (step x)) → NamesHeld v.tree.forest o → IsStep v (record v { observers = o }) b c reply
-  step-observers b c reply o step e watched names =
+  pub step-observers : (b : Bounds) (c : Command) (reply : Reply) (o : Watchers) (step : Observing → Observing) → is_refusal (reply_view reply) ≡ false → ((w : model.World) → Shows v w → answer b w c ≡ record { reply = reply_view reply; world = with_observing (step w.observing) w }) → ((x : Observing) → Watches v.observers x → Watches o (step x)) → NamesHeld v.tree.forest o → IsStep v (record v { observers = o }) b c reply
+  step-observers b c reply o step done e watched names =
       let new : World = record v { observers = o } in
       let whole_next : IsWhole new = record { forest = whole.forest; documents = whole.documents; owners = whole.owners; covered = whole.covered; ranges = whole.ranges; statics = whole.statics; iterators = whole.iterators; walkers = whole.walkers; observers = names } in
-      step-follows b c reply v new (λ w. with_observing (step w.observing) w) e
+      step-follows b c reply v new (λ w. with_observing (step w.observing) w) done e
       (record {
         keeps = λ w k. record { forest = k.forest; made = k.made; ranges = k.ranges; static_ranges = k.static_ranges; iterators = k.iterators; walkers = k.walkers };
         watches = λ w k h. watched w.observing h;
@@ -43,25 +44,25 @@ module _ (v : World) (whole : IsWhole v) where
 
   pub step-observe : (b : Bounds) (i n : ℕ) (given : GivenOptions) (o : Watchers) (reply : Reply) → nat_lt i (length v.observers.queues) ≡ true → is_some (entry_in v.tree.forest n) ≡ true → options_refusal given ≡ None → reply_view reply ≡ model_reply.Done model_reply.Nothing → ((x : Observing) → Watches v.observers x → Watches o (observed i n (options_of given) x)) → NamesOnly (n ∷ []) v.observers o → IsStep v (record v { observers = o }) b (Observe i n given) reply
   step-observe b i n given o reply made there allowed said watched only =
-      step-observers b (Observe i n given) reply o (observed i n (options_of given))
+      step-observers b (Observe i n given) reply o (observed i n (options_of given)) (ap is_refusal said)
       (λ w s. rw (said, s.watched.made, made, s.keeps.forest, not-none (entry_in v.tree.forest n) there, allowed) refl) watched
       (held-after v.tree.forest (n ∷ []) v.observers o only (λ m e. elim (same_or n m) [ same d t ↦ subst (λ k. HasNode v.tree.forest k) d there | apart ne t ↦ absurd (let k = rw t at e in cc k) ]) whole.observers)
 
   pub step-disconnect : (b : Bounds) (i : ℕ) (o : Watchers) (reply : Reply) → nat_lt i (length v.observers.queues) ≡ true → reply_view reply ≡ model_reply.Done model_reply.Nothing → ((x : Observing) → Watches v.observers x → Watches o (disconnected i x)) → NamesOnly [] v.observers o → IsStep v (record v { observers = o }) b (Disconnect i) reply
   step-disconnect b i o reply made said watched only =
-      step-observers b (Disconnect i) reply o (disconnected i) (λ w s. rw (said, s.watched.made, made) refl) watched (names-none o only)
+      step-observers b (Disconnect i) reply o (disconnected i) (ap is_refusal said) (λ w s. rw (said, s.watched.made, made) refl) watched (names-none o only)
 
   pub step-create : (b : Bounds) (o : Watchers) (reply : Reply) → nat_lt b.numbers (length v.observers.queues + 1) ≡ false → reply_view reply ≡ model_reply.Done (model_reply.Number (length v.observers.queues)) → ((x : Observing) → Watches v.observers x → Watches o (with_observer x)) → NamesOnly [] v.observers o → IsStep v (record v { observers = o }) b CreateObserver reply
   step-create b o reply room said watched only =
-      step-observers b CreateObserver reply o with_observer (λ w s. rw (said, s.watched.made, room) refl) watched (names-none o only)
+      step-observers b CreateObserver reply o with_observer (ap is_refusal said) (λ w s. rw (said, s.watched.made, room) refl) watched (names-none o only)
 
   pub step-take : (b : Bounds) (i : ℕ) (records : List Record) (o : Watchers) (reply : Reply) → nat_lt i (length v.observers.queues) ≡ true → reply_view reply ≡ model_reply.Done (model_reply.Records records) → ((x : Observing) → Watches v.observers x → records ≡ queue_of i x) → ((x : Observing) → Watches v.observers x → Watches o (records_taken i x)) → NamesOnly [] v.observers o → IsStep v (record v { observers = o }) b (TakeRecords i) reply
   step-take b i records o reply made said are watched only =
-      step-observers b (TakeRecords i) reply o (records_taken i) (λ w s. rw (said, s.watched.made, made, are w.observing s.watched) refl) watched (names-none o only)
+      step-observers b (TakeRecords i) reply o (records_taken i) (ap is_refusal said) (λ w s. rw (said, s.watched.made, made, are w.observing s.watched) refl) watched (names-none o only)
 
   pub step-notify : (b : Bounds) (all : List Told) (o : Watchers) (reply : Reply) → reply_view reply ≡ model_reply.Done (model_reply.Notified all) → ((x : Observing) → Watches v.observers x → all ≡ told x) → ((x : Observing) → Watches v.observers x → Watches o (after_notify x)) → NamesOnly [] v.observers o → IsStep v (record v { observers = o }) b Notify reply
   step-notify b all o reply said are watched only =
-      step-observers b Notify reply o after_notify (λ w s. rw (said, are w.observing s.watched) refl) watched (names-none o only)
+      step-observers b Notify reply o after_notify (ap is_refusal said) (λ w s. rw (said, are w.observing s.watched) refl) watched (names-none o only)
 
   -- options that are refused
   pub step-not_observed : (b : Bounds) (i n : ℕ) (given : GivenOptions) (error : DomError) (reply : Reply) → nat_lt i (length v.observers.queues) ≡ true → is_some (entry_in v.tree.forest n) ≡ true → options_refusal given ≡ Some error → reply_view reply ≡ model_reply.Dom error → IsStep v v b (Observe i n given) reply

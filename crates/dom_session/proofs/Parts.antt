@@ -1,10 +1,11 @@
 -- Steps that change the table of live ranges, or that of static ranges, and nothing else.
-use Rattle.std.proofs.Common.{◌≡◌, ℕ, ◌≤◌, true, List, Option, Some, None, All, refl, sym, ap, subst}
+use Rattle.std.proofs.Common.{◌≡◌, ℕ, true, false, List, Option, Some, None, All, refl, sym, ap, subst}
 use Rattle.std.specs.Prelude.{IfSome, is_some, slice_set}
 use Rattle.dom_model.specs.Worlds.World as model
 use Rattle.dom_model.specs.Worlds.World.{Range}
 use Rattle.dom_model.specs.Soundness.Sound.{IsSound}
 use Rattle.dom_model.specs.Commands.Command.{Command}
+use Rattle.dom_model.specs.Commands.Reply.{is_refusal}
 use Rattle.dom_model.specs.Commands.Answer.{Bounds, Step, answer}
 use Rattle.dom_model.proofs.Soundness.SoundAnswers.{sound-answer}
 use Rattle.dom_wrap.specs.dom_ranges.Tables.{RangeTable}
@@ -37,20 +38,20 @@ module _ (b : Bounds) (c : Command) (reply : Reply) where
       subst P (ap (λ (x : Step). x.world) e) (sound-answer b s.stands_for c s.shows.sound)
 
   -- a command that puts other live ranges in the place of the old
-  pub step-ranges : (v : World) (t : RangeTable) (rs : List (Option Range)) → IsShown v → t ≡ record v.ranges { ranges = rs } → ((w : model.World) → Shows v w → answer b w c ≡ record { reply = reply_view reply; world = record w { ranges = rs } }) → IsStep v (record v { ranges = t }) b c reply
-  step-ranges v t rs s is e =
+  pub step-ranges : (v : World) (t : RangeTable) (rs : List (Option Range)) → is_refusal (reply_view reply) ≡ false → IsShown v → t ≡ record v.ranges { ranges = rs } → ((w : model.World) → Shows v w → answer b w c ≡ record { reply = reply_view reply; world = record w { ranges = rs } }) → IsStep v (record v { ranges = t }) b c reply
+  step-ranges v t rs done s is e =
       let u = s.stands_for in
       let next : model.World = record u { ranges = rs } in
       let f = follows-ranges v t rs is in
       let covers : AreCovered v.tree t.covered = subst (AreCovered v.tree) (sym (ap (λ (x : RangeTable). x.covered) is)) s.shows.whole.covered in
       let whole : IsWhole (record v { ranges = t }) =
       whole-sound (record v { ranges = t }) next (f.keeps u s.shows.keeps) (sound-next v s next (e u s.shows)) s.shows.whole.documents s.shows.whole.owners covers s.shows.whole.statics s.shows.whole.observers in
-      step-follows b c reply v (record v { ranges = t }) (λ w. record w { ranges = rs }) e f whole
+      step-follows b c reply v (record v { ranges = t }) (λ w. record w { ranges = rs }) done e f whole
 
   -- a command that sets one live range, to what becomes of a range that is given
-  pub step-set : (v : World) (t : RangeTable) (r : ℕ) (o : Option Range) (change : Range → Range) → IsShown v → is_some o ≡ true → IfSome o (λ range. t ≡ record v.ranges { ranges = slice_set v.ranges.ranges r (Some (change range)) }) → ((range : Range) → o ≡ Some range → (w : model.World) → Shows v w → answer b w c ≡ record { reply = reply_view reply; world = record w { ranges = slice_set v.ranges.ranges r (Some (change range)) } }) → IsStep v (record v { ranges = t }) b c reply
-  step-set v t r None change s there is e = absurd (cc there)
-  step-set v t r (Some range) change s there is e = step-ranges v t (slice_set v.ranges.ranges r (Some (change range))) s is (e range refl)
+  pub step-set : (v : World) (t : RangeTable) (r : ℕ) (o : Option Range) (change : Range → Range) → is_refusal (reply_view reply) ≡ false → IsShown v → is_some o ≡ true → IfSome o (λ range. t ≡ record v.ranges { ranges = slice_set v.ranges.ranges r (Some (change range)) }) → ((range : Range) → o ≡ Some range → (w : model.World) → Shows v w → answer b w c ≡ record { reply = reply_view reply; world = record w { ranges = slice_set v.ranges.ranges r (Some (change range)) } }) → IsStep v (record v { ranges = t }) b c reply
+  step-set v t r None change done s there is e = absurd (cc there)
+  step-set v t r (Some range) change done s there is e = step-ranges v t (slice_set v.ranges.ranges r (Some (change range))) done s is (e range refl)
 
   -- a command that is refused by the table of live ranges
   pub step-refused : (v : World) (t : RangeTable) → t ≡ v.ranges → ((w : model.World) → Shows v w → answer b w c ≡ record { reply = reply_view reply; world = w }) → IsStep v (record v { ranges = t }) b c reply
@@ -59,12 +60,12 @@ module _ (b : Bounds) (c : Command) (reply : Reply) where
       subst P (sym is) (step-stays b c reply v e)
 
   -- a command that puts other static ranges in the place of the old
-  pub step-statics : (v : World) (t ss : List Range) → IsShown v → t ≡ ss → All (AreHeld v.tree.forest) ss → ((w : model.World) → Shows v w → answer b w c ≡ record { reply = reply_view reply; world = record w { static_ranges = ss } }) → IsStep v (record v { statics = t }) b c reply
-  step-statics v t ss s is held e =
+  pub step-statics : (v : World) (t ss : List Range) → is_refusal (reply_view reply) ≡ false → IsShown v → t ≡ ss → All (AreHeld v.tree.forest) ss → ((w : model.World) → Shows v w → answer b w c ≡ record { reply = reply_view reply; world = record w { static_ranges = ss } }) → IsStep v (record v { statics = t }) b c reply
+  step-statics v t ss done s is held e =
       let u = s.stands_for in
       let next : model.World = record u { static_ranges = ss } in
       let f = follows-statics v t ss is in
       let kept : All (AreHeld v.tree.forest) t = subst (λ xs. All (AreHeld v.tree.forest) xs) (sym is) held in
       let whole : IsWhole (record v { statics = t }) =
       whole-sound (record v { statics = t }) next (f.keeps u s.shows.keeps) (sound-next v s next (e u s.shows)) s.shows.whole.documents s.shows.whole.owners s.shows.whole.covered kept s.shows.whole.observers in
-      step-follows b c reply v (record v { statics = t }) (λ w. record w { static_ranges = ss }) e f whole
+      step-follows b c reply v (record v { statics = t }) (λ w. record w { static_ranges = ss }) done e f whole

@@ -1,22 +1,23 @@
 -- What a world that is whole tells of the nodes and live ranges that it holds.
-use Rattle.std.proofs.Common.{◌≡◌, ℕ, ◌<◌, ◌≤◌, true, length, Option, Some, None, ◌∷◌, refl, sym, ap, ◌∙◌, subst, arith, ⊎_elim}
+use Rattle.std.proofs.Common.{◌≡◌, ℕ, ◌+◌, ◌<◌, ◌≤◌, true, length, Some, None, ◌∷◌, sym, ap, ◌∙◌, subst, arith, ⊎_elim}
 use Rattle.std.specs.Option.{ForSome}
 use Rattle.std.proofs.lemmas.Bool.{cases_lt}
 use Rattle.std.proofs.lemmas.List.{get_or_past}
 use Rattle.dom_model.specs.declared.Kind.TheVariants.{Document}
-use Rattle.dom_model.specs.Forests.Forest.{Forest, Grove, HasNode, IsForest, parent_of, root_of}
+use Rattle.dom_model.specs.Forests.Forest.{Forest, Grove, HasNode, IsForest, parent_of, index_of, root_of}
 use Rattle.dom_model.specs.Worlds.Lengths.{unit_count}
 use Rattle.dom_model.specs.Forests.Nodes.{is_of_kind}
 use Rattle.dom_model.specs.Worlds.World.{Content, Point, Range}
 use Rattle.dom_model.specs.Soundness.Sound.{IsBoundary, IsRange}
 use Rattle.dom_model.specs.PlainLists.Lists.{last_of}
 use Rattle.dom_model.proofs.Forests.Entries.{occurs-HasNode}
+use Rattle.dom_model.proofs.Forests.Changes.{seen, nothing, just}
 use Rattle.dom_model.proofs.Forests.Climbing.{ancestors-there}
 use Rattle.dom_model.proofs.Forests.Above.{above}
 use Rattle.dom_model.proofs.Soundness.SoundWorlds.{IsLive}
 use Rattle.dom_model.proofs.Soundness.SoundRangeSteps.{document_is_no_doctype}
 use Rattle.dom_model.proofs.RangesAndContents.RangesSet.{range_at_point}
-use Rattle.dom_model.specs.RangesAndContents.Ranges.{collapsed_at}
+use Rattle.dom_model.specs.RangesAndContents.Ranges.{collapsed_at, around}
 use Rattle.dom_wrap.specs.dom_ranges.Tables.{IsCovered, range_in, StandsIn, IsBoundaryIn, IsRangeIn}
 use Rattle.dom_wrap.specs.dom_edit.declared.world.World.{World}
 use Rattle.dom_wrap.specs.dom_edit.Whole.{IsWhole}
@@ -35,6 +36,17 @@ stands-in f r h = record { start = h.starts.there; end = h.ends.there; one_root 
 pub range-of_document : (f : Forest Content) (d : ℕ) → HasNode f d → is_of_kind Document f d ≡ true → IsRange f (collapsed_at (record { node = d; offset = 0 }))
 range-of_document f d there h =
     range_at_point f (record { node = d; offset = 0 }) (record { there = there; kind = document_is_no_doctype f d h; within = omega arith })
+
+-- the range around a node has both ends in its parent
+pub around-parent : {X : Type 0} (f : Forest X) (n : ℕ) (r : Range) → around f n ≡ Some r → (parent_of f n ≡ Some r.start.node) × (parent_of f n ≡ Some r.end.node)
+around-parent f n r e =
+    elim (seen (parent_of f n)) [
+      | nothing d ↦ absurd (let k = rw d at e in cc k)
+      | just p d ↦
+          let k = rw d at e in
+          let same : record { start = record { node = p; offset = index_of f n }; end = record { node = p; offset = index_of f n + 1 } } ≡ r = cc k in
+          (d ∙ ap (λ (x : Range). Some x.start.node) same, d ∙ ap (λ (x : Range). Some x.end.node) same)
+    ]
 
 -- a node and its parent have one root
 pub root-above : {X : Type 0} {g : Grove X} → IsForest g → (n q : ℕ) → HasNode g.forest n → parent_of g.forest n ≡ Some q → root_of g.forest n ≡ root_of g.forest q

@@ -1,16 +1,11 @@
 -- The steps of the commands that make nodes, from any world that is shown.
-use Rattle.std.proofs.Common.{◌≡◌, ℕ, ◌+◌, nat_lt, Bool, true, false, not, List, [], ◌∷◌, Some, None, refl, sym, ap, ◌∙◌}
-use Rattle.std.specs.Prelude.{is_none}
-use Rattle.dom_model.specs.Forests.Forest.{entry_in}
+use Rattle.std.proofs.Common.{◌≡◌, ℕ, ◌+◌, nat_lt, Bool, true, false, List, [], ◌∷◌, Some, None, refl, sym, ap, ◌∙◌}
 use Rattle.dom_model.specs.declared.Kind.TheVariants.{Element, Text, ProcessingInstruction, Comment, Document, DocumentFragment}
-use Rattle.dom_model.specs.declared.DomError.TheVariants.{TypeError, InvalidCharacterError}
-use Rattle.dom_model.specs.declared.OwnError.TheVariants.{NoSuchObject, Limit}
+use Rattle.dom_model.specs.declared.DomError.TheVariants.{InvalidCharacterError}
 use Rattle.dom_model.specs.Forests.Kinds.{Label, is_kind}
 use Rattle.dom_model.specs.Worlds.World.{Content, no_content, document_label}
 use Rattle.dom_model.specs.Worlds.World as model
 use Rattle.dom_model.specs.Commands.Reply as model_reply
-use Rattle.dom_model.specs.PlainLists.Lists.{first_refusal}
-use Rattle.dom_model.specs.Forests.Nodes.{kind_passes}
 use Rattle.dom_model.specs.Forests.Names.{is_element_name, is_doctype_name}
 use Rattle.dom_model.specs.Commands.AnswerMaking.{closes_instruction, doctype_label}
 use Rattle.dom_model.specs.Commands.Command.{Command, NewDocument, CreateElement, CreateText, CreateComment, CreatePI, CreateDoctype, CreateFragment}
@@ -23,42 +18,23 @@ use Rattle.dom_session.specs.declared.reply.Reply.TheVariants.{Done}
 use Rattle.dom_session.specs.Limiting.{numbered}
 use Rattle.dom_session.specs.Stands.{IsStep}
 use Rattle.dom_session.specs.Refusing.{making_refusal}
-use Rattle.dom_session.proofs.Stepping.{step-follows}
+use Rattle.dom_session.proofs.Stepping.{guarded-none, guarded-some, step-follows}
 
--- where none of three tests refuses, the guards behind them decide
-pub guarded-past_three : (a b c : Bool) (x y z : model_reply.Reply) (cs : List (Bool × model_reply.Reply)) (w : model.World) (s : Step) → first_refusal ((a, x) ∷ (b, y) ∷ (c, z) ∷ []) ≡ None → guarded ((a, x) ∷ (b, y) ∷ (c, z) ∷ cs) w s ≡ guarded cs w s
-guarded-past_three true b c x y z cs w s h = cc
-guarded-past_three false true c x y z cs w s h = cc
-guarded-past_three false false true x y z cs w s h = cc
-guarded-past_three false false false x y z cs w s h = refl
-
+-- what may stand in the way of every new node in a document
 pub guarded-making : (v : World) (b : Bounds) (d : ℕ) (cs : List (Bool × model_reply.Reply)) (w : model.World) (s : Step) → Shows v w → making_refusal v b.numbers d ≡ None → guarded (no_node d w ∷ wrong_kind (is_kind Document) d w ∷ no_room b w.made 1 ∷ cs) w s ≡ guarded cs w s
 guarded-making v b d cs w s shown none =
-    guarded-past_three (lacks_node_in w d) (not (kind_passes (is_kind Document) w.forest d)) (nat_lt b.numbers (w.made + 1)) (model_reply.Own NoSuchObject) (model_reply.Dom TypeError) (model_reply.Own Limit) cs w s (rw (shown.keeps.forest, shown.keeps.made) none)
-  where
-    lacks_node_in : model.World → ℕ → Bool
-    lacks_node_in w n = is_none (entry_in w.forest n)
+    guarded-none (no_node d w ∷ wrong_kind (is_kind Document) d w ∷ no_room b w.made 1 ∷ []) cs w s (rw (shown.keeps.forest, shown.keeps.made) none)
 
 -- a command that makes a node, where the new number is the next
 pub step-makes : (old new : World) (b : Bounds) (c : Command) (document number : ℕ) (label : Label) (body : Content) → ((w : model.World) → Shows old w → answer b w c ≡ makes document label body w) → number ≡ old.tree.made → Follows old new (made_node document label body) → IsWhole new → IsStep old new b c (Done (Number number))
 step-makes old new b c document number label body e is f whole =
-    step-follows b c (Done (Number number)) old new (made_node document label body)
+    step-follows b c (Done (Number number)) old new (made_node document label body) refl
     (λ w shown. e w shown ∙ ap (λ n. record { reply = model_reply.Done (model_reply.Number n); world = made_node document label body w }) (shown.keeps.made ∙ sym is))
     f whole
 
--- where one of three tests refuses, the first that does decides
-pub guarded-at_three : (a b c : Bool) (x y z : model_reply.Reply) (cs : List (Bool × model_reply.Reply)) (w : model.World) (s : Step) (r : model_reply.Reply) → first_refusal ((a, x) ∷ (b, y) ∷ (c, z) ∷ []) ≡ Some r → guarded ((a, x) ∷ (b, y) ∷ (c, z) ∷ cs) w s ≡ refused r w
-guarded-at_three true b c x y z cs w s r h = let same : x ≡ r = cc in ap (λ q. refused q w) same
-guarded-at_three false true c x y z cs w s r h = let same : y ≡ r = cc in ap (λ q. refused q w) same
-guarded-at_three false false true x y z cs w s r h = let same : z ≡ r = cc in ap (λ q. refused q w) same
-guarded-at_three false false false x y z cs w s r h = absurd (cc h)
-
 pub refused-making : (v : World) (b : Bounds) (d : ℕ) (cs : List (Bool × model_reply.Reply)) (w : model.World) (s : Step) (r : model_reply.Reply) → Shows v w → making_refusal v b.numbers d ≡ Some r → guarded (no_node d w ∷ wrong_kind (is_kind Document) d w ∷ no_room b w.made 1 ∷ cs) w s ≡ refused r w
 refused-making v b d cs w s r shown some =
-    guarded-at_three (lacks_node_in w d) (not (kind_passes (is_kind Document) w.forest d)) (nat_lt b.numbers (w.made + 1)) (model_reply.Own NoSuchObject) (model_reply.Dom TypeError) (model_reply.Own Limit) cs w s r (rw (shown.keeps.forest, shown.keeps.made) some)
-  where
-    lacks_node_in : model.World → ℕ → Bool
-    lacks_node_in w n = is_none (entry_in w.forest n)
+    guarded-some (no_node d w ∷ wrong_kind (is_kind Document) d w ∷ no_room b w.made 1 ∷ []) cs w s r (rw (shown.keeps.forest, shown.keeps.made) some)
 
 pub answer-create_element : (v : World) (n d : ℕ) (name : List ℕ) (w : model.World) → Shows v w → making_refusal v n d ≡ None → is_element_name name ≡ true → answer (numbered n) w (CreateElement d name) ≡ makes d (named Element name) no_content w
 answer-create_element v n d name w shown none valid =

@@ -9,6 +9,7 @@ use Rattle.dom_model.specs.Worlds.World as model
 use Rattle.dom_model.specs.Soundness.Sound.{IsSound}
 use Rattle.dom_model.specs.Commands.Command.{Command, CreateIterator, CreateWalker, NextNode, PreviousNode, SetCurrent, Walk}
 use Rattle.dom_model.specs.Commands.Reply as model_reply
+use Rattle.dom_model.specs.Commands.Reply.{is_refusal}
 use Rattle.dom_model.specs.Commands.Answer.{Bounds, Step, answer}
 use Rattle.dom_model.specs.Traversal.Iterators.{new_iterator, next_found, previous_found, moved_to_next, moved_to_previous}
 use Rattle.dom_model.specs.Traversal.Walks.{new_walker, walk_found, walker_moved}
@@ -43,34 +44,34 @@ module _ (v : World) (shown : IsShown v) (b : Bounds) (c : Command) (reply : Rep
       subst P (ap (λ (s : Step). s.world) (e shown.stands_for shown.shows)) (sound-answer b shown.stands_for c shown.shows.sound)
 
   -- the iterators are others
-  pub step-iterators : (xs : List Iterator) → ((w : model.World) → Shows v w → answer b w c ≡ record { reply = reply_view reply; world = record w { iterators = xs } }) → IsStep v (record v { iterators = xs }) b c reply
-  step-iterators xs e =
+  pub step-iterators : (xs : List Iterator) → is_refusal (reply_view reply) ≡ false → ((w : model.World) → Shows v w → answer b w c ≡ record { reply = reply_view reply; world = record w { iterators = xs } }) → IsStep v (record v { iterators = xs }) b c reply
+  step-iterators xs done e =
       let new : World = record v { iterators = xs } in
       let step : model.World → model.World = λ w. record w { iterators = xs } in
       let keeps : (w : model.World) → Keeps v w → Keeps new (step w) = λ w k. record { forest = k.forest; made = k.made; ranges = k.ranges; static_ranges = k.static_ranges; iterators = refl; walkers = k.walkers } in
       let h = shown.shows.whole in
       let whole : IsWhole new = whole-sound new (step shown.stands_for) (keeps shown.stands_for shown.shows.keeps) (sound-after step e) h.documents h.owners h.covered h.statics h.observers in
-      step-follows b c reply v new step e (record { keeps = keeps; watches = λ w k o. o }) whole
+      step-follows b c reply v new step done e (record { keeps = keeps; watches = λ w k o. o }) whole
 
   -- the walkers are others
-  pub step-walkers : (xs : List Walker) → ((w : model.World) → Shows v w → answer b w c ≡ record { reply = reply_view reply; world = record w { walkers = xs } }) → IsStep v (record v { walkers = xs }) b c reply
-  step-walkers xs e =
+  pub step-walkers : (xs : List Walker) → is_refusal (reply_view reply) ≡ false → ((w : model.World) → Shows v w → answer b w c ≡ record { reply = reply_view reply; world = record w { walkers = xs } }) → IsStep v (record v { walkers = xs }) b c reply
+  step-walkers xs done e =
       let new : World = record v { walkers = xs } in
       let step : model.World → model.World = λ w. record w { walkers = xs } in
       let keeps : (w : model.World) → Keeps v w → Keeps new (step w) = λ w k. record { forest = k.forest; made = k.made; ranges = k.ranges; static_ranges = k.static_ranges; iterators = k.iterators; walkers = refl } in
       let h = shown.shows.whole in
       let whole : IsWhole new = whole-sound new (step shown.stands_for) (keeps shown.stands_for shown.shows.keeps) (sound-after step e) h.documents h.owners h.covered h.statics h.observers in
-      step-follows b c reply v new step e (record { keeps = keeps; watches = λ w k o. o }) whole
+      step-follows b c reply v new step done e (record { keeps = keeps; watches = λ w k o. o }) whole
 
 module _ (v : World) (shown : IsShown v) where
   pub step-create_iterator : (n root id : ℕ) (filter : Filter) (xs : List Iterator) (reply : Reply) → is_some (entry_in v.tree.forest root) ≡ true → nat_lt n (length v.iterators + 1) ≡ false → id ≡ length v.iterators → reply_view reply ≡ model_reply.Done (model_reply.Number id) → xs ≡ v.iterators ++ new_iterator root filter ∷ [] → IsStep v (record v { iterators = xs }) (numbered n) (CreateIterator root filter) reply
   step-create_iterator n root id filter xs reply there room is said made =
-      step-iterators v shown (numbered n) (CreateIterator root filter) reply xs
+      step-iterators v shown (numbered n) (CreateIterator root filter) reply xs (ap is_refusal said)
       (λ w s. rw (said, is, made, s.keeps.forest, not-none (entry_in v.tree.forest root) there, s.keeps.iterators, room) refl)
 
   pub step-create_walker : (n root id : ℕ) (filter : Filter) (xs : List Walker) (reply : Reply) → is_some (entry_in v.tree.forest root) ≡ true → nat_lt n (length v.walkers + 1) ≡ false → id ≡ length v.walkers → reply_view reply ≡ model_reply.Done (model_reply.Number id) → xs ≡ v.walkers ++ new_walker root filter ∷ [] → IsStep v (record v { walkers = xs }) (numbered n) (CreateWalker root filter) reply
   step-create_walker n root id filter xs reply there room is said made =
-      step-walkers v shown (numbered n) (CreateWalker root filter) reply xs
+      step-walkers v shown (numbered n) (CreateWalker root filter) reply xs (ap is_refusal said)
       (λ w s. rw (said, is, made, s.keeps.forest, not-none (entry_in v.tree.forest root) there, s.keeps.walkers, room) refl)
 
   pub step-next_node : (b : Bounds) (i : ℕ) (found : Option ℕ) (xs : List Iterator) (reply : Reply) → i < length v.iterators → reply_view reply ≡ model_reply.Done (model_reply.MaybeNumber found) → IfSome (slice_get v.iterators i) (λ it. found ≡ next_found v.tree.forest it) → IfSome (slice_get v.iterators i) (λ it. xs ≡ slice_set v.iterators i (moved_to_next v.tree.forest it)) → IsStep v (record v { iterators = xs }) b (NextNode i) reply
@@ -78,24 +79,24 @@ module _ (v : World) (shown : IsShown v) where
       let h = held v.iterators i inside in
       let e = rw h.is at finds in
       let m = rw h.is at moved in
-      step-iterators v shown b (NextNode i) reply xs (λ w s. rw (said, e, m, s.keeps.iterators, s.keeps.forest, h.is) refl)
+      step-iterators v shown b (NextNode i) reply xs (ap is_refusal said) (λ w s. rw (said, e, m, s.keeps.iterators, s.keeps.forest, h.is) refl)
 
   pub step-previous_node : (b : Bounds) (i : ℕ) (found : Option ℕ) (xs : List Iterator) (reply : Reply) → i < length v.iterators → reply_view reply ≡ model_reply.Done (model_reply.MaybeNumber found) → IfSome (slice_get v.iterators i) (λ it. found ≡ previous_found v.tree.forest it) → IfSome (slice_get v.iterators i) (λ it. xs ≡ slice_set v.iterators i (moved_to_previous v.tree.forest it)) → IsStep v (record v { iterators = xs }) b (PreviousNode i) reply
   step-previous_node b i found xs reply inside said finds moved =
       let h = held v.iterators i inside in
       let e = rw h.is at finds in
       let m = rw h.is at moved in
-      step-iterators v shown b (PreviousNode i) reply xs (λ w s. rw (said, e, m, s.keeps.iterators, s.keeps.forest, h.is) refl)
+      step-iterators v shown b (PreviousNode i) reply xs (ap is_refusal said) (λ w s. rw (said, e, m, s.keeps.iterators, s.keeps.forest, h.is) refl)
 
   pub step-set_current : (b : Bounds) (k n : ℕ) (xs : List Walker) (reply : Reply) → k < length v.walkers → is_some (entry_in v.tree.forest n) ≡ true → reply_view reply ≡ model_reply.Done model_reply.Nothing → IfSome (slice_get v.walkers k) (λ (walker : Walker). xs ≡ slice_set v.walkers k (record walker { current = n })) → IsStep v (record v { walkers = xs }) b (SetCurrent k n) reply
   step-set_current b k n xs reply inside there said moved =
       let h = held v.walkers k inside in
       let m = rw h.is at moved in
-      step-walkers v shown b (SetCurrent k n) reply xs (λ w s. rw (said, m, s.keeps.walkers, s.keeps.forest, h.is, not-none (entry_in v.tree.forest n) there) refl)
+      step-walkers v shown b (SetCurrent k n) reply xs (ap is_refusal said) (λ w s. rw (said, m, s.keeps.walkers, s.keeps.forest, h.is, not-none (entry_in v.tree.forest n) there) refl)
 
   pub step-walk : (b : Bounds) (k : ℕ) (direction : Move) (found : Option ℕ) (xs : List Walker) (reply : Reply) → k < length v.walkers → reply_view reply ≡ model_reply.Done (model_reply.MaybeNumber found) → IfSome (slice_get v.walkers k) (λ walker. found ≡ walk_found direction v.tree.forest walker) → IfSome (slice_get v.walkers k) (λ walker. xs ≡ slice_set v.walkers k (walker_moved (walk_found direction v.tree.forest walker) walker)) → IsStep v (record v { walkers = xs }) b (Walk k direction) reply
   step-walk b k direction found xs reply inside said finds moved =
       let h = held v.walkers k inside in
       let e = rw h.is at finds in
       let m = rw h.is at moved in
-      step-walkers v shown b (Walk k direction) reply xs (λ w s. rw (said, e, m, s.keeps.walkers, s.keeps.forest, h.is) refl)
+      step-walkers v shown b (Walk k direction) reply xs (ap is_refusal said) (λ w s. rw (said, e, m, s.keeps.walkers, s.keeps.forest, h.is) refl)

@@ -1,5 +1,5 @@
 -- The answers of the commands that change where nodes stand, where the objects are there.
-use Rattle.std.proofs.Common.{◌≡◌, ℕ, Bool, true, false, not, [], ◌∷◌, Option, Some, None, refl, sym, ap, subst}
+use Rattle.std.proofs.Common.{◌≡◌, ℕ, Bool, true, false, not, [], ◌∷◌, Option, Some, None, refl, sym, ap}
 use Rattle.std.specs.Prelude.{is_some, is_none, IfSome}
 use Rattle.dom_model.specs.declared.Kind.{Kind}
 use Rattle.dom_model.specs.declared.Kind.TheVariants.{Document}
@@ -11,11 +11,11 @@ use Rattle.dom_model.specs.Forests.Arena.{Entry}
 use Rattle.dom_model.specs.Forests.Forest.{Node, Forest, entry_in, parent_of}
 use Rattle.dom_model.specs.Worlds.World as model
 use Rattle.dom_model.specs.Worlds.World.{Content}
-use Rattle.dom_model.specs.Commands.Command.{Command, InsertBefore, AppendChild, AdoptNode, ReplaceChild, RemoveChild, Remove, ReplaceChildren, Discard}
+use Rattle.dom_model.specs.Commands.Command.{InsertBefore, AppendChild, AdoptNode, ReplaceChild, RemoveChild, Remove, ReplaceChildren, Discard}
 use Rattle.dom_model.specs.Commands.Reply as model_reply
 use Rattle.dom_model.specs.Commands.Answer.{Bounds, Step, guarded, refused, answer}
-use Rattle.dom_model.specs.Commands.Guards.{does}
-use Rattle.dom_model.specs.Commands.AnswerTree.{is_child_node}
+use Rattle.dom_model.specs.Commands.Guards.{does, checked}
+use Rattle.dom_model.specs.Commands.AnswerTree.{is_child_node, gives}
 use Rattle.dom_model.specs.declared.OwnError.TheVariants.{NoSuchObject, InUse}
 use Rattle.dom_model.specs.MutationAlgorithms.Discarding.{is_in_use, discarded}
 use Rattle.dom_model.specs.MutationAlgorithms.Checks.{check_insert, check_replace}
@@ -23,13 +23,8 @@ use Rattle.dom_model.specs.Forests.Nodes.{entry_has, kind_passes, is_of_kind}
 use Rattle.dom_model.specs.MutationAlgorithms.Editing.{remove, pre_insert, append, replace, replace_all, adopt}
 use Rattle.dom_wrap.specs.dom_edit.declared.world.World.{World}
 use Rattle.dom_wrap.specs.dom_edit.Whole.{Shows}
-use Rattle.dom_wrap.specs.dom_edit.declared.refusal.Refusal.{Refusal}
-use Rattle.dom_wrap.specs.dom_edit.declared.refusal.Refusal.TheVariants as refusal
-use Rattle.dom_wrap.specs.dom_edit.Refusals.{check_remove_child, check_only_child, check_adopt, IsRefused}
-use Rattle.dom_session.specs.declared.reply.Reply.TheVariants.{Dom}
+use Rattle.dom_wrap.specs.dom_edit.Refusals.{check_remove_child, check_only_child, check_adopt}
 use Rattle.dom_session.specs.Refusing.{lacks_given}
-use Rattle.dom_session.specs.Stands.{IsStep}
-use Rattle.dom_session.proofs.Stepping.{step-stays}
 
 pub not-none : {A : Type 0} (o : Option A) → is_some o ≡ true → is_none o ≡ false
 not-none None h = absurd (cc h)
@@ -44,15 +39,15 @@ kind_passes-label test f n l h k = at (entry_in f n) h k
     at (Some e) h k = ap (λ (m : Label). test m.kind) (sym k)
 
 -- one test at the end, which gives the standard's name or lets the step be taken
-record Throws (t : Bool) (x e : DomError) : Type 0 where
-  holds : t ≡ true
-  name : x ≡ e
+pub record Throws (t : Bool) (x e : DomError) : Type 0 where
+  pub holds : t ≡ true
+  pub name : x ≡ e
 
-throws-some : (t : Bool) (x e : DomError) → first_refusal ((t, x) ∷ []) ≡ Some e → Throws t x e
+pub throws-some : (t : Bool) (x e : DomError) → first_refusal ((t, x) ∷ []) ≡ Some e → Throws t x e
 throws-some true x e h = record { holds = refl; name = cc h }
 throws-some false x e h = absurd (cc h)
 
-throws-none : (t : Bool) (x : DomError) → first_refusal ((t, x) ∷ []) ≡ None → t ≡ false
+pub throws-none : (t : Bool) (x : DomError) → first_refusal ((t, x) ∷ []) ≡ None → t ≡ false
 throws-none true x h = absurd (cc h)
 throws-none false x h = refl
 
@@ -64,28 +59,20 @@ pub not-true : (t : Bool) → not t ≡ true → t ≡ false
 not-true true h = absurd (cc h)
 not-true false h = refl
 
--- what a refusal of the world tells, where it is a name of the standard
-pub told : (r : Refusal) (e : DomError) (check : Option DomError) (old new : World) → r ≡ refusal.Dom e → IsRefused r check old new → (check ≡ Some e) × (new ≡ old)
-told r e check old new is h = let P : Refusal → Type 0 = λ x. IsRefused x check old new in subst P is h
-
--- a refusal that leaves the world as it was
-pub step-refused : (old new : World) (b : Bounds) (c : Command) (e : DomError) → new ≡ old → ((w : model.World) → Shows old w → answer b w c ≡ refused (model_reply.Dom e) w) → IsStep old new b c (Dom e)
-step-refused old new b c e same h = rw same (step-stays b c (Dom e) old h)
-
 module _ (v : World) (b : Bounds) where
-  pub answer-insert_before : (p n : ℕ) (c : Option ℕ) (w : model.World) → Shows v w → is_some (entry_in v.tree.forest p) ≡ true → is_some (entry_in v.tree.forest n) ≡ true → lacks_given v c ≡ false → check_insert v.tree.forest p n c ≡ None → answer b w (InsertBefore p n c) ≡ record { reply = model_reply.Done (model_reply.Number n); world = pre_insert n p c w }
-  answer-insert_before p n None w shown hp hn hc allowed =
-      rw (shown.keeps.forest, not-none (entry_in v.tree.forest p) hp, not-none (entry_in v.tree.forest n) hn, allowed) refl
-  answer-insert_before p n (Some c) w shown hp hn hc allowed =
-      rw (shown.keeps.forest, not-none (entry_in v.tree.forest p) hp, not-none (entry_in v.tree.forest n) hn, hc, allowed) refl
+  pub answer-insert_before : (p n : ℕ) (c : Option ℕ) (w : model.World) (o : Option DomError) → Shows v w → is_some (entry_in v.tree.forest p) ≡ true → is_some (entry_in v.tree.forest n) ≡ true → lacks_given v c ≡ false → check_insert v.tree.forest p n c ≡ o → answer b w (InsertBefore p n c) ≡ checked o w (gives n (pre_insert n p c w))
+  answer-insert_before p n None w o shown hp hn hc is =
+      rw (shown.keeps.forest, not-none (entry_in v.tree.forest p) hp, not-none (entry_in v.tree.forest n) hn, is) refl
+  answer-insert_before p n (Some c) w o shown hp hn hc is =
+      rw (shown.keeps.forest, not-none (entry_in v.tree.forest p) hp, not-none (entry_in v.tree.forest n) hn, hc, is) refl
 
-  pub answer-append_child : (p n : ℕ) (w : model.World) → Shows v w → is_some (entry_in v.tree.forest p) ≡ true → is_some (entry_in v.tree.forest n) ≡ true → check_insert v.tree.forest p n None ≡ None → answer b w (AppendChild p n) ≡ record { reply = model_reply.Done (model_reply.Number n); world = append n p w }
-  answer-append_child p n w shown hp hn allowed =
-      rw (shown.keeps.forest, not-none (entry_in v.tree.forest p) hp, not-none (entry_in v.tree.forest n) hn, allowed) refl
+  pub answer-append_child : (p n : ℕ) (w : model.World) (o : Option DomError) → Shows v w → is_some (entry_in v.tree.forest p) ≡ true → is_some (entry_in v.tree.forest n) ≡ true → check_insert v.tree.forest p n None ≡ o → answer b w (AppendChild p n) ≡ checked o w (gives n (append n p w))
+  answer-append_child p n w o shown hp hn is =
+      rw (shown.keeps.forest, not-none (entry_in v.tree.forest p) hp, not-none (entry_in v.tree.forest n) hn, is) refl
 
-  pub answer-replace_child : (p n c : ℕ) (w : model.World) → Shows v w → is_some (entry_in v.tree.forest p) ≡ true → is_some (entry_in v.tree.forest n) ≡ true → is_some (entry_in v.tree.forest c) ≡ true → check_replace v.tree.forest p n c ≡ None → answer b w (ReplaceChild p n c) ≡ record { reply = model_reply.Done (model_reply.Number c); world = replace c n p w }
-  answer-replace_child p n c w shown hp hn hc allowed =
-      rw (shown.keeps.forest, not-none (entry_in v.tree.forest p) hp, not-none (entry_in v.tree.forest n) hn, not-none (entry_in v.tree.forest c) hc, allowed) refl
+  pub answer-replace_child : (p n c : ℕ) (w : model.World) (o : Option DomError) → Shows v w → is_some (entry_in v.tree.forest p) ≡ true → is_some (entry_in v.tree.forest n) ≡ true → is_some (entry_in v.tree.forest c) ≡ true → check_replace v.tree.forest p n c ≡ o → answer b w (ReplaceChild p n c) ≡ checked o w (gives c (replace c n p w))
+  answer-replace_child p n c w o shown hp hn hc is =
+      rw (shown.keeps.forest, not-none (entry_in v.tree.forest p) hp, not-none (entry_in v.tree.forest n) hn, not-none (entry_in v.tree.forest c) hc, is) refl
 
   module _ (p c : ℕ) (w : model.World) (shown : Shows v w) (hp : is_some (entry_in v.tree.forest p) ≡ true) (hc : is_some (entry_in v.tree.forest c) ≡ true) where
     pub answer-remove_child : check_remove_child v.tree.forest p c ≡ None → answer b w (RemoveChild p c) ≡ record { reply = model_reply.Done (model_reply.Number c); world = remove false c w }

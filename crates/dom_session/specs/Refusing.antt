@@ -1,5 +1,6 @@
--- What stands in the way of a command, asked of the world of the code.
-use Rattle.std.specs.Prelude.{◌≡◌, ℕ, ◌+◌, nat_lt, false, not, [], ◌∷◌, Bool, Option, Some, None, is_none}
+-- What stands in the way of a command, asked of the world of the code, and the reply where its call was refused.
+use Rattle.std.specs.Prelude.{ℕ, ◌+◌, nat_lt, false, not, [], ◌∷◌, Bool, Option, Some, None, is_none, Result, Ok, Err}
+use Rattle.std.specs.declared.alloc.AllocError.{AllocError}
 use Rattle.dom_model.specs.declared.Kind.{Kind}
 use Rattle.dom_model.specs.declared.Kind.TheVariants.{Document}
 use Rattle.dom_model.specs.declared.DomError.TheVariants.{TypeError}
@@ -10,6 +11,10 @@ use Rattle.dom_model.specs.PlainLists.Lists.{first_refusal}
 use Rattle.dom_model.specs.Forests.Nodes.{kind_passes}
 use Rattle.dom_model.specs.Commands.Reply as model
 use Rattle.dom_wrap.specs.dom_edit.declared.world.World.{World}
+use Rattle.dom_wrap.specs.dom_edit.declared.refusal.Refusal.{Refusal}
+use Rattle.dom_wrap.specs.dom_edit.declared.refusal.Refusal.TheVariants as refusal
+use Rattle.dom_session.specs.declared.reply.Reply.{Reply}
+use Rattle.dom_session.specs.declared.reply.Reply.TheVariants.{Dom}
 
 -- no node of that number
 abbrev pub lacks_node : World → ℕ → Bool
@@ -34,3 +39,8 @@ kind_refusal test v n =
     first_refusal ((lacks_node v n, model.Own NoSuchObject)
     ∷ (not (kind_passes test v.tree.forest n), model.Dom TypeError)
     ∷ [])
+
+-- the reply to a refusal of the world: the name of the exception; to want of memory there is none
+abbrev pub reply_to : Refusal → Result Reply AllocError
+reply_to (refusal.Dom e) = Ok (Dom e)
+reply_to refusal.Memory = Err (record {})

@@ -1,8 +1,9 @@
 -- What a session holds, and the worlds that it stands for.
-use Rattle.std.specs.Prelude.{◌≡◌, Bool}
+use Rattle.std.specs.Prelude.{◌≡◌, Bool, true}
 use Rattle.dom_model.specs.Worlds.World as model
 use Rattle.dom_model.specs.Commands.Command.{Command}
 use Rattle.dom_model.specs.Commands.Answer.{Bounds, answer}
+use Rattle.dom_model.specs.Commands.Reply.{is_refusal}
 use Rattle.dom_wrap.specs.dom_edit.declared.world.World.{World}
 use Rattle.dom_wrap.specs.dom_edit.Whole.{Shows}
 use Rattle.dom_session.specs.declared.reply.Reply.{Reply}
@@ -23,7 +24,8 @@ pub record IsAnswered (reply : Reply) (w : model.World) (old new : Held) (c : Co
   pub reply_is : reply_view reply ≡ (answer old.bounds w c).reply
   pub world_is : StandsFor new (answer old.bounds w c).world
 
--- The same of worlds of the code, for each world that the old one shows.
+-- The same of worlds of the code, for each world that the old one shows; and a command that is refused leaves the world of the code as it was.
 pub record IsStep (old new : World) (b : Bounds) (c : Command) (reply : Reply) : Type 0 where
   pub reply_is : (w : model.World) → Shows old w → reply_view reply ≡ (answer b w c).reply
   pub world_is : (w : model.World) → Shows old w → Shows new (answer b w c).world
+  pub refused : is_refusal (reply_view reply) ≡ true → new ≡ old

@@ -1,42 +1,25 @@
 //! The commands on attributes (DOM Standard, "Interface Element").
 
-ghost use Rattle.std.specs.Prelude.{◌≡◌, ◌<◌, true, Some, is_some, length, map, option_map, slice_get, string_bytes, IfOk};
+ghost use Rattle.std.specs.Prelude.{◌≡◌, ◌<◌, Some, is_some, length, map, slice_get, string_bytes, IfOk};
 ghost use Rattle.dom_wrap.specs.dom_attrs.Entries.{attribute_at};
-ghost use Rattle.dom_model.specs.declared.Kind.TheVariants.{Element};
 ghost use Rattle.dom_model.specs.Forests.Attributes.{attribute_value, attribute_names};
 ghost use Rattle.dom_model.specs.Forests.Forest.{HasNode, entry_in};
-ghost use Rattle.dom_model.specs.Forests.Kinds.{is_kind};
 ghost use Rattle.dom_model.specs.DataAndCopies.Data.{content_in};
 ghost use Rattle.dom_model.specs.Commands.Command.{SetAttribute, GetAttribute, HasAttribute, RemoveAttribute, ToggleAttribute, AttributeNames};
 ghost use Rattle.dom_model.specs.Commands.Guards.{Bounds};
-ghost use Rattle.dom_model.specs.Commands.Reply.{is_refusal};
 ghost use Rattle.dom_wrap.specs.dom_edit.Whole.{IsShown};
-ghost use Rattle.dom_session.specs.Views.{attributes_view, reply_view};
+ghost use Rattle.dom_session.specs.Views.{attributes_view};
 ghost use Rattle.dom_session.specs.Stands.{IsStep};
-ghost use Rattle.dom_session.specs.Refusing.{kind_refusal};
 
 use crate::command::Attributes;
+use crate::refusing::kind_refusal;
 use crate::reply::{Answer, Reply};
-use dom_model::OwnError;
 use dom_wrap::of_attrs::Attrs;
 use dom_wrap::of_edit::{Content, World};
 use dom_wrap::of_kinds::{DomError, Kind, is_attribute_name};
 use dom_wrap::of_tree::{NodeId, Tree};
 use dom_wrap::of_units::Units;
 use std::alloc::{AllocError, Global};
-
-// Why a node has no attributes.
-fn refusal(world: &World, element: NodeId) -> Option<Reply>
-    ensures { option_map reply_view result ≡ kind_refusal (is_kind Element) world.now element }
-{
-    if !world.tree.holds(element) {
-        return Some(Reply::Own(OwnError::NoSuchObject));
-    }
-    if world.tree.label(element).kind != Kind::Element {
-        return Some(Reply::Dom(DomError::TypeError));
-    }
-    None
-}
 
 /// Sets an attribute of an element.
 pub fn set_attribute(
@@ -48,9 +31,8 @@ pub fn set_attribute(
 ) -> Result<Reply, AllocError>
     requires shown { IsShown world.old }
     ensures step { IfOk result (λ reply. (b : Bounds) → IsStep world.old world.new b (SetAttribute element (string_bytes name) value) reply) }
-    ensures refused { IfOk result (λ reply. is_refusal (reply_view reply) ≡ true → world.new ≡ world.old) }
 {
-    if let Some(reply) = refusal(world, element) {
+    if let Some(reply) = kind_refusal(world, element, Kind::Element) {
         return Ok(reply);
     }
     if !is_attribute_name(name.as_str()) {
@@ -94,7 +76,7 @@ pub fn get_attribute(
     requires shown { IsShown world.now }
     ensures { IfOk result (λ reply. (b : Bounds) → IsStep world.now world.now b (GetAttribute element name.now) reply) }
 {
-    if let Some(reply) = refusal(world, element) {
+    if let Some(reply) = kind_refusal(world, element, Kind::Element) {
         return Ok(reply);
     }
     let value = value_in(&world.tree, alloc, element, name)?;
@@ -114,7 +96,7 @@ pub fn has_attribute(world: &World, element: NodeId, name: &str) -> Reply
     requires shown { IsShown world.now }
     ensures { (b : Bounds) → IsStep world.now world.now b (HasAttribute element name.now) result }
 {
-    if let Some(reply) = refusal(world, element) {
+    if let Some(reply) = kind_refusal(world, element, Kind::Element) {
         return reply;
     }
     Reply::Done(Answer::Flag(has_in(&world.tree, element, name)))
@@ -129,9 +111,8 @@ pub fn remove_attribute(
 ) -> Result<Reply, AllocError>
     requires shown { IsShown world.old }
     ensures step { IfOk result (λ reply. (b : Bounds) → IsStep world.old world.new b (RemoveAttribute element name.now) reply) }
-    ensures refused { IfOk result (λ reply. is_refusal (reply_view reply) ≡ true → world.new ≡ world.old) }
 {
-    if let Some(reply) = refusal(world, element) {
+    if let Some(reply) = kind_refusal(world, element, Kind::Element) {
         return Ok(reply);
     }
     dom_wrap::of_data::remove_attribute(world, alloc, element, name)?;
@@ -148,9 +129,8 @@ pub fn toggle_attribute(
 ) -> Result<Reply, AllocError>
     requires shown { IsShown world.old }
     ensures step { IfOk result (λ reply. (b : Bounds) → IsStep world.old world.new b (ToggleAttribute element (string_bytes name) force) reply) }
-    ensures refused { IfOk result (λ reply. is_refusal (reply_view reply) ≡ true → world.new ≡ world.old) }
 {
-    if let Some(reply) = refusal(world, element) {
+    if let Some(reply) = kind_refusal(world, element, Kind::Element) {
         return Ok(reply);
     }
     if !is_attribute_name(name.as_str()) {
@@ -186,7 +166,7 @@ pub fn attribute_names(world: &World, alloc: Global, element: NodeId) -> Result<
     requires shown { IsShown world.now }
     ensures { IfOk result (λ reply. (b : Bounds) → IsStep world.now world.now b (AttributeNames element) reply) }
 {
-    if let Some(reply) = refusal(world, element) {
+    if let Some(reply) = kind_refusal(world, element, Kind::Element) {
         return Ok(reply);
     }
     let names = names_in(attributes_in(&world.tree, element), alloc)?;
@@ -201,7 +181,6 @@ pub fn change_attributes(
 ) -> Result<Reply, AllocError>
     requires shown { IsShown world.old }
     ensures step { IfOk result (λ reply. (b : Bounds) → IsStep world.old world.new b (attributes_view command) reply) }
-    ensures refused { IfOk result (λ reply. is_refusal (reply_view reply) ≡ true → world.new ≡ world.old) }
 {
     match command {
         Attributes::SetAttribute(element, name, value) => set_attribute(

@@ -7,10 +7,9 @@ ghost use Rattle.dom_model.specs.Worlds.World.{Range};
 ghost use Rattle.dom_model.specs.RangesAndContents.Ranges.{place_against, is_point_in, intersects};
 ghost use Rattle.dom_model.specs.Commands.Command.{CompareBoundaryPoints, ComparePoint, IsPointInRange, IntersectsNode, CommonAncestor};
 ghost use Rattle.dom_model.specs.Commands.Guards.{Bounds};
-ghost use Rattle.dom_model.specs.Commands.Reply.{is_refusal};
 ghost use Rattle.dom_wrap.specs.dom_ranges.Tables.{StandsIn, refused};
 ghost use Rattle.dom_wrap.specs.dom_edit.Whole.{IsShown};
-ghost use Rattle.dom_session.specs.Views.{comparing_view, reply_view};
+ghost use Rattle.dom_session.specs.Views.{comparing_view};
 ghost use Rattle.dom_session.specs.Stands.{IsStep};
 
 use crate::command::Comparing;
@@ -18,7 +17,9 @@ use crate::reply::{Answer, Reply};
 use dom_model::OwnError;
 use dom_wrap::of_edit::{Content, World};
 use dom_wrap::of_kinds::DomError;
-use dom_wrap::of_point::{Point, checked_point, common, found_before, found_order, same_root};
+use dom_wrap::of_point::{
+    Point, checked_point, common, found_around, found_before, found_order, same_root,
+};
 use dom_wrap::of_ranges::RangeId;
 use dom_wrap::of_tree::{NodeId, Tree};
 use std::cmp::Ordering;
@@ -144,19 +145,8 @@ fn meets(tree: &mut Tree<Content>, node: NodeId, start: Point, end: Point) -> bo
     if !same_root(tree, node, start.node) {
         return false;
     }
-    let Some(parent) = tree.parent(node) else {
+    let Some((before, after)) = found_around(tree, node) else {
         return true;
-    };
-    // an index is below the count, so the offset behind the node is a number of the machine too
-    let _ = tree.count(parent);
-    let index = tree.found_index(node);
-    let before = Point {
-        node: parent,
-        offset: index,
-    };
-    let after = Point {
-        node: parent,
-        offset: index + 1,
     };
     found_before(tree, before, end) && found_before(tree, start, after)
 }
@@ -191,7 +181,6 @@ pub fn common_ancestor(world: &World, range: RangeId) -> Reply
 pub fn compare(world: &mut World, command: Comparing) -> Reply
     requires shown { IsShown world.old }
     ensures step { (b : Bounds) → IsStep world.old world.new b (comparing_view command) result }
-    ensures refused { is_refusal (reply_view result) ≡ true → world.new ≡ world.old }
 {
     match command {
         Comparing::CompareBoundaryPoints(range, how, source) => compare_boundary_points(

@@ -1,19 +1,18 @@
 //! The contents of live ranges (DOM Standard, "Interface Range").
 
-ghost use Rattle.std.specs.Prelude.{◌≡◌, ◌≤◌, true, IfOk};
+ghost use Rattle.std.specs.Prelude.{◌≤◌, IfOk};
 ghost use Rattle.dom_model.specs.Commands.Command.{RangeText, DeleteContents, ExtractContents, CloneContents, InsertNode, SurroundContents};
 ghost use Rattle.dom_model.specs.Commands.Guards.{Bounds};
-ghost use Rattle.dom_model.specs.Commands.Reply.{is_refusal};
 ghost use Rattle.dom_wrap.specs.dom_edit.Whole.{IsShown};
-ghost use Rattle.dom_session.specs.Views.{contents_view, reply_view};
+ghost use Rattle.dom_session.specs.Views.{contents_view};
 ghost use Rattle.dom_session.specs.Stands.{IsStep};
 ghost use Rattle.dom_session.specs.Limiting.{numbered};
 
 use crate::command::Contents;
 use crate::copies::lacks_numbers;
-use crate::reply::{Answer, Reply};
+use crate::reply::{Answer, Reply, reply_to};
 use dom_model::OwnError;
-use dom_wrap::of_edit::{Refusal, World};
+use dom_wrap::of_edit::World;
 use dom_wrap::of_ranges::RangeId;
 use dom_wrap::of_tree::NodeId;
 use std::alloc::{AllocError, Global};
@@ -38,7 +37,6 @@ pub fn delete_contents(
 ) -> Result<Reply, AllocError>
     requires shown { IsShown world.old }
     ensures step { IfOk result (λ reply. (b : Bounds) → IsStep world.old world.new b (DeleteContents range) reply) }
-    ensures refused { IfOk result (λ reply. is_refusal (reply_view reply) ≡ true → world.new ≡ world.old) }
 {
     if !world.ranges.holds(range) {
         return Ok(Reply::Own(OwnError::NoSuchObject));
@@ -57,7 +55,6 @@ pub fn extract_contents(
     requires numbers { numbers ≤ 4294967295 }
     requires shown { IsShown world.old }
     ensures step { IfOk result (IsStep world.old world.new (numbered numbers) (ExtractContents range)) }
-    ensures refused { IfOk result (λ reply. is_refusal (reply_view reply) ≡ true → world.new ≡ world.old) }
 {
     if !world.ranges.holds(range) {
         return Ok(Reply::Own(OwnError::NoSuchObject));
@@ -67,8 +64,7 @@ pub fn extract_contents(
     }
     match dom_wrap::extract(world, alloc, range) {
         Ok(fragment) => Ok(Reply::Done(Answer::Number(fragment.number()))),
-        Err(Refusal::Dom(error)) => Ok(Reply::Dom(error)),
-        Err(Refusal::Memory) => Err(AllocError),
+        Err(refusal) => reply_to(refusal),
     }
 }
 
@@ -82,7 +78,6 @@ pub fn clone_contents(
     requires numbers { numbers ≤ 4294967295 }
     requires shown { IsShown world.old }
     ensures step { IfOk result (IsStep world.old world.new (numbered numbers) (CloneContents range)) }
-    ensures refused { IfOk result (λ reply. is_refusal (reply_view reply) ≡ true → world.new ≡ world.old) }
 {
     if !world.ranges.holds(range) {
         return Ok(Reply::Own(OwnError::NoSuchObject));
@@ -92,8 +87,7 @@ pub fn clone_contents(
     }
     match dom_wrap::clone_contents(world, alloc, range) {
         Ok(fragment) => Ok(Reply::Done(Answer::Number(fragment.number()))),
-        Err(Refusal::Dom(error)) => Ok(Reply::Dom(error)),
-        Err(Refusal::Memory) => Err(AllocError),
+        Err(refusal) => reply_to(refusal),
     }
 }
 
@@ -108,7 +102,6 @@ pub fn insert_node(
     requires numbers { numbers ≤ 4294967295 }
     requires shown { IsShown world.old }
     ensures step { IfOk result (IsStep world.old world.new (numbered numbers) (InsertNode range node)) }
-    ensures refused { IfOk result (λ reply. is_refusal (reply_view reply) ≡ true → world.new ≡ world.old) }
 {
     if !world.ranges.holds(range) || !world.tree.holds(node) {
         return Ok(Reply::Own(OwnError::NoSuchObject));
@@ -118,8 +111,7 @@ pub fn insert_node(
     }
     match dom_wrap::insert_node(world, alloc, range, node) {
         Ok(()) => Ok(Reply::Done(Answer::Nothing)),
-        Err(Refusal::Dom(error)) => Ok(Reply::Dom(error)),
-        Err(Refusal::Memory) => Err(AllocError),
+        Err(refusal) => reply_to(refusal),
     }
 }
 
@@ -134,7 +126,6 @@ pub fn surround_contents(
     requires numbers { numbers ≤ 4294967295 }
     requires shown { IsShown world.old }
     ensures step { IfOk result (IsStep world.old world.new (numbered numbers) (SurroundContents range node)) }
-    ensures refused { IfOk result (λ reply. is_refusal (reply_view reply) ≡ true → world.new ≡ world.old) }
 {
     if !world.ranges.holds(range) || !world.tree.holds(node) {
         return Ok(Reply::Own(OwnError::NoSuchObject));
@@ -144,8 +135,7 @@ pub fn surround_contents(
     }
     match dom_wrap::surround(world, alloc, range, node) {
         Ok(()) => Ok(Reply::Done(Answer::Nothing)),
-        Err(Refusal::Dom(error)) => Ok(Reply::Dom(error)),
-        Err(Refusal::Memory) => Err(AllocError),
+        Err(refusal) => reply_to(refusal),
     }
 }
 
@@ -159,7 +149,6 @@ pub fn change_contents(
     requires numbers { numbers ≤ 4294967295 }
     requires shown { IsShown world.old }
     ensures step { IfOk result (IsStep world.old world.new (numbered numbers) (contents_view command)) }
-    ensures refused { IfOk result (λ reply. is_refusal (reply_view reply) ≡ true → world.new ≡ world.old) }
 {
     match command {
         Contents::RangeText(range) => range_text(world, alloc, range),

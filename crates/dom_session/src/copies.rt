@@ -1,20 +1,19 @@
 //! Copies, equality, and how nodes stand to each other (DOM Standard, "Interface Node", "Interface Document").
 
-ghost use Rattle.std.specs.Prelude.{◌≡◌, ◌≤◌, ◌+◌, ◌*◌, nat_lt, true, IfOk};
+ghost use Rattle.std.specs.Prelude.{◌≡◌, ◌≤◌, ◌+◌, ◌*◌, nat_lt, IfOk};
 ghost use Rattle.dom_model.specs.declared.Kind.TheVariants.{Document};
 ghost use Rattle.dom_model.specs.Forests.Forest.{size};
 ghost use Rattle.dom_model.specs.Commands.Command.{ImportNode, CloneNode, IsEqual, IsContaining, ComparePosition};
 ghost use Rattle.dom_model.specs.Commands.Guards.{Bounds};
-ghost use Rattle.dom_model.specs.Commands.Reply.{is_refusal};
 ghost use Rattle.dom_wrap.specs.dom_edit.Whole.{IsShown};
-ghost use Rattle.dom_session.specs.Views.{copying_view, reply_view};
+ghost use Rattle.dom_session.specs.Views.{copying_view};
 ghost use Rattle.dom_session.specs.Stands.{IsStep};
 ghost use Rattle.dom_session.specs.Limiting.{numbered};
 
 use crate::command::Copying;
-use crate::reply::{Answer, Reply};
+use crate::reply::{Answer, Reply, reply_to};
 use dom_model::OwnError;
-use dom_wrap::of_edit::{Refusal, World};
+use dom_wrap::of_edit::World;
 use dom_wrap::of_kinds::{DomError, Kind};
 use dom_wrap::of_tree::NodeId;
 use std::alloc::{AllocError, Global};
@@ -41,7 +40,6 @@ pub fn import_node(
     requires numbers { numbers ≤ 4294967295 }
     requires shown { IsShown world.old }
     ensures step { IfOk result (IsStep world.old world.new (numbered numbers) (ImportNode document node deep)) }
-    ensures refused { IfOk result (λ reply. is_refusal (reply_view reply) ≡ true → world.new ≡ world.old) }
 {
     if !world.tree.holds(document) || !world.tree.holds(node) {
         return Ok(Reply::Own(OwnError::NoSuchObject));
@@ -54,8 +52,7 @@ pub fn import_node(
     }
     match dom_wrap::of_clone::import(world, alloc, document, node, deep) {
         Ok(copy) => Ok(Reply::Done(Answer::Number(copy.number()))),
-        Err(Refusal::Dom(error)) => Ok(Reply::Dom(error)),
-        Err(Refusal::Memory) => Err(AllocError),
+        Err(refusal) => reply_to(refusal),
     }
 }
 
@@ -70,7 +67,6 @@ pub fn clone_node(
     requires numbers { numbers ≤ 4294967295 }
     requires shown { IsShown world.old }
     ensures step { IfOk result (IsStep world.old world.new (numbered numbers) (CloneNode node deep)) }
-    ensures refused { IfOk result (λ reply. is_refusal (reply_view reply) ≡ true → world.new ≡ world.old) }
 {
     if !world.tree.holds(node) {
         return Ok(Reply::Own(OwnError::NoSuchObject));
@@ -138,7 +134,6 @@ pub fn copy_nodes(
     requires numbers { numbers ≤ 4294967295 }
     requires shown { IsShown world.old }
     ensures step { IfOk result (IsStep world.old world.new (numbered numbers) (copying_view command)) }
-    ensures refused { IfOk result (λ reply. is_refusal (reply_view reply) ≡ true → world.new ≡ world.old) }
 {
     match command {
         Copying::ImportNode(document, node, deep) => import_node(

@@ -1,22 +1,21 @@
 //! The commands that change where nodes stand (DOM Standard, "Interface Node", "Mutation algorithms").
 
-ghost use Rattle.std.specs.Prelude.{◌≡◌, true, not, IfOk};
+ghost use Rattle.std.specs.Prelude.{◌≡◌, not, IfOk};
 ghost use Rattle.dom_model.specs.declared.Kind.TheVariants.{Document};
 ghost use Rattle.dom_model.specs.Forests.Kinds.{may_be_parent};
 ghost use Rattle.dom_model.specs.Forests.Nodes.{is_of_kind};
 ghost use Rattle.dom_model.specs.Commands.AnswerTree.{is_child_node};
 ghost use Rattle.dom_model.specs.Commands.Command.{InsertBefore, AppendChild, AdoptNode, ReplaceChild, RemoveChild, Remove, ReplaceChildren, Discard};
 ghost use Rattle.dom_model.specs.Commands.Guards.{Bounds};
-ghost use Rattle.dom_model.specs.Commands.Reply.{is_refusal};
 ghost use Rattle.dom_wrap.specs.dom_edit.Whole.{IsWhole, IsShown};
-ghost use Rattle.dom_session.specs.Views.{editing_view, reply_view};
+ghost use Rattle.dom_session.specs.Views.{editing_view};
 ghost use Rattle.dom_session.specs.Stands.{IsStep};
 ghost use Rattle.dom_session.specs.Refusing.{lacks_given};
 
 use crate::command::Editing;
-use crate::reply::{Answer, Reply};
+use crate::reply::{Answer, Reply, reply_to};
 use dom_model::OwnError;
-use dom_wrap::of_edit::{Refusal, World};
+use dom_wrap::of_edit::World;
 use dom_wrap::of_kinds::{DomError, Kind, may_be_parent};
 use dom_wrap::of_tree::NodeId;
 use std::alloc::{AllocError, Global};
@@ -48,15 +47,13 @@ pub fn insert_before(
 ) -> Result<Reply, AllocError>
     requires shown { IsShown world.old }
     ensures step { IfOk result (λ reply. (b : Bounds) → IsStep world.old world.new b (InsertBefore parent node child) reply) }
-    ensures refused { IfOk result (λ reply. is_refusal (reply_view reply) ≡ true → world.new ≡ world.old) }
 {
     if !world.tree.holds(parent) || !world.tree.holds(node) || !holds_given(world, &child) {
         return Ok(Reply::Own(OwnError::NoSuchObject));
     }
     match world.insert_before(alloc, parent, node, child) {
         Ok(()) => Ok(Reply::Done(Answer::Number(node.number()))),
-        Err(Refusal::Dom(error)) => Ok(Reply::Dom(error)),
-        Err(Refusal::Memory) => Err(AllocError),
+        Err(refusal) => reply_to(refusal),
     }
 }
 
@@ -69,15 +66,13 @@ pub fn append_child(
 ) -> Result<Reply, AllocError>
     requires shown { IsShown world.old }
     ensures step { IfOk result (λ reply. (b : Bounds) → IsStep world.old world.new b (AppendChild parent node) reply) }
-    ensures refused { IfOk result (λ reply. is_refusal (reply_view reply) ≡ true → world.new ≡ world.old) }
 {
     if !world.tree.holds(parent) || !world.tree.holds(node) {
         return Ok(Reply::Own(OwnError::NoSuchObject));
     }
     match world.append(alloc, parent, node) {
         Ok(()) => Ok(Reply::Done(Answer::Number(node.number()))),
-        Err(Refusal::Dom(error)) => Ok(Reply::Dom(error)),
-        Err(Refusal::Memory) => Err(AllocError),
+        Err(refusal) => reply_to(refusal),
     }
 }
 
@@ -91,15 +86,13 @@ pub fn replace_child(
 ) -> Result<Reply, AllocError>
     requires shown { IsShown world.old }
     ensures step { IfOk result (λ reply. (b : Bounds) → IsStep world.old world.new b (ReplaceChild parent node child) reply) }
-    ensures refused { IfOk result (λ reply. is_refusal (reply_view reply) ≡ true → world.new ≡ world.old) }
 {
     if !world.tree.holds(parent) || !world.tree.holds(node) || !world.tree.holds(child) {
         return Ok(Reply::Own(OwnError::NoSuchObject));
     }
     match world.replace(alloc, parent, node, child) {
         Ok(()) => Ok(Reply::Done(Answer::Number(child.number()))),
-        Err(Refusal::Dom(error)) => Ok(Reply::Dom(error)),
-        Err(Refusal::Memory) => Err(AllocError),
+        Err(refusal) => reply_to(refusal),
     }
 }
 
@@ -112,15 +105,13 @@ pub fn remove_child(
 ) -> Result<Reply, AllocError>
     requires shown { IsShown world.old }
     ensures step { IfOk result (λ reply. (b : Bounds) → IsStep world.old world.new b (RemoveChild parent child) reply) }
-    ensures refused { IfOk result (λ reply. is_refusal (reply_view reply) ≡ true → world.new ≡ world.old) }
 {
     if !world.tree.holds(parent) || !world.tree.holds(child) {
         return Ok(Reply::Own(OwnError::NoSuchObject));
     }
     match world.remove_child(alloc, parent, child) {
         Ok(()) => Ok(Reply::Done(Answer::Number(child.number()))),
-        Err(Refusal::Dom(error)) => Ok(Reply::Dom(error)),
-        Err(Refusal::Memory) => Err(AllocError),
+        Err(refusal) => reply_to(refusal),
     }
 }
 
@@ -128,7 +119,6 @@ pub fn remove_child(
 pub fn remove(world: &mut World, alloc: Global, node: NodeId) -> Result<Reply, AllocError>
     requires shown { IsShown world.old }
     ensures step { IfOk result (λ reply. (b : Bounds) → IsStep world.old world.new b (Remove node) reply) }
-    ensures refused { IfOk result (λ reply. is_refusal (reply_view reply) ≡ true → world.new ≡ world.old) }
 {
     if !world.tree.holds(node) {
         return Ok(Reply::Own(OwnError::NoSuchObject));
@@ -149,7 +139,6 @@ pub fn replace_children(
 ) -> Result<Reply, AllocError>
     requires shown { IsShown world.old }
     ensures step { IfOk result (λ reply. (b : Bounds) → IsStep world.old world.new b (ReplaceChildren parent node) reply) }
-    ensures refused { IfOk result (λ reply. is_refusal (reply_view reply) ≡ true → world.new ≡ world.old) }
 {
     if !world.tree.holds(parent) || !holds_given(world, &node) {
         return Ok(Reply::Own(OwnError::NoSuchObject));
@@ -159,8 +148,7 @@ pub fn replace_children(
     }
     match world.replace_children(alloc, parent, node) {
         Ok(()) => Ok(Reply::Done(Answer::Nothing)),
-        Err(Refusal::Dom(error)) => Ok(Reply::Dom(error)),
-        Err(Refusal::Memory) => Err(AllocError),
+        Err(refusal) => reply_to(refusal),
     }
 }
 
@@ -173,7 +161,6 @@ pub fn adopt_node(
 ) -> Result<Reply, AllocError>
     requires shown { IsShown world.old }
     ensures step { IfOk result (λ reply. (b : Bounds) → IsStep world.old world.new b (AdoptNode document node) reply) }
-    ensures refused { IfOk result (λ reply. is_refusal (reply_view reply) ≡ true → world.new ≡ world.old) }
 {
     if !world.tree.holds(document) || !world.tree.holds(node) {
         return Ok(Reply::Own(OwnError::NoSuchObject));
@@ -183,8 +170,7 @@ pub fn adopt_node(
     }
     match world.adopt(alloc, document, node) {
         Ok(()) => Ok(Reply::Done(Answer::Number(node.number()))),
-        Err(Refusal::Dom(error)) => Ok(Reply::Dom(error)),
-        Err(Refusal::Memory) => Err(AllocError),
+        Err(refusal) => reply_to(refusal),
     }
 }
 
@@ -192,7 +178,6 @@ pub fn adopt_node(
 pub fn discard(world: &mut World, top: NodeId) -> Reply
     requires whole { IsWhole world.old }
     ensures step { (b : Bounds) → IsStep world.old world.new b (Discard top) result }
-    ensures refused { is_refusal (reply_view result) ≡ true → world.new ≡ world.old }
 {
     if !world.tree.holds(top) {
         return Reply::Own(OwnError::NoSuchObject);
@@ -208,7 +193,6 @@ pub fn discard(world: &mut World, top: NodeId) -> Reply
 pub fn edit_tree(world: &mut World, alloc: Global, command: Editing) -> Result<Reply, AllocError>
     requires shown { IsShown world.old }
     ensures step { IfOk result (λ reply. (b : Bounds) → IsStep world.old world.new b (editing_view command) reply) }
-    ensures refused { IfOk result (λ reply. is_refusal (reply_view reply) ≡ true → world.new ≡ world.old) }
 {
     match command {
         Editing::InsertBefore(parent, node, child) => insert_before(

@@ -14,6 +14,7 @@ mod observing;
 mod printing;
 mod questions;
 mod ranging;
+mod refusing;
 mod reply;
 mod session;
 mod setting;

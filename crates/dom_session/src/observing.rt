@@ -1,12 +1,11 @@
 //! The commands on mutation observers (DOM Standard, "Mutation observers").
 
-ghost use Rattle.std.specs.Prelude.{◌≡◌, ◌≤◌, true, IfOk};
+ghost use Rattle.std.specs.Prelude.{◌≡◌, ◌≤◌, IfOk};
 ghost use Rattle.dom_model.specs.Commands.Command.{CreateObserver, Observe, Disconnect, TakeRecords, Notify, Pending};
 ghost use Rattle.dom_model.specs.Commands.Guards.{Bounds};
-ghost use Rattle.dom_model.specs.Commands.Reply.{is_refusal};
 ghost use Rattle.dom_wrap.specs.dom_observe.Notifying.{told_of};
 ghost use Rattle.dom_wrap.specs.dom_edit.Whole.{IsShown};
-ghost use Rattle.dom_session.specs.Views.{observing_view, reply_view};
+ghost use Rattle.dom_session.specs.Views.{observing_view};
 ghost use Rattle.dom_session.specs.Stands.{IsStep};
 ghost use Rattle.dom_session.specs.Limiting.{numbered};
 
@@ -23,7 +22,6 @@ pub fn create_observer(world: &mut World, numbers: u64) -> Result<Reply, AllocEr
     requires numbers { numbers ≤ 4294967295 }
     requires shown { IsShown world.old }
     ensures step { IfOk result (IsStep world.old world.new (numbered numbers) CreateObserver) }
-    ensures refused { IfOk result (λ reply. is_refusal (reply_view reply) ≡ true → world.new ≡ world.old) }
 {
     if numbers <= world.observers.made() as u64 {
         return Ok(Reply::Own(OwnError::Limit));
@@ -41,7 +39,6 @@ pub fn observe(
 ) -> Result<Reply, AllocError>
     requires shown { IsShown world.old }
     ensures step { IfOk result (λ reply. (b : Bounds) → IsStep world.old world.new b (Observe observer node options) reply) }
-    ensures refused { IfOk result (λ reply. is_refusal (reply_view reply) ≡ true → world.new ≡ world.old) }
 {
     if !world.observers.holds(observer) || !world.tree.holds(node) {
         return Ok(Reply::Own(OwnError::NoSuchObject));
@@ -59,7 +56,6 @@ pub fn observe(
 pub fn disconnect(world: &mut World, observer: ObserverId) -> Reply
     requires shown { IsShown world.old }
     ensures step { (b : Bounds) → IsStep world.old world.new b (Disconnect observer) result }
-    ensures refused { is_refusal (reply_view result) ≡ true → world.new ≡ world.old }
 {
     if !world.observers.holds(observer) {
         return Reply::Own(OwnError::NoSuchObject);
@@ -72,7 +68,6 @@ pub fn disconnect(world: &mut World, observer: ObserverId) -> Reply
 pub fn take_records(world: &mut World, observer: ObserverId) -> Reply
     requires shown { IsShown world.old }
     ensures step { (b : Bounds) → IsStep world.old world.new b (TakeRecords observer) result }
-    ensures refused { is_refusal (reply_view result) ≡ true → world.new ≡ world.old }
 {
     if !world.observers.holds(observer) {
         return Reply::Own(OwnError::NoSuchObject);
@@ -95,7 +90,6 @@ fn all_told(alloc: Global, all: Vec<(ObserverId, Vec<Record>)>) -> Result<Vec<To
 pub fn notify(world: &mut World, alloc: Global) -> Result<Reply, AllocError>
     requires shown { IsShown world.old }
     ensures step { IfOk result (λ reply. (b : Bounds) → IsStep world.old world.new b Notify reply) }
-    ensures refused { IfOk result (λ reply. is_refusal (reply_view reply) ≡ true → world.new ≡ world.old) }
 {
     let all = world.observers.notify()?;
     Ok(Reply::Done(Answer::Notified(all_told(alloc, all)?)))
@@ -130,7 +124,6 @@ pub fn watch(
     requires numbers { numbers ≤ 4294967295 }
     requires shown { IsShown world.old }
     ensures step { IfOk result (IsStep world.old world.new (numbered numbers) (observing_view command)) }
-    ensures refused { IfOk result (λ reply. is_refusal (reply_view reply) ≡ true → world.new ≡ world.old) }
 {
     match command {
         Observing::CreateObserver => create_observer(world, numbers),

@@ -1,12 +1,11 @@
 //! Questions about nodes (DOM Standard, "Interface Node").
 
-ghost use Rattle.std.specs.Prelude.{◌≡◌, true, IfOk};
+ghost use Rattle.std.specs.Prelude.{◌≡◌, IfOk};
 ghost use Rattle.dom_model.specs.Forests.Forest.{HasNode, children_of};
 ghost use Rattle.dom_model.specs.Commands.Command.{DescribeNode, Children, Index, Length, Root};
 ghost use Rattle.dom_model.specs.Commands.Guards.{Bounds};
-ghost use Rattle.dom_model.specs.Commands.Reply.{is_refusal};
 ghost use Rattle.dom_wrap.specs.dom_edit.Whole.{IsShown};
-ghost use Rattle.dom_session.specs.Views.{asking_view, reply_view};
+ghost use Rattle.dom_session.specs.Views.{asking_view};
 ghost use Rattle.dom_session.specs.Stands.{IsStep};
 
 use crate::command::Asking;
@@ -104,7 +103,6 @@ pub fn root(world: &World, node: NodeId) -> Reply
 pub fn ask_tree(world: &mut World, alloc: Global, command: Asking) -> Result<Reply, AllocError>
     requires shown { IsShown world.old }
     ensures step { IfOk result (λ reply. (b : Bounds) → IsStep world.old world.new b (asking_view command) reply) }
-    ensures refused { IfOk result (λ reply. is_refusal (reply_view reply) ≡ true → world.new ≡ world.old) }
 {
     match command {
         Asking::DescribeNode(node) => describe_node(world, alloc, node),

@@ -1,11 +1,10 @@
 //! The commands that make, tell and release live ranges (DOM Standard, "Ranges").
 
-ghost use Rattle.std.specs.Prelude.{◌≡◌, ◌≤◌, true, IfOk};
+ghost use Rattle.std.specs.Prelude.{◌≤◌, IfOk};
 ghost use Rattle.dom_model.specs.Commands.Command.{CreateRange, CloneRange, DescribeRange, ReleaseRange};
 ghost use Rattle.dom_model.specs.Commands.Guards.{Bounds};
-ghost use Rattle.dom_model.specs.Commands.Reply.{is_refusal};
 ghost use Rattle.dom_wrap.specs.dom_edit.Whole.{IsShown};
-ghost use Rattle.dom_session.specs.Views.{ranging_view, reply_view};
+ghost use Rattle.dom_session.specs.Views.{ranging_view};
 ghost use Rattle.dom_session.specs.Stands.{IsStep};
 ghost use Rattle.dom_session.specs.Limiting.{numbered};
 
@@ -24,7 +23,6 @@ pub fn create_range(world: &mut World, numbers: u64, document: NodeId) -> Result
     requires numbers { numbers ≤ 4294967295 }
     requires shown { IsShown world.old }
     ensures step { IfOk result (IsStep world.old world.new (numbered numbers) (CreateRange document)) }
-    ensures refused { IfOk result (λ reply. is_refusal (reply_view reply) ≡ true → world.new ≡ world.old) }
 {
     if !world.tree.holds(document) {
         return Ok(Reply::Own(OwnError::NoSuchObject));
@@ -48,7 +46,6 @@ pub fn clone_range(world: &mut World, numbers: u64, range: RangeId) -> Result<Re
     requires numbers { numbers ≤ 4294967295 }
     requires shown { IsShown world.old }
     ensures step { IfOk result (IsStep world.old world.new (numbered numbers) (CloneRange range)) }
-    ensures refused { IfOk result (λ reply. is_refusal (reply_view reply) ≡ true → world.new ≡ world.old) }
 {
     if !world.ranges.holds(range) {
         return Ok(Reply::Own(OwnError::NoSuchObject));
@@ -76,7 +73,6 @@ pub fn describe_range(world: &World, range: RangeId) -> Reply
 pub fn release_range(world: &mut World, range: RangeId) -> Reply
     requires shown { IsShown world.old }
     ensures step { (b : Bounds) → IsStep world.old world.new b (ReleaseRange range) result }
-    ensures refused { is_refusal (reply_view result) ≡ true → world.new ≡ world.old }
 {
     if !world.ranges.holds(range) {
         return Reply::Own(OwnError::NoSuchObject);
@@ -90,7 +86,6 @@ pub fn act_on_ranges(world: &mut World, numbers: u64, command: Ranging) -> Resul
     requires numbers { numbers ≤ 4294967295 }
     requires shown { IsShown world.old }
     ensures step { IfOk result (IsStep world.old world.new (numbered numbers) (ranging_view command)) }
-    ensures refused { IfOk result (λ reply. is_refusal (reply_view reply) ≡ true → world.new ≡ world.old) }
 {
     match command {
         Ranging::CreateRange(document) => create_range(world, numbers, document),

@@ -1,12 +1,16 @@
 //! The replies that a session gives.
 
+ghost use Rattle.std.specs.Prelude.{◌≡◌};
+ghost use Rattle.dom_session.specs.Refusing.{reply_to};
+
 use dom_model::OwnError;
-use dom_wrap::of_edit::Content;
+use dom_wrap::of_edit::{Content, Refusal};
 use dom_wrap::of_kinds::{DomError, Label};
 use dom_wrap::of_observe::{ObserverId, Record};
 use dom_wrap::of_point::Point;
 use dom_wrap::of_tree::NodeId;
 use dom_wrap::of_units::Units;
+use std::alloc::AllocError;
 use std::cmp::Ordering;
 use std::marker::Model;
 
@@ -107,4 +111,14 @@ pub enum Reply {
     Done(Answer),
     Dom(DomError),
     Own(OwnError),
+}
+
+/// What a command answers where its call was refused: the name of the exception. Want of memory is no answer.
+pub fn reply_to(refusal: Refusal) -> Result<Reply, AllocError>
+    ensures { result ≡ reply_to refusal }
+{
+    match refusal {
+        Refusal::Dom(error) => Ok(Reply::Dom(error)),
+        Refusal::Memory => Err(AllocError),
+    }
 }

@@ -1,15 +1,14 @@
 //! The commands that set the ends of live ranges (DOM Standard, "Interface Range").
 
-ghost use Rattle.std.specs.Prelude.{◌≡◌, true, IfSome};
+ghost use Rattle.std.specs.Prelude.{◌≡◌, IfSome};
 ghost use Rattle.dom_model.specs.Worlds.World.{World as PlainWorld};
 ghost use Rattle.dom_model.specs.Soundness.Sound.{IsBoundary};
 ghost use Rattle.dom_model.specs.Commands.Command.{Command as PlainCommand, SetStart, SetEnd, SetStartBefore, SetStartAfter, SetEndBefore, SetEndAfter, Collapse, SelectNode, SelectNodeContents};
 ghost use Rattle.dom_model.specs.Commands.Guards.{Bounds};
 ghost use Rattle.dom_model.specs.Commands.Answer.{answer};
 ghost use Rattle.dom_model.specs.Commands.AnswerRanges.{sets_start, sets_end};
-ghost use Rattle.dom_model.specs.Commands.Reply.{is_refusal};
 ghost use Rattle.dom_wrap.specs.dom_edit.Whole.{IsShown, Shows};
-ghost use Rattle.dom_session.specs.Views.{setting_view, reply_view};
+ghost use Rattle.dom_session.specs.Views.{setting_view};
 ghost use Rattle.dom_session.specs.Stands.{IsStep};
 
 use crate::command::Setting;
@@ -26,7 +25,6 @@ use dom_wrap::of_tree::NodeId;
 pub fn set_start(world: &mut World, range: RangeId, node: NodeId, offset: u32) -> Reply
     requires shown { IsShown world.old }
     ensures step { (b : Bounds) → IsStep world.old world.new b (SetStart range node offset) result }
-    ensures refused { is_refusal (reply_view result) ≡ true → world.new ≡ world.old }
 {
     if !world.ranges.holds(range) || !world.tree.holds(node) {
         return Reply::Own(OwnError::NoSuchObject);
@@ -34,7 +32,7 @@ pub fn set_start(world: &mut World, range: RangeId, node: NodeId, offset: u32) -
     let offset = offset as usize;
     match world
         .ranges
-        .set_start(&world.tree, range, Point { node, offset })
+        .set_start(&mut world.tree, range, Point { node, offset })
     {
         Ok(()) => Reply::Done(Answer::Nothing),
         Err(error) => Reply::Dom(error),
@@ -45,7 +43,6 @@ pub fn set_start(world: &mut World, range: RangeId, node: NodeId, offset: u32) -
 pub fn set_end(world: &mut World, range: RangeId, node: NodeId, offset: u32) -> Reply
     requires shown { IsShown world.old }
     ensures step { (b : Bounds) → IsStep world.old world.new b (SetEnd range node offset) result }
-    ensures refused { is_refusal (reply_view result) ≡ true → world.new ≡ world.old }
 {
     if !world.ranges.holds(range) || !world.tree.holds(node) {
         return Reply::Own(OwnError::NoSuchObject);
@@ -53,7 +50,7 @@ pub fn set_end(world: &mut World, range: RangeId, node: NodeId, offset: u32) -> 
     let offset = offset as usize;
     match world
         .ranges
-        .set_end(&world.tree, range, Point { node, offset })
+        .set_end(&mut world.tree, range, Point { node, offset })
     {
         Ok(()) => Reply::Done(Answer::Nothing),
         Err(error) => Reply::Dom(error),
@@ -65,7 +62,6 @@ fn set_start_beside(world: &mut World, range: RangeId, node: NodeId, point: Opti
     requires shown { IsShown world.old }
     requires boundary { IfSome point (IsBoundary world.old.tree.forest) }
     ensures step { (b : Bounds) (c : PlainCommand) → ((w : PlainWorld) → Shows world.old w → answer b w c ≡ sets_start range node point w) → IsStep world.old world.new b c result }
-    ensures refused { is_refusal (reply_view result) ≡ true → world.new ≡ world.old }
 {
     if !world.ranges.holds(range) || !world.tree.holds(node) {
         return Reply::Own(OwnError::NoSuchObject);
@@ -73,7 +69,7 @@ fn set_start_beside(world: &mut World, range: RangeId, node: NodeId, point: Opti
     let Some(point) = point else {
         return Reply::Dom(DomError::InvalidNodeTypeError);
     };
-    match world.ranges.set_start(&world.tree, range, point) {
+    match world.ranges.set_start(&mut world.tree, range, point) {
         Ok(()) => Reply::Done(Answer::Nothing),
         Err(error) => Reply::Dom(error),
     }
@@ -84,7 +80,6 @@ fn set_end_beside(world: &mut World, range: RangeId, node: NodeId, point: Option
     requires shown { IsShown world.old }
     requires boundary { IfSome point (IsBoundary world.old.tree.forest) }
     ensures step { (b : Bounds) (c : PlainCommand) → ((w : PlainWorld) → Shows world.old w → answer b w c ≡ sets_end range node point w) → IsStep world.old world.new b c result }
-    ensures refused { is_refusal (reply_view result) ≡ true → world.new ≡ world.old }
 {
     if !world.ranges.holds(range) || !world.tree.holds(node) {
         return Reply::Own(OwnError::NoSuchObject);
@@ -92,7 +87,7 @@ fn set_end_beside(world: &mut World, range: RangeId, node: NodeId, point: Option
     let Some(point) = point else {
         return Reply::Dom(DomError::InvalidNodeTypeError);
     };
-    match world.ranges.set_end(&world.tree, range, point) {
+    match world.ranges.set_end(&mut world.tree, range, point) {
         Ok(()) => Reply::Done(Answer::Nothing),
         Err(error) => Reply::Dom(error),
     }
@@ -102,7 +97,6 @@ fn set_end_beside(world: &mut World, range: RangeId, node: NodeId, point: Option
 pub fn set_start_before(world: &mut World, range: RangeId, node: NodeId) -> Reply
     requires shown { IsShown world.old }
     ensures step { (b : Bounds) → IsStep world.old world.new b (SetStartBefore range node) result }
-    ensures refused { is_refusal (reply_view result) ≡ true → world.new ≡ world.old }
 {
     if !world.tree.holds(node) {
         return Reply::Own(OwnError::NoSuchObject);
@@ -116,7 +110,6 @@ pub fn set_start_before(world: &mut World, range: RangeId, node: NodeId) -> Repl
 pub fn set_start_after(world: &mut World, range: RangeId, node: NodeId) -> Reply
     requires shown { IsShown world.old }
     ensures step { (b : Bounds) → IsStep world.old world.new b (SetStartAfter range node) result }
-    ensures refused { is_refusal (reply_view result) ≡ true → world.new ≡ world.old }
 {
     if !world.tree.holds(node) {
         return Reply::Own(OwnError::NoSuchObject);
@@ -130,7 +123,6 @@ pub fn set_start_after(world: &mut World, range: RangeId, node: NodeId) -> Reply
 pub fn set_end_before(world: &mut World, range: RangeId, node: NodeId) -> Reply
     requires shown { IsShown world.old }
     ensures step { (b : Bounds) → IsStep world.old world.new b (SetEndBefore range node) result }
-    ensures refused { is_refusal (reply_view result) ≡ true → world.new ≡ world.old }
 {
     if !world.tree.holds(node) {
         return Reply::Own(OwnError::NoSuchObject);
@@ -144,7 +136,6 @@ pub fn set_end_before(world: &mut World, range: RangeId, node: NodeId) -> Reply
 pub fn set_end_after(world: &mut World, range: RangeId, node: NodeId) -> Reply
     requires shown { IsShown world.old }
     ensures step { (b : Bounds) → IsStep world.old world.new b (SetEndAfter range node) result }
-    ensures refused { is_refusal (reply_view result) ≡ true → world.new ≡ world.old }
 {
     if !world.tree.holds(node) {
         return Reply::Own(OwnError::NoSuchObject);
@@ -158,7 +149,6 @@ pub fn set_end_after(world: &mut World, range: RangeId, node: NodeId) -> Reply
 pub fn collapse(world: &mut World, range: RangeId, to_start: bool) -> Reply
     requires shown { IsShown world.old }
     ensures step { (b : Bounds) → IsStep world.old world.new b (Collapse range to_start) result }
-    ensures refused { is_refusal (reply_view result) ≡ true → world.new ≡ world.old }
 {
     if !world.ranges.holds(range) {
         return Reply::Own(OwnError::NoSuchObject);
@@ -171,7 +161,6 @@ pub fn collapse(world: &mut World, range: RangeId, to_start: bool) -> Reply
 pub fn select_node(world: &mut World, range: RangeId, node: NodeId) -> Reply
     requires shown { IsShown world.old }
     ensures step { (b : Bounds) → IsStep world.old world.new b (SelectNode range node) result }
-    ensures refused { is_refusal (reply_view result) ≡ true → world.new ≡ world.old }
 {
     if !world.ranges.holds(range) || !world.tree.holds(node) {
         return Reply::Own(OwnError::NoSuchObject);
@@ -187,7 +176,6 @@ pub fn select_node(world: &mut World, range: RangeId, node: NodeId) -> Reply
 pub fn select_node_contents(world: &mut World, range: RangeId, node: NodeId) -> Reply
     requires shown { IsShown world.old }
     ensures step { (b : Bounds) → IsStep world.old world.new b (SelectNodeContents range node) result }
-    ensures refused { is_refusal (reply_view result) ≡ true → world.new ≡ world.old }
 {
     if !world.ranges.holds(range) || !world.tree.holds(node) {
         return Reply::Own(OwnError::NoSuchObject);
@@ -202,7 +190,6 @@ pub fn select_node_contents(world: &mut World, range: RangeId, node: NodeId) -> 
 pub fn set_ranges(world: &mut World, command: Setting) -> Reply
     requires shown { IsShown world.old }
     ensures step { (b : Bounds) → IsStep world.old world.new b (setting_view command) result }
-    ensures refused { is_refusal (reply_view result) ≡ true → world.new ≡ world.old }
 {
     match command {
         Setting::SetStart(range, node, offset) => set_start(world, range, node, offset),

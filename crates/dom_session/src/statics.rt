@@ -1,11 +1,10 @@
 //! The commands on static ranges (DOM Standard, "Interface StaticRange").
 
-ghost use Rattle.std.specs.Prelude.{◌≡◌, ◌≤◌, true, IfOk};
+ghost use Rattle.std.specs.Prelude.{◌≤◌, IfOk};
 ghost use Rattle.dom_model.specs.Commands.Command.{CreateStaticRange, DescribeStaticRange};
 ghost use Rattle.dom_model.specs.Commands.Guards.{Bounds};
-ghost use Rattle.dom_model.specs.Commands.Reply.{is_refusal};
 ghost use Rattle.dom_wrap.specs.dom_edit.Whole.{IsShown};
-ghost use Rattle.dom_session.specs.Views.{static_ranging_view, reply_view};
+ghost use Rattle.dom_session.specs.Views.{static_ranging_view};
 ghost use Rattle.dom_session.specs.Stands.{IsStep};
 ghost use Rattle.dom_session.specs.Limiting.{numbered};
 
@@ -27,7 +26,6 @@ pub fn create_static_range(
     requires numbers { numbers ≤ 4294967295 }
     requires shown { IsShown world.old }
     ensures step { IfOk result (IsStep world.old world.new (numbered numbers) (CreateStaticRange start end)) }
-    ensures refused { IfOk result (λ reply. is_refusal (reply_view reply) ≡ true → world.new ≡ world.old) }
 {
     if !world.tree.holds(start.node) || !world.tree.holds(end.node) {
         return Ok(Reply::Own(OwnError::NoSuchObject));
@@ -45,15 +43,15 @@ pub fn create_static_range(
 }
 
 /// Tells where a static range starts and ends, and whether it is valid as the tree stands.
-pub fn describe_static_range(world: &World, range: StaticId) -> Reply
-    requires shown { IsShown world.now }
-    ensures step { (b : Bounds) → IsStep world.now world.now b (DescribeStaticRange range) result }
+pub fn describe_static_range(world: &mut World, range: StaticId) -> Reply
+    requires shown { IsShown world.old }
+    ensures step { (b : Bounds) → IsStep world.old world.new b (DescribeStaticRange range) result }
 {
     if !world.statics.holds(range) {
         return Reply::Own(OwnError::NoSuchObject);
     }
     let (start, end) = world.statics.ends(range);
-    let is_valid = world.statics.is_valid(&world.tree, range);
+    let is_valid = world.statics.is_valid(&mut world.tree, range);
     Reply::Done(Answer::StaticEnds(start, end, is_valid))
 }
 
@@ -66,7 +64,6 @@ pub fn act_on_statics(
     requires numbers { numbers ≤ 4294967295 }
     requires shown { IsShown world.old }
     ensures step { IfOk result (IsStep world.old world.new (numbered numbers) (static_ranging_view command)) }
-    ensures refused { IfOk result (λ reply. is_refusal (reply_view reply) ≡ true → world.new ≡ world.old) }
 {
     match command {
         StaticRanging::CreateStaticRange(start, end) => create_static_range(

@@ -1,11 +1,9 @@
 //! The commands on data and text (DOM Standard, "Interface CharacterData", "Interface Text").
 
-ghost use Rattle.std.specs.Prelude.{◌≡◌, ◌≤◌, true, option_map, IfOk};
-ghost use Rattle.dom_model.specs.declared.Kind.TheVariants.{Text};
-ghost use Rattle.dom_model.specs.Forests.Kinds.{is_kind, is_character_data};
+ghost use Rattle.std.specs.Prelude.{◌≡◌, ◌≤◌, option_map, IfOk};
+ghost use Rattle.dom_model.specs.Forests.Kinds.{is_character_data};
 ghost use Rattle.dom_model.specs.Commands.Command.{GetData, SetData, AppendData, InsertData, DeleteData, ReplaceData, SubstringData, SplitText, TextContent, SetTextContent, Normalize};
 ghost use Rattle.dom_model.specs.Commands.Guards.{Bounds};
-ghost use Rattle.dom_model.specs.Commands.Reply.{is_refusal};
 ghost use Rattle.dom_wrap.specs.dom_edit.Whole.{IsShown};
 ghost use Rattle.dom_session.specs.Views.{texts_view, reply_view};
 ghost use Rattle.dom_session.specs.Stands.{IsStep};
@@ -13,9 +11,10 @@ ghost use Rattle.dom_session.specs.Limiting.{numbered};
 ghost use Rattle.dom_session.specs.Refusing.{kind_refusal};
 
 use crate::command::Texts;
-use crate::reply::{Answer, Reply};
+use crate::refusing::kind_refusal;
+use crate::reply::{Answer, Reply, reply_to};
 use dom_model::OwnError;
-use dom_wrap::of_edit::{Refusal, World, data_in};
+use dom_wrap::of_edit::{World, data_in};
 use dom_wrap::of_kinds::{DomError, Kind};
 use dom_wrap::of_tree::NodeId;
 use dom_wrap::of_units::Units;
@@ -55,7 +54,6 @@ pub fn set_data(
 ) -> Result<Reply, AllocError>
     requires shown { IsShown world.old }
     ensures step { IfOk result (λ reply. (b : Bounds) → IsStep world.old world.new b (SetData node text.now) reply) }
-    ensures refused { IfOk result (λ reply. is_refusal (reply_view reply) ≡ true → world.new ≡ world.old) }
 {
     if let Some(reply) = refusal(world, node) {
         return Ok(reply);
@@ -75,15 +73,13 @@ pub fn replace_data(
 ) -> Result<Reply, AllocError>
     requires shown { IsShown world.old }
     ensures step { IfOk result (λ reply. (b : Bounds) → IsStep world.old world.new b (ReplaceData node offset count text.now) reply) }
-    ensures refused { IfOk result (λ reply. is_refusal (reply_view reply) ≡ true → world.new ≡ world.old) }
 {
     if let Some(reply) = refusal(world, node) {
         return Ok(reply);
     }
     match dom_wrap::of_data::replace_data(world, alloc, node, offset, count, text) {
         Ok(()) => Ok(Reply::Done(Answer::Nothing)),
-        Err(Refusal::Dom(error)) => Ok(Reply::Dom(error)),
-        Err(Refusal::Memory) => Err(AllocError),
+        Err(refusal) => reply_to(refusal),
     }
 }
 
@@ -96,7 +92,6 @@ pub fn append_data(
 ) -> Result<Reply, AllocError>
     requires shown { IsShown world.old }
     ensures step { IfOk result (λ reply. (b : Bounds) → IsStep world.old world.new b (AppendData node text.now) reply) }
-    ensures refused { IfOk result (λ reply. is_refusal (reply_view reply) ≡ true → world.new ≡ world.old) }
 {
     if !world.tree.holds(node) {
         return Ok(Reply::Own(OwnError::NoSuchObject));
@@ -110,14 +105,13 @@ pub fn insert_data(
     world: &mut World,
     alloc: Global,
     node: NodeId,
-    offset: usize,
+    offset: u32,
     text: &[u16],
 ) -> Result<Reply, AllocError>
     requires shown { IsShown world.old }
     ensures step { IfOk result (λ reply. (b : Bounds) → IsStep world.old world.new b (InsertData node offset text.now) reply) }
-    ensures refused { IfOk result (λ reply. is_refusal (reply_view reply) ≡ true → world.new ≡ world.old) }
 {
-    replace_data(world, alloc, node, offset, 0, text)
+    replace_data(world, alloc, node, offset as usize, 0, text)
 }
 
 /// Takes so many units out of the data of a node, from an offset on.
@@ -125,14 +119,13 @@ pub fn delete_data(
     world: &mut World,
     alloc: Global,
     node: NodeId,
-    offset: usize,
-    count: usize,
+    offset: u32,
+    count: u32,
 ) -> Result<Reply, AllocError>
     requires shown { IsShown world.old }
     ensures step { IfOk result (λ reply. (b : Bounds) → IsStep world.old world.new b (DeleteData node offset count) reply) }
-    ensures refused { IfOk result (λ reply. is_refusal (reply_view reply) ≡ true → world.new ≡ world.old) }
 {
-    replace_data(world, alloc, node, offset, count, &[])
+    replace_data(world, alloc, node, offset as usize, count as usize, &[])
 }
 
 /// So many units of the data of a node, from an offset on.
@@ -140,8 +133,8 @@ pub fn substring_data(
     world: &World,
     alloc: Global,
     node: NodeId,
-    offset: usize,
-    count: usize,
+    offset: u32,
+    count: u32,
 ) -> Result<Reply, AllocError>
     requires shown { IsShown world.now }
     ensures { IfOk result (λ reply. (b : Bounds) → IsStep world.now world.now b (SubstringData node offset count) reply) }
@@ -149,10 +142,9 @@ pub fn substring_data(
     if let Some(reply) = refusal(world, node) {
         return Ok(reply);
     }
-    match dom_wrap::of_data::substring(world, alloc, node, offset, count) {
+    match dom_wrap::of_data::substring(world, alloc, node, offset as usize, count as usize) {
         Ok(units) => Ok(Reply::Done(Answer::Units(units))),
-        Err(Refusal::Dom(error)) => Ok(Reply::Dom(error)),
-        Err(Refusal::Memory) => Err(AllocError),
+        Err(refusal) => reply_to(refusal),
     }
 }
 
@@ -179,7 +171,6 @@ pub fn set_text_content(
     requires numbers { numbers ≤ 4294967295 }
     requires shown { IsShown world.old }
     ensures step { IfOk result (IsStep world.old world.new (numbered numbers) (SetTextContent node text)) }
-    ensures refused { IfOk result (λ reply. is_refusal (reply_view reply) ≡ true → world.new ≡ world.old) }
 {
     if !world.tree.holds(node) {
         return Ok(Reply::Own(OwnError::NoSuchObject));
@@ -191,42 +182,27 @@ pub fn set_text_content(
     Ok(Reply::Done(Answer::Nothing))
 }
 
-// Why a node cannot be split.
-fn split_refusal(world: &World, text: NodeId) -> Option<Reply>
-    ensures { option_map reply_view result ≡ kind_refusal (is_kind Text) world.now text }
-{
-    if !world.tree.holds(text) {
-        return Some(Reply::Own(OwnError::NoSuchObject));
-    }
-    if world.tree.label(text).kind != Kind::Text {
-        return Some(Reply::Dom(DomError::TypeError));
-    }
-    None
-}
-
 /// Splits a Text at an offset, and answers the new one.
 pub fn split_text(
     world: &mut World,
     numbers: u64,
     alloc: Global,
     text: NodeId,
-    offset: usize,
+    offset: u32,
 ) -> Result<Reply, AllocError>
     requires numbers { numbers ≤ 4294967295 }
     requires shown { IsShown world.old }
     ensures step { IfOk result (IsStep world.old world.new (numbered numbers) (SplitText text offset)) }
-    ensures refused { IfOk result (λ reply. is_refusal (reply_view reply) ≡ true → world.new ≡ world.old) }
 {
-    if let Some(reply) = split_refusal(world, text) {
+    if let Some(reply) = kind_refusal(world, text, Kind::Text) {
         return Ok(reply);
     }
     if numbers <= world.tree.made() {
         return Ok(Reply::Own(OwnError::Limit));
     }
-    match dom_wrap::of_data::split(world, alloc, text, offset) {
+    match dom_wrap::of_data::split(world, alloc, text, offset as usize) {
         Ok(new) => Ok(Reply::Done(Answer::Number(new.number()))),
-        Err(Refusal::Dom(error)) => Ok(Reply::Dom(error)),
-        Err(Refusal::Memory) => Err(AllocError),
+        Err(refusal) => reply_to(refusal),
     }
 }
 
@@ -234,7 +210,6 @@ pub fn split_text(
 pub fn normalize(world: &mut World, alloc: Global, node: NodeId) -> Result<Reply, AllocError>
     requires shown { IsShown world.old }
     ensures step { IfOk result (λ reply. (b : Bounds) → IsStep world.old world.new b (Normalize node) reply) }
-    ensures refused { IfOk result (λ reply. is_refusal (reply_view reply) ≡ true → world.new ≡ world.old) }
 {
     if !world.tree.holds(node) {
         return Ok(Reply::Own(OwnError::NoSuchObject));
@@ -253,7 +228,6 @@ pub fn change_texts(
     requires numbers { numbers ≤ 4294967295 }
     requires shown { IsShown world.old }
     ensures step { IfOk result (IsStep world.old world.new (numbered numbers) (texts_view command)) }
-    ensures refused { IfOk result (λ reply. is_refusal (reply_view reply) ≡ true → world.new ≡ world.old) }
 {
     match command {
         Texts::GetData(node) => data(world, alloc, node),
@@ -267,29 +241,19 @@ pub fn change_texts(
             text.units(),
         ),
         Texts::SubstringData(node, offset, count) => substring_data(
-            world,
-            alloc,
-            node,
-            offset as usize,
-            count as usize,
+            world, alloc, node, offset, count,
         ),
         Texts::AppendData(node, text) => append_data(world, alloc, node, text.units()),
         Texts::InsertData(node, offset, text) => insert_data(
             world,
             alloc,
             node,
-            offset as usize,
+            offset,
             text.units(),
         ),
-        Texts::DeleteData(node, offset, count) => delete_data(
-            world,
-            alloc,
-            node,
-            offset as usize,
-            count as usize,
-        ),
+        Texts::DeleteData(node, offset, count) => delete_data(world, alloc, node, offset, count),
         Texts::SetTextContent(node, text) => set_text_content(world, numbers, alloc, node, text),
-        Texts::SplitText(text, offset) => split_text(world, numbers, alloc, text, offset as usize),
+        Texts::SplitText(text, offset) => split_text(world, numbers, alloc, text, offset),
         Texts::TextContent(node) => text_content(world, alloc, node),
         Texts::Normalize(node) => normalize(world, alloc, node),
     }

@@ -1,9 +1,9 @@
 //! The commands on iterators and walkers (DOM Standard, "Traversal").
 
-ghost use Rattle.std.specs.Prelude.{◌≡◌, ◌≤◌, true, IfOk};
+ghost use Rattle.std.specs.Prelude.{◌≡◌, ◌≤◌, IfOk};
 ghost use Rattle.dom_model.specs.Commands.Command.{CreateIterator, CreateWalker, DescribeIterator, NextNode, PreviousNode, DescribeWalker, SetCurrent, Walk};
 ghost use Rattle.dom_model.specs.Commands.Guards.{Bounds};
-ghost use Rattle.dom_model.specs.Commands.Reply.{is_refusal, Done, MaybeNumber};
+ghost use Rattle.dom_model.specs.Commands.Reply.{Done, MaybeNumber};
 ghost use Rattle.dom_wrap.specs.dom_edit.Whole.{IsShown};
 ghost use Rattle.dom_session.specs.Views.{traversing_view, reply_view};
 ghost use Rattle.dom_session.specs.Stands.{IsStep};
@@ -37,7 +37,6 @@ pub fn create_iterator(
     requires numbers { numbers ≤ 4294967295 }
     requires shown { IsShown world.old }
     ensures step { IfOk result (IsStep world.old world.new (numbered numbers) (CreateIterator root filter)) }
-    ensures refused { IfOk result (λ reply. is_refusal (reply_view reply) ≡ true → world.new ≡ world.old) }
 {
     if !world.tree.holds(root) {
         return Ok(Reply::Own(OwnError::NoSuchObject));
@@ -59,7 +58,6 @@ pub fn create_walker(
     requires numbers { numbers ≤ 4294967295 }
     requires shown { IsShown world.old }
     ensures step { IfOk result (IsStep world.old world.new (numbered numbers) (CreateWalker root filter)) }
-    ensures refused { IfOk result (λ reply. is_refusal (reply_view reply) ≡ true → world.new ≡ world.old) }
 {
     if !world.tree.holds(root) {
         return Ok(Reply::Own(OwnError::NoSuchObject));
@@ -86,7 +84,6 @@ pub fn describe_iterator(world: &World, iterator: IteratorId) -> Reply
 pub fn next_node(world: &mut World, iterator: IteratorId) -> Reply
     requires shown { IsShown world.old }
     ensures step { (b : Bounds) → IsStep world.old world.new b (NextNode iterator) result }
-    ensures refused { is_refusal (reply_view result) ≡ true → world.new ≡ world.old }
 {
     if !world.iterators.holds(iterator) {
         return Reply::Own(OwnError::NoSuchObject);
@@ -99,7 +96,6 @@ pub fn next_node(world: &mut World, iterator: IteratorId) -> Reply
 pub fn previous_node(world: &mut World, iterator: IteratorId) -> Reply
     requires shown { IsShown world.old }
     ensures step { (b : Bounds) → IsStep world.old world.new b (PreviousNode iterator) result }
-    ensures refused { is_refusal (reply_view result) ≡ true → world.new ≡ world.old }
 {
     if !world.iterators.holds(iterator) {
         return Reply::Own(OwnError::NoSuchObject);
@@ -123,7 +119,6 @@ pub fn describe_walker(world: &World, walker: WalkerId) -> Reply
 pub fn set_current(world: &mut World, walker: WalkerId, node: NodeId) -> Reply
     requires shown { IsShown world.old }
     ensures step { (b : Bounds) → IsStep world.old world.new b (SetCurrent walker node) result }
-    ensures refused { is_refusal (reply_view result) ≡ true → world.new ≡ world.old }
 {
     if !world.walkers.holds(walker) || !world.tree.holds(node) {
         return Reply::Own(OwnError::NoSuchObject);
@@ -136,7 +131,6 @@ pub fn set_current(world: &mut World, walker: WalkerId, node: NodeId) -> Reply
 pub fn walk(world: &mut World, walker: WalkerId, direction: Move) -> Reply
     requires shown { IsShown world.old }
     ensures step { (b : Bounds) → IsStep world.old world.new b (Walk walker direction) result }
-    ensures refused { is_refusal (reply_view result) ≡ true → world.new ≡ world.old }
 {
     if !world.walkers.holds(walker) {
         return Reply::Own(OwnError::NoSuchObject);
@@ -150,7 +144,6 @@ pub fn traverse(world: &mut World, numbers: u64, command: Traversing) -> Result<
     requires numbers { numbers ≤ 4294967295 }
     requires shown { IsShown world.old }
     ensures step { IfOk result (IsStep world.old world.new (numbered numbers) (traversing_view command)) }
-    ensures refused { IfOk result (λ reply. is_refusal (reply_view reply) ≡ true → world.new ≡ world.old) }
 {
     match command {
         Traversing::CreateIterator(root, filter) => create_iterator(world, numbers, root, filter),

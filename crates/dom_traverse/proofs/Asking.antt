@@ -4,13 +4,14 @@ use Rattle.std.specs.List.{list_any}
 use Rattle.std.specs.Option.{option_eq}
 use Rattle.std.proofs.lemmas.Bool.{cases_Bool, cases_eq, eq-eqb, false≢true}
 use Rattle.dom_model.specs.PlainLists.Lists.{hits, is_number, head_of, after}
+use Rattle.dom_model.proofs.PlainLists.Heads.{hits-first, hits-rest, after-first, after-rest}
 use Rattle.dom_model.proofs.Forests.Climbing.{hits-append}
+use Rattle.dom_model.proofs.Forests.TreeOrder.Ordering.{after-front}
 use Rattle.dom_tree.specs.dom_links.Neighbours.{is_number-true}
 use Rattle.dom_tree.specs.dom_links.Counting.{length-le_from_once}
 use Rattle.dom_traverse.specs.declared.seats.Seat.{Seat}
 use Rattle.dom_traverse.specs.Seats.{Heads, seat_at, place_at, head_at, IsChained, HasChains}
 use Rattle.dom_traverse.proofs.Chained.{once, in-chain, chained-within}
-use Rattle.dom_traverse.proofs.InsideWalks.{hits-first, hits-rest, after-first, after-rest}
 
 -- the items along a list of links, no more than the fuel
 abbrev pub along : List Seat → ℕ → Option ℕ → List ℕ
@@ -38,12 +39,6 @@ along-rest t (suc k) (e ∷ es) one next few =
 
     next' : (k : ℕ) → 0 < hits k es → (seat_at t k).next ≡ after k es
     next' k h = let d = other k h in next k (omega (arith, hits-rest k e es d)) ∙ after-rest k e es d
-
-after-past : (e : ℕ) (front rest : List ℕ) → hits e front ≡ 0 → after e (front ++ rest) ≡ after e rest
-after-past e [] rest h = refl
-after-past e (x ∷ front) rest h =
-    ⊎_elim (λ (q : e ≡ x). let a : 1 + hits e front ≡ 0 = sym (hits-first e front) ∙ ap (λ y. hits e (y ∷ front)) q ∙ h in absurd (omega arith))
-    (λ (d : e ≡ x → ⊥). after-rest e x (front ++ rest) d ∙ after-past e front rest (sym (hits-rest e x front d) ∙ h)) (cases_eq e x)
 
 -- how far the chain has been asked: none that was passed has the mark
 pub record IsAsked (t : List Seat) (heads : Heads) (place : ℕ) (marks : List (Option ℕ)) (mark : ℕ) (here : Option ℕ) : Type 0 where
@@ -75,7 +70,7 @@ module _ (t : List Seat) (heads : Heads) (place : ℕ) (marks : List (Option ℕ
 
   next-rest : (e : ℕ) → 0 < hits e are.rest → (seat_at t e).next ≡ after e are.rest
   next-rest e l =
-      are.chained.next e place (in-chain-too e l) ∙ ap (after e) are.parts ∙ after-past e are.front are.rest (omega (arith, counted e))
+      are.chained.next e place (in-chain-too e l) ∙ ap (after e) are.parts ∙ after-front e are.front are.rest (omega (arith, counted e))
 
   pub measured : along t (length t) here ≡ are.rest
   measured = ap (along t (length t)) are.starts ∙ along-rest t (length t) are.rest (λ e. omega (arith, counted e)) next-rest few

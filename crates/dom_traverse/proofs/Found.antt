@@ -1,7 +1,7 @@
 -- Items that are found by their roots and by where they stand.
 use Rattle.std.proofs.Common.{◌≡◌, ℕ, suc, ◌<◌, ◌==◌, nat_eq, Bool, true, false, ◌||◌, if◌then◌else◌, List, [], ◌∷◌, ◌++◌, length, map, get_or, set, Option, Some, None, ◌⊎◌, inl, inr, refl, sym, ap, ◌∙◌, ⊎_elim, arith, length-set, length-append}
 use Rattle.std.specs.List.{list_any, flat_map}
-use Rattle.std.proofs.lemmas.Bool.{cases_Bool}
+use Rattle.std.proofs.lemmas.Bool.{cases_Bool, or_right}
 use Rattle.std.proofs.lemmas.List.{map-set, map-append, set-get_or, get_or-map}
 use Rattle.dom_model.specs.PlainLists.Lists.{among, is_number}
 use Rattle.dom_model.specs.Worlds.World.{Iterator, Walker}
@@ -20,17 +20,13 @@ among-last n r (m ∷ ns) =
     either true = refl
     either false = refl
 
-or-true : (a : Bool) → (a || true) ≡ true
-or-true true = refl
-or-true false = refl
-
 module _ {A : Type 0} (root at : A → ℕ) where
   nodes-named : (xs : List A) (n : ℕ) → among n (flat_map (λ x. root x ∷ at x ∷ []) xs) ≡ (among n (map root xs) || list_any (λ o. is_number o n) (map (λ x. Some (at x)) xs))
   nodes-named [] n = refl
   nodes-named (x ∷ xs) n =
       ⊎_elim (λ (a : (root x == n) ≡ true). rw a refl)
       (λ (a : (root x == n) ≡ false).
-      ⊎_elim (λ (b : (at x == n) ≡ true). rw (a, b) (sym (or-true (among n (map root xs))))) (λ (b : (at x == n) ≡ false). rw (a, b) (nodes-named xs n)) (cases_Bool (at x == n))) (cases_Bool (root x == n))
+      ⊎_elim (λ (b : (at x == n) ≡ true). rw (a, b) (sym (or_right (among n (map root xs)) true refl))) (λ (b : (at x == n) ≡ false). rw (a, b) (nodes-named xs n)) (cases_Bool (at x == n))) (cases_Bool (root x == n))
 
   module _ {S : Type 0} (xs : List A) (roots : IndexSet ℕ S) (standing : List (Option ℕ)) (are : AreFound root at xs roots standing) where
     pub found-names : AreNames roots standing (flat_map (λ x. root x ∷ at x ∷ []) xs)

@@ -5,9 +5,10 @@ use Rattle.dom_model.specs.PlainLists.Lists.{among, after, from_first}
 use Rattle.dom_model.specs.Forests.Forest.{Grove, HasNode, inclusive_descendants, IsForest}
 use Rattle.dom_model.specs.Worlds.World.{Iterator}
 use Rattle.dom_model.specs.MutationAlgorithms.PreRemoval.{pre_removed, pre_removed_all}
+use Rattle.dom_model.proofs.PlainLists.Heads.{among-rest}
+use Rattle.dom_model.proofs.Forests.TreeOrder.InsideWalks.{IsAt, at-top, at-next, from-top, rest-next, rest-end}
 use Rattle.dom_traverse.specs.GivingWay.{GaveWay}
 use Rattle.dom_traverse.proofs.StepsOff.{elsewhere, once-only}
-use Rattle.dom_traverse.proofs.InsideWalks.{IsAt, at-top, at-next, from-top, rest-next, rest-end, among-rest}
 
 -- an iterator has taken its step, or it stays and has its reference in what is left
 abbrev pub Steps : (Iterator → Iterator) → List ℕ → Iterator → Iterator → Type 0

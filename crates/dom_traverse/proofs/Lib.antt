@@ -4,7 +4,6 @@ pub mod CourseSteps
 pub mod Descendants
 pub mod Following
 pub mod Found
-pub mod InsideWalks
 pub mod Leaving
 pub mod LeavingInside
 pub mod ListsBeside

@@ -1,6 +1,6 @@
 -- What an iterator's place tells, and when a root loses its reference.
-use Rattle.std.proofs.Common.{◌≡◌, ℕ, ◌==◌, Bool, true, false, not, ◌&&◌, sym, ◌∙◌, ◌<◌, subst}
-use Rattle.std.proofs.lemmas.Bool.{false≢true}
+use Rattle.std.proofs.Common.{◌≡◌, ℕ, ◌==◌, Bool, true, not, ◌&&◌, sym, ◌∙◌, ◌<◌, subst}
+use Rattle.std.proofs.lemmas.Bool.{and_parts}
 use Rattle.dom_model.specs.PlainLists.Lists.{hits, among}
 use Rattle.dom_model.specs.Forests.Forest.{Forest, HasNode, ancestors, inclusive_descendants}
 use Rattle.dom_model.specs.Worlds.World.{Content, Iterator, Walker}
@@ -27,12 +27,10 @@ module _ {X : Type 0} (f : Forest X) (o : IsOnce f) where
 
   -- where the reference is lost, the root stands over the node
   pub lost-under : (n : ℕ) (i : Iterator) → (among i.reference (inclusive_descendants f n) && (not (n == i.root) && among n (inclusive_descendants f i.root))) ≡ true → among i.root (ancestors n f) ≡ true
-  lost-under n i h = sym (among-inside f o n i.root) ∙ last (among i.reference (inclusive_descendants f n)) (not (n == i.root)) h
-    where
-      last : (a b : Bool) {c : Bool} → (a && (b && c)) ≡ true → c ≡ true
-      last true true h = h
-      last true false h = absurd (false≢true h)
-      last false b h = absurd (false≢true h)
+  lost-under n i h =
+      let inside = inclusive_descendants f n in
+      let all = inclusive_descendants f i.root in
+      sym (among-inside f o n i.root) ∙ (and_parts (not (n == i.root)) (among n all) (and_parts (among i.reference inside) (not (n == i.root) && among n all) h).1).1
 
 -- three tests in turn
 pub all_three : (a b c r : Bool) → a ≡ true → b ≡ true → r ≡ c → r ≡ (a && (b && c))

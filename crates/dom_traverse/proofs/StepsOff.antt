@@ -1,6 +1,6 @@
 -- An iterator that has given way to a node does so no more: its reference is outside.
 use Rattle.std.proofs.Common.{◌≡◌, ℕ, ◌+◌, ◌<◌, ◌≤◌, ◌==◌, Bool, true, false, not, ◌&&◌, if◌then◌else◌, List, [], ◌∷◌, ◌++◌, Option, Some, None, refl, sym, ap, ◌∙◌, subst, arith, ◌⊎◌, inl, inr}
-use Rattle.std.proofs.lemmas.Bool.{false≢true}
+use Rattle.std.proofs.lemmas.Bool.{not-true, and_parts}
 use Rattle.dom_model.specs.PlainLists.Lists.{hits, among, head_of, before, before_from, past}
 use Rattle.dom_model.specs.Forests.Forest.{Forest, occurs, numbers, tree_at, without, inclusive_descendants}
 use Rattle.dom_model.specs.Worlds.World.{Iterator}
@@ -75,15 +75,6 @@ module _ {X : Type 0} (f : Forest X) (o : IsOnce f) (n c : ℕ) where
               told (inl d) = absurd (cc d)
               told (inr k) = omega (arith, count y, once-all y)
 
-turned : (v : Bool) → not v ≡ true → v ≡ false
-turned true e = absurd (false≢true e)
-turned false e = refl
-
-last-of-three : (a b c : Bool) → (a && (b && c)) ≡ true → c ≡ true
-last-of-three true true c h = h
-last-of-three true false c h = absurd (false≢true h)
-last-of-three false b c h = absurd (false≢true h)
-
 module _ (n : ℕ) (inside all : List ℕ) where
   outside-stays : (j : Iterator) → among j.reference inside ≡ false → pre_removed_among n inside all j ≡ j
   outside-stays j h = rw h refl
@@ -100,14 +91,14 @@ module _ (n : ℕ) (inside all : List ℕ) where
   module _ (apart : (y : ℕ) → among n all ≡ true → before n all ≡ Some y → among y inside ≡ false) (i : Iterator) where
     module _ (h : (among i.reference inside && (not (n == i.root) && among n all)) ≡ true) where
       there : among n all ≡ true
-      there = last-of-three (among i.reference inside) (not (n == i.root)) (among n all) h
+      there = (and_parts (not (n == i.root)) (among n all) (and_parts (among i.reference inside) (not (n == i.root) && among n all) h).1).1
 
       stepped : pre_removed_among n inside all (stepped_off n inside all i) ≡ stepped_off n inside all i
       stepped = go i.before (head_of (following_outside n inside all)) (before n all) refl refl refl
         where
           go : (b : Bool) (m p : Option ℕ) → i.before ≡ b → head_of (following_outside n inside all) ≡ m → before n all ≡ p
               → pre_removed_among n inside all (if b then moved_on m p i else moved_back p i) ≡ (if b then moved_on m p i else moved_back p i)
-          go true (Some x) p e f g = outside-stays (moved_on (Some x) p i) (turned (among x inside) (filter-passes (λ m. not (among m inside)) (past n all) x f).1)
+          go true (Some x) p e f g = outside-stays (moved_on (Some x) p i) (not-true (among x inside) (filter-passes (λ m. not (among m inside)) (past n all) x f).1)
           go true None (Some y) e f g = outside-stays (moved_on None (Some y) i) (apart y there g)
           go true None None e f g = rw (h, g) refl
           go false m (Some y) e f g = outside-stays (moved_back (Some y) i) (apart y there g)

@@ -1,12 +1,11 @@
 //! What a filter says of a node (DOM Standard, "Interface NodeFilter").
 
 ghost use Rattle.std.specs.Prelude.{◌≡◌, ℕ};
-ghost use Rattle.dom_model.specs.Forests.Kinds.{node_name};
 ghost use Rattle.dom_model.specs.Traversal.Filters.{shows, is_rule_for, ruled, verdict_on, accepts, rejects};
 ghost use Rattle.dom_model.specs.Forests.Forest.{HasNode};
 
 use dom_model::Verdict;
-use dom_tree::of_kinds::{Kind, Label, NodeType};
+use dom_tree::of_kinds::{Kind, NodeType};
 use dom_tree::{NodeId, Tree};
 use std::marker::Model;
 
@@ -43,19 +42,6 @@ impl Model for Filter {
     ghost view = { λ f. record { show = f.show; rules = f.rules.items } };
 }
 
-// `nodeName`.
-fn node_name(label: &Label) -> &str
-    ensures { result.now ≡ node_name label.now }
-{
-    match label.kind {
-        Kind::Text => "#text",
-        Kind::Comment => "#comment",
-        Kind::Document => "#document",
-        Kind::DocumentFragment => "#document-fragment",
-        Kind::Element | Kind::ProcessingInstruction | Kind::DocumentType => label.name.as_str(),
-    }
-}
-
 impl Rule {
     // Whether the rule is for nodes of that name.
     fn is_for(&self, name: &str) -> bool
@@ -73,7 +59,7 @@ impl Filter {
     {
         let label = tree.label(node);
         if self.shows(label.kind) {
-            self.ruled(node_name(label))
+            self.ruled(label.node_name())
         } else {
             Verdict::Skip
         }

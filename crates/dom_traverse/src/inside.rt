@@ -45,13 +45,5 @@ pub(crate) fn past_inside<X>(tree: &Tree<X>, top: NodeId, node: NodeId) -> Optio
 pub(crate) fn has_few_inside<X>(tree: &Tree<X>, top: NodeId, few: usize) -> bool
     requires { HasNode tree.now.forest top }
 {
-    tree.sound();
-    let mut here = top;
-    for _step in 0..few {
-        match tree.next_inside(top, here) {
-            Some(next) => here = next,
-            None => return true,
-        }
-    }
-    false
+    tree.any_inside(top, few, |_node| false).is_some()
 }

@@ -36,16 +36,5 @@ pub(crate) fn names_inside<X>(
     requires { HasNode tree.now.forest top }
     ensures { (ns : List ℕ) → AreNames roots.now standing.now ns → IfSome result (λ b. b ≡ list_any (λ m. among m (inclusive_descendants tree.now.forest top)) ns) }
 {
-    tree.sound();
-    let mut here = top;
-    for _step in 0..standing.count() {
-        if names(roots, standing, here) {
-            return Some(true);
-        }
-        match tree.next_inside(top, here) {
-            Some(next) => here = next,
-            None => return Some(false),
-        }
-    }
-    None
+    tree.any_inside(top, standing.count(), |node| names(roots, standing, node))
 }

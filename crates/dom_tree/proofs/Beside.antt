@@ -3,7 +3,7 @@ use Rattle.std.proofs.Common.{◌≡◌, ℕ, zero, suc, ◌+◌, ◌-◌, ◌<�
 use Rattle.std.proofs.lemmas.Bool.{cases_lt, lt-ltb, le-ltb, false≢true}
 use Rattle.std.specs.Prelude.{slice_get}
 use Rattle.dom_model.specs.PlainLists.Lists.{hits, last_of, before_from}
-use Rattle.dom_model.specs.Forests.Arena.{list_under, siblings_in}
+use Rattle.dom_model.specs.Forests.Arena.{siblings_in}
 use Rattle.dom_model.specs.Forests.Forest.{Grove, entry_in, HasNode, parent_of, children_of, next_of, previous_of, index_of, IsForest}
 use Rattle.dom_model.proofs.PlainLists.Numbers.{same_or, same, apart}
 use Rattle.dom_model.proofs.Forests.Changes.{seen, nothing, just}
@@ -13,7 +13,7 @@ use Rattle.dom_model.proofs.Forests.Chains.{index-apart}
 use Rattle.dom_model.proofs.Forests.Entries.{occurs-HasNode, HasNode-occurs}
 use Rattle.dom_model.proofs.Forests.Indices.{child-parent, child-there, child-listed, child-once, index-child}
 use Rattle.dom_model.proofs.Forests.TreeOrder.Preceding.{place-after, place-last, lt-step}
-use Rattle.dom_model.proofs.Forests.Siblings.{hits-get, index-step, index-first, place_in-length}
+use Rattle.dom_model.proofs.Forests.Siblings.{hits-get, index-step, index-first}
 
 -- the last of a list, by its index
 pub get-last : (l : List ℕ) → last_of l ≡ slice_get l (length l - 1)
@@ -101,12 +101,16 @@ module _ {X : Type 0} {g : Grove X} (s : IsForest g) where
         | just p d ↦ ne (index-apart g.forest s.once m b p (occurs-HasNode g.forest m h) d (sym e ∙ d) x)
       ]
 
-  pub index-room : (n m a : ℕ) → HasNode g.forest n → next_of g.forest n ≡ Some m → parent_of g.forest n ≡ parent_of g.forest a → length (siblings_in (entry_in g.forest) a) - index_of g.forest m < length (siblings_in (entry_in g.forest) a) - index_of g.forest n
-  index-room n m a h e p =
-      let i = forward-step n m h e in
-      let w = place_in-length m (siblings_in (entry_in g.forest) m) in
-      let same_list : siblings_in (entry_in g.forest) m ≡ siblings_in (entry_in g.forest) a = ap (list_under (entry_in g.forest)) (i.1.0 ∙ p) in
-      omega (arith, i.0, w, ap length same_list)
+  -- a sibling of a child stands at an index below their count
+  pub index-below : (a n : ℕ) → HasNode g.forest n → parent_of g.forest n ≡ parent_of g.forest a → IsSome (parent_of g.forest a) → index_of g.forest n < length (siblings_in (entry_in g.forest) a)
+  index-below a n h e i =
+      elim (seen (parent_of g.forest a)) [
+        | nothing d ↦ absurd (false≢true (let j = rw d at i in j))
+        | just q d ↦
+            let pn = e ∙ d in
+            let listed = child-listed g.forest s.once n q (occurs-HasNode g.forest n h) pn in
+            rw d (omega (arith, index-child g.forest n q pn, place-there n (children_of g.forest q) listed))
+      ]
 
   -- a search from a, in which b has not been met
   module _ (a b f k : ℕ) (hb : HasNode g.forest b) (one : parent_of g.forest a ≡ parent_of g.forest b) (child : IsSome (parent_of g.forest a)) (ne : a ≡ b → ⊥) where

@@ -6,7 +6,7 @@ use Rattle.std.specs.List.{list_any}
 use Rattle.dom_model.specs.PlainLists.Lists.{hits, among, head_of}
 use Rattle.dom_model.specs.Forests.Arena.{Entry, children_in}
 use Rattle.dom_model.specs.Forests.Lies.{Lies}
-use Rattle.dom_model.specs.Forests.Forest.{Node, Forest, empty, node, Row, Grove, occurs, one_at, tops, rows, numbers, tree_at, without, entry_in, HasNode, parent_of, children_of, ancestors, inclusive_descendants, IsForest}
+use Rattle.dom_model.specs.Forests.Forest.{Node, Forest, empty, node, Row, Grove, occurs, one_at, tops, rows, numbers, tree_at, without, entry_in, HasNode, parent_of, children_of, inclusive_descendants, IsForest}
 use Rattle.dom_model.specs.MutationAlgorithms.Discarding.{documents, is_held_outside}
 use Rattle.dom_model.proofs.PlainLists.Numbers.{same_or, same, apart}
 use Rattle.dom_model.proofs.Forests.Totals.{total-tree_at, tree_at-absent}
@@ -14,7 +14,7 @@ use Rattle.dom_model.proofs.Forests.TreeOrder.Flattened.{hits-numbers}
 use Rattle.dom_model.proofs.Forests.Standing.{Tree, tree_of}
 use Rattle.dom_model.proofs.Forests.Below.{at_itself}
 use Rattle.dom_model.proofs.Forests.Lying.{Lies-without_root}
-use Rattle.dom_model.proofs.Forests.Climbing.{hits-ancestors, hits-among, not_among-hits, hits-not_among}
+use Rattle.dom_model.proofs.Forests.Climbing.{not_among-hits, hits-not_among}
 use Rattle.dom_model.proofs.Forests.Entries.{occurs-HasNode, HasNode-occurs, Lies-entry_in, entry_under-absent}
 use Rattle.dom_tree.specs.Outside.{document_passes, refers_from}
 

@@ -1,11 +1,10 @@
 -- Where the nodes of a tree stand in tree order: as one block, its children in their order.
-use Rattle.std.proofs.Common.{◌≡◌, ℕ, zero, suc, ◌+◌, ◌-◌, ◌<◌, ◌≤◌, ◌==◌, nat_lt, Bool, true, false, List, [], ◌∷◌, ◌++◌, length, Option, Some, None, IsSome, refl, ap, sym, ◌∙◌, subst, arith, ◌⊎◌, inl, inr, ⊎_elim, length-append}
-use Rattle.std.proofs.lemmas.Bool.{cases_lt, lt-ltb, le-ltb, false≢true, eqb-true, eq-eqb}
-use Rattle.std.specs.Option.{option_eq}
-use Rattle.dom_model.specs.PlainLists.Lists.{hits, among, last_of, place_in}
+use Rattle.std.proofs.Common.{◌≡◌, ℕ, zero, suc, ◌+◌, ◌<◌, ◌≤◌, nat_lt, Bool, true, false, [], ◌∷◌, ◌++◌, length, Some, None, refl, ap, sym, ◌∙◌, subst, arith, ◌⊎◌, inl, inr, ⊎_elim, length-append}
+use Rattle.std.proofs.lemmas.Bool.{cases_lt, lt-ltb, le-ltb}
+use Rattle.dom_model.specs.PlainLists.Lists.{hits, among, place_in}
 use Rattle.dom_model.specs.Forests.Arena.{parent_in}
 use Rattle.dom_model.specs.Forests.Lies.{Lies}
-use Rattle.dom_model.specs.Forests.Forest.{Node, Forest, empty, node, Grove, occurs, one_at, size, tops, numbers, tree_at, entry_in, HasNode, parent_of, children_of, index_of, root_of, ancestors, IsForest}
+use Rattle.dom_model.specs.Forests.Forest.{Node, Forest, empty, node, Grove, occurs, one_at, size, tops, numbers, tree_at, entry_in, HasNode, parent_of, children_of, index_of, ancestors, IsForest}
 use Rattle.dom_model.proofs.PlainLists.Numbers.{same_or, same, apart}
 use Rattle.dom_model.proofs.Forests.Changes.{seen, nothing, just}
 use Rattle.dom_model.proofs.Forests.Totals.{total-tree_at, tree_at-absent, beside-empty}
@@ -15,8 +14,6 @@ use Rattle.dom_model.proofs.PlainLists.Places.{place-there}
 use Rattle.dom_model.proofs.Forests.Climbing.{ancestors-there, hits-ancestors, among-hits, hits-among, not_among-hits, hits-self}
 use Rattle.dom_model.proofs.Forests.Paths.{parent-path, root-path}
 use Rattle.dom_model.proofs.Forests.WaysMeeting.{above-apart, above-higher}
-use Rattle.dom_model.proofs.Forests.Chains.{root-child}
-use Rattle.dom_model.proofs.RangesAndContents.PathsApart.{along, along-ancestors}
 use Rattle.dom_model.proofs.Traversal.IteratorsStay.{tree_at-inside}
 use Rattle.dom_model.proofs.Forests.Indices.{child-listed, index-child}
 use Rattle.dom_model.proofs.Forests.Entries.{occurs-HasNode, HasNode-occurs, Lies-entry_in}

@@ -1,7 +1,7 @@
 -- A way up from a node, step by step.
 use Rattle.std.proofs.Common.{◌≡◌, ℕ, true, Option, Some, None, refl, subst}
 use Rattle.dom_model.specs.PlainLists.Lists.{among}
-use Rattle.dom_model.specs.Forests.Forest.{Forest, Grove, HasNode, parent_of, ancestors, root_of, IsForest}
+use Rattle.dom_model.specs.Forests.Forest.{Grove, HasNode, parent_of, ancestors, root_of, IsForest}
 use Rattle.dom_model.proofs.Forests.Climbing.{hits-among, among-hits}
 use Rattle.dom_model.proofs.Forests.Indices.{parent-there}
 use Rattle.dom_model.proofs.Forests.Paths.{parent-path}

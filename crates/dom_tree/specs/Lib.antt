@@ -1,7 +1,6 @@
 pub mod Bodies
 pub mod Following
 pub mod Lends
-pub mod Lengths
 pub mod Numberings
 pub mod Outside
 pub mod Owned

@@ -1,7 +1,7 @@
 //! Indices that are kept beside the nodes.
 
-ghost use Rattle.std.specs.Prelude.{◌≡◌, IfSome};
-ghost use Rattle.dom_model.specs.Forests.Forest.{HasNode, index_of};
+ghost use Rattle.std.specs.Prelude.{◌≡◌, nat_lt, IsSome, IfSome};
+ghost use Rattle.dom_model.specs.Forests.Forest.{HasNode, parent_of, index_of};
 
 use crate::node_id::NodeId;
 use crate::tree::{Tree, slot_of};
@@ -50,5 +50,25 @@ impl<X> Tree<X> {
             self.number_children(parent);
         }
         self.index(id)
+    }
+    /// Whether `a` comes before `b` among the children of their parent. Where that is not found 64 steps to both sides of `a`, all children are numbered, so that it is known when it is asked for again. It takes no memory.
+    pub fn found_before(&mut self, a: NodeId, b: NodeId) -> bool
+        requires a_held { HasNode self.old.forest a }
+        requires b_held { HasNode self.old.forest b }
+        requires one_parent { parent_of self.old.forest a ≡ parent_of self.old.forest b }
+        requires child { IsSome (parent_of self.old.forest a) }
+        ensures before { result ≡ nat_lt (index_of self.old.forest a) (index_of self.old.forest b) }
+        ensures unchanged { self.new ≡ self.old }
+    {
+        if a == b {
+            return false;
+        }
+        if let Some(before) = self.known_before(a, b) {
+            return before;
+        }
+        if let Some(before) = self.is_ahead_within(a, b, NEAR) {
+            return before;
+        }
+        self.found_index(a) < self.found_index(b)
     }
 }

@@ -6,6 +6,7 @@ mod children;
 mod discarding;
 mod documents;
 mod indices;
+mod inside;
 mod item;
 mod kinds;
 mod meeting;

@@ -4,7 +4,7 @@ ghost use Rattle.std.specs.Prelude.{◌≡◌, ◌-◌, ◌<◌, ◌≤◌, nat_
 ghost use Rattle.dom_model.specs.PlainLists.Lists.{among, after, last_of, place_in};
 ghost use Rattle.dom_model.specs.Forests.Arena.{siblings_in};
 ghost use Rattle.dom_model.specs.Forests.Forest.{HasNode, entry_in, parent_of, children_of, index_of, root_of, ancestors, numbers, inclusive_descendants, adopted};
-ghost use Rattle.dom_tree.specs.Lengths.{length_of};
+ghost use Rattle.dom_model.specs.Worlds.Lengths.{length_of};
 
 use crate::body::Body;
 use crate::node_id::NodeId;
@@ -46,21 +46,6 @@ impl<X> Tree<X> {
         true
     }
 
-    /// Whether a number is that of an inclusive descendant of `top`. The tree may hold neither; it does not climb where `top` has no children.
-    pub fn is_inside(&self, top: NodeId, node: NodeId) -> bool
-        ensures { result ≡ among node (inclusive_descendants self.now.forest top) }
-    {
-        self.sound();
-        self.links.sound();
-        let Some(slot) = slot_at(&self.table, top) else {
-            return false;
-        };
-        match self.links.first(slot) {
-            None => node == top,
-            Some(_) => self.holds(node) && self.is_ancestor(top, node),
-        }
-    }
-
     /// The node that follows in tree order, among the inclusive descendants of the root.
     pub fn next_in_order(&self, id: NodeId) -> Option<NodeId>
         requires { HasNode self.now.forest id }
@@ -81,42 +66,6 @@ impl<X> Tree<X> {
                 None => return None,
             }
         }
-    }
-
-    /// The node that follows in tree order, among the inclusive descendants of `top`.
-    pub fn next_inside(&self, top: NodeId, id: NodeId) -> Option<NodeId>
-        requires held { HasNode self.now.forest id }
-        requires under { among top (ancestors id self.now.forest) ≡ true }
-        ensures { result ≡ after id (inclusive_descendants self.now.forest top) }
-    {
-        self.sound();
-        self.links.sound();
-        let mut here = slot_of(&self.table, id);
-        if let Some(child) = self.links.first(here) {
-            return Some(number_of(&self.links, child));
-        }
-        let end = slot_of(&self.table, top);
-        while here != end {
-            if let Some(next) = self.links.next(here) {
-                return Some(number_of(&self.links, next));
-            }
-            here = self.links.parent(here).unwrap();
-        }
-        None
-    }
-
-    /// The last of the inclusive descendants in tree order.
-    pub fn last_inside(&self, id: NodeId) -> NodeId
-        requires { HasNode self.now.forest id }
-        ensures { Some result ≡ last_of (inclusive_descendants self.now.forest id) }
-    {
-        self.sound();
-        self.links.sound();
-        let mut here = slot_of(&self.table, id);
-        while let Some(last) = self.links.last(here) {
-            here = last;
-        }
-        number_of(&self.links, here)
     }
 
     /// Whether `a` precedes `b` in tree order. Both have one root.
@@ -146,44 +95,56 @@ impl<X> Tree<X> {
         if a == b {
             return false;
         }
-        if let Some(a_index) = self.kept_index(a)
-            && let Some(b_index) = self.kept_index(b)
-        {
-            return a_index < b_index;
+        if let Some(before) = self.known_before(a, b) {
+            return before;
         }
-        self.is_ahead(a, b)
+        let count = self.siblings(a);
+        self.is_ahead_within(a, b, count).unwrap()
     }
 
-    // Whether one child comes before another, by a search from it to both sides in step.
-    fn is_ahead(&self, a: NodeId, b: NodeId) -> bool
+    // Whether one child comes before another, where the indices of both are known.
+    pub(crate) fn known_before(&self, a: NodeId, b: NodeId) -> Option<bool>
+        requires a_held { HasNode self.now.forest a }
+        requires b_held { HasNode self.now.forest b }
+        ensures { IfSome result (λ before. before ≡ nat_lt (index_of self.now.forest a) (index_of self.now.forest b)) }
+    {
+        let a_index = self.kept_index(a)?;
+        let b_index = self.kept_index(b)?;
+        Some(a_index < b_index)
+    }
+
+    // Whether one child comes before another, where that is found in so many steps from it to both sides.
+    pub(crate) fn is_ahead_within(&self, a: NodeId, b: NodeId, steps: usize) -> Option<bool>
         requires a_held { HasNode self.now.forest a }
         requires b_held { HasNode self.now.forest b }
         requires apart { ¬ (a ≡ b) }
         requires one_parent { parent_of self.now.forest a ≡ parent_of self.now.forest b }
         requires child { IsSome (parent_of self.now.forest a) }
-        ensures { result ≡ nat_lt (index_of self.now.forest a) (index_of self.now.forest b) }
+        ensures ahead { IfSome result (λ ahead. ahead ≡ nat_lt (index_of self.now.forest a) (index_of self.now.forest b)) }
+        ensures found { length (siblings_in (entry_in self.now.forest) a) ≤ steps → IsSome result }
     {
         self.sound();
         self.links.sound();
         let end = slot_of(&self.table, b);
         let mut forward = slot_of(&self.table, a);
         let mut backward = forward;
-        loop {
+        for _passed in 0..steps {
             let Some(next) = self.links.next(forward) else {
-                return false;
+                return Some(false);
             };
             if next == end {
-                return true;
+                return Some(true);
             }
             let Some(prev) = self.links.prev(backward) else {
-                return true;
+                return Some(true);
             };
             if prev == end {
-                return false;
+                return Some(false);
             }
             forward = next;
             backward = prev;
         }
+        None
     }
 
     // How many siblings there are, the node itself among them; 0 for a root.

@@ -9,7 +9,6 @@ ghost use Rattle.dom_model.specs.Forests.Kinds.{node_name};
 ghost use Rattle.dom_model.specs.Commands.Printed.{or_null, number_json, list_json, ends_json, ids_members, description_json};
 ghost use Rattle.dom_wire.specs.Prints.{tokens_of, tokens_of_all, Adds};
 
-use crate::rows::node_name;
 use crate::values::write_maybe_node;
 use dom_session::of_kinds::NodeType;
 use dom_session::{Description, Kind, Label, NodeId, Point};
@@ -33,7 +32,7 @@ fn write_document_and_name(node: &Description, writer: &mut Writer) -> Result<()
     writer.key("document")?;
     writer.u64(u64::from(node.document.number()))?;
     writer.key("name")?;
-    writer.string(node_name(&node.label))
+    writer.string(node.label.node_name())
 }
 
 // The members from `next` on, and the end of the object.

@@ -3,7 +3,6 @@
 ghost use Rattle.std.specs.Prelude.{◌≡◌, ◌<◌, [], ◌∷◌, map, length, slice_get, Some};
 ghost use Rattle.json.specs.Token.{string};
 ghost use Rattle.dom_session.specs.dom_attrs.Entries.{attribute_at};
-ghost use Rattle.dom_model.specs.Forests.Kinds.{node_name};
 ghost use Rattle.dom_model.specs.Commands.Printed.{attribute_json, row_json, detail_json, list_json};
 ghost use Rattle.dom_wire.specs.Prints.{tokens_of, tokens_of_all, Adds};
 
@@ -32,7 +31,7 @@ fn write_row(alloc: Global, row: &TreeRow, writer: &mut Writer) -> Result<(), Al
     writer.u64(row.depth as u64)?;
     writer.u64(u64::from(row.number.number()))?;
     writer.u64(u64::from(row.label.kind.number()))?;
-    writer.string(node_name(&row.label))?;
+    writer.string(row.label.node_name())?;
     write_detail(alloc, row, writer)?;
     writer.end_array()
 }
@@ -92,17 +91,4 @@ fn write_ids(label: &Label, writer: &mut Writer) -> Result<(), AllocError>
 {
     writer.string(label.public_id.as_str())?;
     writer.string(label.system_id.as_str())
-}
-
-/// `nodeName`.
-pub fn node_name(label: &Label) -> &str
-    ensures { result.now ≡ node_name label.now }
-{
-    match label.kind {
-        Kind::Element | Kind::ProcessingInstruction | Kind::DocumentType => label.name.as_str(),
-        Kind::Text => "#text",
-        Kind::Comment => "#comment",
-        Kind::Document => "#document",
-        Kind::DocumentFragment => "#document-fragment",
-    }
 }

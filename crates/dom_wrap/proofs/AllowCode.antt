@@ -1,7 +1,8 @@
 -- What the walks of the check ahead of surrounding rest on: the children from one on, and the common ancestor. DOM Standard, "Interface Range".
-use Rattle.std.proofs.Common.{◌≡◌, ℕ, zero, suc, ◌+◌, ◌<◌, ◌≤◌, Bool, true, false, not, ◌&&◌, ◌||◌, if◌then◌else◌, List, [], ◌∷◌, ◌++◌, find, drop, Option, Some, None, option_map, option_and_then, unwrap_or, slice_get, refl, ap, sym, ◌∙◌, subst, arith}
+use Rattle.std.proofs.Common.{◌≡◌, ℕ, zero, suc, ◌+◌, ◌<◌, ◌≤◌, Bool, true, false, not, ◌&&◌, ◌||◌, if◌then◌else◌, List, [], ◌∷◌, ◌++◌, find, drop, Option, Some, None, option_map, option_and_then, unwrap_or, slice_get, is_some, Ok, Err, is_err, refl, ap, sym, ◌∙◌, subst, arith}
 use Rattle.std.proofs.lemmas.Bool.{false≢true}
 use Rattle.std.specs.List.{list_any}
+use Rattle.std.specs.Prelude.{MatchResult, Result}
 use Rattle.dom_model.specs.declared.Kind.TheVariants.{Element, Text, Document, DocumentType, DocumentFragment}
 use Rattle.dom_model.specs.declared.DomError.{DomError}
 use Rattle.dom_model.specs.declared.DomError.TheVariants.{HierarchyRequestError, InvalidStateError, InvalidNodeTypeError}
@@ -39,9 +40,6 @@ use Rattle.dom_wrap.proofs.AllowWhole.{surround-told}
 
 pub found-first : (p : ℕ → Bool) (n : ℕ) (ns : List ℕ) (all : Bool) → all ≡ list_any p (n ∷ ns) → p n ≡ true → true ≡ all
 found-first p n ns all e t = sym (e ∙ ap (λ b. b || list_any p ns) t)
-
-pub passed-first : (p : ℕ → Bool) (n : ℕ) (ns : List ℕ) (all : Bool) → all ≡ list_any p (n ∷ ns) → p n ≡ false → all ≡ list_any p ns
-passed-first p n ns all e t = e ∙ ap (λ b. b || list_any p ns) t
 
 after-place : (a : ℕ) (ks : List ℕ) → 0 < hits a ks → slice_get ks (place_in a ks + 1) ≡ after a ks
 after-place a [] h = absurd (omega arith)
@@ -168,16 +166,6 @@ module _ (v : World) (whole : IsWhole v) (range : Range) (h : IsRange v.tree.for
   abbrev left : ℕ → Bool
   left m = is_left_element (unwatched v) range m
 
-  pub between-full : (n : ℕ) → is_of_kind Document f common ≡ true → list_any (λ m. is_left_element (unwatched v) range m) (children_of f common) ≡ true → true ≡ is_refused_between (unwatched v) range n
-  between-full n d t =
-      let d2 = ap (is_of_kind Document f) (sym e) ∙ d in
-      let t2 = ap (λ m. list_any left (children_of f m)) (sym e) ∙ t in
-      rw (d2, t2) (last (among n (ancestors (common_of (unwatched v) range) f)))
-    where
-      last : (x : Bool) → true ≡ (x || true)
-      last true = refl
-      last false = refl
-
   pub between-doctypes : (n : ℕ) → among n (ancestors common f) ≡ false → is_of_kind Document f common ≡ true → list_any (λ m. is_left_element (unwatched v) range m) (children_of f common) ≡ false →
       (o : Option ℕ) → o ≡ first_behind (unwatched v) range → (result : Bool) → result ≡ has_kind DocumentType f (from_optional o (children_of f common)) → result ≡ is_refused_between (unwatched v) range n
   between-doctypes n x d t o i result j =
@@ -199,19 +187,14 @@ module _ (v : World) (whole : IsWhole v) (p : Point) (n : ℕ) (hn : HasNode v.t
       ∙ ap (check_insert v.tree.forest _ n) er
       ∙ insert-told (unwatched v) s p n (occurs-HasNode v.tree.forest n hn) element
 
-  pub passes-at : check_insert v.tree.forest parent n reference ≡ None → false ≡ is_refused_at (unwatched v) p n
-  passes-at c = go (is_refused_at (unwatched v) p n) (sym check_is ∙ c)
-    where
-      go : (t : Bool) → told_by t ≡ None → false ≡ t
-      go true i = absurd (cc i)
-      go false i = refl
+  told-some : (t : Bool) → is_some (told_by t) ≡ t
+  told-some true = refl
+  told-some false = refl
 
-  pub refused-at : (d : DomError) → check_insert v.tree.forest parent n reference ≡ Some d → true ≡ is_refused_at (unwatched v) p n
-  refused-at d c = go (is_refused_at (unwatched v) p n) (sym check_is ∙ c)
-    where
-      go : (t : Bool) → told_by t ≡ Some d → true ≡ t
-      go true i = refl
-      go false i = absurd (cc i)
+  -- an error of the check is a refusal
+  pub error-at : {T : Type 0} (r : Result T DomError) → MatchResult r (λ _. check_insert v.tree.forest parent n reference ≡ None) (λ d. check_insert v.tree.forest parent n reference ≡ Some d) → is_err r ≡ is_refused_at (unwatched v) p n
+  error-at (Ok u) e = ap is_some (sym e ∙ check_is) ∙ told-some (is_refused_at (unwatched v) p n)
+  error-at (Err d) e = ap is_some (sym e ∙ check_is) ∙ told-some (is_refused_at (unwatched v) p n)
 
 -- The three tests in turn.
 
@@ -240,13 +223,6 @@ module _ (v : World) (whole : IsWhole v) (r n : ℕ) (hn : HasNode v.tree.forest
 
     pub told-allowed : (is_of_kind Document v.tree.forest n || (is_of_kind DocumentType v.tree.forest n || is_of_kind DocumentFragment v.tree.forest n)) ≡ false → is_unplaceable w range n ≡ false → check_whole_surround r n w ≡ None
     told-allowed x t = whole_told ∙ (rw (deep_told ∙ near, x, t) refl)
-
-    pub start-is_near : is_near v.tree.forest c range.start.node ≡ true
-    start-is_near = go (is_near v.tree.forest c range.start.node) near
-      where
-        go : (x : Bool) → not (x && is_near v.tree.forest c range.end.node) ≡ false → x ≡ true
-        go true i = refl
-        go false i = absurd (false≢true (sym i))
 
 -- the same test of the same nodes
 pub near-as : (f : Forest Content) (range : Range) (sn en common : ℕ) → sn ≡ range.start.node → en ≡ range.end.node → common ≡ common_ancestor f sn en → (x : Bool) → not (is_near f common sn && is_near f common en) ≡ x →

@@ -3,7 +3,7 @@ use Rattle.std.proofs.Common.{◌≡◌, ℕ, ◌+◌, ◌<◌, Bool, true, fals
 use Rattle.std.specs.Prelude.{IsSome, Result, OnOk}
 use Rattle.dom_model.specs.declared.DomError.{DomError}
 use Rattle.dom_model.specs.declared.DomError.TheVariants.{InvalidNodeTypeError}
-use Rattle.dom_model.specs.PlainLists.Lists.{head_of, first_refusal}
+use Rattle.dom_model.specs.PlainLists.Lists.{first_refusal}
 use Rattle.dom_model.specs.Forests.Forest.{Forest, HasNode, occurs, parent_of, children_of, index_of, IsForest}
 use Rattle.dom_model.specs.Worlds.World as model
 use Rattle.dom_model.specs.Worlds.World.{Content, Range}
@@ -28,17 +28,13 @@ use Rattle.dom_model.proofs.TokenText.EditsMade.EditsOfInsertedNodes.{kept-inser
 use Rattle.dom_content.specs.dom_ranges.Tables.{RangeTable, range_in}
 use Rattle.dom_content.specs.dom_edit.declared.world.World.{World}
 use Rattle.dom_content.specs.dom_edit.Whole.{AreCovered, IsWhole, Keeps, Follows, unwatched}
-use Rattle.dom_content.specs.dom_edit.Following.{keeps-unwatched, follows-none, follows-then, whole-sound}
+use Rattle.dom_content.specs.dom_edit.Following.{keeps-unwatched, follows-then, whole-sound}
 use Rattle.dom_content.specs.dom_edit.Leaving.{sound-unwatched, it_is}
 use Rattle.dom_content.specs.dom_edit.InsertedNodes.{follows-as}
 use Rattle.dom_wrap.specs.Outcomes.{left_by, Passes, MayTake, put_around}
 use Rattle.dom_wrap.proofs.InsertedNode.{unless-none, unless-allows, left-alike, start-alike, parent-alike, reference-alike}
 
 -- Steps that are not refused.
-
-pub on-ok : {E P Q : Type 0} (o : Result (Unit {0}) E) → (P → Q) → OnOk o P → OnOk o Q
-on-ok (Ok u) f p = f p
-on-ok (Err e) f p = tt
 
 pub on-ok_both : {E P Q R : Type 0} (o : Result (Unit {0}) E) → (P → Q → R) → OnOk o P → OnOk o Q → OnOk o R
 on-ok_both (Ok u) f p q = f p q
@@ -190,16 +186,6 @@ module _ (a b : World) (h : IsWhole a) (r : ℕ) (held : IsSome (range_in a.rang
       HasNode-occurs b.tree.forest a.tree.made (subst (λ (g : Forest Content). 0 < occurs a.tree.made g) (f.keeps u (keeps-unwatched a)).forest k.fragment)
 
 -- The children of a node go.
-
-pub none-emptied : (v : World) (n : ℕ) → head_of (children_of v.tree.forest n) ≡ None → Follows v v (replace_all None n)
-none-emptied v n e =
-    follows-as v v (λ w. w) (replace_all None n)
-    (λ w k. ap (λ (ns : List ℕ). replaced_record n [] ns (remove_all ns w)) (ap (λ (g : Forest Content). children_of g n) k.forest ∙ no_head (children_of v.tree.forest n) e))
-    (follows-none v)
-  where
-    no_head : (ns : List ℕ) → head_of ns ≡ None → ns ≡ []
-    no_head [] i = refl
-    no_head (m ∷ ms) i = absurd (cc i)
 
 pub stays-emptied : (a b : World) → IsWhole a → (r n : ℕ) → Follows a b (replace_all None n) → Stays a b r
 stays-emptied a b h r n f =

@@ -4,7 +4,6 @@ ghost use Rattle.std.specs.Prelude.{◌≡◌, ◌&&◌, ◌||◌, not, true, No
 ghost use Rattle.std.specs.List.{list_any};
 ghost use Rattle.dom_model.specs.declared.Kind.TheVariants.{Element, Document, DocumentType, DocumentFragment};
 ghost use Rattle.dom_model.specs.Forests.Forest.{HasNode, children_of, root_of};
-ghost use Rattle.dom_model.specs.Worlds.World.{Range};
 ghost use Rattle.dom_model.specs.Soundness.Sound.{IsRange};
 ghost use Rattle.dom_model.specs.MutationAlgorithms.Checks.{has_kind};
 ghost use Rattle.dom_model.specs.Forests.Nodes.{is_of_kind};
@@ -27,16 +26,7 @@ fn is_near(tree: &Tree<Content>, node: NodeId, end: NodeId) -> bool
     requires { HasNode tree.now.forest end }
     ensures { result ≡ is_near tree.now.forest node end }
 {
-    if end == node {
-        return true;
-    }
-    if tree.label(end).kind != Kind::Text {
-        return false;
-    }
-    match tree.parent(end) {
-        Some(parent) => parent == node,
-        None => false,
-    }
+    end == node || (tree.is_of_kind(end, Kind::Text) && tree.parent(end) == Some(node))
 }
 
 // Whether a node is an element that is not contained in a range of its root.
@@ -48,7 +38,7 @@ fn is_left_element(world: &World, start: Point, end: Point, node: NodeId) -> boo
     requires end_root { root_of world.now.tree.forest node ≡ root_of world.now.tree.forest end.node }
     ensures { result ≡ is_left_element (unwatched world.now) (record { start = start; end = end }) node }
 {
-    if world.tree.label(node).kind != Kind::Element {
+    if !world.tree.is_of_kind(node, Kind::Element) {
         return false;
     }
     let front = Point { node, offset: 0 };
@@ -117,10 +107,7 @@ fn is_refused_at(world: &World, point: Point, node: NodeId) -> bool
 {
     let parent = parent_at(world, point);
     let reference = reference_at(world, point);
-    match check_insert(&world.tree, parent, node, reference) {
-        Ok(()) => false,
-        Err(_) => true,
-    }
+    check_insert(&world.tree, parent, node, reference).is_err()
 }
 
 // Whether an element cannot come in under the deepest common ancestor, once the contained children are gone.
@@ -157,11 +144,8 @@ fn is_refused(world: &World, start: Point, end: Point, common: NodeId, node: Nod
     requires element { is_of_kind Element world.now.tree.forest node ≡ true }
     ensures { result ≡ is_refused (unwatched world.now) (record { start = start; end = end }) node }
 {
-    let within_data = match world.tree.label(start.node).kind {
-        Kind::Text | Kind::ProcessingInstruction | Kind::Comment => start.node == end.node,
-        Kind::Element | Kind::Document | Kind::DocumentType | Kind::DocumentFragment => false,
-    };
-    if start == end || within_data {
+    let is_in_one_data = start.node == end.node && world.tree.has_data(start.node);
+    if start == end || is_in_one_data {
         return is_refused_at(world, start, node);
     }
     is_refused_between(world, start, end, common, node)

@@ -6,7 +6,6 @@ ghost use Rattle.std.specs.Result.{IfErr};
 ghost use Rattle.dom_model.specs.Forests.Forest.{HasNode};
 ghost use Rattle.dom_model.specs.Worlds.World.{World as PlainWorld};
 ghost use Rattle.dom_model.specs.MutationAlgorithms.Checks.{check_insert as insert_refusal};
-ghost use Rattle.dom_model.specs.Forests.Nodes.{is_of_kind};
 ghost use Rattle.dom_model.specs.MutationAlgorithms.Editing.{nodes_of};
 ghost use Rattle.dom_model.specs.DataAndCopies.Data.{data_of};
 ghost use Rattle.dom_model.specs.RangesAndContents.Wrapping.{insert_node, is_text, inserted_at, placed_at, refusal_in, check_start, reference_at, parent_at, reference_after, split_at, offset_past, end_if_collapsed};
@@ -159,7 +158,7 @@ fn end_if_collapsed(world: &mut World, range: RangeId, end: Point)
     let (start, old) = world.ranges.ends(range);
     if start == old {
         // the end is no farther ahead than the start, and within its node: it is not refused
-        let _ = world.ranges.set_end(&world.tree, range, end);
+        let _ = world.ranges.set_end(&mut world.tree, range, end);
     }
 }
 
@@ -215,8 +214,7 @@ pub(crate) fn insert_at_start(
     let parent = parent_at(world, start);
     let after = reference_after(world, alloc, start)?;
     let reference = reference_child(&world.tree, node, after);
-    place(world, alloc, range, node, parent, reference)?;
-    Ok(())
+    place(world, alloc, range, node, parent, reference)
 }
 
 /// Inserts a node, or the children of a fragment, at the start of a live range. A Text in which that start stands is split.

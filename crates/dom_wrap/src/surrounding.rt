@@ -28,9 +28,9 @@ fn remove_children(world: &mut World, alloc: Global, parent: NodeId) -> Result<(
     ensures removed { OnOk result (Follows world.old world.new (replace_all None parent)) }
     ensures whole { IsWhole world.new }
 {
-    let Some(_) = world.tree.first(parent) else {
+    if world.tree.first(parent).is_none() {
         return Ok(());
-    };
+    }
     world.replace_children_checked(alloc, parent, None)
 }
 

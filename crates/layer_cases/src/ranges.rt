@@ -164,7 +164,13 @@ fn removed_with_many_inside(rt: HostRuntime) -> Result<(), Fail> {
 }
 
 // Sets one end of a range whose ends stand in one tree.
-fn set(rt: &impl Abort, ranges: &mut Ranges, tree: &Tree<Units>, is_start: bool, p: Point) -> bool {
+fn set(
+    rt: &impl Abort,
+    ranges: &mut Ranges,
+    tree: &mut Tree<Units>,
+    is_start: bool,
+    p: Point,
+) -> bool {
     let r = RangeId::new(0);
     assert!(rt; ranges.holds(r));
     let (start, end) = ranges.ends(r);
@@ -181,7 +187,7 @@ fn set(rt: &impl Abort, ranges: &mut Ranges, tree: &Tree<Units>, is_start: bool,
 }
 
 // An end that comes to stand on the other's wrong side takes it along, and one past the length is refused.
-fn set_each(rt: &impl Abort, ranges: &mut Ranges, tree: &Tree<Units>) {
+fn set_each(rt: &impl Abort, ranges: &mut Ranges, tree: &mut Tree<Units>) {
     for (is_start, p, is_set, start, end) in [
         (true, at(0, 1), true, at(0, 1), at(0, 2)),
         (false, at(2, 0), true, at(2, 0), at(2, 0)),
@@ -196,9 +202,9 @@ fn set_each(rt: &impl Abort, ranges: &mut Ranges, tree: &Tree<Units>) {
 
 #[test]
 fn set_anew(rt: HostRuntime) -> Result<(), Fail> {
-    let tree = with_texts(&rt, rt.alloc())?;
+    let mut tree = with_texts(&rt, rt.alloc())?;
     let mut ranges = alone(&rt, rt.alloc(), &tree, at(2, 0), at(0, 2))?;
-    set_each(&rt, &mut ranges, &tree);
+    set_each(&rt, &mut ranges, &mut tree);
     Ok(())
 }
 

@@ -187,6 +187,52 @@ fn an_index_is_found_within_steps(rt: HostRuntime) -> Result<(), Fail> {
     Ok(())
 }
 
+/// The document 0, and the element 1 with so many others in it, each put in front of those that were there.
+fn put_in_front(rt: &impl Abort, alloc: Global, count: u32) -> Result<Tree<u32>, AllocError> {
+    let mut tree = Tree::new(alloc);
+    let _ = made(rt, &mut tree, nameless(alloc, Kind::Document), 7, None)?;
+    let parent = element(rt, alloc, &mut tree)?;
+    for _ in 0..count {
+        let child = element(rt, alloc, &mut tree)?;
+        assert!(rt; tree.holds(parent));
+        let first = tree.first(parent);
+        put(rt, &mut tree, parent, child, first);
+    }
+    Ok(tree)
+}
+
+// Whether one of two children of one parent comes first.
+fn is_first(rt: &impl Abort, tree: &mut Tree<u32>, a: NodeId, b: NodeId) -> bool {
+    assert!(rt; tree.holds(a));
+    assert!(rt; tree.holds(b));
+    assert!(rt; tree.parent(a).is_some());
+    assert_eq!(rt; tree.parent(a), tree.parent(b));
+    tree.found_before(a, b)
+}
+
+// The children are 301, 300 and so on, down to 2.
+fn compare_near_and_far(rt: &impl Abort, tree: &mut Tree<u32>) {
+    let (early, late) = (NodeId::new(200), NodeId::new(100));
+    assert!(rt; is_first(rt, tree, NodeId::new(151), NodeId::new(150)));
+    assert_eq!(rt;
+        kept(rt, tree, early),
+        None,
+        "side by side: none is numbered"
+    );
+    assert!(rt; is_first(rt, tree, early, late));
+    assert_eq!(rt; kept(rt, tree, early), Some(101));
+    assert_eq!(rt; kept(rt, tree, late), Some(201));
+    assert!(rt; !is_first(rt, tree, late, early));
+    assert!(rt; !is_first(rt, tree, late, late));
+}
+
+#[test]
+fn children_far_apart_are_numbered_once_they_are_compared(rt: HostRuntime) -> Result<(), Fail> {
+    let mut tree = put_in_front(&rt, rt.alloc(), 300)?;
+    compare_near_and_far(&rt, &mut tree);
+    Ok(())
+}
+
 #[test]
 fn a_cut_child_leaves_the_indices_before_it(rt: HostRuntime) -> Result<(), Fail> {
     let mut tree = four_children(&rt, rt.alloc())?;

@@ -10,7 +10,7 @@ use Rattle.dom_model.specs.Worlds.World as model
 use Rattle.dom_model.specs.Soundness.Sound.{IsRange}
 use Rattle.dom_model.specs.MutationAlgorithms.Editing.{remove}
 use Rattle.dom_model.proofs.BoundaryPoints.PointOrder.{nat_cmp-same, nat_cmp-less, order-one_node}
-use Rattle.dom_tree.specs.Lengths.{length_of}
+use Rattle.dom_model.specs.Worlds.Lengths.{length_of}
 use Rattle.dom_ranges.specs.Tables.{RangeTable, IsRangeIn, range_in}
 use Rattle.dom_edit.specs.declared.world.World.{World}
 use Rattle.dom_edit.specs.Whole.{IsWhole, Keeps, Follows}

@@ -4,3 +4,4 @@ pub mod Ordering
 pub mod Stepping
 pub mod Ending
 pub mod Preceding
+pub mod InsideWalks

@@ -1,17 +1,13 @@
 -- A map that leaves the points of some nodes leaves the live ranges of which no end stands elsewhere: a gap and a removal where no end stands.
 -- DOM Standard, "Live ranges".
-use Rattle.std.proofs.Common.{◌≡◌, ℕ, ◌==◌, Bool, true, false, ◌||◌, List, [], ◌∷◌, flat_map, Option, Some, None, refl, ap, sym, ◌∙◌}
-use Rattle.std.proofs.lemmas.Bool.{false≢true}
+use Rattle.std.proofs.Common.{◌≡◌, ℕ, ◌==◌, Bool, false, ◌||◌, List, [], ◌∷◌, flat_map, Option, Some, None, refl, ap, sym, ◌∙◌}
+use Rattle.std.proofs.lemmas.Bool.{or_parts}
 use Rattle.std.specs.List.{list_any}
 use Rattle.dom_model.specs.PlainLists.Lists.{among}
 use Rattle.dom_model.specs.Worlds.World.{Point, Range}
 use Rattle.dom_model.specs.BoundaryPoints.Points.{after_gap, after_removal, map_ranges}
 use Rattle.dom_model.specs.MutationAlgorithms.Discarding.{nodes_of_live}
 use Rattle.dom_model.proofs.PlainLists.Numbers.{same_or, same, apart}
-
-neither : (v w : Bool) → (v || w) ≡ false → (v ≡ false) × (w ≡ false)
-neither true w h = absurd (false≢true (sym h))
-neither false w h = (refl, h)
 
 -- the nodes in which ends of live ranges stand
 abbrev pub ends_of : List (Option Range) → List ℕ
@@ -22,8 +18,8 @@ pub ranges-left : (test : ℕ → Bool) (move : Point → Point) → ((p : Point
 ranges-left test move still [] h = refl
 ranges-left test move still (None ∷ rs) h = ap (λ (x : List (Option Range)). None ∷ x) (ranges-left test move still rs h)
 ranges-left test move still (Some r ∷ rs) h =
-    let a = neither (test r.start.node) (test r.end.node || list_any test (ends_of rs)) h in
-    let b = neither (test r.end.node) (list_any test (ends_of rs)) a.1 in
+    let a = or_parts (test r.start.node) (test r.end.node || list_any test (ends_of rs)) h in
+    let b = or_parts (test r.end.node) (list_any test (ends_of rs)) a.1 in
     rw (still r.start a.0, still r.end b.0, ranges-left test move still rs b.1) refl
 
 -- membership as a question asked of the list
@@ -39,8 +35,8 @@ among-any n (x ∷ xs) =
 pub any-either : (a b : ℕ → Bool) (xs : List ℕ) → list_any a xs ≡ false → list_any b xs ≡ false → list_any (λ m. a m || b m) xs ≡ false
 any-either a b [] h k = refl
 any-either a b (x ∷ xs) h k =
-    let i = neither (a x) (list_any a xs) h in
-    let j = neither (b x) (list_any b xs) k in
+    let i = or_parts (a x) (list_any a xs) h in
+    let j = or_parts (b x) (list_any b xs) k in
     rw (i.0, j.0) (any-either a b xs i.1 j.1)
 
 -- nodes come into a parent in which no end stands
@@ -55,4 +51,4 @@ removal-elsewhere inside parent index rs h k =
     (any-either (λ m. among m inside) (λ m. m == parent) (ends_of rs) h (sym (among-any parent (ends_of rs)) ∙ k))
   where
     stays : (p : Point) → (among p.node inside || (p.node == parent)) ≡ false → after_removal inside parent index p ≡ p
-    stays p e = let i = neither (among p.node inside) (p.node == parent) e in rw (i.0, i.1) refl
+    stays p e = let i = or_parts (among p.node inside) (p.node == parent) e in rw (i.0, i.1) refl

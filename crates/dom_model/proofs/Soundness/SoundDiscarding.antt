@@ -1,6 +1,6 @@
 -- A tree that nothing names is discarded: a sound world is left.
 use Rattle.std.proofs.Common.{◌≡◌, ℕ, ◌<◌, Bool, true, false, ◌||◌, List, [], ◌∷◌, ◌++◌, flat_map, Option, Some, None, is_some, IfSome, All, slice_index_or, refl, sym, ◌∙◌, arith}
-use Rattle.std.proofs.lemmas.Bool.{false≢true}
+use Rattle.std.proofs.lemmas.Bool.{false≢true, or_parts}
 use Rattle.std.proofs.lemmas.List.Elements.{All-nil, All-cons}
 use Rattle.std.specs.List.{list_any}
 use Rattle.dom_model.specs.declared.OwnError.TheVariants.{InUse}
@@ -24,15 +24,11 @@ use Rattle.dom_model.proofs.Soundness.SoundMaking.{reference_there}
 use Rattle.dom_model.proofs.Soundness.SoundWorlds.{IsLive}
 use Rattle.dom_model.proofs.Soundness.SoundGuards.{sound-guarded}
 
-neither : (v w : Bool) → (v || w) ≡ false → (v ≡ false) × (w ≡ false)
-neither true w h = absurd (false≢true (sym h))
-neither false w h = (refl, h)
-
 -- no number of a list passes a test
 none_of : (p : ℕ → Bool) (xs ys : List ℕ) → list_any p (xs ++ ys) ≡ false → (list_any p xs ≡ false) × (list_any p ys ≡ false)
 none_of p [] ys h = (refl, h)
 none_of p (x ∷ xs) ys h =
-    let a = neither (p x) (list_any p (xs ++ ys)) h in
+    let a = or_parts (p x) (list_any p (xs ++ ys)) h in
     let b = none_of p xs ys a.1 in
     (rw (a.0, b.0) refl, b.1)
 
@@ -54,13 +50,13 @@ module _ (n : ℕ) (w : World) (s : IsSound w) (free : is_in_use w n ≡ false) 
   is_inside m = among m (inclusive_descendants w.forest n)
 
   parts : (is_held_outside w.forest n ≡ false) × (list_any is_inside (named_nodes w) ≡ false)
-  parts = neither (is_held_outside w.forest n) (list_any is_inside (named_nodes w)) free
+  parts = or_parts (is_held_outside w.forest n) (list_any is_inside (named_nodes w)) free
 
   root : parent_of w.forest n ≡ None
   root =
       elim (seen (parent_of w.forest n)) [
         | nothing e ↦ e
-        | just p e ↦ absurd (let k = (neither (is_some (parent_of w.forest n)) (list_any is_inside (documents rest)) parts.0).0 in let j = rw e at k in false≢true (sym j))
+        | just p e ↦ absurd (let k = (or_parts (is_some (parent_of w.forest n)) (list_any is_inside (documents rest)) parts.0).0 in let j = rw e at k in false≢true (sym j))
       ]
 
   named : (list_any is_inside (flat_map nodes_of_live w.ranges) ≡ false) × (list_any is_inside (flat_map nodes_of_iterator w.iterators) ≡ false) × (list_any is_inside (flat_map nodes_of_walker w.walkers) ≡ false) × (list_any is_inside (flat_map nodes_of_registration w.observing.registrations) ≡ false) × (list_any is_inside (flat_map nodes_of_range w.static_ranges) ≡ false)
@@ -96,35 +92,35 @@ module _ (n : ℕ) (w : World) (s : IsSound w) (free : is_in_use w n ≡ false) 
   live : (r : Option Range) → IsLive w.forest r → list_any is_inside (nodes_of_live r) ≡ false → IsLive rest r
   live None h k = tt
   live (Some r) h k =
-      let a = neither (is_inside r.start.node) (is_inside r.end.node || false) k in
-      let b = neither (is_inside r.end.node) false a.1 in
+      let a = or_parts (is_inside r.start.node) (is_inside r.end.node || false) k in
+      let b = or_parts (is_inside r.end.node) false a.1 in
       range-to_part rest w.forest wood.once s.forest.once entries r (stays r.start.node a.0 (occurs-HasNode w.forest r.start.node h.starts.there)) (stays r.end.node b.0 (occurs-HasNode w.forest r.end.node h.ends.there)) h
 
   iterator : (i : Iterator) → IsIterator w.forest i → list_any is_inside (nodes_of_iterator i) ≡ false → IsIterator rest i
   iterator i h k =
-      let a = neither (is_inside i.root) (is_inside i.reference || false) k in
-      let b = neither (is_inside i.reference) false a.1 in
+      let a = or_parts (is_inside i.root) (is_inside i.reference || false) k in
+      let b = or_parts (is_inside i.reference) false a.1 in
       iterator-to_part rest w.forest wood.once s.forest.once entries i (stays i.root a.0 (occurs-HasNode w.forest i.root h.root)) (stays i.reference b.0 (reference_there w.forest i h)) h
 
   walker : (x : Walker) → IsWalker w.forest x → list_any is_inside (nodes_of_walker x) ≡ false → IsWalker rest x
   walker x h k =
-      let a = neither (is_inside x.root) (is_inside x.current || false) k in
-      let b = neither (is_inside x.current) false a.1 in
+      let a = or_parts (is_inside x.root) (is_inside x.current || false) k in
+      let b = or_parts (is_inside x.current) false a.1 in
       record { root = stays-node x.root a.0 h.root; current = stays-node x.current b.0 h.current }
 
   registration : (r : Registration) → IsRegistration w.forest r → list_any is_inside (nodes_of_registration r) ≡ false → IsRegistration rest r
   registration r h k =
-      let a = neither (is_inside r.node) (list_any is_inside (if_any r.source)) k in
+      let a = or_parts (is_inside r.node) (list_any is_inside (if_any r.source)) k in
       record { node = stays-node r.node a.0 h.node; source = from r.source h.source a.1 }
     where
       from : (o : Option ℕ) → IfSome o (HasNode w.forest) → list_any is_inside (if_any o) ≡ false → IfSome o (HasNode rest)
       from None i l = tt
-      from (Some m) i l = stays-node m (neither (is_inside m) false l).0 i
+      from (Some m) i l = stays-node m (or_parts (is_inside m) false l).0 i
 
   held : (r : Range) → AreHeld w.forest r → list_any is_inside (nodes_of_range r) ≡ false → AreHeld rest r
   held r h k =
-      let a = neither (is_inside r.start.node) (is_inside r.end.node || false) k in
-      let b = neither (is_inside r.end.node) false a.1 in
+      let a = or_parts (is_inside r.start.node) (is_inside r.end.node || false) k in
+      let b = or_parts (is_inside r.end.node) false a.1 in
       record { start = stays-node r.start.node a.0 h.start; end = stays-node r.end.node b.0 h.end }
 
   pub sound-without : IsSound (discarded n w)

@@ -1,6 +1,6 @@
 -- Inserting a node into a live range leaves a sound world. DOM Standard, "Interface Range": insert.
 use Rattle.std.proofs.Common.{◌≡◌, ℕ, ◌<◌, ◌≤◌, ◌==◌, Bool, true, false, ◌&&◌, ◌||◌, if◌then◌else◌, List, [], ◌∷◌, length, Option, Some, None, is_none, unwrap_or, slice_get, option_map, Ok, refl, ap, sym, ◌∙◌, subst, arith, ⊎_elim}
-use Rattle.std.proofs.lemmas.Bool.{cases_lt, false≢true, lt-ltb, le-ltb}
+use Rattle.std.proofs.lemmas.Bool.{cases_lt, false≢true, lt-ltb, le-ltb, or_parts}
 use Rattle.dom_model.specs.declared.Kind.{Kind}
 use Rattle.dom_model.specs.declared.Kind.TheVariants.{Element, Text, ProcessingInstruction, Comment, Document, DocumentType, DocumentFragment}
 use Rattle.dom_model.specs.declared.DomError.TheVariants.{HierarchyRequestError}
@@ -147,10 +147,6 @@ if_true v a b e = rw e refl
 if_false : {A : Type 0} (v : Bool) (a b : A) → v ≡ false → (if v then a else b) ≡ b
 if_false v a b e = rw e refl
 
-neither : (v w : Bool) → (v || w) ≡ false → (v ≡ false) × (w ≡ false)
-neither true w h = absurd (false≢true (sym h))
-neither false w h = (refl, h)
-
 no_data_kind : (k : Kind) → is_kind Text k ≡ false → is_kind ProcessingInstruction k ≡ false → is_kind Comment k ≡ false → is_character_data k ≡ false
 no_data_kind Element t i c = refl
 no_data_kind Text t i c = absurd (false≢true (sym t))
@@ -203,7 +199,7 @@ inserted-next r n w range s hn e h =
         let c : reference_at w p ≡ got = if_false (is_text w p.node) (Some p.node) got t in
         let b : reference_after w p ≡ got = if_false (is_text w p.node) (Some w.made) (reference_at w p) t ∙ c in
         let d : parent_at w p ≡ p.node = ap (parent_by w p) c ∙ parent_is got refl in
-        let y = neither (is_of_kind ProcessingInstruction w.forest p.node) (is_of_kind Comment w.forest p.node) x in
+        let y = or_parts (is_of_kind ProcessingInstruction w.forest p.node) (is_of_kind Comment w.forest p.node) x in
         let hp = occurs-HasNode w.forest p.node h.starts.there in
         let may = may_hold_other w p.node hp (no_data w.forest p.node t y.0 y.1) h.starts.kind in
         let whole : p.offset ≤ length (children_of w.forest p.node) = (let i = h.starts.within in let j = length-parent w.forest p.node may in omega arith) in

@@ -1,6 +1,6 @@
 -- Every node document is a Document of the forest, wherever the trees go. DOM Standard, "Interface Node" (node document).
-use Rattle.std.proofs.Common.{◌≡◌, ℕ, zero, suc, ◌<◌, Bool, true, false, ◌||◌, List, [], ◌∷◌, ◌++◌, map, Option, None, is_some, refl, ap, sym, ◌∙◌, arith}
-use Rattle.std.proofs.lemmas.Bool.{false≢true}
+use Rattle.std.proofs.Common.{◌≡◌, ℕ, zero, suc, ◌<◌, Bool, true, false, List, [], ◌∷◌, ◌++◌, map, Option, None, is_some, refl, ap, sym, ◌∙◌, arith}
+use Rattle.std.proofs.lemmas.Bool.{false≢true, or_parts}
 use Rattle.std.specs.List.{list_any}
 use Rattle.dom_model.specs.declared.Kind.TheVariants.{Document}
 use Rattle.dom_model.specs.PlainLists.Lists.{among}
@@ -58,16 +58,12 @@ HasOwners-new_root f x e h =
     (EachNode-each (IsOwned f) (IsOwned (beside f (node x empty empty))) (λ y k. kind-beside f (node x empty empty) y.document (kind-there f y.document k) (is_kind Document) ∙ k) f h)
     (e, tt, tt)
 
-neither : (v w : Bool) → (v || w) ≡ false → (v ≡ false) × (w ≡ false)
-neither true w h = absurd (false≢true (sym h))
-neither false w h = (refl, h)
-
 -- the node documents of two lists of rows
 any-append : (test : ℕ → Bool) (xs ys : List (Row Content)) → list_any test (map (λ (r : Row Content). r.at.document) (xs ++ ys)) ≡ false →
     (list_any test (map (λ (r : Row Content). r.at.document) xs) ≡ false) × (list_any test (map (λ (r : Row Content). r.at.document) ys) ≡ false)
 any-append test [] ys h = (refl, h)
 any-append test (x ∷ xs) ys h =
-    let a = neither (test x.at.document) (list_any test (map (λ (r : Row Content). r.at.document) (xs ++ ys))) h in
+    let a = or_parts (test x.at.document) (list_any test (map (λ (r : Row Content). r.at.document) (xs ++ ys))) h in
     let b = any-append test xs ys a.1 in
     (rw (a.0, b.0) refl, b.1)
 
@@ -75,7 +71,7 @@ any-append test (x ∷ xs) ys h =
 each-fails : (test : ℕ → Bool) (depth : ℕ) (f : Forest Content) → list_any test (map (λ (r : Row Content). r.at.document) (rows depth f)) ≡ false → EachNode (λ x. test x.document ≡ false) f
 each-fails test depth empty h = tt
 each-fails test depth (node x kids rest) h =
-    let a = neither (test x.document) (list_any test (map (λ (r : Row Content). r.at.document) (rows (suc depth) kids ++ rows depth rest))) h in
+    let a = or_parts (test x.document) (list_any test (map (λ (r : Row Content). r.at.document) (rows (suc depth) kids ++ rows depth rest))) h in
     let b = any-append test (rows (suc depth) kids) (rows depth rest) a.1 in
     (a.0, each-fails test (suc depth) kids b.0, each-fails test depth rest b.1)
 
@@ -86,7 +82,7 @@ both-hold P Q (node x kids rest) h k = ((h.0, k.0), both-hold P Q kids h.1 k.1, 
 -- a tree that nothing outside holds goes
 module _ (n : ℕ) (f : Forest Content) (o : IsOnce f) (free : is_held_outside f n ≡ false) where
   parts : (is_some (parent_of f n) ≡ false) × (list_any (λ m. among m (inclusive_descendants f n)) (documents (without n f)) ≡ false)
-  parts = neither (is_some (parent_of f n)) (list_any (λ m. among m (inclusive_descendants f n)) (documents (without n f))) free
+  parts = or_parts (is_some (parent_of f n)) (list_any (λ m. among m (inclusive_descendants f n)) (documents (without n f))) free
 
   root : parent_of f n ≡ None
   root = elim (seen (parent_of f n)) [ nothing e ↦ e | just p e ↦ absurd (let j = rw e at parts.0 in false≢true (sym j)) ]

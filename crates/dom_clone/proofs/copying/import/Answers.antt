@@ -1,20 +1,20 @@
 use Rattle.std.proofs.Common.{tests, rules}
 use Rattle.dom_clone.proofs.copying.import.Goals as goal
 
-pub returns-then-eq-clause-allowed : goal.returns-then-eq-clause-allowed
-returns-then-eq-clause-allowed c = search (tests, rules)
+pub returns-then-is_of_kind-clause-allowed : goal.returns-then-is_of_kind-clause-allowed
+returns-then-is_of_kind-clause-allowed c = search (tests, rules)
 
-pub returns-then-eq-clause-number : goal.returns-then-eq-clause-number
-returns-then-eq-clause-number c = search (tests, rules)
+pub returns-then-is_of_kind-clause-number : goal.returns-then-is_of_kind-clause-number
+returns-then-is_of_kind-clause-number c = search (tests, rules)
 
-pub returns-then-eq-clause-imported : goal.returns-then-eq-clause-imported
-returns-then-eq-clause-imported c = search (tests, rules)
+pub returns-then-is_of_kind-clause-imported : goal.returns-then-is_of_kind-clause-imported
+returns-then-is_of_kind-clause-imported c = search (tests, rules)
 
-pub returns-then-eq-clause-refused : goal.returns-then-eq-clause-refused
-returns-then-eq-clause-refused c = search (tests, rules)
+pub returns-then-is_of_kind-clause-refused : goal.returns-then-is_of_kind-clause-refused
+returns-then-is_of_kind-clause-refused c = search (tests, rules)
 
-pub returns-then-eq-clause-whole : goal.returns-then-eq-clause-whole
-returns-then-eq-clause-whole c = search (tests, rules)
+pub returns-then-is_of_kind-clause-whole : goal.returns-then-is_of_kind-clause-whole
+returns-then-is_of_kind-clause-whole c = search (tests, rules)
 
 pub returns-clause-allowed : goal.returns-clause-allowed
 returns-clause-allowed c = search (tests, rules)

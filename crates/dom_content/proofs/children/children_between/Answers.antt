@@ -1,5 +1,5 @@
 -- Each step takes one child, up to the one that ends the list.
-use Rattle.std.proofs.Common.{◌≡◌, true, false, [], ◌∷◌, refl, sym, ◌∙◌, append_assoc, append-nil}
+use Rattle.std.proofs.Common.{true, false, [], ◌∷◌, refl, sym, ◌∙◌, append_assoc, append-nil}
 use Rattle.dom_model.specs.Forests.Forest.{children_of}
 use Rattle.dom_clone.specs.dom_edit.Places.{ahead_of}
 use Rattle.dom_clone.specs.dom_edit.AmongChildren.{from_optional-given, parent-among}

@@ -4,8 +4,7 @@ use Rattle.std.proofs.lemmas.Grind.{common_steps}
 use Rattle.std.specs.Prelude.{Option}
 use Rattle.dom_model.specs.Worlds.World.{Point, Range}
 use Rattle.dom_content.proofs.RangeTexts.{range-held}
-use Rattle.dom_content.proofs.ChildrenBetween.{first-way}
-use Rattle.dom_content.proofs.PartsGathered.{place-by_parts}
+use Rattle.dom_content.proofs.PartsGathered.{way-from_top, place-by_parts}
 use Rattle.dom_content.proofs.DeletedBetween.{tops-there, end-there, place-left, live-still, follows-deleted_between}
 use Rattle.dom_content.proofs.deleting.delete_between.Goals as goal
 
@@ -14,14 +13,14 @@ remove_each-requires-clause-held c =
     let v = c.args.world.now in
     let range : Range = record { start = c.args.start; end = c.args.end } in
     let is = range-held v c.requires.whole c.args.range range c.requires.ends in
-    tops-there v c.requires.whole c.args.range range is c.requires.apart c.cut_from.new.world c.in_ok-cut_from.ensures.cut c.deref.result.now (c.deref.ensures.value ∙ c.in_ok-tops.ensures)
+    tops-there v c.requires.whole c.args.range range is c.requires.apart c.cut_from.new.world c.in_ok-cut_from.ensures.cut c.deref-2.result.now (c.deref-2.ensures.value ∙ c.in_ok-tops.ensures)
 
 pub cut_up_to-requires-clause-held : goal.cut_up_to-requires-clause-held
 cut_up_to-requires-clause-held c =
     let v = c.args.world.now in
     let range : Range = record { start = c.args.start; end = c.args.end } in
     let is = range-held v c.requires.whole c.args.range range c.requires.ends in
-    end-there v c.requires.whole c.args.range range is c.requires.apart c.cut_from.new.world c.in_ok-cut_from.ensures.cut c.deref.result.now (c.deref.ensures.value ∙ c.in_ok-tops.ensures) c.remove_each.new.world
+    end-there v c.requires.whole c.args.range range is c.requires.apart c.cut_from.new.world c.in_ok-cut_from.ensures.cut c.deref-2.result.now (c.deref-2.ensures.value ∙ c.in_ok-tops.ensures) c.remove_each.new.world
     c.in_ok-remove_each.ensures.removed
 
 pub stand_at-requires-clause-live : goal.stand_at-requires-clause-live
@@ -29,7 +28,7 @@ stand_at-requires-clause-live c =
     let v = c.args.world.now in
     let range : Range = record { start = c.args.start; end = c.args.end } in
     let is = range-held v c.requires.whole c.args.range range c.requires.ends in
-    live-still v c.requires.whole c.args.range range is c.requires.apart c.cut_from.new.world c.in_ok-cut_from.ensures.cut c.deref.result.now (c.deref.ensures.value ∙ c.in_ok-tops.ensures) c.remove_each.new.world
+    live-still v c.requires.whole c.args.range range is c.requires.apart c.cut_from.new.world c.in_ok-cut_from.ensures.cut c.deref-2.result.now (c.deref-2.ensures.value ∙ c.in_ok-tops.ensures) c.remove_each.new.world
     c.in_ok-remove_each.ensures.removed c.cut_up_to.new.world c.in_ok-cut_up_to.ensures.cut (ap (λ (o : Option Range). is_some o) c.requires.ends)
 
 pub stand_at-requires-clause-within : goal.stand_at-requires-clause-within
@@ -37,8 +36,8 @@ stand_at-requires-clause-within c =
     let v = c.args.world.now in
     let range : Range = record { start = c.args.start; end = c.args.end } in
     let is = range-held v c.requires.whole c.args.range range c.requires.ends in
-    place-left v c.requires.whole c.args.range range is c.requires.apart c.cut_from.new.world c.in_ok-cut_from.ensures.cut c.deref.result.now (c.deref.ensures.value ∙ c.in_ok-tops.ensures) c.remove_each.new.world
-    c.in_ok-remove_each.ensures.removed c.cut_up_to.new.world c.in_ok-cut_up_to.ensures.cut c.new_place-place.result (c.new_place-place.ensures ∙ place-by_parts v.tree c.requires.whole.forest range is c.in_ok-parts.parts.ancestor c.in_ok-parts.ensures.ancestor c.in_ok-parts.parts.first.items c.in_ok-parts.ensures.parts.first)
+    place-left v c.requires.whole c.args.range range is c.requires.apart c.cut_from.new.world c.in_ok-cut_from.ensures.cut c.deref-2.result.now (c.deref-2.ensures.value ∙ c.in_ok-tops.ensures) c.remove_each.new.world
+    c.in_ok-remove_each.ensures.removed c.cut_up_to.new.world c.in_ok-cut_up_to.ensures.cut c.new_place-place.result (place-by_parts v.tree c.requires.whole.forest range is c.deref.result.now (c.deref.ensures.value ∙ c.in_ok-parts.ensures.first) c.new_place-place.result c.new_place-place.ensures)
 
 pub returns-clause-deleted : goal.returns-clause-deleted
 returns-clause-deleted c =
@@ -46,22 +45,17 @@ returns-clause-deleted c =
     let range : Range = record { start = c.args.start; end = c.args.end } in
     let is = range-held v c.requires.whole c.args.range range c.requires.ends in
     let place : Point = record { node = c.new_place-place.result.node; offset = c.new_place-place.result.offset } in
-    follows-deleted_between v c.requires.whole c.args.range range is c.requires.apart c.cut_from.new.world c.in_ok-cut_from.ensures.cut c.deref.result.now (c.deref.ensures.value ∙ c.in_ok-tops.ensures) c.remove_each.new.world
-    c.in_ok-remove_each.ensures.removed c.cut_up_to.new.world c.in_ok-cut_up_to.ensures.cut c.stand_at.new.world place (c.new_place-place.ensures ∙ place-by_parts v.tree c.requires.whole.forest range is c.in_ok-parts.parts.ancestor c.in_ok-parts.ensures.ancestor c.in_ok-parts.parts.first.items c.in_ok-parts.ensures.parts.first) c.stand_at.ensures.stands
+    follows-deleted_between v c.requires.whole c.args.range range is c.requires.apart c.cut_from.new.world c.in_ok-cut_from.ensures.cut c.deref-2.result.now (c.deref-2.ensures.value ∙ c.in_ok-tops.ensures) c.remove_each.new.world
+    c.in_ok-remove_each.ensures.removed c.cut_up_to.new.world c.in_ok-cut_up_to.ensures.cut c.stand_at.new.world place (place-by_parts v.tree c.requires.whole.forest range is c.deref.result.now (c.deref.ensures.value ∙ c.in_ok-parts.ensures.first) c.new_place-place.result c.new_place-place.ensures) c.stand_at.ensures.stands
 
 pub parts_of-requires : goal.parts_of-requires
 parts_of-requires c = grind (arith, common_steps)
 
-pub new_place-place-requires-clause-held : goal.new_place-place-requires-clause-held
-new_place-place-requires-clause-held c =
-    let is = range-held c.args.world.now c.requires.whole c.args.range (record { start = c.args.start; end = c.args.end }) c.requires.ends in
-    is.starts.there
-
-pub new_place-place-requires-clause-way : goal.new_place-place-requires-clause-way
-new_place-place-requires-clause-way c =
+pub new_place-place-requires : goal.new_place-place-requires
+new_place-place-requires c =
     let range : Range = record { start = c.args.start; end = c.args.end } in
     let is = range-held c.args.world.now c.requires.whole c.args.range range c.requires.ends in
-    first-way c.args.world.now.tree c.requires.whole.forest range is c.in_ok-parts.parts.ancestor c.in_ok-parts.ensures.ancestor c.in_ok-parts.parts.first.items c.in_ok-parts.ensures.parts.first
+    record { way = way-from_top c.args.world.now.tree c.requires.whole.forest range is c.deref.result.now (c.deref.ensures.value ∙ c.in_ok-parts.ensures.first) }
 
 pub contained_tops-requires-clause-range : goal.contained_tops-requires-clause-range
 contained_tops-requires-clause-range c = grind (arith, common_steps)

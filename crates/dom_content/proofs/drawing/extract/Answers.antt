@@ -1,32 +1,19 @@
--- The contained children are there, and the range is in order.
-use Rattle.std.proofs.Common.{ap, sym, ◌∙◌, subst}
-use Rattle.dom_model.specs.declared.Kind.TheVariants.{DocumentType}
+-- The range is in order, and what its parts say is said of the live range.
+use Rattle.std.proofs.Common.{sym, ◌∙◌, subst}
+use Rattle.std.proofs.lemmas.Result.{err_from_is_err_and}
 use Rattle.dom_model.specs.Worlds.World.{Range}
-use Rattle.dom_model.specs.MutationAlgorithms.Checks.{has_kind}
 use Rattle.dom_model.specs.RangesAndContents.Contents.{extracted, extract}
-use Rattle.dom_model.proofs.TokenText.EditsMade.EditsOfDrawnContents.{check-range}
-use Rattle.dom_clone.specs.dom_edit.Inserting.{AreThere}
-use Rattle.dom_clone.specs.dom_edit.Whole.{unwatched}
-use Rattle.dom_content.proofs.ContentsMarked.{may-draw, markers-extracted}
-use Rattle.dom_content.proofs.ContentsLeft.{left-extracted, held-extracted, moved-extracted}
+use Rattle.dom_clone.specs.dom_edit.Refusals.{IsRefused}
 use Rattle.dom_content.specs.Left.{HoldsBetween, MovesBetween}
-use Rattle.dom_content.proofs.RangeTexts.{range-held}
+use Rattle.dom_content.proofs.ContentsLeft.{left-extracted, held-extracted, moved-extracted}
+use Rattle.dom_content.proofs.ContentsMarked.{asked-range, markers-extracted}
 use Rattle.dom_content.proofs.Deleted.{follows-alike}
-use Rattle.dom_content.proofs.DrawnContents.{contained-held, range-extracted, room-extracted}
+use Rattle.dom_content.proofs.DrawnContents.{range-extracted, room-extracted}
+use Rattle.dom_content.proofs.RangeTexts.{range-held}
 use Rattle.dom_content.proofs.drawing.extract.Goals as goal
 
-pub parts_of-requires : goal.parts_of-requires
-parts_of-requires c = record { range = range-held c.args.world.now c.requires.whole c.args.range (record { start = c.ends-start.result.0; end = c.ends-start.result.1 }) c.ends-start.ensures.ends }
-
-pub has_doctype-requires : goal.has_doctype-requires
-has_doctype-requires c =
-    let v = c.args.world.now in
-    record {
-      held = subst (λ ns. AreThere v.tree.forest ns) (sym c.deref.ensures.value)
-          (contained-held v c.requires.whole (record { start = c.ends-start.result.0; end = c.ends-start.result.1 })
-          (range-held v c.requires.whole c.args.range (record { start = c.ends-start.result.0; end = c.ends-start.result.1 }) c.ends-start.ensures.ends)
-          c.in_ok-parts.parts.first.items c.in_ok-parts.parts.contained.items c.in_ok-parts.parts.last.items c.in_ok-parts.ensures.parts);
-    }
+pub drawable_parts-requires-clause-range : goal.drawable_parts-requires-clause-range
+drawable_parts-requires-clause-range c = range-held c.args.world.now c.requires.whole c.args.range (record { start = c.ends-start.result.0; end = c.ends-start.result.1 }) c.ends-start.ensures.ends
 
 pub extract_parts-requires-clause-range : goal.extract_parts-requires-clause-range
 extract_parts-requires-clause-range c = range-held c.args.world.now c.requires.whole c.args.range (record { start = c.ends-start.result.0; end = c.ends-start.result.1 }) c.ends-start.ensures.ends
@@ -35,52 +22,39 @@ pub extract_parts-requires-clause-room : goal.extract_parts-requires-clause-room
 extract_parts-requires-clause-room c =
     let v = c.args.world.now in
     let range : Range = record { start = c.ends-start.result.0; end = c.ends-start.result.1 } in
-    let none = ap (has_kind DocumentType v.tree.forest) (sym c.deref.ensures.value) ∙ sym c.if-has_doctype.ensures in
-    let allowed = may-draw v c.args.range range c.in_ok-parts.parts.first.items c.in_ok-parts.parts.contained.items c.in_ok-parts.parts.last.items c.ends-start.ensures.ends c.in_ok-parts.ensures.parts none in
-    room-extracted v c.args.range range c.ends-start.ensures.ends (c.requires.room allowed)
+    room-extracted v c.args.range range c.ends-start.ensures.ends (c.requires.room (asked-range v c.args.range range c.ends-start.ensures.ends ∙ c.in_ok-parts.ensures.allowed))
 
-pub extract_parts-requires-clause-allowed : goal.extract_parts-requires-clause-allowed
-extract_parts-requires-clause-allowed c =
+pub returns-in_err-parts-clause-refused : goal.returns-in_err-parts-clause-refused
+returns-in_err-parts-clause-refused c =
     let v = c.args.world.now in
     let range : Range = record { start = c.ends-start.result.0; end = c.ends-start.result.1 } in
-    let none = ap (has_kind DocumentType v.tree.forest) (sym c.deref.ensures.value) ∙ sym c.if-has_doctype.ensures in
-    let allowed = may-draw v c.args.range range c.in_ok-parts.parts.first.items c.in_ok-parts.parts.contained.items c.in_ok-parts.parts.last.items c.ends-start.ensures.ends c.in_ok-parts.ensures.parts none in
-    check-range (unwatched v) c.args.range range c.ends-start.ensures.ends allowed
+    let p = err_from_is_err_and c.from_residual.result c.from_residual.ensures.1 in
+    rw (p.1, p.2) (subst (λ o. IsRefused c.in_err-parts.field-0.0 o v v) (sym (asked-range v c.args.range range c.ends-start.ensures.ends)) c.in_err-parts.ensures.refused)
+
+pub returns-clause-allowed : goal.returns-clause-allowed
+returns-clause-allowed c =
+    let range : Range = record { start = c.ends-start.result.0; end = c.ends-start.result.1 } in
+    asked-range c.args.world.now c.args.range range c.ends-start.ensures.ends ∙ c.in_ok-parts.ensures.allowed
+
+pub returns-clause-extracted : goal.returns-clause-extracted
+returns-clause-extracted c =
+    let v = c.args.world.now in
+    let range : Range = record { start = c.ends-start.result.0; end = c.ends-start.result.1 } in
+    follows-alike v c.extract_parts.new.world (extracted c.args.range range) (extract c.args.range) (λ w k. range-extracted v c.args.range range c.ends-start.ensures.ends w k) c.in_ok-fragment.ensures.extracted
 
 pub returns-clause-markers : goal.returns-clause-markers
 returns-clause-markers c =
-    let v = c.args.world.now in
-    let range : Range = record { start = c.ends-start.result.0; end = c.ends-start.result.1 } in
-    let none = ap (has_kind DocumentType v.tree.forest) (sym c.deref.ensures.value) ∙ sym c.if-has_doctype.ensures in
-    let allowed = may-draw v c.args.range range c.in_ok-parts.parts.first.items c.in_ok-parts.parts.contained.items c.in_ok-parts.parts.last.items c.ends-start.ensures.ends c.in_ok-parts.ensures.parts none in
-    markers-extracted v c.extract_parts.new.world c.args.range c.requires.whole c.in_ok-fragment.ensures.whole allowed
-    (follows-alike v c.extract_parts.new.world (extracted c.args.range range) (extract c.args.range) (λ w k. range-extracted v c.args.range range c.ends-start.ensures.ends w k) c.in_ok-fragment.ensures.extracted)
+    markers-extracted c.args.world.now c.extract_parts.new.world c.args.range c.requires.whole c.in_ok-fragment.ensures.whole (returns-clause-allowed c) (returns-clause-extracted c)
 
 pub returns-clause-left : goal.returns-clause-left
-returns-clause-left c =
-    let v = c.args.world.now in
-    let range : Range = record { start = c.ends-start.result.0; end = c.ends-start.result.1 } in
-    let none = ap (has_kind DocumentType v.tree.forest) (sym c.deref.ensures.value) ∙ sym c.if-has_doctype.ensures in
-    let allowed = may-draw v c.args.range range c.in_ok-parts.parts.first.items c.in_ok-parts.parts.contained.items c.in_ok-parts.parts.last.items c.ends-start.ensures.ends c.in_ok-parts.ensures.parts none in
-    left-extracted v c.extract_parts.new.world c.args.range c.requires.whole allowed
-    (follows-alike v c.extract_parts.new.world (extracted c.args.range range) (extract c.args.range) (λ w k. range-extracted v c.args.range range c.ends-start.ensures.ends w k) c.in_ok-fragment.ensures.extracted)
+returns-clause-left c = left-extracted c.args.world.now c.extract_parts.new.world c.args.range c.requires.whole (returns-clause-allowed c) (returns-clause-extracted c)
 
 pub returns-clause-held : goal.returns-clause-held
 returns-clause-held c =
-    let v = c.args.world.now in
-    let range : Range = record { start = c.ends-start.result.0; end = c.ends-start.result.1 } in
-    let none = ap (has_kind DocumentType v.tree.forest) (sym c.deref.ensures.value) ∙ sym c.if-has_doctype.ensures in
-    let allowed = may-draw v c.args.range range c.in_ok-parts.parts.first.items c.in_ok-parts.parts.contained.items c.in_ok-parts.parts.last.items c.ends-start.ensures.ends c.in_ok-parts.ensures.parts none in
-    subst (λ id. HoldsBetween v c.extract_parts.new.world c.args.range id) (sym c.in_ok-fragment.ensures.number)
-    (held-extracted v c.extract_parts.new.world c.args.range c.requires.whole allowed
-    (follows-alike v c.extract_parts.new.world (extracted c.args.range range) (extract c.args.range) (λ w k. range-extracted v c.args.range range c.ends-start.ensures.ends w k) c.in_ok-fragment.ensures.extracted))
+    subst (λ id. HoldsBetween c.args.world.now c.extract_parts.new.world c.args.range id) (sym c.in_ok-fragment.ensures.number)
+    (held-extracted c.args.world.now c.extract_parts.new.world c.args.range c.requires.whole (returns-clause-allowed c) (returns-clause-extracted c))
 
 pub returns-clause-moved : goal.returns-clause-moved
 returns-clause-moved c =
-    let v = c.args.world.now in
-    let range : Range = record { start = c.ends-start.result.0; end = c.ends-start.result.1 } in
-    let none = ap (has_kind DocumentType v.tree.forest) (sym c.deref.ensures.value) ∙ sym c.if-has_doctype.ensures in
-    let allowed = may-draw v c.args.range range c.in_ok-parts.parts.first.items c.in_ok-parts.parts.contained.items c.in_ok-parts.parts.last.items c.ends-start.ensures.ends c.in_ok-parts.ensures.parts none in
-    subst (λ id. MovesBetween v c.extract_parts.new.world c.args.range id) (sym c.in_ok-fragment.ensures.number)
-    (moved-extracted v c.extract_parts.new.world c.args.range c.requires.whole allowed
-    (follows-alike v c.extract_parts.new.world (extracted c.args.range range) (extract c.args.range) (λ w k. range-extracted v c.args.range range c.ends-start.ensures.ends w k) c.in_ok-fragment.ensures.extracted))
+    subst (λ id. MovesBetween c.args.world.now c.extract_parts.new.world c.args.range id) (sym c.in_ok-fragment.ensures.number)
+    (moved-extracted c.args.world.now c.extract_parts.new.world c.args.range c.requires.whole (returns-clause-allowed c) (returns-clause-extracted c))

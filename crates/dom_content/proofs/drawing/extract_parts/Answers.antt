@@ -1,28 +1,43 @@
 -- The ends stay, or go to the new place.
 use Rattle.std.proofs.Common.{true, ◌∙◌}
+use Rattle.dom_model.specs.Worlds.World.{Range}
 use Rattle.dom_content.proofs.DrawnContents.{extracted-here, extracted-moved, place-drawn, live-drawn}
-use Rattle.dom_content.proofs.ChildrenBetween.{first-way}
-use Rattle.dom_content.proofs.PartsGathered.{place-by_parts}
+use Rattle.dom_content.proofs.PartsGathered.{way-from_top, place-by_parts}
 use Rattle.dom_content.proofs.drawing.extract_parts.Goals as goal
+use Rattle.dom_content.proofs.drawing.extract_parts.Goals.{then-not-stays, else-not-stays}
 
-pub new_place-place-requires-clause-way : goal.new_place-place-requires-clause-way
-new_place-place-requires-clause-way c =
-    first-way c.args.world.now.tree c.requires.whole.forest (record { start = c.args.start; end = c.args.end }) c.requires.range c.args.parts.now.ancestor c.requires.ancestor c.args.parts.now.first.items c.requires.parts.first
-
-pub returns-then-stays-clause-extracted : goal.returns-then-stays-clause-extracted
-returns-then-stays-clause-extracted c =
-    extracted-here c.args.world.now c.args.range (record { start = c.args.start; end = c.args.end }) c.follows_cut-stays.result c.follows_cut-stays.ensures c.draw.new.world c.if-stays.true c.in_ok-fragment.ensures.drawn
+pub new_place-place-requires : goal.new_place-place-requires
+new_place-place-requires c =
+    let range : Range = record { start = c.args.start; end = c.args.end } in
+    record { way = way-from_top c.args.world.now.tree c.requires.whole.forest range c.requires.range c.deref.result.now (c.deref.ensures.value ∙ c.requires.parts.first) }
 
 pub stand_at-requires-clause-live : goal.stand_at-requires-clause-live
 stand_at-requires-clause-live c =
-    live-drawn c.args.world.now c.requires.whole (record { start = c.args.start; end = c.args.end }) c.requires.range c.requires.allowed true c.args.range c.draw.new.world c.in_ok-fragment.ensures.drawn c.requires.live
+    let range : Range = record { start = c.args.start; end = c.args.end } in
+    live-drawn c.args.world.now c.requires.whole range c.requires.range c.requires.allowed true c.args.range c.draw.new.world c.in_ok-fragment.ensures.drawn c.requires.live
 
 pub stand_at-requires-clause-within : goal.stand_at-requires-clause-within
 stand_at-requires-clause-within c =
-    place-drawn c.args.world.now c.requires.whole (record { start = c.args.start; end = c.args.end }) c.requires.range c.requires.allowed c.follows_cut-stays.result c.follows_cut-stays.ensures c.if-stays.false
-    c.draw.new.world c.in_ok-fragment.ensures.drawn c.new_place-place.result (c.new_place-place.ensures ∙ place-by_parts c.args.world.now.tree c.requires.whole.forest (record { start = c.args.start; end = c.args.end }) c.requires.range c.args.parts.now.ancestor c.requires.ancestor c.args.parts.now.first.items c.requires.parts.first)
+    let range : Range = record { start = c.args.start; end = c.args.end } in
+    place-drawn c.args.world.now c.requires.whole range c.requires.range c.requires.allowed c.follows_cut-stays.result c.follows_cut-stays.ensures c.if-not-stays.true
+    c.draw.new.world c.in_ok-fragment.ensures.drawn c.new_place-place.result
+    (place-by_parts c.args.world.now.tree c.requires.whole.forest range c.requires.range c.deref.result.now (c.deref.ensures.value ∙ c.requires.parts.first) c.new_place-place.result c.new_place-place.ensures)
 
 pub returns-clause-extracted : goal.returns-clause-extracted
 returns-clause-extracted c =
-    extracted-moved c.args.world.now c.args.range (record { start = c.args.start; end = c.args.end }) c.follows_cut-stays.result c.follows_cut-stays.ensures c.draw.new.world c.stand_at.new.world c.new_place-place.result
-    c.if-stays.false (c.new_place-place.ensures ∙ place-by_parts c.args.world.now.tree c.requires.whole.forest (record { start = c.args.start; end = c.args.end }) c.requires.range c.args.parts.now.ancestor c.requires.ancestor c.args.parts.now.first.items c.requires.parts.first) c.in_ok-fragment.ensures.drawn c.stand_at.ensures.stands
+    let range : Range = record { start = c.args.start; end = c.args.end } in
+    elim c.if-not-stays.branch [
+      | then-not-stays w ↦
+          rw w.world-is (extracted-moved c.args.world.now c.args.range range c.follows_cut-stays.result c.follows_cut-stays.ensures c.draw.new.world w.stand_at.new.world c.new_place-place.result w.if-not-stays.true
+          (place-by_parts c.args.world.now.tree c.requires.whole.forest range c.requires.range c.deref.result.now (c.deref.ensures.value ∙ c.requires.parts.first) c.new_place-place.result c.new_place-place.ensures)
+          c.in_ok-fragment.ensures.drawn w.stand_at.ensures.stands)
+      | else-not-stays w ↦
+          rw w.world-is (extracted-here c.args.world.now c.args.range range c.follows_cut-stays.result c.follows_cut-stays.ensures c.draw.new.world w.if-not-stays.false c.in_ok-fragment.ensures.drawn)
+    ]
+
+pub returns-clause-whole : goal.returns-clause-whole
+returns-clause-whole c =
+    elim c.if-not-stays.branch [
+      | then-not-stays w ↦ rw w.world-is w.stand_at.ensures.whole
+      | else-not-stays w ↦ rw w.world-is c.in_ok-fragment.ensures.whole
+    ]

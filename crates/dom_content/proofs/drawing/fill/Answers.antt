@@ -10,5 +10,5 @@ draw_units-requires-clause-may c = record { low = c.requires.may.low; rising = c
 pub draw_units-requires-clause-within : goal.draw_units-requires-clause-within
 draw_units-requires-clause-within c = c.requires.within (sym c.if-is_in_one_data.ensures)
 
-pub returns-then-is_collapsed-clause-stays : goal.returns-then-is_collapsed-clause-stays
-returns-then-is_collapsed-clause-stays c = stays-none c.args.world.now
+pub returns-then-eq-clause-stays : goal.returns-then-eq-clause-stays
+returns-then-eq-clause-stays c = stays-none c.args.world.now

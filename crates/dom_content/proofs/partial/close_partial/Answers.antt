@@ -1,4 +1,5 @@
 -- The children go in, and then the fragment into the copy.
+use Rattle.std.proofs.lemmas.Result.{on_ok_weaker}
 use Rattle.dom_content.proofs.StaysOf.{stays-then}
 use Rattle.dom_content.proofs.Comings.{inner-holder, unfinished-goes, goes-children, may-finish, finish-unreferred}
 use Rattle.dom_content.proofs.PathSteps.{room-children, follows-closed}
@@ -6,7 +7,7 @@ use Rattle.dom_content.proofs.partial.close_partial.Goals as goal
 
 pub children_into-requires-clause-may : goal.children_into-requires-clause-may
 children_into-requires-clause-may c =
-    rw c.as_slice.ensures.value (record {
+    rw c.deref.ensures.value (record {
       low = c.requires.may.low;
       rising = c.requires.may.rising;
       holder = inner-holder c.requires.may.low c.args.world.now.tree.forest c.args.partial.now c.requires.may.parts.0;
@@ -14,14 +15,14 @@ children_into-requires-clause-may c =
     })
 
 pub children_into-requires-clause-room : goal.children_into-requires-clause-room
-children_into-requires-clause-room c = rw c.as_slice.ensures.value (room-children c.args.world.now c.args.moves c.args.partial.now c.requires.room)
+children_into-requires-clause-room c = rw c.deref.ensures.value (room-children c.args.world.now c.args.moves c.args.partial.now c.requires.room)
 
 pub put_last-requires-clause-allowed : goal.put_last-requires-clause-allowed
 put_last-requires-clause-allowed c =
     let v = c.args.world.now in
     let p = c.args.partial.now in
     let m = c.requires.may in
-    let drawn = rw c.as_slice.ensures.value at c.in_ok-children_into.ensures.drawn in
+    let drawn = rw c.deref.ensures.value at c.in_ok-children_into.ensures.drawn in
     let g = goes-children v c.requires.whole m.low m.rising p.inner (inner-holder m.low v.tree.forest p m.parts.0) c.args.moves p.children.items m.parts.0.children c.children_into.new.world drawn c.in_ok-children_into.ensures.stays in
     may-finish c.children_into.new.world c.in_ok-children_into.ensures.whole m.low g.rising p (unfinished-goes m.low v c.children_into.new.world g p m.parts.0)
 
@@ -30,13 +31,14 @@ put_last-requires-clause-unreferred c =
     let v = c.args.world.now in
     let p = c.args.partial.now in
     let m = c.requires.may in
-    let drawn = rw c.as_slice.ensures.value at c.in_ok-children_into.ensures.drawn in
+    let drawn = rw c.deref.ensures.value at c.in_ok-children_into.ensures.drawn in
     let g = goes-children v c.requires.whole m.low m.rising p.inner (inner-holder m.low v.tree.forest p m.parts.0) c.args.moves p.children.items m.parts.0.children c.children_into.new.world drawn c.in_ok-children_into.ensures.stays in
     finish-unreferred c.children_into.new.world c.in_ok-children_into.ensures.whole m.low g.rising p (unfinished-goes m.low v c.children_into.new.world g p m.parts.0)
 
 pub returns-clause-closed : goal.returns-clause-closed
 returns-clause-closed c =
-    follows-closed c.args.world.now c.children_into.new.world c.put_last.new.world c.args.moves c.args.partial.now (rw c.as_slice.ensures.value at c.in_ok-children_into.ensures.drawn) c.in_ok-put_last.ensures.appended
+    on_ok_weaker c.put_last.result
+    (follows-closed c.args.world.now c.children_into.new.world c.put_last.new.world c.args.moves c.args.partial.now (rw c.deref.ensures.value at c.in_ok-children_into.ensures.drawn)) c.put_last.ensures.appended
 
 pub returns-clause-stays : goal.returns-clause-stays
-returns-clause-stays c = stays-then c.args.world.now c.children_into.new.world c.put_last.new.world c.in_ok-children_into.ensures.stays c.in_ok-put_last.ensures.stays
+returns-clause-stays c = on_ok_weaker c.put_last.result (stays-then c.args.world.now c.children_into.new.world c.put_last.new.world c.in_ok-children_into.ensures.stays) c.put_last.ensures.stays

@@ -1,4 +1,5 @@
 -- A copy is opened, and finished at once.
+use Rattle.std.proofs.lemmas.Result.{on_ok_weaker}
 use Rattle.dom_content.specs.Coming.{AreOld}
 use Rattle.dom_content.proofs.StaysOf.{stays-then}
 use Rattle.dom_content.proofs.Comings.{first-old, rest-old, goes-opened, opened-unfinished}
@@ -31,8 +32,10 @@ close_partial-requires-clause-room c =
 
 pub returns-clause-copied : goal.returns-clause-copied
 returns-clause-copied c =
-    follows-copy c.args.world.now c.open_partial.new.world c.args.moves c.args.into c.args.node c.args.children.items c.in_ok-partial.partial c.in_ok-partial.ensures.copy c.in_ok-partial.ensures.inner c.in_ok-partial.ensures.children c.in_ok-partial.ensures.opened
-    c.close_partial.new.world c.in_ok-close_partial.ensures.closed
+    on_ok_weaker c.close_partial.result
+    (follows-copy c.args.world.now c.open_partial.new.world c.args.moves c.args.into c.args.node c.args.children.items c.in_ok-partial.partial c.in_ok-partial.ensures.copy c.in_ok-partial.ensures.inner c.in_ok-partial.ensures.children c.in_ok-partial.ensures.opened
+    c.close_partial.new.world)
+    c.close_partial.ensures.closed
 
 pub returns-clause-stays : goal.returns-clause-stays
-returns-clause-stays c = stays-then c.args.world.now c.open_partial.new.world c.close_partial.new.world c.in_ok-partial.ensures.stays c.in_ok-close_partial.ensures.stays
+returns-clause-stays c = on_ok_weaker c.close_partial.result (stays-then c.args.world.now c.open_partial.new.world c.close_partial.new.world c.in_ok-partial.ensures.stays) c.close_partial.ensures.stays

@@ -1,5 +1,6 @@
 -- The node itself, or its copy.
 use Rattle.std.proofs.Common.{[], true, subst, sym}
+use Rattle.std.proofs.lemmas.Result.{on_ok_weaker}
 use Rattle.std.specs.Prelude.{OnOk}
 use Rattle.dom_model.specs.RangesAndContents.Contents.{child_into}
 use Rattle.dom_clone.specs.dom_edit.Whole.{Follows}
@@ -37,8 +38,8 @@ put_last-requires-clause-allowed c =
 
 pub returns-clause-drawn : goal.returns-clause-drawn
 returns-clause-drawn c =
-    subst (λ b. Follows c.args.world.now c.put_last.new.world (child_into b c.args.into c.args.node)) (sym c.if-moves.false)
-    (follows-child c.args.world.now c.copy_of.new.world c.put_last.new.world c.args.into c.args.node c.in_ok-copy.ensures.copied (rw c.in_ok-copy.ensures.number at c.in_ok-put_last.ensures.appended))
+    subst (λ b. OnOk c.put_last.result (Follows c.args.world.now c.put_last.new.world (child_into b c.args.into c.args.node))) (sym c.if-moves.false)
+    (on_ok_weaker c.put_last.result (follows-child c.args.world.now c.copy_of.new.world c.put_last.new.world c.args.into c.args.node c.in_ok-copy.ensures.copied) (rw c.in_ok-copy.ensures.number at c.put_last.ensures.appended))
 
 pub returns-clause-stays : goal.returns-clause-stays
-returns-clause-stays c = stays-then c.args.world.now c.copy_of.new.world c.put_last.new.world c.in_ok-copy.ensures.stays c.in_ok-put_last.ensures.stays
+returns-clause-stays c = on_ok_weaker c.put_last.result (stays-then c.args.world.now c.copy_of.new.world c.put_last.new.world c.in_ok-copy.ensures.stays) c.put_last.ensures.stays

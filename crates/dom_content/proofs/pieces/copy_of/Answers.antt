@@ -1,4 +1,5 @@
 -- A copy is there beside all others.
+use Rattle.std.proofs.lemmas.Result.{on_ok_weaker}
 use Rattle.dom_content.proofs.PieceSteps.{room-clone, kinds-clone, data-clone, clone-held}
 use Rattle.dom_content.proofs.StaysOf.{stays-clone}
 use Rattle.dom_content.proofs.pieces.copy_of.Goals as goal
@@ -7,13 +8,13 @@ pub clone_node-requires-clause-room : goal.clone_node-requires-clause-room
 clone_node-requires-clause-room c = room-clone c.args.world.now c.args.deep c.args.node c.requires.room
 
 pub returns-clause-copy_held : goal.returns-clause-copy_held
-returns-clause-copy_held c = clone-held c.args.world.now c.clone_node.new.world c.args.deep c.args.node c.requires.whole c.requires.held c.in_ok-copy.ensures.cloned
+returns-clause-copy_held c = on_ok_weaker c.clone_node.result (clone-held c.args.world.now c.clone_node.new.world c.args.deep c.args.node c.requires.whole c.requires.held) c.clone_node.ensures.cloned
 
 pub returns-clause-stays : goal.returns-clause-stays
-returns-clause-stays c = stays-clone c.args.world.now c.clone_node.new.world c.args.deep c.args.node c.in_ok-copy.ensures.cloned
+returns-clause-stays c = on_ok_weaker c.clone_node.result (stays-clone c.args.world.now c.clone_node.new.world c.args.deep c.args.node) c.clone_node.ensures.cloned
 
 pub returns-clause-kinds : goal.returns-clause-kinds
-returns-clause-kinds c = kinds-clone c.args.world.now c.clone_node.new.world c.args.deep c.args.node c.in_ok-copy.ensures.cloned
+returns-clause-kinds c = on_ok_weaker c.clone_node.result (kinds-clone c.args.world.now c.clone_node.new.world c.args.deep c.args.node) c.clone_node.ensures.cloned
 
 pub returns-clause-texts : goal.returns-clause-texts
-returns-clause-texts c = data-clone c.args.world.now c.clone_node.new.world c.args.deep c.args.node c.in_ok-copy.ensures.cloned
+returns-clause-texts c = on_ok_weaker c.clone_node.result (data-clone c.args.world.now c.clone_node.new.world c.args.deep c.args.node) c.clone_node.ensures.cloned

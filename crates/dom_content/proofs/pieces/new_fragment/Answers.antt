@@ -1,19 +1,28 @@
 -- The fragment is there beside all others.
+use Rattle.std.proofs.Common.{[], rules}
+use Rattle.std.specs.Prelude.{OnOk}
+use Rattle.dom_model.specs.declared.Kind.TheVariants.{DocumentFragment}
+use Rattle.dom_model.specs.Worlds.World.{no_content}
+use Rattle.dom_model.specs.Worlds.Making.{made_node, named}
+use Rattle.dom_clone.specs.dom_edit.Whole.{Follows}
+use Rattle.std.proofs.lemmas.Result.{on_ok_weaker}
 use Rattle.dom_content.proofs.PieceSteps.{room-fragment, data-fragment, fragment-held}
 use Rattle.dom_content.proofs.StaysOf.{stays-fragment}
 use Rattle.dom_content.proofs.pieces.new_fragment.Goals as goal
 
-pub make_fragment-requires-clause-room : goal.make_fragment-requires-clause-room
-make_fragment-requires-clause-room c = room-fragment c.args.world.now c.args.document c.requires.room
+pub make-requires-clause-room : goal.make-requires-clause-room
+make-requires-clause-room c = room-fragment c.args.world.now c.args.document c.requires.room
 
 pub returns-clause-made : goal.returns-clause-made
-returns-clause-made c = c.in_ok-fragment.ensures.made
+returns-clause-made c =
+    let made : OnOk c.make.result (Follows c.args.world.now c.make.new.self (made_node c.args.document (named DocumentFragment []) no_content)) = search rules in
+    made
 
 pub returns-clause-made_held : goal.returns-clause-made_held
-returns-clause-made_held c = fragment-held c.args.world.now c.make_fragment.new.world c.args.document c.requires.whole c.in_ok-fragment.ensures.made
+returns-clause-made_held c = on_ok_weaker c.make.result (fragment-held c.args.world.now c.make.new.self c.args.document c.requires.whole) (returns-clause-made c)
 
 pub returns-clause-stays : goal.returns-clause-stays
-returns-clause-stays c = stays-fragment c.args.world.now c.make_fragment.new.world c.args.document c.in_ok-fragment.ensures.made
+returns-clause-stays c = on_ok_weaker c.make.result (stays-fragment c.args.world.now c.make.new.self c.args.document) (returns-clause-made c)
 
 pub returns-clause-texts : goal.returns-clause-texts
-returns-clause-texts c = data-fragment c.args.world.now c.make_fragment.new.world c.args.document c.in_ok-fragment.ensures.made
+returns-clause-texts c = on_ok_weaker c.make.result (data-fragment c.args.world.now c.make.new.self c.args.document) (returns-clause-made c)

@@ -1,4 +1,5 @@
 -- A copy with the units is made, put and the units cut.
+use Rattle.std.proofs.lemmas.Result.{on_ok_weaker}
 use Rattle.dom_content.proofs.PieceSteps.{room-units, follows-units, still-data, still-within}
 use Rattle.dom_content.proofs.StaysOf.{stays-then}
 use Rattle.dom_content.proofs.Comings.{may-put_part, part-unreferred}
@@ -23,10 +24,13 @@ cut_if-requires-clause-within c = still-within c.args.world.now c.copy_with.new.
 
 pub returns-clause-drawn : goal.returns-clause-drawn
 returns-clause-drawn c =
-    follows-units c.args.world.now c.args.moves c.args.into c.args.node c.args.offset c.args.count c.in_ok-units.units c.in_ok-units.ensures
-    c.copy_with.new.world c.put_last.new.world c.cut_if.new.world c.in_ok-copy.ensures.copied (rw c.in_ok-copy.ensures.number at c.in_ok-put_last.ensures.appended) c.in_ok-cut_if.ensures.cut
+    on_ok_weaker c.cut_if.result
+    (follows-units c.args.world.now c.args.moves c.args.into c.args.node c.args.offset c.args.count c.in_ok-units.units c.in_ok-units.ensures
+    c.copy_with.new.world c.put_last.new.world c.cut_if.new.world c.in_ok-copy.ensures.copied (rw c.in_ok-copy.ensures.number at c.in_ok-put_last.ensures.appended))
+    c.cut_if.ensures.cut
 
 pub returns-clause-stays : goal.returns-clause-stays
 returns-clause-stays c =
-    stays-then c.args.world.now c.copy_with.new.world c.cut_if.new.world c.in_ok-copy.ensures.stays
-    (stays-then c.copy_with.new.world c.put_last.new.world c.cut_if.new.world c.in_ok-put_last.ensures.stays c.in_ok-cut_if.ensures.stays)
+    on_ok_weaker c.cut_if.result
+    (λ s. stays-then c.args.world.now c.copy_with.new.world c.cut_if.new.world c.in_ok-copy.ensures.stays (stays-then c.copy_with.new.world c.put_last.new.world c.cut_if.new.world c.in_ok-put_last.ensures.stays s))
+    c.cut_if.ensures.stays

@@ -4,7 +4,7 @@ use Rattle.std.proofs.lemmas.Bool.{not-true, not-false, eqb-true}
 use Rattle.dom_model.specs.Forests.Forest.{root_of}
 use Rattle.dom_model.specs.Worlds.World.{Point, Range}
 use Rattle.dom_model.proofs.Forests.Changes.{seen, nothing, just}
-use Rattle.dom_clone.specs.dom_ranges.Inside.{smaller}
+use Rattle.dom_model.proofs.Forests.TreeOrder.InsideWalks.{smaller}
 use Rattle.dom_content.specs.Texts.{text_within}
 use Rattle.dom_content.proofs.AlongGaps.{walk-at}
 use Rattle.dom_content.proofs.RangeTexts.{texts-contained}

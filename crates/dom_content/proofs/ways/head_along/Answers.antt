@@ -1,5 +1,6 @@
 -- Each node above the last is opened; then all are finished.
 use Rattle.std.proofs.Common.{[], ◌∷◌, ◌+◌, drop, arith}
+use Rattle.std.proofs.lemmas.Result.{on_ok_weaker}
 use Rattle.dom_model.specs.RangesAndContents.Contents.{head_into}
 use Rattle.dom_content.specs.Paths.{entered}
 use Rattle.dom_content.proofs.PathSteps.{down-first, down-first_old, down-held, down-may, down-room, down-next, down-close, down-close_room, down-end, down-more, down-last}
@@ -97,11 +98,14 @@ close_all-requires-clause-room c =
 pub returns-clause-drawn : goal.returns-clause-drawn
 returns-clause-drawn c =
     let whole = head_into c.args.moves c.args.into c.args.offset (c.args.first ∷ c.args.below.now) in
-    down-end c.args.world.now c.loop-next.world c.args.moves 0 whole (λ i ns. head_into c.args.moves i c.args.offset ns) c.loop-next.partials.items c.loop-next.here c.loop-next.node []
+    on_ok_weaker c.close_all.result
+    (down-end c.args.world.now c.loop-next.world c.args.moves 0 whole (λ i ns. head_into c.args.moves i c.args.offset ns) c.loop-next.partials.items c.loop-next.here c.loop-next.node []
     (down-last c.args.world.now c.loop-next.world c.args.moves 0 whole (λ i ns. head_into c.args.moves i c.args.offset ns) c.loop-next.partials.items c.loop-next.here c.loop-next.node c.args.below.now c.loop-next.next-index c.loop-next.invariant c.loop-next-test.false)
-    c.head_of_last.new.world c.in_ok-head_of_last.ensures.drawn c.close_all.new.world c.in_ok-close_all.ensures.closed
+    c.head_of_last.new.world c.in_ok-head_of_last.ensures.drawn c.close_all.new.world)
+    c.close_all.ensures.closed
 
 pub returns-clause-stays : goal.returns-clause-stays
 returns-clause-stays c =
-    stays-then c.args.world.now c.loop-next.world c.close_all.new.world c.loop-next.invariant.still
-    (stays-then c.loop-next.world c.head_of_last.new.world c.close_all.new.world c.in_ok-head_of_last.ensures.stays c.in_ok-close_all.ensures.stays)
+    on_ok_weaker c.close_all.result
+    (λ s. stays-then c.args.world.now c.loop-next.world c.close_all.new.world c.loop-next.invariant.still (stays-then c.loop-next.world c.head_of_last.new.world c.close_all.new.world c.in_ok-head_of_last.ensures.stays s))
+    c.close_all.ensures.stays

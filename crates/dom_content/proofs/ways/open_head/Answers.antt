@@ -12,7 +12,7 @@ use Rattle.dom_content.proofs.ways.open_head.Goals as goal
 pub open_partial-requires-clause-may : goal.open_partial-requires-clause-may
 open_partial-requires-clause-may c =
     let m = c.requires.may in
-    record { low = m.low; rising = m.rising; holder = m.holder; nodes = subst (λ ns. AreOld m.low c.args.world.now.tree.forest (c.args.node ∷ ns)) (sym c.new-none.ensures.items) m.nodes }
+    record { low = m.low; rising = m.rising; holder = m.holder; nodes = subst (λ ns. AreOld m.low c.args.world.now.tree.forest (c.args.node ∷ ns)) (sym c.new.ensures.items) m.nodes }
 
 pub open_partial-requires-clause-room : goal.open_partial-requires-clause-room
 open_partial-requires-clause-room c = room-entered c.args.world.now c.args.moves c.args.into c.args.node c.args.next c.requires.room
@@ -25,10 +25,10 @@ children_into-requires-clause-may c =
     let o = first-old m.low v.tree.forest c.args.node [] m.nodes in
     let kids = children-old v c.requires.whole m.low m.rising c.args.into m.holder c.args.node o c.requires.no_data (up_to c.args.next (children_of v.tree.forest c.args.node)) (λ x. hits-up_to x c.args.next (children_of v.tree.forest c.args.node)) in
     let g = goes-opened v c.requires.whole m.low m.rising c.args.into m.holder c.args.node o c.requires.no_data mid c.in_ok-partial.ensures.opened c.in_ok-partial.ensures.stays in
-    let none : AreOld m.low v.tree.forest c.in_ok-partial.partial.children.items = rw (c.in_ok-partial.ensures.children, c.new-none.ensures.items) (none-old m.low v.tree.forest) in
+    let none : AreOld m.low v.tree.forest c.in_ok-partial.partial.children.items = rw (c.in_ok-partial.ensures.children, c.new.ensures.items) (none-old m.low v.tree.forest) in
     let u = opened-unfinished v c.requires.whole m.low m.rising c.args.into m.holder c.args.node o c.requires.no_data mid c.in_ok-partial.partial c.in_ok-partial.ensures.opened c.in_ok-partial.ensures.stays c.in_ok-partial.ensures.copy c.in_ok-partial.ensures.inner none in
     let listed : AreOld m.low v.tree.forest c.in_ok-ahead.ahead.items = rw c.in_ok-ahead.ensures kids in
-    rw c.as_slice.ensures.value (record {
+    rw c.deref.ensures.value (record {
       low = m.low;
       rising = g.rising;
       holder = inner-holder m.low mid.tree.forest c.in_ok-partial.partial u;
@@ -37,17 +37,17 @@ children_into-requires-clause-may c =
 
 pub children_into-requires-clause-room : goal.children_into-requires-clause-room
 children_into-requires-clause-room c =
-    rw c.as_slice.ensures.value
+    rw c.deref.ensures.value
     (room-ahead c.args.world.now c.open_partial.new.world c.args.moves c.args.into c.args.node c.args.next c.in_ok-ahead.ahead.items c.in_ok-ahead.ensures c.in_ok-partial.partial.inner c.in_ok-partial.ensures.inner c.in_ok-partial.ensures.opened
     c.requires.room)
 
 pub returns-clause-children : goal.returns-clause-children
-returns-clause-children c = c.in_ok-partial.ensures.children ∙ c.new-none.ensures.items
+returns-clause-children c = c.in_ok-partial.ensures.children ∙ c.new.ensures.items
 
 pub returns-clause-entered : goal.returns-clause-entered
 returns-clause-entered c =
     follows-entered c.args.world.now c.open_partial.new.world c.args.moves c.args.into c.args.node c.args.next c.in_ok-ahead.ahead.items c.in_ok-ahead.ensures c.in_ok-partial.partial.inner c.in_ok-partial.ensures.inner c.in_ok-partial.ensures.opened
-    c.children_into.new.world (rw c.as_slice.ensures.value at c.in_ok-children_into.ensures.drawn)
+    c.children_into.new.world (rw c.deref.ensures.value at c.in_ok-children_into.ensures.drawn)
 
 pub returns-clause-stays : goal.returns-clause-stays
 returns-clause-stays c = stays-then c.args.world.now c.open_partial.new.world c.children_into.new.world c.in_ok-partial.ensures.stays c.in_ok-children_into.ensures.stays

@@ -1,5 +1,6 @@
 -- The children behind the next node are there.
 use Rattle.std.proofs.Common.{[], ◌∙◌}
+use Rattle.std.proofs.lemmas.Result.{IfOk-weaker}
 use Rattle.dom_model.specs.PlainLists.Lists.{past}
 use Rattle.dom_model.specs.Forests.Forest.{children_of}
 use Rattle.dom_model.proofs.RangesAndContents.DrawnPaths.{hits-past}
@@ -17,4 +18,4 @@ open_partial-requires-clause-may c =
     record { low = m.low; rising = m.rising; holder = m.holder; nodes = more-old m.low v.tree.forest c.args.node c.in_ok-behind.behind.items o listed }
 
 pub returns-clause-children : goal.returns-clause-children
-returns-clause-children c = c.in_ok-partial.ensures.children ∙ c.in_ok-behind.ensures
+returns-clause-children c = IfOk-weaker c.open_partial.result _ _ (λ p e. e ∙ c.in_ok-behind.ensures) c.open_partial.ensures.children

@@ -1,6 +1,6 @@
 -- Each step gathers the data of one node.
 use Rattle.std.proofs.Common.{sym, ◌∙◌}
-use Rattle.dom_edit.specs.dom_ranges.Inside.{at-next, smaller}
+use Rattle.dom_model.proofs.Forests.TreeOrder.InsideWalks.{at-next, smaller}
 use Rattle.dom_data.proofs.Gathered.{gathering-top, gathering-next, gathering-end}
 use Rattle.dom_data.proofs.contents.descendant_text.Goals as goal
 

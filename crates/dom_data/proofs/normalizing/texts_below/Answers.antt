@@ -1,6 +1,6 @@
 -- Each step gathers one node.
 use Rattle.std.proofs.Common.{sym, ◌∙◌}
-use Rattle.dom_edit.specs.dom_ranges.Inside.{at-next, smaller}
+use Rattle.dom_model.proofs.Forests.TreeOrder.InsideWalks.{at-next, smaller}
 use Rattle.dom_data.proofs.TextsBelow.{collecting-top, collecting-next, collecting-end}
 use Rattle.dom_data.proofs.normalizing.texts_below.Goals as goal
 

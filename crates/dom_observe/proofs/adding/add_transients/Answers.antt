@@ -1,7 +1,7 @@
 -- Each key gives the node one more transient registration, or none.
 use Rattle.std.proofs.Common.{◌≡◌, ◌<◌, ℕ, Vec, Global, length, arith, refl, List, [], ◌++◌, if◌then◌else◌, ◌==◌, Bool, true, false, Some, None, option_map, ap, sym, ◌∙◌, subst, append-nil}
 use Rattle.std.specs.Prelude.{slice_index_or, slice_set}
-use Rattle.dom_observe.specs.Registrations.{plain, at, listed, AllStand, transient_under}
+use Rattle.dom_observe.specs.Registrations.{plain, at, listed, AllStand, HaveSources, transient_under}
 use Rattle.dom_observe.specs.Naming.{NamesNone}
 use Rattle.dom_observe.proofs.Holding.{none-added, none-made}
 use Rattle.dom_observe.specs.Kept.{keys_by, IsIndexed}
@@ -10,6 +10,7 @@ use Rattle.dom_observe.proofs.Indexing.{indexed-pended, indexed-transient, made-
 use Rattle.dom_observe.proofs.Keeping.{keys_by-set, keys_by-at, keys_by-length, set_same}
 use Rattle.dom_model.specs.PlainLists.LastOnce.{with_last}
 use Rattle.std.proofs.lemmas.List.{length-set}
+use Rattle.dom_observe.proofs.Sources.{sources-added, source-made}
 use Rattle.dom_observe.proofs.Tables.{alike_self, turn-none, turn-added, turn-alike, turn-stands, all_live-added}
 use Rattle.dom_observe.proofs.adding.add_transients.Goals as goal
 use Rattle.dom_observe.proofs.adding.add_transients.Goals.{in-Some+in_ok-pend+in_ok-add, in_default}
@@ -27,6 +28,7 @@ loop-key-init c = record {
   stands = λ made bounded all. all;
   names = λ p here keys none. none;
   indexed = λ lasts made bounded ix. ix;
+  sources = λ have. have;
   len = refl;
   full = λ full. full;
 }
@@ -46,6 +48,10 @@ returns-in_err-add-clause-names c = λ p here keys none.
     let l = c.in_err-add.ensures.err_nodes in
     subst (λ slots. NamesNone p (λ k. option_map plain (slice_index_or slots k None)) (listed c.add.new.nodes.entries)) (sym t)
     (subst (NamesNone p (at c.loop-key.table)) (sym l) before)
+
+pub returns-in_err-add-clause-sources : goal.returns-in_err-add-clause-sources
+returns-in_err-add-clause-sources c = λ have.
+    subst (λ slots. HaveSources (λ k. option_map plain (slice_index_or slots k None))) (sym c.in_err-add.ensures.err_table) (c.loop-key.invariant.sources have)
 
 pub returns-in_err-add-clause-full : goal.returns-in_err-add-clause-full
 returns-in_err-add-clause-full c = λ full. c.add.ensures.full (c.loop-key.invariant.full full)
@@ -108,6 +114,7 @@ loop-key-preserved c =
                 (indexed-transient u lists (plain w.in-Some.made) v lists' a w.index_mut-keys.result.now.items w.add.new.keys.items w.in_ok-add.ensures.own lasts (keys_by ps) (with_last c.loop-key.fleeting.keys o) made
                 (indexed-pended u lists lasts (keys_by ps) c.loop-key.fleeting.keys made o (shape.0 made bounded) (inv.indexed lasts made bounded ix)) shape.1 (keys_by (slice_set ps o w.add.new.keys))
                 (omega (arith, lt, keys_by-length ps)) (ap (λ (l : Vec ℕ Global). l.items) w.index_mut-keys.ensures.value ∙ ap (λ i. (slice_index_or ps i w.index_mut-keys.result.now).items) w.number.ensures ∙ sym (keys_by-at ps o w.index_mut-keys.result.now lt)) (keys_by-set ps o w.add.new.keys w.add.new.keys.items refl) (last-there o c.loop-key.fleeting.keys)));
+            sources = λ have. sources-added u v lists (plain w.in-Some.made) lists' a (source-made u c.args.node (slice_index_or keys i 0) (plain w.in-Some.made) some (inv.sources have)) (inv.sources have);
             len = length-set c.loop-key.passing.items w.number.result w.add.new.keys ∙ inv.len;
             full = λ full. w.add.ensures.full (inv.full full);
           })
@@ -121,6 +128,7 @@ loop-key-preserved c =
             stands = inv.stands;
             names = inv.names;
             indexed = inv.indexed;
+            sources = inv.sources;
             len = inv.len;
             full = inv.full;
           })

@@ -1,5 +1,5 @@
 -- Each step goes to the parent, which has fewer ancestors.
-use Rattle.std.proofs.Common.{sym, ◌∙◌, ◌++◌, ap, filter, append-nil, []}
+use Rattle.std.proofs.Common.{sym, ◌∙◌, ap, filter, append-nil, []}
 use Rattle.dom_model.specs.Forests.Forest.{ancestors}
 use Rattle.dom_model.proofs.Forests.Entries.{occurs-HasNode}
 use Rattle.dom_model.proofs.Forests.Paths.{root-path}

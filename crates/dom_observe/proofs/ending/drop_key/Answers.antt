@@ -1,6 +1,5 @@
 -- A node without keys goes.
-use Rattle.std.proofs.Common.{◌≡◌, ℕ, ◌==◌, if◌then◌else◌, None, ap, sym, ◌∙◌, nat_eq}
-use Rattle.std.specs.Map.{lookup}
+use Rattle.std.proofs.Common.{ap, sym, ◌∙◌}
 use Rattle.dom_observe.specs.Watchers.{on}
 use Rattle.dom_observe.specs.Registrations.{listed}
 use Rattle.dom_observe.proofs.Keys.{gone-on, gone-full, still-full}

@@ -1,5 +1,5 @@
 -- One more key is gone through.
-use Rattle.std.proofs.Common.{◌≡◌, ℕ, refl}
+use Rattle.std.proofs.Common.{refl}
 use Rattle.dom_observe.specs.Registrations.{at, listed}
 use Rattle.dom_observe.proofs.EndedOnes.{swept-none, left-next, swept-next}
 use Rattle.dom_observe.proofs.ending.end_among.Goals as goal

@@ -1,6 +1,6 @@
 -- What stands under the key goes with its key, or nothing changes.
-use Rattle.std.proofs.Common.{◌≡◌, ◌≢◌, ℕ, ◌==◌, Some, None, option_map, ap, sym, ◌∙◌}
-use Rattle.dom_observe.specs.Registrations.{plain, at, listed, ended_node}
+use Rattle.std.proofs.Common.{◌≡◌, ◌≢◌, ℕ, ◌==◌, option_map, ap, sym, ◌∙◌}
+use Rattle.dom_observe.specs.Registrations.{plain, at, listed}
 use Rattle.dom_observe.proofs.EndedOnes.{left-none, swept-none, left-one, swept-one, placed-left, stays-or-gone, either_by}
 use Rattle.dom_observe.proofs.ending.end_one.Goals as goal
 

@@ -1,5 +1,5 @@
 -- The keys of the observer are gone through, and those that are left are kept.
-use Rattle.std.proofs.Common.{◌≡◌, ◌<◌, ℕ, [], filter, length, if◌then◌else◌, List, Vec, Global, ap, sym, ◌∙◌}
+use Rattle.std.proofs.Common.{◌≡◌, ℕ, [], filter, if◌then◌else◌, Vec, Global, ap, sym, ◌∙◌}
 use Rattle.std.specs.Prelude.{slice_index_or, slice_set}
 use Rattle.dom_model.specs.PlainLists.Lists.{among}
 use Rattle.dom_observe.specs.Registrations.{at, is_live, left_by}

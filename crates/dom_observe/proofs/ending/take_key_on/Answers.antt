@@ -1,5 +1,5 @@
 -- The node has its other keys.
-use Rattle.std.proofs.Common.{◌≡◌, ℕ, ◌==◌, not, option_map, if◌then◌else◌, List, [], Some, None, filter, ap, sym, ◌∙◌, subst, nat_eq}
+use Rattle.std.proofs.Common.{◌≡◌, ◌==◌, not, option_map, if◌then◌else◌, Some, None, filter, ap, sym, ◌∙◌, nat_eq}
 use Rattle.std.specs.Map.{lookup}
 use Rattle.dom_observe.specs.Watchers.{on}
 use Rattle.dom_observe.specs.Registrations.{listed}

@@ -1,4 +1,4 @@
-use Rattle.std.proofs.Common.{sym}
+use Rattle.std.proofs.Common.{refl, sym}
 use Rattle.dom_model.specs.DataAndCopies.Data.{remove_attribute}
 use Rattle.dom_model.specs.Commands.Command.{RemoveAttribute}
 use Rattle.dom_session.specs.declared.reply.Answer.TheVariants.{Nothing}
@@ -7,9 +7,11 @@ use Rattle.dom_session.proofs.Stepping.{step-follows}
 use Rattle.dom_session.proofs.NodeData.{answer-remove_attribute}
 use Rattle.dom_session.proofs.attributes.remove_attribute.Goals as goal
 
-pub returns-clause-step : goal.returns-clause-step
-returns-clause-step c b =
+pub returns : goal.returns
+returns c =
     let v = c.args.world.now in
-    step-follows b (RemoveAttribute c.args.element c.args.name.now) (Done Nothing) v c.remove_attribute.new.world (remove_attribute c.args.element c.args.name.now)
-    (λ w shown. answer-remove_attribute v b w shown c.args.element c.args.name.now (sym c.in_default.ensures))
-    c.in_ok-remove_attribute.ensures.removed c.remove_attribute.ensures.whole
+    record {
+      step = λ b. step-follows b (RemoveAttribute c.args.element c.args.name.now) (Done Nothing) v c.remove_attribute.new.world (remove_attribute c.args.element c.args.name.now) refl
+          (λ w shown. answer-remove_attribute v b w shown c.args.element c.args.name.now (sym c.in_default.ensures))
+          c.in_ok-remove_attribute.ensures.removed c.remove_attribute.ensures.whole;
+    }

@@ -1,4 +1,4 @@
-use Rattle.std.proofs.Common.{◌≡◌, true, sym, string_bytes}
+use Rattle.std.proofs.Common.{◌≡◌, true, refl, sym, string_bytes}
 use Rattle.dom_model.specs.Forests.Names.{is_attribute_name}
 use Rattle.dom_model.specs.DataAndCopies.Data.{set_attribute}
 use Rattle.dom_model.specs.Commands.Command.{SetAttribute}
@@ -8,11 +8,13 @@ use Rattle.dom_session.proofs.Stepping.{step-follows}
 use Rattle.dom_session.proofs.NodeData.{answer-set_attribute}
 use Rattle.dom_session.proofs.attributes.set_attribute.Goals as goal
 
-pub returns-clause-step : goal.returns-clause-step
-returns-clause-step c b =
+pub returns : goal.returns
+returns c =
     let v = c.args.world.now in
     let name = string_bytes c.args.name in
     let valid : is_attribute_name name ≡ true = cc in
-    step-follows b (SetAttribute c.args.element name c.args.value) (Done Nothing) v c.set_attribute.new.world (set_attribute c.args.element name c.args.value)
-    (λ w shown. answer-set_attribute v b w shown c.args.element name c.args.value (sym c.in_default.ensures) valid)
-    c.in_ok-set_attribute.ensures.set c.set_attribute.ensures.whole
+    record {
+      step = λ b. step-follows b (SetAttribute c.args.element name c.args.value) (Done Nothing) v c.set_attribute.new.world (set_attribute c.args.element name c.args.value) refl
+          (λ w shown. answer-set_attribute v b w shown c.args.element name c.args.value (sym c.in_default.ensures) valid)
+          c.in_ok-set_attribute.ensures.set c.set_attribute.ensures.whole;
+    }

@@ -1,4 +1,4 @@
-use Rattle.std.proofs.Common.{◌≡◌, ◌+◌, ◌*◌, nat_lt, true, false, Some, None, ◌∙◌}
+use Rattle.std.proofs.Common.{◌≡◌, ◌+◌, ◌*◌, nat_lt, true, false, Some, None, refl, ◌∙◌}
 use Rattle.std.specs.Prelude.{is_some}
 use Rattle.dom_model.specs.Forests.Forest.{size}
 use Rattle.dom_model.specs.RangesAndContents.Contents.{check_extract, clone_contents}
@@ -8,8 +8,7 @@ use Rattle.dom_wrap.specs.dom_edit.Whole.{unwatched}
 use Rattle.dom_session.specs.declared.reply.Answer.TheVariants.{Number}
 use Rattle.dom_session.specs.declared.reply.Reply.TheVariants.{Done}
 use Rattle.dom_session.specs.Limiting.{numbered}
-use Rattle.dom_session.proofs.Stepping.{step-follows}
-use Rattle.dom_session.proofs.TreeEdits.{told, step-refused}
+use Rattle.dom_session.proofs.Stepping.{step-follows, step-refused}
 use Rattle.dom_session.proofs.ContentsAnswers.{room-clone_contents, answer-clone_contents}
 use Rattle.dom_session.proofs.contents.clone_contents.Goals as goal
 
@@ -19,22 +18,23 @@ clone_contents-requires-clause-room c =
     let room : nat_lt c.args.numbers (v.tree.made + (2 * size v.tree.forest + 8)) ≡ false = cc in
     λ _. room-clone_contents v c.args.numbers c.requires.numbers room c.args.range c.requires.shown.shows.whole
 
-pub returns-in-Ok-clause-step : goal.returns-in-Ok-clause-step
-returns-in-Ok-clause-step c =
+pub returns-in-Ok : goal.returns-in-Ok
+returns-in-Ok c =
     let v = c.args.world.now in
     let live : is_some (range_in v.ranges c.args.range) ≡ true = cc in
     let room : nat_lt c.args.numbers (v.tree.made + (2 * size v.tree.forest + 8)) ≡ false = cc in
-    rw (c.number.ensures ∙ c.in-Ok.ensures.number)
-    (step-follows (numbered c.args.numbers) (CloneContents c.args.range) (Done (Number v.tree.made)) v c.clone_contents.new.world (clone_contents c.args.range)
-    (λ w shown. answer-clone_contents v (numbered c.args.numbers) w shown c.args.range live room None c.in-Ok.ensures.allowed)
-    c.in-Ok.ensures.cloned c.clone_contents.ensures.whole)
+    record {
+      step = rw (c.number.ensures ∙ c.in-Ok.ensures.number) (step-follows (numbered c.args.numbers) (CloneContents c.args.range) (Done (Number v.tree.made)) v c.clone_contents.new.world (clone_contents c.args.range) refl
+          (λ w shown. answer-clone_contents v (numbered c.args.numbers) w shown c.args.range live room None c.in-Ok.ensures.allowed)
+          c.in-Ok.ensures.cloned c.clone_contents.ensures.whole);
+    }
 
-pub returns-in-Err-Dom-clause-step : goal.returns-in-Err-Dom-clause-step
-returns-in-Err-Dom-clause-step c =
+pub returns-in-Err : goal.returns-in-Err
+returns-in-Err c =
     let v = c.args.world.now in
     let live : is_some (range_in v.ranges c.args.range) ≡ true = cc in
     let room : nat_lt c.args.numbers (v.tree.made + (2 * size v.tree.forest + 8)) ≡ false = cc in
-    let e = c.in-Err-Dom.error in
-    let because = told c.in-Err-Dom.field-0 e (check_extract c.args.range (unwatched v)) v c.clone_contents.new.world c.in-Err-Dom.field-0-is c.in-Err-Dom.ensures.refused in
-    step-refused v c.clone_contents.new.world (numbered c.args.numbers) (CloneContents c.args.range) e because.1
-    (λ w shown. answer-clone_contents v (numbered c.args.numbers) w shown c.args.range live room (Some e) because.0)
+    record {
+      step = step-refused v c.clone_contents.new.world (CloneContents c.args.range) c.in-Err.refusal (check_extract c.args.range (unwatched v)) c.reply_to.result c.reply_to.ensures c.in-Err.ensures.refused (numbered c.args.numbers)
+          (λ e named w shown. answer-clone_contents v (numbered c.args.numbers) w shown c.args.range live room (Some e) named);
+    }

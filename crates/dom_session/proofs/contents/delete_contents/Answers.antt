@@ -1,4 +1,4 @@
-use Rattle.std.proofs.Common.{◌≡◌, true}
+use Rattle.std.proofs.Common.{◌≡◌, true, refl}
 use Rattle.std.specs.Prelude.{is_some}
 use Rattle.dom_model.specs.RangesAndContents.Contents.{delete_contents}
 use Rattle.dom_model.specs.Commands.Command.{DeleteContents}
@@ -9,10 +9,12 @@ use Rattle.dom_session.proofs.Stepping.{step-follows}
 use Rattle.dom_session.proofs.ContentsAnswers.{answer-delete_contents}
 use Rattle.dom_session.proofs.contents.delete_contents.Goals as goal
 
-pub returns-clause-step : goal.returns-clause-step
-returns-clause-step c b =
+pub returns : goal.returns
+returns c =
     let v = c.args.world.now in
     let live : is_some (range_in v.ranges c.args.range) ≡ true = cc in
-    step-follows b (DeleteContents c.args.range) (Done Nothing) v c.delete_contents.new.world (delete_contents c.args.range)
-    (λ w shown. answer-delete_contents v b w shown c.args.range live)
-    c.in_ok-delete_contents.ensures.deleted c.delete_contents.ensures.whole
+    record {
+      step = λ b. step-follows b (DeleteContents c.args.range) (Done Nothing) v c.delete_contents.new.world (delete_contents c.args.range) refl
+          (λ w shown. answer-delete_contents v b w shown c.args.range live)
+          c.in_ok-delete_contents.ensures.deleted c.delete_contents.ensures.whole;
+    }

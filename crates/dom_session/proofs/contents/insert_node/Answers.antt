@@ -1,4 +1,4 @@
-use Rattle.std.proofs.Common.{◌≡◌, ◌+◌, ◌<◌, nat_lt, true, false, arith}
+use Rattle.std.proofs.Common.{◌≡◌, ◌+◌, ◌<◌, nat_lt, true, false, refl, arith}
 use Rattle.std.proofs.lemmas.Bool.Decides.{nat_tests}
 use Rattle.std.specs.Prelude.{is_some}
 use Rattle.dom_model.specs.Forests.Forest.{entry_in}
@@ -10,35 +10,36 @@ use Rattle.dom_wrap.specs.Outcomes.{left_by}
 use Rattle.dom_session.specs.declared.reply.Answer.TheVariants.{Nothing}
 use Rattle.dom_session.specs.declared.reply.Reply.TheVariants.{Done}
 use Rattle.dom_session.specs.Limiting.{numbered}
-use Rattle.dom_session.proofs.Stepping.{step-follows}
-use Rattle.dom_session.proofs.TreeEdits.{told, step-refused}
+use Rattle.dom_session.proofs.Stepping.{step-follows, step-refused}
 use Rattle.dom_session.proofs.ContentsAnswers.{answer-insert_node, refused-insert_node}
 use Rattle.dom_session.proofs.contents.insert_node.Goals as goal
 
-pub returns-in-Ok-clause-step : goal.returns-in-Ok-clause-step
-returns-in-Ok-clause-step c =
+pub returns-in-Ok : goal.returns-in-Ok
+returns-in-Ok c =
     let v = c.args.world.now in
     let r = c.args.range in
     let n = c.args.node in
     let live : is_some (range_in v.ranges r) ≡ true = cc in
     let held : is_some (entry_in v.tree.forest n) ≡ true = cc in
     let room : nat_lt c.args.numbers (v.tree.made + 1) ≡ false = grind (arith, nat_tests) in
-    step-follows (numbered c.args.numbers) (InsertNode r n) (Done Nothing) v c.insert_node.new.world (λ w. left_by (insert_node r n w) w)
-    (λ w shown. answer-insert_node v (numbered c.args.numbers) w shown r n live held room c.in-Ok.ensures.allowed)
-    c.in-Ok.ensures.inserted c.insert_node.ensures.whole
+    record {
+      step = step-follows (numbered c.args.numbers) (InsertNode r n) (Done Nothing) v c.insert_node.new.world (λ w. left_by (insert_node r n w) w) refl
+          (λ w shown. answer-insert_node v (numbered c.args.numbers) w shown r n live held room c.in-Ok.ensures.allowed)
+          c.in-Ok.ensures.inserted c.insert_node.ensures.whole;
+    }
 
-pub returns-in-Err-Dom-clause-step : goal.returns-in-Err-Dom-clause-step
-returns-in-Err-Dom-clause-step c =
+pub returns-in-Err : goal.returns-in-Err
+returns-in-Err c =
     let v = c.args.world.now in
     let r = c.args.range in
     let n = c.args.node in
     let live : is_some (range_in v.ranges r) ≡ true = cc in
     let held : is_some (entry_in v.tree.forest n) ≡ true = cc in
     let room : nat_lt c.args.numbers (v.tree.made + 1) ≡ false = grind (arith, nat_tests) in
-    let e = c.in-Err-Dom.error in
-    let because = told c.in-Err-Dom.field-0 e (refusal_in (insert_node r n (unwatched v))) v c.insert_node.new.world c.in-Err-Dom.field-0-is c.in-Err-Dom.ensures.refused in
-    step-refused v c.insert_node.new.world (numbered c.args.numbers) (InsertNode r n) e because.1
-    (λ w shown. refused-insert_node v (numbered c.args.numbers) w shown r n live held e room because.0)
+    record {
+      step = step-refused v c.insert_node.new.world (InsertNode r n) c.in-Err.refusal (refusal_in (insert_node r n (unwatched v))) c.reply_to.result c.reply_to.ensures c.in-Err.ensures.refused (numbered c.args.numbers)
+          (λ e named w shown. refused-insert_node v (numbered c.args.numbers) w shown r n live held e room named);
+    }
 
 pub insert_node-requires-clause-room : goal.insert_node-requires-clause-room
 insert_node-requires-clause-room c =

@@ -1,4 +1,4 @@
-use Rattle.std.proofs.Common.{◌≡◌, ◌+◌, ◌*◌, nat_lt, true, false}
+use Rattle.std.proofs.Common.{◌≡◌, ◌+◌, ◌*◌, nat_lt, true, false, refl}
 use Rattle.std.specs.Prelude.{is_some}
 use Rattle.dom_model.specs.Forests.Forest.{entry_in, size}
 use Rattle.dom_model.specs.RangesAndContents.Wrapping.{surround, check_whole_surround}
@@ -9,8 +9,7 @@ use Rattle.dom_wrap.specs.Outcomes.{left_by}
 use Rattle.dom_session.specs.declared.reply.Answer.TheVariants.{Nothing}
 use Rattle.dom_session.specs.declared.reply.Reply.TheVariants.{Done}
 use Rattle.dom_session.specs.Limiting.{numbered}
-use Rattle.dom_session.proofs.Stepping.{step-follows}
-use Rattle.dom_session.proofs.TreeEdits.{told, step-refused}
+use Rattle.dom_session.proofs.Stepping.{step-follows, step-refused}
 use Rattle.dom_session.proofs.ContentsAnswers.{room-surround, answer-surround, refused-surround}
 use Rattle.dom_session.proofs.contents.surround_contents.Goals as goal
 
@@ -20,27 +19,29 @@ surround-requires-clause-room c =
     let room : nat_lt c.args.numbers (v.tree.made + (2 * size v.tree.forest + 8)) ≡ false = cc in
     room-surround v c.args.numbers c.requires.numbers room c.args.range c.args.node
 
-pub returns-in-Ok-clause-step : goal.returns-in-Ok-clause-step
-returns-in-Ok-clause-step c =
+pub returns-in-Ok : goal.returns-in-Ok
+returns-in-Ok c =
     let v = c.args.world.now in
     let r = c.args.range in
     let n = c.args.node in
     let live : is_some (range_in v.ranges r) ≡ true = cc in
     let held : is_some (entry_in v.tree.forest n) ≡ true = cc in
     let room : nat_lt c.args.numbers (v.tree.made + (2 * size v.tree.forest + 8)) ≡ false = cc in
-    step-follows (numbered c.args.numbers) (SurroundContents r n) (Done Nothing) v c.surround.new.world (λ w. left_by (surround r n w) w)
-    (λ w shown. answer-surround v (numbered c.args.numbers) w shown r n live held room c.in-Ok.ensures.allowed)
-    c.in-Ok.ensures.surrounded c.surround.ensures.whole
+    record {
+      step = step-follows (numbered c.args.numbers) (SurroundContents r n) (Done Nothing) v c.surround.new.world (λ w. left_by (surround r n w) w) refl
+          (λ w shown. answer-surround v (numbered c.args.numbers) w shown r n live held room c.in-Ok.ensures.allowed)
+          c.in-Ok.ensures.surrounded c.surround.ensures.whole;
+    }
 
-pub returns-in-Err-Dom-clause-step : goal.returns-in-Err-Dom-clause-step
-returns-in-Err-Dom-clause-step c =
+pub returns-in-Err : goal.returns-in-Err
+returns-in-Err c =
     let v = c.args.world.now in
     let r = c.args.range in
     let n = c.args.node in
     let live : is_some (range_in v.ranges r) ≡ true = cc in
     let held : is_some (entry_in v.tree.forest n) ≡ true = cc in
     let room : nat_lt c.args.numbers (v.tree.made + (2 * size v.tree.forest + 8)) ≡ false = cc in
-    let e = c.in-Err-Dom.error in
-    let because = told c.in-Err-Dom.field-0 e (check_whole_surround r n (unwatched v)) v c.surround.new.world c.in-Err-Dom.field-0-is c.in-Err-Dom.ensures.refused in
-    step-refused v c.surround.new.world (numbered c.args.numbers) (SurroundContents r n) e because.1
-    (λ w shown. refused-surround v (numbered c.args.numbers) w shown r n live held e room because.0)
+    record {
+      step = step-refused v c.surround.new.world (SurroundContents r n) c.in-Err.refusal (check_whole_surround r n (unwatched v)) c.reply_to.result c.reply_to.ensures c.in-Err.ensures.refused (numbered c.args.numbers)
+          (λ e named w shown. refused-surround v (numbered c.args.numbers) w shown r n live held e room named);
+    }

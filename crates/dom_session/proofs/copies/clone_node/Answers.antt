@@ -1,4 +1,4 @@
-use Rattle.std.proofs.Common.{◌≡◌, ◌+◌, ◌*◌, nat_lt, true, false, sym, ◌∙◌}
+use Rattle.std.proofs.Common.{◌≡◌, ◌+◌, ◌*◌, nat_lt, true, false, refl, ◌∙◌}
 use Rattle.std.specs.Prelude.{is_some}
 use Rattle.dom_model.specs.Forests.Forest.{entry_in, size}
 use Rattle.dom_model.specs.DataAndCopies.Clones.{clone_node}
@@ -16,12 +16,13 @@ clone_node-requires-clause-room c =
     let room : nat_lt c.args.numbers (v.tree.made + (2 * size v.tree.forest + 8)) ≡ false = cc in
     room-copy c.args.numbers v.tree.made c.args.deep c.args.node v.tree.forest c.requires.numbers room
 
-pub returns-clause-step : goal.returns-clause-step
-returns-clause-step c =
+pub returns : goal.returns
+returns c =
     let v = c.args.world.now in
     let held : is_some (entry_in v.tree.forest c.args.node) ≡ true = cc in
     let room : nat_lt c.args.numbers (v.tree.made + (2 * size v.tree.forest + 8)) ≡ false = cc in
-    rw (c.number.ensures ∙ c.in_ok-copy.ensures.number)
-    (step-follows (numbered c.args.numbers) (CloneNode c.args.node c.args.deep) (Done (Number v.tree.made)) v c.clone_node.new.world (clone_node c.args.deep c.args.node)
-    (λ w shown. answer-clone_node v c.args.numbers w shown c.args.node c.args.deep held room)
-    c.in_ok-copy.ensures.cloned c.clone_node.ensures.whole)
+    record {
+      step = rw (c.number.ensures ∙ c.in_ok-copy.ensures.number) (step-follows (numbered c.args.numbers) (CloneNode c.args.node c.args.deep) (Done (Number v.tree.made)) v c.clone_node.new.world (clone_node c.args.deep c.args.node) refl
+          (λ w shown. answer-clone_node v c.args.numbers w shown c.args.node c.args.deep held room)
+          c.in_ok-copy.ensures.cloned c.clone_node.ensures.whole);
+    }

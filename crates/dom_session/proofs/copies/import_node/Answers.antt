@@ -1,19 +1,17 @@
-use Rattle.std.proofs.Common.{◌≡◌, ◌+◌, ◌*◌, nat_lt, true, false, ◌∙◌, subst}
+use Rattle.std.proofs.Common.{◌≡◌, ◌+◌, ◌*◌, nat_lt, true, false, refl, ◌∙◌}
 use Rattle.std.specs.Prelude.{is_some}
 use Rattle.dom_model.specs.declared.Kind.TheVariants.{Document}
-use Rattle.dom_model.specs.declared.DomError.TheVariants.{NotSupportedError}
 use Rattle.dom_model.specs.Forests.Kinds.{is_kind}
 use Rattle.dom_model.specs.Forests.Forest.{entry_in, size}
 use Rattle.dom_model.specs.Forests.Nodes.{kind_passes}
 use Rattle.dom_model.specs.DataAndCopies.Clones.{import_node}
 use Rattle.dom_model.specs.Commands.Command.{ImportNode}
-use Rattle.dom_wrap.specs.dom_edit.declared.refusal.Refusal.{Refusal}
-use Rattle.dom_wrap.specs.dom_edit.Refusals.{check_adopt, IsRefused}
+use Rattle.dom_wrap.specs.dom_edit.Refusals.{check_adopt}
 use Rattle.dom_session.specs.declared.reply.Answer.TheVariants.{Number}
-use Rattle.dom_session.specs.declared.reply.Reply.TheVariants.{Done, Dom}
+use Rattle.dom_session.specs.declared.reply.Reply.TheVariants.{Done}
 use Rattle.dom_session.specs.Limiting.{numbered}
-use Rattle.dom_session.proofs.Stepping.{step-follows, step-stays}
-use Rattle.dom_session.proofs.NodeCopies.{room-copy, answer-import_node, refused-import_node, adopt-allowed, adopt-refused, adopt-name}
+use Rattle.dom_session.proofs.Stepping.{step-follows, step-refused}
+use Rattle.dom_session.proofs.NodeCopies.{room-copy, answer-import_node, refused-import_node}
 use Rattle.dom_session.proofs.copies.import_node.Goals as goal
 
 pub import-requires-clause-room : goal.import-requires-clause-room
@@ -22,30 +20,29 @@ import-requires-clause-room c =
     let room : nat_lt c.args.numbers (v.tree.made + (2 * size v.tree.forest + 8)) ≡ false = cc in
     λ _. room-copy c.args.numbers v.tree.made c.args.deep c.args.node v.tree.forest c.requires.numbers room
 
-pub returns-in-Ok-clause-step : goal.returns-in-Ok-clause-step
-returns-in-Ok-clause-step c =
+pub returns-in-Ok : goal.returns-in-Ok
+returns-in-Ok c =
     let v = c.args.world.now in
     let f = v.tree.forest in
     let document : is_some (entry_in f c.args.document) ≡ true = cc in
     let held : is_some (entry_in f c.args.node) ≡ true = cc in
     let kind : kind_passes (is_kind Document) f c.args.document ≡ true = cc in
     let room : nat_lt c.args.numbers (v.tree.made + (2 * size f + 8)) ≡ false = cc in
-    rw (c.number.ensures ∙ c.in-Ok.ensures.number)
-    (step-follows (numbered c.args.numbers) (ImportNode c.args.document c.args.node c.args.deep) (Done (Number v.tree.made)) v c.import.new.world (import_node c.args.document c.args.deep c.args.node)
-    (λ w shown. answer-import_node v c.args.numbers w shown c.args.document c.args.node c.args.deep document held kind room (adopt-allowed f c.args.node c.in-Ok.ensures.allowed))
-    c.in-Ok.ensures.imported c.import.ensures.whole)
+    record {
+      step = rw (c.number.ensures ∙ c.in-Ok.ensures.number) (step-follows (numbered c.args.numbers) (ImportNode c.args.document c.args.node c.args.deep) (Done (Number v.tree.made)) v c.import.new.world (import_node c.args.document c.args.deep c.args.node) refl
+          (λ w shown. answer-import_node v c.args.numbers w shown c.args.document c.args.node c.args.deep document held kind room c.in-Ok.ensures.allowed)
+          c.in-Ok.ensures.imported c.import.ensures.whole);
+    }
 
-pub returns-in-Err-Dom-clause-step : goal.returns-in-Err-Dom-clause-step
-returns-in-Err-Dom-clause-step c =
+pub returns-in-Err : goal.returns-in-Err
+returns-in-Err c =
     let v = c.args.world.now in
     let f = v.tree.forest in
     let document : is_some (entry_in f c.args.document) ≡ true = cc in
     let held : is_some (entry_in f c.args.node) ≡ true = cc in
     let kind : kind_passes (is_kind Document) f c.args.document ≡ true = cc in
     let room : nat_lt c.args.numbers (v.tree.made + (2 * size f + 8)) ≡ false = cc in
-    let r = c.in-Err-Dom.ensures.refused in
-    let at = subst (λ (e : Refusal). IsRefused e (check_adopt f c.args.node) v c.import.new.world) c.in-Err-Dom.field-0-is r in
-    let name = adopt-name f c.args.node c.in-Err-Dom.error at.0 in
-    rw (at.1, name)
-    (step-stays (numbered c.args.numbers) (ImportNode c.args.document c.args.node c.args.deep) (Dom NotSupportedError) v
-    (λ w shown. refused-import_node v c.args.numbers w shown c.args.document c.args.node c.args.deep document held kind room (adopt-refused f c.args.node c.in-Err-Dom.error at.0)))
+    record {
+      step = step-refused v c.import.new.world (ImportNode c.args.document c.args.node c.args.deep) c.in-Err.refusal (check_adopt f c.args.node) c.reply_to.result c.reply_to.ensures c.in-Err.ensures.refused (numbered c.args.numbers)
+          (λ e named w shown. refused-import_node v c.args.numbers w shown c.args.document c.args.node c.args.deep document held kind room e named);
+    }

@@ -1,17 +1,18 @@
-use Rattle.std.proofs.Common.{◌≡◌, true, not}
+use Rattle.std.proofs.Common.{◌≡◌, true, not, Some, None, refl}
 use Rattle.std.specs.Prelude.{is_some}
 use Rattle.dom_model.specs.Forests.Forest.{entry_in}
 use Rattle.dom_session.specs.declared.reply.Answer.TheVariants.{Number}
 use Rattle.dom_session.specs.declared.reply.Reply.TheVariants.{Done}
 use Rattle.dom_session.specs.Refusing.{lacks_given}
 use Rattle.dom_model.specs.Commands.Command.{InsertBefore}
+use Rattle.dom_model.specs.MutationAlgorithms.Checks.{check_insert}
 use Rattle.dom_model.specs.MutationAlgorithms.Editing.{pre_insert}
-use Rattle.dom_session.proofs.Stepping.{step-follows}
+use Rattle.dom_session.proofs.Stepping.{step-follows, steps-refused}
 use Rattle.dom_session.proofs.TreeEdits.{not-true, answer-insert_before}
 use Rattle.dom_session.proofs.editing.insert_before.Goals as goal
 
-pub returns-in-Ok-clause-step : goal.returns-in-Ok-clause-step
-returns-in-Ok-clause-step c b =
+pub returns-in-Ok : goal.returns-in-Ok
+returns-in-Ok c =
     let old = c.args.world.now in
     let p = c.args.parent in
     let n = c.args.node in
@@ -20,7 +21,23 @@ returns-in-Ok-clause-step c b =
     let hn : is_some (entry_in old.tree.forest n) ≡ true = cc in
     let given : not (lacks_given old child) ≡ true = cc in
     let hc = not-true (lacks_given old child) given in
-    rw c.number.ensures
-    (step-follows b (InsertBefore p n child) (Done (Number n)) old c.insert_before.new.self (pre_insert n p child)
-    (λ w shown. answer-insert_before old b p n child w shown hp hn hc c.in-Ok.ensures.allowed)
-    c.in-Ok.ensures.inserted c.insert_before.ensures.whole)
+    record {
+      step = λ b. rw c.number.ensures (step-follows b (InsertBefore p n child) (Done (Number n)) old c.insert_before.new.self (pre_insert n p child) refl
+          (λ w shown. answer-insert_before old b p n child w None shown hp hn hc c.in-Ok.ensures.allowed)
+          c.in-Ok.ensures.inserted c.insert_before.ensures.whole);
+    }
+
+pub returns-in-Err : goal.returns-in-Err
+returns-in-Err c =
+    let old = c.args.world.now in
+    let p = c.args.parent in
+    let n = c.args.node in
+    let child = c.args.child in
+    let hp : is_some (entry_in old.tree.forest p) ≡ true = cc in
+    let hn : is_some (entry_in old.tree.forest n) ≡ true = cc in
+    let given : not (lacks_given old child) ≡ true = cc in
+    let hc = not-true (lacks_given old child) given in
+    record {
+      step = steps-refused old c.insert_before.new.self (InsertBefore p n child) c.in-Err.refusal (check_insert old.tree.forest p n child) c.reply_to.result c.reply_to.ensures c.in-Err.ensures.refused
+          (λ b e named w shown. answer-insert_before old b p n child w (Some e) shown hp hn hc named);
+    }

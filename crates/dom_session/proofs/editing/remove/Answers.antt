@@ -1,4 +1,4 @@
-use Rattle.std.proofs.Common.{◌≡◌, true, false, ◌∙◌, arith}
+use Rattle.std.proofs.Common.{◌≡◌, true, false, refl, ◌∙◌, arith}
 use Rattle.std.proofs.lemmas.Grind.{common_steps}
 use Rattle.std.specs.Prelude.{is_some}
 use Rattle.dom_model.specs.Forests.Forest.{entry_in}
@@ -12,16 +12,18 @@ use Rattle.dom_session.proofs.Stepping.{step-follows}
 use Rattle.dom_session.proofs.TreeEdits.{kind_passes-label, answer-remove}
 use Rattle.dom_session.proofs.editing.remove.Goals as goal
 
-pub returns-clause-step : goal.returns-clause-step
-returns-clause-step c b =
+pub returns : goal.returns
+returns c =
     let old = c.args.world.now in
     let n = c.args.node in
     let hn : is_some (entry_in old.tree.forest n) ≡ true = cc in
     let test : is_child_node c.label.result.now.kind ≡ true = cc in
     let kind : kind_passes is_child_node old.tree.forest n ≡ true = kind_passes-label is_child_node old.tree.forest n c.label.result.now hn c.label.ensures ∙ test in
-    step-follows b (Remove n) (Done Nothing) old c.remove.new.self (remove false n)
-    (λ w shown. answer-remove old b n w shown hn kind)
-    c.in_ok-remove.ensures.removed c.remove.ensures.whole
+    record {
+      step = λ b. step-follows b (Remove n) (Done Nothing) old c.remove.new.self (remove false n) refl
+          (λ w shown. answer-remove old b n w shown hn kind)
+          c.in_ok-remove.ensures.removed c.remove.ensures.whole;
+    }
 
-pub returns-then-not-is_child_node-clause-step : goal.returns-then-not-is_child_node-clause-step
-returns-then-not-is_child_node-clause-step c = grind (arith, common_steps)
+pub returns-then-not-is_child_node : goal.returns-then-not-is_child_node
+returns-then-not-is_child_node c = grind (arith, common_steps)

@@ -1,4 +1,4 @@
-use Rattle.std.proofs.Common.{◌≡◌, true, false, not, ap, sym, ◌∙◌}
+use Rattle.std.proofs.Common.{◌≡◌, true, false, not, refl, ap, sym, ◌∙◌}
 use Rattle.std.specs.Prelude.{is_some}
 use Rattle.dom_model.specs.Forests.Forest.{entry_in}
 use Rattle.dom_session.specs.declared.reply.Answer.TheVariants.{Nothing}
@@ -10,12 +10,12 @@ use Rattle.dom_model.specs.Commands.Command.{ReplaceChildren}
 use Rattle.dom_model.specs.MutationAlgorithms.Editing.{replace_all}
 use Rattle.dom_wrap.specs.dom_edit.Refusals.{check_only_child}
 use Rattle.dom_session.specs.declared.reply.Reply.TheVariants.{Dom}
-use Rattle.dom_session.proofs.Stepping.{step-follows, step-stays}
-use Rattle.dom_session.proofs.TreeEdits.{not-true, kind_passes-label, told, step-refused, answer-replace_children, refused-replace_children, refused-parent}
+use Rattle.dom_session.proofs.Stepping.{step-follows, step-stays, steps-refused}
+use Rattle.dom_session.proofs.TreeEdits.{not-true, kind_passes-label, answer-replace_children, refused-replace_children, refused-parent}
 use Rattle.dom_session.proofs.editing.replace_children.Goals as goal
 
-pub returns-then-not-may_be_parent-clause-step : goal.returns-then-not-may_be_parent-clause-step
-returns-then-not-may_be_parent-clause-step c b =
+pub returns-then-not-may_be_parent : goal.returns-then-not-may_be_parent
+returns-then-not-may_be_parent c =
     let old = c.args.world.now in
     let p = c.args.parent in
     let n = c.args.node in
@@ -24,10 +24,12 @@ returns-then-not-may_be_parent-clause-step c b =
     let hn = not-true (lacks_given old n) given in
     let test : may_be_parent c.label.result.now.kind ≡ false = cc in
     let kind = kind_passes-label may_be_parent old.tree.forest p c.label.result.now hp c.label.ensures ∙ test in
-    step-stays b (ReplaceChildren p n) (Dom TypeError) old (λ w shown. refused-parent old b p n w shown hp kind hn)
+    record {
+      step = λ b. step-stays b (ReplaceChildren p n) (Dom TypeError) old (λ w shown. refused-parent old b p n w shown hp kind hn);
+    }
 
-pub returns-in-Ok-clause-step : goal.returns-in-Ok-clause-step
-returns-in-Ok-clause-step c b =
+pub returns-in-Ok : goal.returns-in-Ok
+returns-in-Ok c =
     let old = c.args.world.now in
     let p = c.args.parent in
     let n = c.args.node in
@@ -36,12 +38,14 @@ returns-in-Ok-clause-step c b =
     let hn = not-true (lacks_given old n) given in
     let test : may_be_parent c.label.result.now.kind ≡ true = sym (ap (λ (l : Label). may_be_parent l.kind) c.behind-world.view_is) ∙ sym c.may_be_parent.ensures ∙ c.if-not-may_be_parent.false in
     let kind = kind_passes-label may_be_parent old.tree.forest p c.label.result.now hp c.label.ensures ∙ test in
-    step-follows b (ReplaceChildren p n) (Done Nothing) old c.replace_children.new.self (replace_all n p)
-    (λ w shown. answer-replace_children old b p w shown hp kind n hn c.in-Ok.ensures.allowed)
-    c.in-Ok.ensures.replaced c.replace_children.ensures.whole
+    record {
+      step = λ b. step-follows b (ReplaceChildren p n) (Done Nothing) old c.replace_children.new.self (replace_all n p) refl
+          (λ w shown. answer-replace_children old b p w shown hp kind n hn c.in-Ok.ensures.allowed)
+          c.in-Ok.ensures.replaced c.replace_children.ensures.whole;
+    }
 
-pub returns-in-Err-Dom-clause-step : goal.returns-in-Err-Dom-clause-step
-returns-in-Err-Dom-clause-step c b =
+pub returns-in-Err : goal.returns-in-Err
+returns-in-Err c =
     let old = c.args.world.now in
     let p = c.args.parent in
     let n = c.args.node in
@@ -50,7 +54,7 @@ returns-in-Err-Dom-clause-step c b =
     let hn = not-true (lacks_given old n) given in
     let test : may_be_parent c.label.result.now.kind ≡ true = sym (ap (λ (l : Label). may_be_parent l.kind) c.behind-world.view_is) ∙ sym c.may_be_parent.ensures ∙ c.if-not-may_be_parent.false in
     let kind = kind_passes-label may_be_parent old.tree.forest p c.label.result.now hp c.label.ensures ∙ test in
-    let e = c.in-Err-Dom.error in
-    let because = told c.in-Err-Dom.field-0 e (check_only_child old.tree.forest p n) old c.replace_children.new.self c.in-Err-Dom.field-0-is c.in-Err-Dom.ensures.refused in
-    step-refused old c.replace_children.new.self b (ReplaceChildren p n) e because.1
-    (λ w shown. refused-replace_children old b p w shown hp kind n e hn because.0)
+    record {
+      step = steps-refused old c.replace_children.new.self (ReplaceChildren p n) c.in-Err.refusal (check_only_child old.tree.forest p n) c.reply_to.result c.reply_to.ensures c.in-Err.ensures.refused
+          (λ b e named w shown. refused-replace_children old b p w shown hp kind n e hn named);
+    }

@@ -8,14 +8,16 @@ use Rattle.dom_session.proofs.Stepping.{step-stays}
 use Rattle.dom_session.proofs.Steps.{step-makes, answer-create_comment, refused-create_comment}
 use Rattle.dom_session.proofs.making.create_comment.Goals as goal
 
-pub returns-clause-step : goal.returns-clause-step
-returns-clause-step c =
-    step-makes c.args.world.now c.make.new.self (numbered c.args.numbers) (CreateComment c.args.document c.args.text) c.args.document c.number.result (named Comment []) (with_text c.args.text)
-    (λ w shown. answer-create_comment c.args.world.now c.args.numbers c.args.document c.args.text w shown (sym c.in_default.ensures))
-    (c.number.ensures ∙ c.in_ok-id.ensures.number)
-    (rw (c.label-label.ensures, c.of_text.ensures, c.new.ensures.bytes) at c.in_ok-id.ensures.made) c.make.ensures.whole
+pub returns : goal.returns
+returns c = record {
+  step = step-makes c.args.world.now c.make.new.self (numbered c.args.numbers) (CreateComment c.args.document c.args.text) c.args.document c.number.result (named Comment []) (with_text c.args.text)
+      (λ w shown. answer-create_comment c.args.world.now c.args.numbers c.args.document c.args.text w shown (sym c.in_default.ensures))
+      (c.number.ensures ∙ c.in_ok-id.ensures.number)
+      (rw (c.label-label.ensures, c.of_text.ensures, c.new.ensures.bytes) at c.in_ok-id.ensures.made) c.make.ensures.whole;
+}
 
-pub returns-in-Some-clause-step : goal.returns-in-Some-clause-step
-returns-in-Some-clause-step c =
-    step-stays (numbered c.args.numbers) (CreateComment c.args.document c.args.text) c.in-Some.reply c.args.world.now
-    (λ w shown. refused-create_comment c.args.world.now c.args.numbers c.args.document c.args.text w (reply_view c.in-Some.reply) shown (sym c.in-Some.ensures))
+pub returns-in-Some : goal.returns-in-Some
+returns-in-Some c = record {
+  step = step-stays (numbered c.args.numbers) (CreateComment c.args.document c.args.text) c.in-Some.reply c.args.world.now
+      (λ w shown. refused-create_comment c.args.world.now c.args.numbers c.args.document c.args.text w (reply_view c.in-Some.reply) shown (sym c.in-Some.ensures));
+}

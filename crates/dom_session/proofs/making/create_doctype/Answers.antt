@@ -9,18 +9,21 @@ use Rattle.dom_session.proofs.Stepping.{step-stays}
 use Rattle.dom_session.proofs.Steps.{step-makes, answer-create_doctype, refused-create_doctype}
 use Rattle.dom_session.proofs.making.create_doctype.Goals as goal
 
-pub returns-clause-step : goal.returns-clause-step
-returns-clause-step c =
+pub returns : goal.returns
+returns c =
     let name = string_bytes c.args.name in
     let public_id = string_bytes c.args.public_id in
     let system_id = string_bytes c.args.system_id in
     let valid : is_doctype_name name ≡ true = cc in
-    step-makes c.args.world.now c.make.new.self (numbered c.args.numbers) (CreateDoctype c.args.document name public_id system_id) c.args.document c.number.result (doctype_label name public_id system_id) no_content
-    (λ w shown. answer-create_doctype c.args.world.now c.args.numbers c.args.document name public_id system_id w shown (sym c.in_default.ensures) valid)
-    (c.number.ensures ∙ c.in_ok-id.ensures.number)
-    (rw (c.of_text-body.ensures, c.new.ensures) at c.in_ok-id.ensures.made) c.make.ensures.whole
+    record {
+      step = step-makes c.args.world.now c.make.new.self (numbered c.args.numbers) (CreateDoctype c.args.document name public_id system_id) c.args.document c.number.result (doctype_label name public_id system_id) no_content
+          (λ w shown. answer-create_doctype c.args.world.now c.args.numbers c.args.document name public_id system_id w shown (sym c.in_default.ensures) valid)
+          (c.number.ensures ∙ c.in_ok-id.ensures.number)
+          (rw (c.of_text-body.ensures, c.new.ensures) at c.in_ok-id.ensures.made) c.make.ensures.whole;
+    }
 
-pub returns-in-Some-clause-step : goal.returns-in-Some-clause-step
-returns-in-Some-clause-step c =
-    step-stays (numbered c.args.numbers) (CreateDoctype c.args.document (string_bytes c.args.name) (string_bytes c.args.public_id) (string_bytes c.args.system_id)) c.in-Some.reply c.args.world.now
-    (λ w shown. refused-create_doctype c.args.world.now c.args.numbers c.args.document (string_bytes c.args.name) (string_bytes c.args.public_id) (string_bytes c.args.system_id) w (reply_view c.in-Some.reply) shown (sym c.in-Some.ensures))
+pub returns-in-Some : goal.returns-in-Some
+returns-in-Some c = record {
+  step = step-stays (numbered c.args.numbers) (CreateDoctype c.args.document (string_bytes c.args.name) (string_bytes c.args.public_id) (string_bytes c.args.system_id)) c.in-Some.reply c.args.world.now
+      (λ w shown. refused-create_doctype c.args.world.now c.args.numbers c.args.document (string_bytes c.args.name) (string_bytes c.args.public_id) (string_bytes c.args.system_id) w (reply_view c.in-Some.reply) shown (sym c.in-Some.ensures));
+}

@@ -9,14 +9,16 @@ use Rattle.dom_session.proofs.Stepping.{step-stays}
 use Rattle.dom_session.proofs.Steps.{step-makes, answer-create_fragment, refused-create_fragment}
 use Rattle.dom_session.proofs.making.create_fragment.Goals as goal
 
-pub returns-clause-step : goal.returns-clause-step
-returns-clause-step c =
-    step-makes c.args.world.now c.make.new.self (numbered c.args.numbers) (CreateFragment c.args.document) c.args.document c.number.result (named DocumentFragment []) no_content
-    (λ w shown. answer-create_fragment c.args.world.now c.args.numbers c.args.document w shown (sym c.in_default.ensures))
-    (c.number.ensures ∙ c.in_ok-id.ensures.number)
-    (rw (c.label-label.ensures, c.of_text-body.ensures, c.new-2.ensures, c.new.ensures.bytes) at c.in_ok-id.ensures.made) c.make.ensures.whole
+pub returns : goal.returns
+returns c = record {
+  step = step-makes c.args.world.now c.make.new.self (numbered c.args.numbers) (CreateFragment c.args.document) c.args.document c.number.result (named DocumentFragment []) no_content
+      (λ w shown. answer-create_fragment c.args.world.now c.args.numbers c.args.document w shown (sym c.in_default.ensures))
+      (c.number.ensures ∙ c.in_ok-id.ensures.number)
+      (rw (c.label-label.ensures, c.of_text-body.ensures, c.new-2.ensures, c.new.ensures.bytes) at c.in_ok-id.ensures.made) c.make.ensures.whole;
+}
 
-pub returns-in-Some-clause-step : goal.returns-in-Some-clause-step
-returns-in-Some-clause-step c =
-    step-stays (numbered c.args.numbers) (CreateFragment c.args.document) c.in-Some.reply c.args.world.now
-    (λ w shown. refused-create_fragment c.args.world.now c.args.numbers c.args.document w (reply_view c.in-Some.reply) shown (sym c.in-Some.ensures))
+pub returns-in-Some : goal.returns-in-Some
+returns-in-Some c = record {
+  step = step-stays (numbered c.args.numbers) (CreateFragment c.args.document) c.in-Some.reply c.args.world.now
+      (λ w shown. refused-create_fragment c.args.world.now c.args.numbers c.args.document w (reply_view c.in-Some.reply) shown (sym c.in-Some.ensures));
+}

@@ -10,17 +10,20 @@ use Rattle.dom_session.proofs.Stepping.{step-stays}
 use Rattle.dom_session.proofs.Steps.{step-makes, answer-create_instruction, refused-create_instruction}
 use Rattle.dom_session.proofs.making.create_instruction.Goals as goal
 
-pub returns-clause-step : goal.returns-clause-step
-returns-clause-step c =
+pub returns : goal.returns
+returns c =
     let target = string_bytes c.args.target in
     let valid : is_element_name target ≡ true = cc in
     let apart : closes_instruction c.args.text ≡ false = cc in
-    step-makes c.args.world.now c.make.new.self (numbered c.args.numbers) (CreatePI c.args.document target c.args.text) c.args.document c.number.result (named ProcessingInstruction target) (with_text c.args.text)
-    (λ w shown. answer-create_instruction c.args.world.now c.args.numbers c.args.document target c.args.text w shown (sym c.in_default.ensures) valid apart)
-    (c.number.ensures ∙ c.in_ok-id.ensures.number)
-    (rw (c.label-label.ensures, c.of_text.ensures) at c.in_ok-id.ensures.made) c.make.ensures.whole
+    record {
+      step = step-makes c.args.world.now c.make.new.self (numbered c.args.numbers) (CreatePI c.args.document target c.args.text) c.args.document c.number.result (named ProcessingInstruction target) (with_text c.args.text)
+          (λ w shown. answer-create_instruction c.args.world.now c.args.numbers c.args.document target c.args.text w shown (sym c.in_default.ensures) valid apart)
+          (c.number.ensures ∙ c.in_ok-id.ensures.number)
+          (rw (c.label-label.ensures, c.of_text.ensures) at c.in_ok-id.ensures.made) c.make.ensures.whole;
+    }
 
-pub returns-in-Some-clause-step : goal.returns-in-Some-clause-step
-returns-in-Some-clause-step c =
-    step-stays (numbered c.args.numbers) (CreatePI c.args.document (string_bytes c.args.target) c.args.text) c.in-Some.reply c.args.world.now
-    (λ w shown. refused-create_instruction c.args.world.now c.args.numbers c.args.document (string_bytes c.args.target) c.args.text w (reply_view c.in-Some.reply) shown (sym c.in-Some.ensures))
+pub returns-in-Some : goal.returns-in-Some
+returns-in-Some c = record {
+  step = step-stays (numbered c.args.numbers) (CreatePI c.args.document (string_bytes c.args.target) c.args.text) c.in-Some.reply c.args.world.now
+      (λ w shown. refused-create_instruction c.args.world.now c.args.numbers c.args.document (string_bytes c.args.target) c.args.text w (reply_view c.in-Some.reply) shown (sym c.in-Some.ensures));
+}

@@ -6,11 +6,13 @@ use Rattle.dom_session.specs.Limiting.{numbered}
 use Rattle.dom_session.proofs.Steps.{step-makes, answer-new_document}
 use Rattle.dom_session.proofs.making.new_document.Goals as goal
 
-pub returns-clause-step : goal.returns-clause-step
-returns-clause-step c =
+pub returns : goal.returns
+returns c =
     let old = c.args.world.now in
     let room : nat_lt c.args.numbers (old.tree.made + 1) ≡ false = grind (arith, nat_tests) in
-    step-makes old c.make.new.self (numbered c.args.numbers) NewDocument old.tree.made c.number.result document_label no_content
-    (λ w shown. answer-new_document old c.args.numbers w shown room)
-    (c.number.ensures ∙ c.in_ok-id.ensures.number)
-    (rw (c.document_label.ensures, c.of_text-body.ensures, c.new.ensures) at c.in_ok-id.ensures.made) c.make.ensures.whole
+    record {
+      step = step-makes old c.make.new.self (numbered c.args.numbers) NewDocument old.tree.made c.number.result document_label no_content
+          (λ w shown. answer-new_document old c.args.numbers w shown room)
+          (c.number.ensures ∙ c.in_ok-id.ensures.number)
+          (rw (c.document_label.ensures, c.of_text-body.ensures, c.new.ensures) at c.in_ok-id.ensures.made) c.make.ensures.whole;
+    }

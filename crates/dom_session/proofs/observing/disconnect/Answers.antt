@@ -4,8 +4,10 @@ use Rattle.dom_session.specs.declared.reply.Reply.TheVariants.{Done}
 use Rattle.dom_session.proofs.ObserverSteps.{step-disconnect}
 use Rattle.dom_session.proofs.observing.disconnect.Goals as goal
 
-pub returns-clause-step : goal.returns-clause-step
-returns-clause-step c = λ b.
+pub returns : goal.returns
+returns c =
     let v = c.args.world.now in
     let made : nat_lt c.args.observer (length v.observers.queues) ≡ true = cc in
-    step-disconnect v c.requires.shown.shows.whole b c.args.observer c.disconnect.new.self (Done Nothing) made refl c.disconnect.ensures.ended c.disconnect.ensures.names
+    record {
+      step = λ b. step-disconnect v c.requires.shown.shows.whole b c.args.observer c.disconnect.new.self (Done Nothing) made refl c.disconnect.ensures.ended c.disconnect.ensures.names;
+    }

@@ -1,13 +1,11 @@
-use Rattle.std.proofs.Common.{refl, ◌∙◌, tests, rules}
+use Rattle.std.proofs.Common.{refl, ◌∙◌}
 use Rattle.dom_session.specs.declared.reply.Answer.TheVariants.{Notified}
 use Rattle.dom_session.specs.declared.reply.Reply.TheVariants.{Done}
 use Rattle.dom_session.proofs.ObserverSteps.{step-notify}
 use Rattle.dom_session.proofs.observing.notify.Goals as goal
 
-pub returns-clause-step : goal.returns-clause-step
-returns-clause-step c = λ b.
-    step-notify c.args.world.now c.requires.shown.shows.whole b c.in_ok-all_told.field-0.items c.notify.new.self (Done (Notified c.in_ok-all_told.field-0)) refl
-    (λ x h. c.in_ok-all_told.ensures ∙ c.in_ok-all.ensures.told x h) c.in_ok-all.ensures.after c.notify.ensures.names
-
-pub returns-clause-refused : goal.returns-clause-refused
-returns-clause-refused c = search (tests, rules)
+pub returns : goal.returns
+returns c = record {
+  step = λ b. step-notify c.args.world.now c.requires.shown.shows.whole b c.in_ok-all_told.field-0.items c.notify.new.self (Done (Notified c.in_ok-all_told.field-0)) refl
+      (λ x h. c.in_ok-all_told.ensures ∙ c.in_ok-all.ensures.told x h) c.in_ok-all.ensures.after c.notify.ensures.names;
+}

@@ -6,18 +6,22 @@ use Rattle.dom_session.specs.declared.reply.Reply.TheVariants.{Done, Dom}
 use Rattle.dom_session.proofs.ObserverSteps.{step-observe, step-not_observed, settled-ok, settled-err}
 use Rattle.dom_session.proofs.observing.observe.Goals as goal
 
-pub returns-in_ok-observe-in-Ok-clause-step : goal.returns-in_ok-observe-in-Ok-clause-step
-returns-in_ok-observe-in-Ok-clause-step c = λ b.
+pub returns-in_ok-observe-in-Ok : goal.returns-in_ok-observe-in-Ok
+returns-in_ok-observe-in-Ok c =
     let v = c.args.world.now in
     let made : nat_lt c.args.observer (length v.observers.queues) ≡ true = cc in
     let there : is_some (entry_in v.tree.forest c.args.node) ≡ true = cc in
     let options = settled-ok c.args.options c.in-Ok.options (sym c.settle.ensures ∙ c.in-Ok.is) in
-    step-observe v c.requires.shown.shows.whole b c.args.observer c.args.node c.args.options c.observe.new.self (Done Nothing) made there options.0 refl
-    (rw options.1 at c.in_ok-observe-in-Ok.ensures.ok) c.observe.ensures.names
+    record {
+      step = λ b. step-observe v c.requires.shown.shows.whole b c.args.observer c.args.node c.args.options c.observe.new.self (Done Nothing) made there options.0 refl
+          (rw options.1 at c.in_ok-observe-in-Ok.ensures.ok) c.observe.ensures.names;
+    }
 
-pub returns-in-Err-clause-step : goal.returns-in-Err-clause-step
-returns-in-Err-clause-step c = λ b.
+pub returns-in-Err : goal.returns-in-Err
+returns-in-Err c =
     let v = c.args.world.now in
     let made : nat_lt c.args.observer (length v.observers.queues) ≡ true = cc in
     let there : is_some (entry_in v.tree.forest c.args.node) ≡ true = cc in
-    step-not_observed v c.requires.shown.shows.whole b c.args.observer c.args.node c.args.options c.in-Err.error (Dom c.in-Err.error) made there (settled-err c.args.options c.in-Err.error (sym c.settle.ensures ∙ c.in-Err.is)) refl
+    record {
+      step = λ b. step-not_observed v c.requires.shown.shows.whole b c.args.observer c.args.node c.args.options c.in-Err.error (Dom c.in-Err.error) made there (settled-err c.args.options c.in-Err.error (sym c.settle.ensures ∙ c.in-Err.is)) refl;
+    }

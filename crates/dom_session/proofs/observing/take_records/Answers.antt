@@ -4,9 +4,11 @@ use Rattle.dom_session.specs.declared.reply.Reply.TheVariants.{Done}
 use Rattle.dom_session.proofs.ObserverSteps.{step-take}
 use Rattle.dom_session.proofs.observing.take_records.Goals as goal
 
-pub returns-clause-step : goal.returns-clause-step
-returns-clause-step c = λ b.
+pub returns : goal.returns
+returns c =
     let v = c.args.world.now in
     let made : nat_lt c.args.observer (length v.observers.queues) ≡ true = cc in
-    step-take v c.requires.shown.shows.whole b c.args.observer c.take.result.items c.take.new.self (Done (Records c.take.result)) made refl
-    c.take.ensures.records c.take.ensures.taken c.take.ensures.names
+    record {
+      step = λ b. step-take v c.requires.shown.shows.whole b c.args.observer c.take.result.items c.take.new.self (Done (Records c.take.result)) made refl
+          c.take.ensures.records c.take.ensures.taken c.take.ensures.names;
+    }

@@ -1,4 +1,4 @@
-use Rattle.std.proofs.Common.{◌≡◌, ◌+◌, nat_lt, false, length, [], ◌∷◌, ◌++◌, Some, arith, ◌∙◌}
+use Rattle.std.proofs.Common.{◌≡◌, ◌+◌, nat_lt, false, length, [], ◌∷◌, ◌++◌, Some, refl, arith, ◌∙◌}
 use Rattle.std.proofs.lemmas.Grind.{common_steps}
 use Rattle.std.proofs.lemmas.Bool.Decides.{nat_tests}
 use Rattle.dom_model.specs.Worlds.World.{Range}
@@ -10,16 +10,17 @@ use Rattle.dom_session.proofs.Parts.{step-ranges}
 use Rattle.dom_session.proofs.RangeAnswers.{answer-clone_range}
 use Rattle.dom_session.proofs.ranging.clone_range.Goals as goal
 
-pub returns-clause-step : goal.returns-clause-step
-returns-clause-step c =
+pub returns : goal.returns
+returns c =
     let old = c.args.world.now in
     let n = length old.ranges.ranges in
     let range : Range = record { start = c.ends-start.result.0; end = c.ends-start.result.1 } in
     let room : nat_lt c.args.numbers (n + 1) ≡ false = grind (arith, nat_tests) in
     let number : c.number.result ≡ n = c.number.ensures ∙ c.in_ok-id.ensures.number in
-    rw number
-    (step-ranges (numbered c.args.numbers) (CloneRange c.args.range) (Done (Number n)) old c.make.new.self (old.ranges.ranges ++ Some range ∷ []) c.requires.shown c.in_ok-id.ensures.made
-    (λ w shown. answer-clone_range old (numbered c.args.numbers) w shown c.args.range range c.ends-start.ensures.ends room))
+    record {
+      step = rw number (step-ranges (numbered c.args.numbers) (CloneRange c.args.range) (Done (Number n)) old c.make.new.self (old.ranges.ranges ++ Some range ∷ []) refl c.requires.shown c.in_ok-id.ensures.made
+          (λ w shown. answer-clone_range old (numbered c.args.numbers) w shown c.args.range range c.ends-start.ensures.ends room));
+    }
 
 pub make-requires-clause-in_order : goal.make-requires-clause-in_order
 make-requires-clause-in_order c = grind (arith, common_steps)

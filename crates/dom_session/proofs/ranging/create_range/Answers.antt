@@ -1,4 +1,4 @@
-use Rattle.std.proofs.Common.{◌≡◌, ◌+◌, nat_lt, true, false, length, [], ◌∷◌, ◌++◌, Some, arith, ◌∙◌, rules}
+use Rattle.std.proofs.Common.{◌≡◌, ◌+◌, nat_lt, true, false, length, [], ◌∷◌, ◌++◌, Some, refl, arith, ◌∙◌, rules}
 use Rattle.std.proofs.lemmas.Grind.{common_steps}
 use Rattle.std.proofs.lemmas.Bool.Decides.{nat_tests}
 use Rattle.std.specs.Prelude.{is_some}
@@ -29,8 +29,8 @@ make-requires-clause-in_order c =
     let kind : is_of_kind Document f d ≡ true = search rules in
     range-in f (collapsed_at (record { node = d; offset = 0 })) (range-of_document f d there kind)
 
-pub returns-clause-step : goal.returns-clause-step
-returns-clause-step c =
+pub returns : goal.returns
+returns c =
     let old = c.args.world.now in
     let f = old.tree.forest in
     let d = c.args.document in
@@ -39,9 +39,10 @@ returns-clause-step c =
     let kind : is_of_kind Document f d ≡ true = search rules in
     let room : nat_lt c.args.numbers (n + 1) ≡ false = grind (arith, nat_tests) in
     let number : c.number.result ≡ n = c.number.ensures ∙ c.in_ok-id.ensures.number in
-    rw number
-    (step-ranges (numbered c.args.numbers) (CreateRange d) (Done (Number n)) old c.make.new.self (old.ranges.ranges ++ Some (collapsed_at (record { node = d; offset = 0 })) ∷ []) c.requires.shown c.in_ok-id.ensures.made
-    (λ w shown. answer-create_range old (numbered c.args.numbers) w shown d there kind room))
+    record {
+      step = rw number (step-ranges (numbered c.args.numbers) (CreateRange d) (Done (Number n)) old c.make.new.self (old.ranges.ranges ++ Some (collapsed_at (record { node = d; offset = 0 })) ∷ []) refl c.requires.shown c.in_ok-id.ensures.made
+          (λ w shown. answer-create_range old (numbered c.args.numbers) w shown d there kind room));
+    }
 
-pub returns-then-ne-clause-step : goal.returns-then-ne-clause-step
-returns-then-ne-clause-step c = grind (arith, common_steps)
+pub returns-then-ne : goal.returns-then-ne
+returns-then-ne c = grind (arith, common_steps)

@@ -2,5 +2,5 @@ use Rattle.std.proofs.Common.{arith}
 use Rattle.std.proofs.lemmas.Grind.{common_steps}
 use Rattle.dom_session.proofs.ranging.release_range.Goals as goal
 
-pub returns-clause-step : goal.returns-clause-step
-returns-clause-step c = grind (arith, common_steps)
+pub returns : goal.returns
+returns c = grind (arith, common_steps)

@@ -1,4 +1,4 @@
-use Rattle.std.proofs.Common.{◌≡◌, true}
+use Rattle.std.proofs.Common.{◌≡◌, true, refl}
 use Rattle.std.specs.Prelude.{is_some}
 use Rattle.dom_model.specs.RangesAndContents.Ranges.{collapsed}
 use Rattle.dom_model.specs.Commands.Command.{Collapse}
@@ -9,10 +9,12 @@ use Rattle.dom_session.proofs.Parts.{step-set}
 use Rattle.dom_session.proofs.RangeAnswers.{answer-collapse}
 use Rattle.dom_session.proofs.setting.collapse.Goals as goal
 
-pub returns-clause-step : goal.returns-clause-step
-returns-clause-step c b =
+pub returns : goal.returns
+returns c =
     let old = c.args.world.now in
     let r = c.args.range in
     let live : is_some (range_in old.ranges r) ≡ true = cc in
-    step-set b (Collapse r c.args.to_start) (Done Nothing) old c.collapse.new.self r (range_in old.ranges r) (λ range. collapsed c.args.to_start range) c.requires.shown live c.collapse.ensures
-    (λ range held w shown. answer-collapse old b w shown r c.args.to_start range held)
+    record {
+      step = λ b. step-set b (Collapse r c.args.to_start) (Done Nothing) old c.collapse.new.self r (range_in old.ranges r) (λ range. collapsed c.args.to_start range) refl c.requires.shown live c.collapse.ensures
+          (λ range held w shown. answer-collapse old b w shown r c.args.to_start range held);
+    }

@@ -1,4 +1,4 @@
-use Rattle.std.proofs.Common.{◌≡◌, true, sym, ◌∙◌}
+use Rattle.std.proofs.Common.{◌≡◌, true, refl, sym, ◌∙◌}
 use Rattle.std.specs.Prelude.{is_some}
 use Rattle.dom_model.specs.Forests.Forest.{HasNode, entry_in}
 use Rattle.dom_model.specs.RangesAndContents.Ranges.{around, check_parent}
@@ -20,8 +20,8 @@ select-requires-clause-covered c =
     let there : HasNode old.tree.forest c.args.node = cc in
     rw c.find_index.ensures (λ parent e. node-covered old whole parent (above whole.forest c.args.node parent there e).there)
 
-pub returns-in-Ok-clause-step : goal.returns-in-Ok-clause-step
-returns-in-Ok-clause-step c b =
+pub returns-in-Ok : goal.returns-in-Ok
+returns-in-Ok c =
     let old = c.find_index.new.world in
     let f = old.tree.forest in
     let r = c.args.range in
@@ -30,6 +30,7 @@ returns-in-Ok-clause-step c b =
     let live : is_some (range_in old.ranges r) ≡ true = rw c.find_index.ensures cc in
     let there : is_some (entry_in f n) ≡ true = rw c.find_index.ensures cc in
     let check = passed (check_parent f n) c.in-Ok.field-0 (sym c.in-Ok.is ∙ c.select.ensures.refusal) in
-    rw (← c.find_index.ensures)
-    (step-set b (SelectNode r n) (Done Nothing) old c.select.new.self r (around f n) (λ ends. ends) shown (around-there f n check) c.in-Ok.ensures.set
-    (λ ends is w shows. answer-select_node old b w shows r n live there ends is))
+    record {
+      step = λ b. rw (← c.find_index.ensures) (step-set b (SelectNode r n) (Done Nothing) old c.select.new.self r (around f n) (λ ends. ends) refl shown (around-there f n check) c.in-Ok.ensures.set
+          (λ ends is w shows. answer-select_node old b w shows r n live there ends is));
+    }

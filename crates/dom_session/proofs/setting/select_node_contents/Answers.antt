@@ -1,4 +1,4 @@
-use Rattle.std.proofs.Common.{◌≡◌, true, Some, sym, ◌∙◌}
+use Rattle.std.proofs.Common.{◌≡◌, true, Some, refl, sym, ◌∙◌}
 use Rattle.std.specs.Prelude.{is_some, slice_set}
 use Rattle.dom_model.specs.Forests.Forest.{entry_in}
 use Rattle.dom_model.specs.Worlds.Lengths.{unit_count}
@@ -15,8 +15,8 @@ use Rattle.dom_session.proofs.setting.select_node_contents.Goals as goal
 pub select_contents-requires-clause-covered : goal.select_contents-requires-clause-covered
 select_contents-requires-clause-covered c = node-covered c.args.world.now c.requires.shown.shows.whole c.args.node cc
 
-pub returns-in-Ok-clause-step : goal.returns-in-Ok-clause-step
-returns-in-Ok-clause-step c b =
+pub returns-in-Ok : goal.returns-in-Ok
+returns-in-Ok c =
     let old = c.args.world.now in
     let f = old.tree.forest in
     let r = c.args.range in
@@ -24,11 +24,13 @@ returns-in-Ok-clause-step c b =
     let live : is_some (range_in old.ranges r) ≡ true = cc in
     let there : is_some (entry_in f n) ≡ true = cc in
     let check = passed (check_contents f n) c.in-Ok.field-0 (sym c.in-Ok.is ∙ c.select_contents.ensures.refusal) in
-    step-ranges b (SelectNodeContents r n) (Done Nothing) old c.select_contents.new.self (slice_set old.ranges.ranges r (Some (contents_of unit_count f n))) c.requires.shown c.in-Ok.ensures.set
-    (λ w shown. answer-select_node_contents old b w shown r n live there check)
+    record {
+      step = λ b. step-ranges b (SelectNodeContents r n) (Done Nothing) old c.select_contents.new.self (slice_set old.ranges.ranges r (Some (contents_of unit_count f n))) refl c.requires.shown c.in-Ok.ensures.set
+          (λ w shown. answer-select_node_contents old b w shown r n live there check);
+    }
 
-pub returns-in-Err-clause-step : goal.returns-in-Err-clause-step
-returns-in-Err-clause-step c b =
+pub returns-in-Err : goal.returns-in-Err
+returns-in-Err c =
     let old = c.args.world.now in
     let f = old.tree.forest in
     let r = c.args.range in
@@ -36,5 +38,7 @@ returns-in-Err-clause-step c b =
     let live : is_some (range_in old.ranges r) ≡ true = cc in
     let there : is_some (entry_in f n) ≡ true = cc in
     let check = told (check_contents f n) c.in-Err.error (sym c.in-Err.is ∙ c.select_contents.ensures.refusal) in
-    step-refused b (SelectNodeContents r n) (Dom c.in-Err.error) old c.select_contents.new.self c.in-Err.ensures.unchanged
-    (λ w shown. refusal-select_node_contents old b w shown r n live there c.in-Err.error check)
+    record {
+      step = λ b. step-refused b (SelectNodeContents r n) (Dom c.in-Err.error) old c.select_contents.new.self c.in-Err.ensures.unchanged
+          (λ w shown. refusal-select_node_contents old b w shown r n live there c.in-Err.error check);
+    }

@@ -1,4 +1,4 @@
-use Rattle.std.proofs.Common.{◌≡◌, true, sym, ◌∙◌, arith}
+use Rattle.std.proofs.Common.{◌≡◌, true, refl, sym, ◌∙◌, arith}
 use Rattle.std.proofs.lemmas.Grind.{common_steps}
 use Rattle.std.specs.Prelude.{is_some}
 use Rattle.dom_model.specs.Forests.Forest.{entry_in}
@@ -17,8 +17,8 @@ use Rattle.dom_session.proofs.setting.set_end.Goals as goal
 pub set_end-requires-clause-covered : goal.set_end-requires-clause-covered
 set_end-requires-clause-covered c = node-covered c.args.world.now c.requires.shown.shows.whole c.args.node cc
 
-pub returns-in-Ok-clause-step : goal.returns-in-Ok-clause-step
-returns-in-Ok-clause-step c b =
+pub returns-in-Ok : goal.returns-in-Ok
+returns-in-Ok c =
     let old = c.args.world.now in
     let r = c.args.range in
     let n = c.args.node in
@@ -26,11 +26,13 @@ returns-in-Ok-clause-step c b =
     let live : is_some (range_in old.ranges r) ≡ true = cc in
     let there : is_some (entry_in old.tree.forest n) ≡ true = cc in
     let check = passed (check_point unit_count old.tree.forest p) c.in-Ok.field-0 (sym c.in-Ok.is ∙ c.set_end.ensures.refusal) in
-    step-set b (SetEnd r n c.args.offset) (Done Nothing) old c.set_end.new.self r (range_in old.ranges r) (λ range. end_set old.tree.forest p range) c.requires.shown live c.in-Ok.ensures.set
-    (λ range held w shown. answer-set_end old b w shown r n live there c.args.offset range held check)
+    record {
+      step = λ b. rw c.set_end.ensures.kept (step-set b (SetEnd r n c.args.offset) (Done Nothing) old c.set_end.new.self r (range_in old.ranges r) (λ range. end_set old.tree.forest p range) refl c.requires.shown live c.in-Ok.ensures.set
+          (λ range held w shown. answer-set_end old b w shown r n live there c.args.offset range held check));
+    }
 
-pub returns-in-Err-clause-step : goal.returns-in-Err-clause-step
-returns-in-Err-clause-step c b =
+pub returns-in-Err : goal.returns-in-Err
+returns-in-Err c =
     let old = c.args.world.now in
     let r = c.args.range in
     let n = c.args.node in
@@ -38,8 +40,10 @@ returns-in-Err-clause-step c b =
     let live : is_some (range_in old.ranges r) ≡ true = cc in
     let there : is_some (entry_in old.tree.forest n) ≡ true = cc in
     let check = told (check_point unit_count old.tree.forest p) c.in-Err.error (sym c.in-Err.is ∙ c.set_end.ensures.refusal) in
-    step-refused b (SetEnd r n c.args.offset) (Dom c.in-Err.error) old c.set_end.new.self c.in-Err.ensures.unchanged
-    (λ w shown. refusal-set_end old b w shown r n live there c.args.offset c.in-Err.error check)
+    record {
+      step = λ b. rw c.set_end.ensures.kept (step-refused b (SetEnd r n c.args.offset) (Dom c.in-Err.error) old c.set_end.new.self c.in-Err.ensures.unchanged
+          (λ w shown. refusal-set_end old b w shown r n live there c.args.offset c.in-Err.error check));
+    }
 
 pub set_end-requires-clause-stands : goal.set_end-requires-clause-stands
 set_end-requires-clause-stands c = grind (arith, common_steps)

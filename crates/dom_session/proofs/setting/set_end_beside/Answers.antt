@@ -1,4 +1,4 @@
-use Rattle.std.proofs.Common.{◌≡◌, true, subst, ◌∙◌, arith}
+use Rattle.std.proofs.Common.{◌≡◌, true, refl, subst, ◌∙◌, arith}
 use Rattle.std.proofs.lemmas.Grind.{common_steps}
 use Rattle.std.specs.Prelude.{IfSome, is_some}
 use Rattle.dom_model.specs.Forests.Forest.{entry_in}
@@ -18,15 +18,17 @@ set_end-requires-clause-covered c =
     let b : IsBoundary f c.in-Some.point = subst (λ o. IfSome o (IsBoundary f)) c.in-Some.is c.requires.boundary in
     node-covered c.args.world.now c.requires.shown.shows.whole c.in-Some.point.node b.there
 
-pub returns-in-Ok-clause-step : goal.returns-in-Ok-clause-step
-returns-in-Ok-clause-step c b d e =
+pub returns-in-Ok : goal.returns-in-Ok
+returns-in-Ok c =
     let old = c.args.world.now in
     let r = c.args.range in
     let n = c.args.node in
     let live : is_some (range_in old.ranges r) ≡ true = cc in
     let there : is_some (entry_in old.tree.forest n) ≡ true = cc in
-    step-set b d (Done Nothing) old c.set_end.new.self r (range_in old.ranges r) (λ range. end_set old.tree.forest c.in-Some.point range) c.requires.shown live c.in-Ok.ensures.set
-    (λ range held w shown. e w shown ∙ answer-sets_end old b w shown r n live there c.args.point c.in-Some.point range c.in-Some.is held)
+    record {
+      step = λ b d e. rw c.set_end.ensures.kept (step-set b d (Done Nothing) old c.set_end.new.self r (range_in old.ranges r) (λ range. end_set old.tree.forest c.in-Some.point range) refl c.requires.shown live c.in-Ok.ensures.set
+          (λ range held w shown. e w shown ∙ answer-sets_end old b w shown r n live there c.args.point c.in-Some.point range c.in-Some.is held));
+    }
 
 pub set_end-requires-clause-stands : goal.set_end-requires-clause-stands
 set_end-requires-clause-stands c = grind (arith, common_steps)

@@ -6,8 +6,8 @@ use Rattle.dom_session.proofs.setting.set_start_before.Goals as goal
 pub set_start_beside-requires-clause-boundary : goal.set_start_beside-requires-clause-boundary
 set_start_beside-requires-clause-boundary c = rw (c.point_before-point.ensures, c.find_index.ensures) (boundary_before c.requires.shown.shows.whole.forest c.args.node)
 
-pub returns-clause-step : goal.returns-clause-step
-returns-clause-step c b =
-    rw (← c.find_index.ensures)
-    (c.set_start_beside.ensures.step b (SetStartBefore c.args.range c.args.node)
-    (λ w shown. answer-set_start_before c.find_index.new.world b w shown c.args.range c.args.node c.point_before-point.result c.point_before-point.ensures))
+pub returns : goal.returns
+returns c = record {
+  step = λ b. rw (← c.find_index.ensures) (c.set_start_beside.ensures.step b (SetStartBefore c.args.range c.args.node)
+      (λ w shown. answer-set_start_before c.find_index.new.world b w shown c.args.range c.args.node c.point_before-point.result c.point_before-point.ensures));
+}

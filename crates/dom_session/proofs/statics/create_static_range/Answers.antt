@@ -1,4 +1,4 @@
-use Rattle.std.proofs.Common.{◌≡◌, ◌+◌, nat_lt, true, false, length, [], ◌∷◌, ◌++◌, arith, sym, ap, ◌∙◌, subst}
+use Rattle.std.proofs.Common.{◌≡◌, ◌+◌, nat_lt, true, false, length, [], ◌∷◌, ◌++◌, refl, arith, sym, ap, ◌∙◌, subst}
 use Rattle.std.proofs.lemmas.Bool.Decides.{nat_tests}
 use Rattle.std.proofs.lemmas.List.Elements.{All-push}
 use Rattle.std.specs.Prelude.{is_some}
@@ -16,8 +16,8 @@ use Rattle.dom_session.proofs.Parts.{step-statics}
 use Rattle.dom_session.proofs.RangeAnswers.{passed, told, answer-create_static_range, refusal-create_static_range}
 use Rattle.dom_session.proofs.statics.create_static_range.Goals as goal
 
-pub returns-in_ok-id-in-Ok-clause-step : goal.returns-in_ok-id-in-Ok-clause-step
-returns-in_ok-id-in-Ok-clause-step c =
+pub returns-in_ok-id-in-Ok : goal.returns-in_ok-id-in-Ok
+returns-in_ok-id-in-Ok c =
     let old = c.args.world.now in
     let f = old.tree.forest in
     let start : Point = c.args.start in
@@ -31,12 +31,13 @@ returns-in_ok-id-in-Ok-clause-step c =
     let check = passed (check_static f start.node end.node) c.in-Ok.field-0 (sym c.in-Ok.is ∙ c.check.ensures ∙ same) in
     let held = All-push (AreHeld f) old.statics range c.requires.shown.shows.whole.statics (record { start = first; end = last }) in
     let number : c.number.result ≡ n = c.number.ensures ∙ c.in_ok-id-in-Ok.ensures.number in
-    rw number
-    (step-statics (numbered c.args.numbers) (CreateStaticRange start end) (Done (Number n)) old c.make.new.self (old.statics ++ range ∷ []) c.requires.shown c.in_ok-id-in-Ok.ensures.made held
-    (λ w shown. answer-create_static_range old (numbered c.args.numbers) w shown start end first last room check))
+    record {
+      step = rw number (step-statics (numbered c.args.numbers) (CreateStaticRange start end) (Done (Number n)) old c.make.new.self (old.statics ++ range ∷ []) refl c.requires.shown c.in_ok-id-in-Ok.ensures.made held
+          (λ w shown. answer-create_static_range old (numbered c.args.numbers) w shown start end first last room check));
+    }
 
-pub returns-in-Err-clause-step : goal.returns-in-Err-clause-step
-returns-in-Err-clause-step c =
+pub returns-in-Err : goal.returns-in-Err
+returns-in-Err c =
     let old = c.args.world.now in
     let f = old.tree.forest in
     let start : Point = c.args.start in
@@ -46,5 +47,7 @@ returns-in-Err-clause-step c =
     let room : nat_lt c.args.numbers (length old.statics + 1) ≡ false = grind (arith, nat_tests) in
     let same = ap (λ (q : Point). refused (check_static f q.node c.end.inside.node)) c.start.view_is ∙ ap (λ (q : Point). refused (check_static f start.node q.node)) c.end.view_is in
     let check = told (check_static f start.node end.node) c.in-Err.error (sym c.in-Err.is ∙ c.check.ensures ∙ same) in
-    step-stays (numbered c.args.numbers) (CreateStaticRange start end) (Dom c.in-Err.error) old
-    (λ w shown. refusal-create_static_range old (numbered c.args.numbers) w shown start end first last room c.in-Err.error check)
+    record {
+      step = step-stays (numbered c.args.numbers) (CreateStaticRange start end) (Dom c.in-Err.error) old
+          (λ w shown. refusal-create_static_range old (numbered c.args.numbers) w shown start end first last room c.in-Err.error check);
+    }

@@ -1,4 +1,4 @@
-use Rattle.std.proofs.Common.{◌≡◌, true, refl}
+use Rattle.std.proofs.Common.{◌≡◌, true}
 use Rattle.std.specs.Prelude.{is_some}
 use Rattle.dom_model.specs.Forests.Forest.{entry_in}
 use Rattle.dom_model.specs.Commands.Command.{AppendData, ReplaceData}
@@ -8,8 +8,8 @@ use Rattle.dom_session.specs.Stands.{IsStep}
 use Rattle.dom_session.proofs.NodeData.{ok-more, step-same, answer-append_data}
 use Rattle.dom_session.proofs.texts.append_data.Goals as goal
 
-pub returns-clause-step : goal.returns-clause-step
-returns-clause-step c =
+pub returns : goal.returns
+returns c =
     let old = c.args.world.now in
     let new = c.replace_data.new.world in
     let n = c.args.node in
@@ -18,6 +18,8 @@ returns-clause-step c =
     let command = AppendData n c.args.text.now in
     let P : Reply → Type 0 = λ reply. (b : Bounds) → IsStep old new b replace reply in
     let Q : Reply → Type 0 = λ reply. (b : Bounds) → IsStep old new b command reply in
-    ok-more c.replace_data.result P Q
-    (λ reply h b. step-same old new b replace command reply (λ w shown. answer-append_data old b w shown n c.length-end.result c.args.text.now held c.length-end.ensures) (h b))
-    c.replace_data.ensures.step
+    record {
+      step = ok-more c.replace_data.result P Q
+          (λ reply h b. step-same old new b replace command reply (λ w shown. answer-append_data old b w shown n c.length-end.result c.args.text.now held c.length-end.ensures) (h b))
+          c.replace_data.ensures.step;
+    }

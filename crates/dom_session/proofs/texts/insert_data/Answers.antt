@@ -6,8 +6,8 @@ use Rattle.dom_session.specs.Stands.{IsStep}
 use Rattle.dom_session.proofs.NodeData.{ok-more, step-same}
 use Rattle.dom_session.proofs.texts.insert_data.Goals as goal
 
-pub returns-clause-step : goal.returns-clause-step
-returns-clause-step c =
+pub returns : goal.returns
+returns c =
     let old = c.args.world.now in
     let new = c.replace_data.new.world in
     let n = c.args.node in
@@ -15,6 +15,8 @@ returns-clause-step c =
     let command = InsertData n c.args.offset c.args.text.now in
     let P : Reply → Type 0 = λ reply. (b : Bounds) → IsStep old new b replace reply in
     let Q : Reply → Type 0 = λ reply. (b : Bounds) → IsStep old new b command reply in
-    ok-more c.replace_data.result P Q
-    (λ reply h b. step-same old new b replace command reply (λ w shown. refl) (h b))
-    c.replace_data.ensures.step
+    record {
+      step = ok-more c.replace_data.result P Q
+          (λ reply h b. step-same old new b replace command reply (λ w shown. refl) (h b))
+          c.replace_data.ensures.step;
+    }

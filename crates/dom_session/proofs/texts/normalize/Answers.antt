@@ -1,4 +1,4 @@
-use Rattle.std.proofs.Common.{◌≡◌, true}
+use Rattle.std.proofs.Common.{◌≡◌, true, refl}
 use Rattle.std.specs.Prelude.{is_some}
 use Rattle.dom_model.specs.Forests.Forest.{entry_in}
 use Rattle.dom_model.specs.DataAndCopies.Data.{normalize}
@@ -9,10 +9,12 @@ use Rattle.dom_session.proofs.Stepping.{step-follows}
 use Rattle.dom_session.proofs.NodeData.{answer-normalize}
 use Rattle.dom_session.proofs.texts.normalize.Goals as goal
 
-pub returns-clause-step : goal.returns-clause-step
-returns-clause-step c b =
+pub returns : goal.returns
+returns c =
     let v = c.args.world.now in
     let held : is_some (entry_in v.tree.forest c.args.node) ≡ true = cc in
-    step-follows b (Normalize c.args.node) (Done Nothing) v c.normalize.new.world (normalize c.args.node)
-    (λ w shown. answer-normalize v b w shown c.args.node held)
-    c.in_ok-normalize.ensures.normalized c.normalize.ensures.whole
+    record {
+      step = λ b. step-follows b (Normalize c.args.node) (Done Nothing) v c.normalize.new.world (normalize c.args.node) refl
+          (λ w shown. answer-normalize v b w shown c.args.node held)
+          c.in_ok-normalize.ensures.normalized c.normalize.ensures.whole;
+    }

@@ -1,4 +1,4 @@
-use Rattle.std.proofs.Common.{sym}
+use Rattle.std.proofs.Common.{refl, sym}
 use Rattle.dom_model.specs.DataAndCopies.Data.{set_data}
 use Rattle.dom_model.specs.Commands.Command.{SetData}
 use Rattle.dom_session.specs.declared.reply.Answer.TheVariants.{Nothing}
@@ -7,9 +7,11 @@ use Rattle.dom_session.proofs.Stepping.{step-follows}
 use Rattle.dom_session.proofs.NodeData.{answer-set_data}
 use Rattle.dom_session.proofs.texts.set_data.Goals as goal
 
-pub returns-clause-step : goal.returns-clause-step
-returns-clause-step c b =
+pub returns : goal.returns
+returns c =
     let v = c.args.world.now in
-    step-follows b (SetData c.args.node c.args.text.now) (Done Nothing) v c.set_data.new.world (set_data c.args.node c.args.text.now)
-    (λ w shown. answer-set_data v b w shown c.args.node c.args.text.now (sym c.in_default.ensures))
-    c.in_ok-set_data.ensures.set c.set_data.ensures.whole
+    record {
+      step = λ b. step-follows b (SetData c.args.node c.args.text.now) (Done Nothing) v c.set_data.new.world (set_data c.args.node c.args.text.now) refl
+          (λ w shown. answer-set_data v b w shown c.args.node c.args.text.now (sym c.in_default.ensures))
+          c.in_ok-set_data.ensures.set c.set_data.ensures.whole;
+    }

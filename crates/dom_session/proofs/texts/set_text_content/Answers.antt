@@ -1,4 +1,4 @@
-use Rattle.std.proofs.Common.{◌≡◌, ◌+◌, nat_lt, true, false, arith}
+use Rattle.std.proofs.Common.{◌≡◌, ◌+◌, nat_lt, true, false, refl, arith}
 use Rattle.std.proofs.lemmas.Bool.Decides.{nat_tests}
 use Rattle.std.specs.Prelude.{is_some}
 use Rattle.dom_model.specs.Forests.Forest.{entry_in}
@@ -11,11 +11,13 @@ use Rattle.dom_session.proofs.Stepping.{step-follows}
 use Rattle.dom_session.proofs.NodeData.{answer-set_text_content}
 use Rattle.dom_session.proofs.texts.set_text_content.Goals as goal
 
-pub returns-clause-step : goal.returns-clause-step
-returns-clause-step c =
+pub returns : goal.returns
+returns c =
     let v = c.args.world.now in
     let held : is_some (entry_in v.tree.forest c.args.node) ≡ true = cc in
     let room : nat_lt c.args.numbers (v.tree.made + 1) ≡ false = grind (arith, nat_tests) in
-    step-follows (numbered c.args.numbers) (SetTextContent c.args.node c.args.text) (Done Nothing) v c.set_text_content.new.world (set_text_content c.args.node c.args.text)
-    (λ w shown. answer-set_text_content v (numbered c.args.numbers) w shown c.args.node c.args.text held room)
-    c.in_ok-set_text_content.ensures.set c.set_text_content.ensures.whole
+    record {
+      step = step-follows (numbered c.args.numbers) (SetTextContent c.args.node c.args.text) (Done Nothing) v c.set_text_content.new.world (set_text_content c.args.node c.args.text) refl
+          (λ w shown. answer-set_text_content v (numbered c.args.numbers) w shown c.args.node c.args.text held room)
+          c.in_ok-set_text_content.ensures.set c.set_text_content.ensures.whole;
+    }

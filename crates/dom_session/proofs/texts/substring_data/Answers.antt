@@ -1,15 +1,24 @@
-use Rattle.std.proofs.Common.{◌≡◌, refl, subst, sym, Some, None}
+use Rattle.std.proofs.Common.{refl, sym, Option, Some, None}
+use Rattle.dom_model.specs.declared.DomError.{DomError}
 use Rattle.dom_model.specs.DataAndCopies.Data.{check_offset, substring_data}
 use Rattle.dom_wrap.specs.dom_edit.Whole.{unwatched}
+use Rattle.dom_wrap.specs.dom_edit.declared.world.World.{World}
 use Rattle.dom_wrap.specs.dom_edit.declared.refusal.Refusal.{Refusal}
+use Rattle.dom_wrap.specs.dom_edit.declared.refusal.Refusal.TheVariants as refusal
+use Rattle.dom_wrap.specs.dom_edit.Refusals.{IsRefused}
 use Rattle.dom_wrap.specs.dom_data.Reading.{IsNamed}
 use Rattle.dom_model.specs.Commands.Command.{SubstringData}
 use Rattle.dom_session.specs.declared.reply.Answer.TheVariants.{Units}
-use Rattle.dom_session.specs.declared.reply.Reply.TheVariants.{Done, Dom}
-use Rattle.dom_session.proofs.Stepping.{step-stays}
+use Rattle.dom_session.specs.declared.reply.Reply.TheVariants.{Done}
+use Rattle.dom_session.proofs.Stepping.{step-stays, steps-refused}
 use Rattle.dom_session.specs.Views.{reply_view}
 use Rattle.dom_session.proofs.NodeData.{answer-substring_data, refused-substring_data}
 use Rattle.dom_session.proofs.texts.substring_data.Goals as goal
+
+-- a question leaves the world
+left : (r : Refusal) (check : Option DomError) (v : World) → IsNamed r check → IsRefused r check v v
+left (refusal.Dom e) check v named = (named, refl)
+left refusal.Memory check v named = tt
 
 pub returns-in-Ok : goal.returns-in-Ok
 returns-in-Ok c b =
@@ -17,14 +26,13 @@ returns-in-Ok c b =
     step-stays b (SubstringData c.args.node c.args.offset c.args.count) (Done (Units c.in-Ok.units)) v
     (λ w shown. answer-substring_data v b w shown c.args.node c.args.offset c.args.count c.in-Ok.units None (sym c.in_default.ensures) c.in-Ok.ensures.allowed c.in-Ok.ensures.units)
 
-pub returns-in-Err-Dom : goal.returns-in-Err-Dom
-returns-in-Err-Dom c b =
+pub returns-in-Err : goal.returns-in-Err
+returns-in-Err c =
     let v = c.args.world.now in
     let n = c.args.node in
-    let e = c.in-Err-Dom.error in
-    let because : check_offset (unwatched v) n c.args.offset ≡ Some e = subst (λ (r : Refusal). IsNamed r (check_offset (unwatched v) n c.args.offset)) c.in-Err-Dom.field-0-is c.in-Err-Dom.ensures.refused in
-    step-stays b (SubstringData n c.args.offset c.args.count) (Dom e) v
-    (λ w shown. answer-substring_data v b w shown n c.args.offset c.args.count (substring_data (unwatched v) n c.args.offset c.args.count) (Some e) (sym c.in_default.ensures) because refl)
+    let check = check_offset (unwatched v) n c.args.offset in
+    steps-refused v v (SubstringData n c.args.offset c.args.count) c.in-Err.refusal check c.reply_to.result c.reply_to.ensures (left c.in-Err.refusal check v c.in-Err.ensures.refused)
+    (λ b e named w shown. answer-substring_data v b w shown n c.args.offset c.args.count (substring_data (unwatched v) n c.args.offset c.args.count) (Some e) (sym c.in_default.ensures) named refl)
 
 pub returns-in-Some : goal.returns-in-Some
 returns-in-Some c b =

@@ -7,9 +7,11 @@ use Rattle.dom_session.specs.declared.reply.Reply.TheVariants.{Done}
 use Rattle.dom_session.proofs.TraversalSteps.{step-create_iterator}
 use Rattle.dom_session.proofs.traversing.create_iterator.Goals as goal
 
-pub returns-clause-step : goal.returns-clause-step
-returns-clause-step c =
+pub returns : goal.returns
+returns c =
     let v = c.args.world.now in
     let there : is_some (entry_in v.tree.forest c.args.root) ≡ true = cc in
     let room : nat_lt c.args.numbers (length v.iterators + 1) ≡ false = grind (arith, nat_tests) in
-    step-create_iterator v c.requires.shown c.args.numbers c.args.root c.number.result c.args.filter c.make.new.self (Done (Number c.number.result)) there room (c.number.ensures ∙ c.in_ok-id.ensures.number) refl c.in_ok-id.ensures.made
+    record {
+      step = step-create_iterator v c.requires.shown c.args.numbers c.args.root c.number.result c.args.filter c.make.new.self (Done (Number c.number.result)) there room (c.number.ensures ∙ c.in_ok-id.ensures.number) refl c.in_ok-id.ensures.made;
+    }

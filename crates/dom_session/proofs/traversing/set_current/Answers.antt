@@ -6,9 +6,11 @@ use Rattle.dom_session.specs.declared.reply.Reply.TheVariants.{Done}
 use Rattle.dom_session.proofs.TraversalSteps.{step-set_current}
 use Rattle.dom_session.proofs.traversing.set_current.Goals as goal
 
-pub returns-clause-step : goal.returns-clause-step
-returns-clause-step c = λ b.
+pub returns : goal.returns
+returns c =
     let v = c.args.world.now in
     let inside : c.args.walker < length v.walkers = c.holds.ensures.0 cc in
     let there : is_some (entry_in v.tree.forest c.args.node) ≡ true = cc in
-    step-set_current v c.requires.shown b c.args.walker c.args.node c.set_current.new.self (Done Nothing) inside there refl c.set_current.ensures
+    record {
+      step = λ b. step-set_current v c.requires.shown b c.args.walker c.args.node c.set_current.new.self (Done Nothing) inside there refl c.set_current.ensures;
+    }

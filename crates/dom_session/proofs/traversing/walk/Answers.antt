@@ -1,5 +1,7 @@
 use Rattle.dom_session.proofs.TraversalSteps.{step-walk}
 use Rattle.dom_session.proofs.traversing.walk.Goals as goal
 
-pub returns-clause-step : goal.returns-clause-step
-returns-clause-step c = λ b. step-walk c.args.world.now c.requires.shown b c.args.walker c.args.direction c.step-found.result c.step-found.new.self c.reply_found.result (c.holds.ensures.0 c.if-not-holds.false) c.reply_found.ensures c.step-found.ensures.found c.step-found.ensures.moved
+pub returns : goal.returns
+returns c = record {
+  step = λ b. step-walk c.args.world.now c.requires.shown b c.args.walker c.args.direction c.step-found.result c.step-found.new.self c.reply_found.result (c.holds.ensures.0 c.if-not-holds.false) c.reply_found.ensures c.step-found.ensures.found c.step-found.ensures.moved;
+}

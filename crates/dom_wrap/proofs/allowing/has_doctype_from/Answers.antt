@@ -1,4 +1,4 @@
-use Rattle.std.proofs.Common.{◌≡◌, false, refl, sym, ◌∙◌}
+use Rattle.std.proofs.Common.{refl, sym, ◌∙◌}
 use Rattle.dom_model.specs.declared.Kind.TheVariants.{DocumentType}
 use Rattle.dom_model.specs.Forests.Forest.{children_of}
 use Rattle.dom_model.specs.MutationAlgorithms.Checks.{has_kind}

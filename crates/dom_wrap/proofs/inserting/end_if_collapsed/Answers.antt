@@ -23,7 +23,7 @@ returns-then-eq-clause-ended c =
     let e = c.ends-start.ensures.ends in
     let collapsed = sym c.if-eq.ensures in
     let is = set-done v c.requires.whole c.args.range c.args.end range e c.requires.sound collapsed c.set_end.new.self c.set_end.result c.set_end.ensures.refusal c.set_end.ensures.set in
-    follows-ended v c.requires.whole c.args.range c.args.end range e c.set_end.new.self is c.requires.sound collapsed
+    rw c.set_end.ensures.kept (follows-ended v c.requires.whole c.args.range c.args.end range e c.set_end.new.self is c.requires.sound collapsed)
 
 pub returns-then-eq-clause-whole : goal.returns-then-eq-clause-whole
 returns-then-eq-clause-whole c =
@@ -32,7 +32,7 @@ returns-then-eq-clause-whole c =
     let e = c.ends-start.ensures.ends in
     let collapsed = sym c.if-eq.ensures in
     let is = set-done v c.requires.whole c.args.range c.args.end range e c.requires.sound collapsed c.set_end.new.self c.set_end.result c.set_end.ensures.refusal c.set_end.ensures.set in
-    whole-ended v c.requires.whole c.args.range c.args.end range e c.set_end.new.self is c.requires.sound collapsed
+    rw c.set_end.ensures.kept (whole-ended v c.requires.whole c.args.range c.args.end range e c.set_end.new.self is c.requires.sound collapsed)
 
 pub set_end-requires-clause-stands : goal.set_end-requires-clause-stands
 set_end-requires-clause-stands c = grind (arith, common_steps)

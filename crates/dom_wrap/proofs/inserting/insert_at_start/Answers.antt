@@ -1,4 +1,5 @@
 use Rattle.std.proofs.Common.{refl}
+use Rattle.std.proofs.lemmas.Result.{on_ok_weaker}
 use Rattle.dom_model.specs.Worlds.World.{Range}
 use Rattle.dom_model.proofs.Soundness.SoundDeleting.{offset_of_start}
 use Rattle.dom_model.proofs.Soundness.SoundSplitting.{text_has_data}
@@ -6,6 +7,7 @@ use Rattle.dom_model.proofs.TokenText.EditsMade.EditsOfDrawnContents.{sound-rang
 use Rattle.dom_content.specs.dom_edit.Whole.{unwatched}
 use Rattle.dom_content.specs.dom_edit.Following.{sound-unwatched}
 use Rattle.dom_wrap.proofs.InsertedNode.{checks-passed, held-split, placeable, insert-allowed-so, follows-inserted}
+use Rattle.dom_wrap.proofs.SurroundingSteps.{on-ok_both}
 use Rattle.dom_wrap.proofs.inserting.insert_at_start.Goals as goal
 
 pub reference_after-requires-clause-within : goal.reference_after-requires-clause-within
@@ -38,11 +40,15 @@ place-requires-clause-placeable c =
 pub returns-clause-allowed : goal.returns-clause-allowed
 returns-clause-allowed c =
     let range : Range = record { start = c.ends-start.result.0; end = c.ends-start.result.1 } in
-    insert-allowed-so c.args.world.now c.reference_after.new.world c.requires.whole c.args.range c.args.node range.start range c.ends-start.ensures.ends refl c.requires.node_held (checks-passed c.args.world.now c.args.range c.args.node range c.ends-start.ensures.ends c.requires.allowed).0 (checks-passed c.args.world.now c.args.range c.args.node range c.ends-start.ensures.ends c.requires.allowed).1 c.in_ok-after.ensures.split
-    c.parent_at-parent.result c.in_ok-after.after c.reference_child-reference.result c.parent_at-parent.ensures.parent c.in_ok-after.ensures.reference c.reference_child-reference.ensures c.in_ok-place.ensures.allowed
+    on_ok_weaker c.place.result
+    (insert-allowed-so c.args.world.now c.reference_after.new.world c.requires.whole c.args.range c.args.node range.start range c.ends-start.ensures.ends refl c.requires.node_held (checks-passed c.args.world.now c.args.range c.args.node range c.ends-start.ensures.ends c.requires.allowed).0 (checks-passed c.args.world.now c.args.range c.args.node range c.ends-start.ensures.ends c.requires.allowed).1 c.in_ok-after.ensures.split
+    c.parent_at-parent.result c.in_ok-after.after c.reference_child-reference.result c.parent_at-parent.ensures.parent c.in_ok-after.ensures.reference c.reference_child-reference.ensures)
+    c.place.ensures.allowed
 
 pub returns-clause-inserted : goal.returns-clause-inserted
 returns-clause-inserted c =
     let range : Range = record { start = c.ends-start.result.0; end = c.ends-start.result.1 } in
-    follows-inserted c.args.world.now c.reference_after.new.world c.requires.whole c.args.range c.args.node range.start range c.ends-start.ensures.ends refl c.requires.node_held (checks-passed c.args.world.now c.args.range c.args.node range c.ends-start.ensures.ends c.requires.allowed).0 (checks-passed c.args.world.now c.args.range c.args.node range c.ends-start.ensures.ends c.requires.allowed).1 c.in_ok-after.ensures.split
-    c.parent_at-parent.result c.in_ok-after.after c.reference_child-reference.result c.parent_at-parent.ensures.parent c.in_ok-after.ensures.reference c.reference_child-reference.ensures c.in_ok-place.ensures.allowed c.place.new.world c.in_ok-place.ensures.placed
+    on-ok_both c.place.result
+    (λ allowed. follows-inserted c.args.world.now c.reference_after.new.world c.requires.whole c.args.range c.args.node range.start range c.ends-start.ensures.ends refl c.requires.node_held (checks-passed c.args.world.now c.args.range c.args.node range c.ends-start.ensures.ends c.requires.allowed).0 (checks-passed c.args.world.now c.args.range c.args.node range c.ends-start.ensures.ends c.requires.allowed).1 c.in_ok-after.ensures.split
+    c.parent_at-parent.result c.in_ok-after.after c.reference_child-reference.result c.parent_at-parent.ensures.parent c.in_ok-after.ensures.reference c.reference_child-reference.ensures allowed c.place.new.world)
+    c.place.ensures.allowed c.place.ensures.placed

@@ -1,4 +1,5 @@
 use Rattle.std.proofs.Common.{ℕ, None, sym, subst}
+use Rattle.std.proofs.lemmas.Result.{on_ok_weaker}
 use Rattle.dom_model.specs.Forests.Forest.{HasNode}
 use Rattle.dom_model.specs.RangesAndContents.Contents.{extract}
 use Rattle.dom_model.specs.MutationAlgorithms.Editing.{replace_all}
@@ -7,7 +8,7 @@ use Rattle.dom_content.specs.dom_edit.Whole.{unwatched}
 use Rattle.dom_content.specs.dom_edit.Following.{keeps-unwatched}
 use Rattle.dom_wrap.specs.Outcomes.{Passes, MayTake, put_around}
 use Rattle.dom_wrap.proofs.SurroundingRoom.{room-extract, room-emptied}
-use Rattle.dom_wrap.proofs.SurroundingSteps.{Stays, take-next, take-step, take-whole, extract-passes, stays-extracted, fragment-there, stays-emptied, passes-extracted, follows-surrounded, on-ok}
+use Rattle.dom_wrap.proofs.SurroundingSteps.{Stays, take-next, take-step, take-whole, extract-passes, stays-extracted, fragment-there, stays-emptied, passes-extracted, follows-surrounded}
 use Rattle.dom_wrap.proofs.surrounding.surround_allowed.Goals as goal
 
 pub extract_checked-requires-clause-room : goal.extract_checked-requires-clause-room
@@ -68,7 +69,7 @@ returns-clause-surrounded c =
     let r = c.args.range in
     let n = c.args.node in
     let last = c.put_around.new.world in
-    on-ok c.put_around.result
+    on_ok_weaker c.put_around.result
     (λ (put : Passes c.remove_children.new.world last (put_around r n c.in_ok-fragment.fragment)).
     follows-surrounded a b c.remove_children.new.world last c.requires.whole r n c.requires.held c.requires.allowed
     (passes-extracted a b c.requires.whole r c.requires.held (extract-passes c.args.world.now c.args.range c.args.node c.requires.held c.requires.allowed) c.in_ok-fragment.ensures.extracted) c.in_ok-remove_children.ensures.removed

@@ -43,20 +43,20 @@ returns-else-ne-clause-markers c =
     let out = c.remove_node.new.self in
     stand-by_adopt c.args.self.now out c.requires.whole c.in_ok-remove_node.ensures.whole out c.args.node c.in_ok-remove_node.ensures.removed refl refl
 
-pub returns-then-eq-clause-allowed : goal.returns-then-eq-clause-allowed
-returns-then-eq-clause-allowed c = search (tests, rules)
+pub returns-then-is_of_kind-clause-allowed : goal.returns-then-is_of_kind-clause-allowed
+returns-then-is_of_kind-clause-allowed c = search (tests, rules)
 
-pub returns-then-eq-clause-adopted : goal.returns-then-eq-clause-adopted
-returns-then-eq-clause-adopted c = search (tests, rules)
+pub returns-then-is_of_kind-clause-adopted : goal.returns-then-is_of_kind-clause-adopted
+returns-then-is_of_kind-clause-adopted c = search (tests, rules)
 
-pub returns-then-eq-clause-markers : goal.returns-then-eq-clause-markers
-returns-then-eq-clause-markers c = search (tests, rules)
+pub returns-then-is_of_kind-clause-markers : goal.returns-then-is_of_kind-clause-markers
+returns-then-is_of_kind-clause-markers c = search (tests, rules)
 
-pub returns-then-eq-clause-refused : goal.returns-then-eq-clause-refused
-returns-then-eq-clause-refused c = search (tests, rules)
+pub returns-then-is_of_kind-clause-refused : goal.returns-then-is_of_kind-clause-refused
+returns-then-is_of_kind-clause-refused c = search (tests, rules)
 
-pub returns-then-eq-clause-whole : goal.returns-then-eq-clause-whole
-returns-then-eq-clause-whole c = search (tests, rules)
+pub returns-then-is_of_kind-clause-whole : goal.returns-then-is_of_kind-clause-whole
+returns-then-is_of_kind-clause-whole c = search (tests, rules)
 
 pub returns-then-ne-clause-allowed : goal.returns-then-ne-clause-allowed
 returns-then-ne-clause-allowed c = search (tests, rules)

@@ -6,10 +6,11 @@ use Rattle.dom_model.specs.Worlds.World.{Registration}
 use Rattle.dom_model.specs.MutationObservers.Observing.{registered_on}
 use Rattle.dom_model.specs.MutationObservers.Records.{is_registered, is_transient_from, with_options, new_registration}
 use Rattle.dom_observe.specs.Watchers.{Watchers, Watches, on}
-use Rattle.dom_observe.specs.Registrations.{plain, at, listed, own_at, AllStand}
+use Rattle.dom_observe.specs.Registrations.{plain, at, listed, own_at, AllStand, HaveSources}
 use Rattle.dom_observe.specs.Kept.{nodes_of, keys_by, IsIndexed}
 use Rattle.dom_observe.proofs.Indexing.{from-left, indexed-changed, indexed-passing_ended, indexed-lasting}
-use Rattle.dom_observe.proofs.Outcomes.{on_ok, by_outcome, by_two}
+use Rattle.dom_observe.proofs.Outcomes.{on_ok, by_one, by_outcome, by_two}
+use Rattle.dom_observe.proofs.Sources.{sources-ended, sources-changed, sources-added}
 use Rattle.dom_observe.proofs.Counting.{tally, count-filter}
 use Rattle.dom_observe.proofs.Tables.{live_of_stands, found-added, stands-added}
 use Rattle.dom_observe.proofs.Keeping.{on-nodes_of, kept_table, keys_by-set, keys_by-at, keys_by-length, set_same}
@@ -32,6 +33,9 @@ invariant_of-self c =
       indexed-changed (at c.end_own.new.table) (at c.set_options.new.table) (listed c.end_own.new.nodes.entries) (keys_by a.lasting.items) (keys_by c.end_own.new.lists.items) a.fleeting.keys (length a.queues.items) c.in-Some.key c.args.options c.set_options.ensures.changed c.set_options.ensures.others
           (indexed-passing_ended (at a.table) (at c.end_own.new.table) (listed a.nodes.entries) (listed c.end_own.new.nodes.entries) (keys_by a.lasting.items) (keys_by a.passing.items) a.fleeting.keys (length a.queues.items) c.args.observer (From c.args.observer c.args.node) c.self.invariant.1 c.end_own.ensures.placed (keys_by c.end_own.new.lists.items)
           (let r = c.self.invariant.1.passing_room in omega arith) c.end_own.ensures.left c.end_own.ensures.keys),
+      sources-changed (at c.end_own.new.table) (at c.set_options.new.table) c.in-Some.key c.args.options c.set_options.ensures.changed c.set_options.ensures.others
+          (sources-ended (at a.table) (at c.end_own.new.table) (From c.args.observer c.args.node)
+          (from-left (at a.table) (at c.end_own.new.table) (listed a.nodes.entries) (keys_by a.lasting.items) (keys_by a.passing.items) a.fleeting.keys (length a.queues.items) c.args.observer c.args.node c.self.invariant.1 c.end_own.ensures.left) c.self.invariant.2),
     )
 
 pub returns-in-Some-clause-ok : goal.returns-in-Some-clause-ok
@@ -82,6 +86,9 @@ invariant_of-self-in-None c =
     (subst (λ l. IsIndexed (at a.table) (listed a.nodes.entries) l (keys_by a.passing.items) a.fleeting.keys made) (sym same_keys) c.self.invariant.1))) in (
       kept_table a.table a.nodes.entries a.queues.items a.pending.keys c.self.invariant.0 c.add.new.table c.add.new.nodes.entries c.add.ensures.unique stand (c.add.ensures.full c.self.invariant.0.full),
       subst (λ i. IsIndexed (at c.add.new.table) lists' (keys_by (slice_set ls i c.add.new.keys)) (keys_by a.passing.items) a.fleeting.keys made) (sym c.number.ensures) indexed,
+      by_one c.add.result c.add.ensures.ok c.add.ensures.err_table
+          (λ added. sources-added (at a.table) (at c.add.new.table) (listed a.nodes.entries) _ lists' added (λ n source. let none : None ≡ Some n = source in cc none) c.self.invariant.2)
+          (λ slots. subst (λ ss. HaveSources (λ k. option_map plain (slice_index_or ss k None))) (sym slots) c.self.invariant.2),
     )
 
 pub returns-in-None-clause-ok : goal.returns-in-None-clause-ok

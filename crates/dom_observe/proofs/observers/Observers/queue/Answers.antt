@@ -38,7 +38,7 @@ invariant_of-self g c =
     let a = c.self.inside in
     let qs = a.queues.items in
     let bounded = standing_stands (at a.table) (length qs) (listed a.nodes.entries) _ c.as_slice.result.now c.self.invariant.0.stand (c.as_slice.ensures.value ∙ c.in_ok-standing.ensures) in
-    (kept-queued a.table a.nodes.entries qs a.pending.keys c.self.invariant.0 qs c.listen.new.pending.keys refl c.listen.ensures.stay (c.listen.ensures.made (length qs) bounded c.self.invariant.0.made) (λ p off. refl), c.self.invariant.1)
+    (kept-queued a.table a.nodes.entries qs a.pending.keys c.self.invariant.0 qs c.listen.new.pending.keys refl c.listen.ensures.stay (c.listen.ensures.made (length qs) bounded c.self.invariant.0.made) (λ p off. refl), c.self.invariant.1, c.self.invariant.2)
 
 pub tell-requires-clause-made : goal.tell-requires-clause-made
 tell-requires-clause-made g c =
@@ -61,6 +61,7 @@ invariant_of-self-2 g c =
           c.listen.ensures.stay (c.listen.ensures.made (length qs) bounded c.self.invariant.0.made)
           (λ p off. c.tell.ensures.others p (c.in_ok-heard.ensures.heard p ∙ unheard p ls a.pending.keys c.listen.new.pending.keys c.in_ok-heard.ensures.pending off)),
       subst (IsIndexed (at a.table) (listed a.nodes.entries) (keys_by a.lasting.items) (keys_by a.passing.items) a.fleeting.keys) (sym same_length) c.self.invariant.1,
+      c.self.invariant.2,
     )
 
 pub returns-clause-queued : goal.returns-clause-queued

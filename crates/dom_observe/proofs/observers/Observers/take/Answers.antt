@@ -24,6 +24,7 @@ invariant_of-self c =
       subst (λ (qs : List (List Record)). IsKept a.table a.nodes.entries qs a.pending.keys) (sym c.take_from.ensures.emptied)
           (kept-emptied a.table a.nodes.entries a.queues.items a.pending.keys c.self.invariant.0 c.args.observer),
       subst (IsIndexed (at a.table) (listed a.nodes.entries) (keys_by a.lasting.items) (keys_by a.passing.items) a.fleeting.keys) (sym same_length) c.self.invariant.1,
+      c.self.invariant.2,
     )
 
 pub returns-clause-records : goal.returns-clause-records

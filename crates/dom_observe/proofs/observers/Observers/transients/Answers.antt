@@ -1,7 +1,7 @@
 -- The registrations that stand on the ancestors leave transient ones.
 use Rattle.std.proofs.Common.{◌≡◌, ℕ, Bool, true, false, if◌then◌else◌, ◌==◌, List, [], ◌∷◌, ◌++◌, length, filter, refl, ap, sym, ◌∙◌, subst, arith, append-nil}
 use Rattle.std.specs.List.{AllByRecursion}
-use Rattle.std.proofs.lemmas.Bool.{true≢false}
+use Rattle.std.proofs.lemmas.Bool.{true≢false, or_parts}
 use Rattle.dom_model.proofs.PlainLists.Numbers.{same_or, same, apart}
 use Rattle.dom_model.specs.Forests.Forest.{ancestors}
 use Rattle.dom_model.specs.Worlds.World.{Registration}
@@ -11,7 +11,6 @@ use Rattle.dom_observe.specs.Registrations.{at, found, listed, is_live, AllLive,
 use Rattle.dom_observe.specs.Kept.{nodes_of, keys_by}
 use Rattle.dom_observe.specs.Naming.{names_one}
 use Rattle.dom_observe.proofs.Holding.{names-only, names-same}
-use Rattle.dom_observe.proofs.Named.{or-left}
 use Rattle.dom_observe.proofs.Outcomes.{on_ok}
 use Rattle.dom_observe.proofs.Tables.{all_imply, live_of_stands}
 use Rattle.dom_observe.proofs.Keeping.{on-nodes_of, kept_table, keys_by-length, all_deep, stands_of, found_deep, deep-enough}
@@ -63,7 +62,7 @@ invariant_of-self g c =
     let bounded = subst (AllByRecursion (Stands (at a.table) made)) (sym (c.as_slice.ensures.value ∙ c.in_ok-standing.ensures))
     (all_deep (at a.table) (Stands (at a.table) made) (listed a.nodes.entries) (λ n. stands_of (at a.table) made n (on n (listed a.nodes.entries)) (c.self.invariant.0.stand n)) (ancestors c.args.parent c.args.tree.now.forest)) in
     let stand = c.add_transients.ensures.all_stand made bounded c.self.invariant.0.stand in
-    (kept_table a.table a.nodes.entries a.queues.items a.pending.keys c.self.invariant.0 c.add_transients.new.table c.add_transients.new.nodes.entries c.add_transients.ensures.unique stand (c.add_transients.ensures.full c.self.invariant.0.full), c.add_transients.ensures.indexed (keys_by a.lasting.items) made bounded c.self.invariant.1)
+    (kept_table a.table a.nodes.entries a.queues.items a.pending.keys c.self.invariant.0 c.add_transients.new.table c.add_transients.new.nodes.entries c.add_transients.ensures.unique stand (c.add_transients.ensures.full c.self.invariant.0.full), c.add_transients.ensures.indexed (keys_by a.lasting.items) made bounded c.self.invariant.1, c.add_transients.ensures.sources c.self.invariant.2)
 
 pub returns-clause-left : goal.returns-clause-left
 returns-clause-left g c =
@@ -93,7 +92,7 @@ returns-clause-names g c =
     let kept = kept_table a.table a.nodes.entries qs a.pending.keys c.self.invariant.0 c.add_transients.new.table c.add_transients.new.nodes.entries c.add_transients.ensures.unique stand (c.add_transients.ensures.full c.self.invariant.0.full) in
     names-only a.table a.nodes.entries qs a.pending.keys c.args.self.now c.self.view_is c.add_transients.new.table c.add_transients.new.nodes.entries qs a.pending.keys kept (c.args.node ∷ [])
     (λ p nameless names tells. (
-      c.add_transients.ensures.names p (or-left (p c.args.node) false nameless)
+      c.add_transients.ensures.names p (or_parts (p c.args.node) false nameless).0
           (subst (AllByRecursion (λ k. names_one p (at a.table k) ≡ false)) (sym keys) (all_deep (at a.table) (λ k. names_one p (at a.table k) ≡ false) lists names ns)) names,
       tells,
     ))

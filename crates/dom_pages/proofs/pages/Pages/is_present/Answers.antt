@@ -1,5 +1,5 @@
 -- What stands under a number stands in a cell of its page.
-use Rattle.std.proofs.Common.{◌≡◌, ◌/◌, ◌%◌, ◌≤◌, [], None, IsSome, length, slice_index_or, sym, ap, ◌∙◌, subst, arith}
+use Rattle.std.proofs.Common.{◌≡◌, ◌/◌, ◌≤◌, [], None, IsSome, length, slice_index_or, sym, ap, ◌∙◌, subst, arith}
 use Rattle.std.proofs.lemmas.List.{get_or_past}
 use Rattle.dom_pages.specs.Paged.{page_at, cells_of}
 use Rattle.dom_pages.proofs.Paging.{has_cell}

@@ -1,6 +1,7 @@
 -- Each step passes one node.
 use Rattle.std.proofs.Common.{sym, ◌∙◌}
-use Rattle.dom_ranges.proofs.Inside.{forgetting-top, forgetting-next, forgetting-end, forgetting-empty, smaller}
+use Rattle.dom_model.proofs.Forests.TreeOrder.InsideWalks.{smaller}
+use Rattle.dom_ranges.proofs.Inside.{forgetting-top, forgetting-next, forgetting-end, forgetting-empty}
 use Rattle.dom_ranges.proofs.ranges.Ranges.forget.Goals as goal
 
 pub loop-next-init : goal.loop-next-init

@@ -3,19 +3,19 @@ use Rattle.dom_model.specs.Worlds.World.{Point}
 use Rattle.dom_ranges.proofs.ranges.Ranges.set_end.Goals as goal
 
 pub same_root-requires-clause-b_held : goal.same_root-requires-clause-b_held
-same_root-requires-clause-b_held g c = rw (ap (λ (q : Point). q.node) c.start.view_is) (c.requires.stands _ c.ends-start.ensures.ends).start
+same_root-requires-clause-b_held g c = rw (ap (λ (q : Point). q.node) c.start.view_is) (c.requires.stands _ c.ends.ensures.ends).start
 
-pub is_before-requires-clause-b_held : goal.is_before-requires-clause-b_held
-is_before-requires-clause-b_held g c = rw (ap (λ (q : Point). q.node) c.start.view_is) (c.requires.stands _ c.ends-start.ensures.ends).start
+pub found_before-requires-clause-b_held : goal.found_before-requires-clause-b_held
+found_before-requires-clause-b_held g c = (c.requires.stands _ c.ends.ensures.ends).start
 
-pub returns-then-not-is_before-clause-refusal : goal.returns-then-not-is_before-clause-refusal
-returns-then-not-is_before-clause-refusal g c = search (tests, rules)
+pub returns-then-not-found_before-clause-refusal : goal.returns-then-not-found_before-clause-refusal
+returns-then-not-found_before-clause-refusal g c = search (tests, rules)
 
-pub returns-then-not-is_before-clause-set : goal.returns-then-not-is_before-clause-set
-returns-then-not-is_before-clause-set g c = search (tests, rules)
+pub returns-then-not-found_before-clause-set : goal.returns-then-not-found_before-clause-set
+returns-then-not-found_before-clause-set g c = search (tests, rules)
 
-pub returns-then-not-is_before-clause-unchanged : goal.returns-then-not-is_before-clause-unchanged
-returns-then-not-is_before-clause-unchanged g c = search (tests, rules)
+pub returns-then-not-found_before-clause-unchanged : goal.returns-then-not-found_before-clause-unchanged
+returns-then-not-found_before-clause-unchanged g c = search (tests, rules)
 
 pub returns-else-same_root-clause-refusal : goal.returns-else-same_root-clause-refusal
 returns-else-same_root-clause-refusal g c = search (tests, rules)

@@ -1,6 +1,6 @@
 -- The iterators of one node more give way.
 use Rattle.std.proofs.Common.{sym, ◌∙◌}
-use Rattle.dom_traverse.proofs.InsideWalks.{smaller}
+use Rattle.dom_model.proofs.Forests.TreeOrder.InsideWalks.{smaller}
 use Rattle.dom_traverse.proofs.LeavingInside.{leaving-top, leaving-next, leaving-end}
 use Rattle.dom_traverse.proofs.iterators.NodeIterators.removing_inside.Goals as goal
 

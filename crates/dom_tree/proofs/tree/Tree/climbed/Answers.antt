@@ -1,5 +1,5 @@
 -- Each step goes to the parent, which is there as long as more than the node itself is above it.
-use Rattle.std.proofs.Common.{◌≡◌, ◌+◌, ◌<◌, length, None, IsSome, refl, sym, ap, ◌∙◌, subst, arith}
+use Rattle.std.proofs.Common.{◌≡◌, ◌<◌, length, None, IsSome, refl, sym, ap, ◌∙◌, subst, arith}
 use Rattle.dom_model.specs.Forests.Arena.{IsHeld}
 use Rattle.dom_model.specs.Forests.Forest.{ancestors}
 use Rattle.dom_model.proofs.Forests.Above.{above}

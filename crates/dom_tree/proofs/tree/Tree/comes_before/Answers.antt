@@ -6,6 +6,3 @@ returns-then-eq g c = search (tests, rules)
 
 pub returns : goal.returns
 returns g c = search (tests, rules)
-
-pub returns-2 : goal.returns-2
-returns-2 g c = search (tests, rules)

@@ -1,8 +1,8 @@
 -- As deep as one another, and of one root, two nodes that are not one both have a parent.
-use Rattle.std.proofs.Common.{◌≡◌, ◌==◌, Some, IsSome, true, length, refl, sym, ap, ◌∙◌, subst, arith}
+use Rattle.std.proofs.Common.{◌≡◌, Some, IsSome, true, length, sym, ap, ◌∙◌, subst, arith}
 use Rattle.std.proofs.lemmas.Bool.{eqb-true, eqb-false}
 use Rattle.dom_model.specs.PlainLists.Lists.{among}
-use Rattle.dom_model.specs.Forests.Forest.{ancestors, parent_of, root_of}
+use Rattle.dom_model.specs.Forests.Forest.{ancestors, root_of}
 use Rattle.dom_model.proofs.Forests.Above.{above}
 use Rattle.dom_model.proofs.Forests.Entries.{occurs-HasNode}
 use Rattle.dom_model.proofs.Forests.ToTheRoot.{shorter, root-above}

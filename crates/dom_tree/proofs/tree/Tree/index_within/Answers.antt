@@ -1,6 +1,6 @@
 -- Each step counts one on both sides, so where all were made the index is more than the steps.
-use Rattle.std.proofs.Common.{◌≡◌, Some, length, refl, sym, ap, ◌∙◌, subst, arith}
-use Rattle.dom_model.specs.Forests.Arena.{entry_at, parent_in, siblings_in}
+use Rattle.std.proofs.Common.{◌≡◌, length, refl, sym, ap, ◌∙◌, subst, arith}
+use Rattle.dom_model.specs.Forests.Arena.{siblings_in}
 use Rattle.dom_model.specs.Forests.Forest.{entry_in, parent_of, index_of}
 use Rattle.dom_model.proofs.Forests.Siblings.{index-step, index-first, index-within}
 use Rattle.dom_tree.proofs.Beside.{forward-step, sides-end}

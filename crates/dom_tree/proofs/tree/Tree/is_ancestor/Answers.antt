@@ -1,5 +1,5 @@
 -- Each step goes to the parent, past a node that is not the one.
-use Rattle.std.proofs.Common.{◌≡◌, ◌==◌, false, true, refl, ap, sym, ◌∙◌}
+use Rattle.std.proofs.Common.{◌==◌, ap, sym, ◌∙◌}
 use Rattle.std.proofs.lemmas.Bool.{not-true, not-false}
 use Rattle.std.specs.Prelude.{is_some}
 use Rattle.dom_model.specs.PlainLists.Lists.{among}

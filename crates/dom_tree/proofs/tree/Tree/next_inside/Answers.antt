@@ -1,10 +1,9 @@
 -- The first child, or else the next sibling of the nearest ancestor below the top that has one.
-use Rattle.std.proofs.Common.{◌≡◌, ◌==◌, ◌<◌, None, IsSome, ap, sym, ◌∙◌, subst}
+use Rattle.std.proofs.Common.{◌==◌, ◌<◌, None, IsSome, ap, sym, ◌∙◌, subst}
 use Rattle.std.proofs.lemmas.Bool.{not-true, not-false, eqb-true, eqb-false}
 use Rattle.dom_model.specs.PlainLists.Lists.{head_of}
-use Rattle.dom_model.specs.Forests.Forest.{children_of, parent_of, occurs, tree_at}
+use Rattle.dom_model.specs.Forests.Forest.{children_of, occurs, tree_at}
 use Rattle.dom_model.proofs.Forests.Above.{above}
-use Rattle.dom_model.proofs.Forests.Changes.{seen, nothing, just}
 use Rattle.dom_model.proofs.Forests.ToTheRoot.{shorter, inside}
 use Rattle.dom_model.proofs.Forests.TreeOrder.Ordering.{past}
 use Rattle.dom_model.proofs.Forests.TreeOrder.Stepping.{first-after, none-after, tree-next, tree-up, tree-top, tree-parent}

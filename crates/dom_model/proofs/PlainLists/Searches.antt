@@ -1,16 +1,20 @@
 -- Searches in lists of numbers, by what is among them.
-use Rattle.std.proofs.Common.{◌≡◌, ℕ, ◌==◌, Bool, true, false, ◌||◌, if◌then◌else◌, List, [], ◌∷◌, ◌++◌, refl, sym, ◌∙◌, subst}
+use Rattle.std.proofs.Common.{◌≡◌, ℕ, ◌==◌, ◌<◌, Bool, true, false, ◌||◌, if◌then◌else◌, List, [], ◌∷◌, ◌++◌, refl, ap, sym, ◌∙◌, subst, arith}
 use Rattle.std.specs.List.{list_any}
-use Rattle.std.proofs.lemmas.Bool.{true≢false}
-use Rattle.dom_model.specs.PlainLists.Lists.{among}
+use Rattle.std.proofs.lemmas.Bool.{true≢false, or_parts, or_from}
+use Rattle.dom_model.specs.PlainLists.Lists.{hits, among, from_first}
 use Rattle.dom_model.proofs.PlainLists.Numbers.{same_or, same, apart}
-use Rattle.dom_observe.proofs.Named.{or-left, or-right, neither, alike}
+use Rattle.dom_model.proofs.PlainLists.Heads.{among-first}
 
-among-first : (x : ℕ) (xs : List ℕ) → among x (x ∷ xs) ≡ true
-among-first x xs = elim (same_or x x) [ same e t ↦ rw t refl | apart ne t ↦ absurd (ne refl) ]
+-- two answers that are no alike are the same
+pub alike : (a b : Bool) → (a ≡ false → b ≡ false) → (b ≡ false → a ≡ false) → a ≡ b
+alike true true f g = refl
+alike true false f g = g refl
+alike false true f g = sym (f refl)
+alike false false f g = refl
 
-among-rest : (n x : ℕ) (xs : List ℕ) → among n xs ≡ true → among n (x ∷ xs) ≡ true
-among-rest n x xs h = go (x == n)
+among-later : (n x : ℕ) (xs : List ℕ) → among n xs ≡ true → among n (x ∷ xs) ≡ true
+among-later n x xs h = go (x == n)
   where
     go : (b : Bool) → (if b then true else among n xs) ≡ true
     go true = refl
@@ -30,13 +34,13 @@ module _ (p : ℕ → Bool) where
   pub passes_not : (xs : List ℕ) (n : ℕ) → list_any p xs ≡ false → among n xs ≡ true → p n ≡ false
   passes_not [] n none h = absurd (true≢false (sym h))
   passes_not (x ∷ xs) n none h = elim (same_or x n) [
-    | same e t ↦ subst (λ m. p m ≡ false) e (or-left (p x) (list_any p xs) none)
-    | apart ne t ↦ let k = rw t at h in passes_not xs n (or-right (p x) (list_any p xs) none) k
+    | same e t ↦ subst (λ m. p m ≡ false) e ((or_parts (p x) (list_any p xs) none).0)
+    | apart ne t ↦ let k = rw t at h in passes_not xs n ((or_parts (p x) (list_any p xs) none).1) k
   ]
 
   pub none-each : (xs : List ℕ) → ((n : ℕ) → among n xs ≡ true → p n ≡ false) → list_any p xs ≡ false
   none-each [] h = refl
-  none-each (x ∷ xs) h = neither (p x) (list_any p xs) (h x (among-first x xs)) (none-each xs (λ n t. h n (among-rest n x xs t)))
+  none-each (x ∷ xs) h = or_from (p x) (list_any p xs) (h x (among-first x xs)) (none-each xs (λ n t. h n (among-later n x xs t)))
 
   -- lists with the same numbers pass alike
   pub any-same : (xs ys : List ℕ) → ((n : ℕ) → among n xs ≡ among n ys) → list_any p xs ≡ list_any p ys
@@ -56,3 +60,11 @@ any-either xs ys =
 
     one_way : (xs ys : List ℕ) → list_any (λ m. among m xs) ys ≡ false → list_any (λ m. among m ys) xs ≡ false
     one_way xs ys none = none-each (λ m. among m ys) xs (λ n h. not_both (among n xs) (among n ys) h (passes_not (λ m. among m xs) ys n none))
+
+-- a search from a number that passes
+pub any-from : (p : ℕ → Bool) (n : ℕ) (l : List ℕ) → 0 < hits n l → p n ≡ true → list_any p (from_first n l) ≡ true
+any-from p n [] h e = absurd (omega arith)
+any-from p n (x ∷ xs) h e = elim (same_or x n) [
+  | same d t ↦ rw t (ap (λ b. b || list_any p xs) (ap p d ∙ e))
+  | apart ne t ↦ let w = rw t at h in rw t (any-from p n xs (omega arith) e)
+]

@@ -1,0 +1,100 @@
+-- The nodes that registrations name are those that have keys.
+use Rattle.std.proofs.Common.{◌≡◌, ℕ, Bool, true, false, List, [], ◌∷◌, length, Option, Some, None, refl, ap, sym, ◌∙◌, subst, nat_eq}
+use Rattle.std.specs.Prelude.{Vec}
+use Rattle.std.specs.Map.{lookup, keys_of}
+use Rattle.std.specs.List.{list_any, AllByRecursion}
+use Rattle.std.proofs.lemmas.Bool.{true≢false, or_parts, or_from}
+use Rattle.slab.specs.Slab.{Slab}
+use Rattle.dom_model.specs.PlainLists.Lists.{among}
+use Rattle.dom_model.specs.Worlds.World.{Registration}
+use Rattle.dom_model.specs.MutationObservers.Record.{Record}
+use Rattle.dom_model.specs.MutationAlgorithms.Discarding.{if_any, nodes_of_registration}
+use Rattle.dom_model.proofs.PlainLists.Numbers.{same_or, same, apart}
+use Rattle.dom_model.proofs.PlainLists.Searches.{alike, passes_not, none-each}
+use Rattle.dom_observe.specs.declared.registration.Registration as held
+use Rattle.dom_observe.specs.Watchers.{on}
+use Rattle.dom_observe.specs.Registrations.{at, listed, is_on, StandsOn, HaveKeys, HaveSources, Placed}
+use Rattle.dom_observe.specs.Kept.{nodes_of, IsKept}
+use Rattle.dom_observe.specs.Naming.{names_one, NamesNone}
+use Rattle.dom_observe.proofs.Holding.{none_under_keys, none_registered}
+use Rattle.dom_observe.proofs.Keys.{keys_in, on-looked}
+use Rattle.dom_observe.proofs.Sources.{own-shape}
+use Rattle.dom_observe.proofs.Tables.{all_imply}
+
+module _ {A : Type 0} where
+  -- a node with a key is listed
+  listed-there : (n k : ℕ) (es : List (ℕ × Vec ℕ A)) → among k (on n (listed es)) ≡ true → among n (keys_of es) ≡ true
+  listed-there n k [] h = absurd (true≢false (sym h))
+  listed-there n k (e ∷ es) h =
+      elim (same_or e.0 n) [
+        | same d t ↦ rw t refl
+        | apart ne t ↦ elim (same_or n e.0) [
+          | same d u ↦ absurd (ne (sym d))
+          | apart _ u ↦ let g = rw u at h in rw t (listed-there n k es g)
+        ]
+      ]
+
+  -- what a node that is listed has
+  listed-found : (n : ℕ) (es : List (ℕ × Vec ℕ A)) → among n (keys_of es) ≡ true → (keys : List ℕ) × (lookup (nat_eq n) (listed es) ≡ Some keys)
+  listed-found n [] h = absurd (true≢false (sym h))
+  listed-found n (e ∷ es) h =
+      elim (same_or n e.0) [
+        | same d t ↦ (e.1.items, rw t refl)
+        | apart ne t ↦ elim (same_or e.0 n) [
+          | same d u ↦ absurd (ne (sym d))
+          | apart _ u ↦ let g = rw u at h in let f = listed-found n es g in (f.0, rw t f.1)
+        ]
+      ]
+
+  first-key : (n : ℕ) (es : List (ℕ × Vec ℕ A)) → HaveKeys (listed es) → among n (keys_of es) ≡ true → (k : ℕ) × (keys : List ℕ) × (on n (listed es) ≡ k ∷ keys)
+  first-key n es full there = go f.0 refl
+    where
+      f : (keys : List ℕ) × (lookup (nat_eq n) (listed es) ≡ Some keys)
+      f = listed-found n es there
+
+      go : (keys : List ℕ) → f.0 ≡ keys → (k : ℕ) × (rest : List ℕ) × (on n (listed es) ≡ k ∷ rest)
+      go [] is = absurd (full n f.0 f.1 is)
+      go (k ∷ keys) is = (k, keys, on-looked n (listed es) ∙ ap keys_in f.1 ∙ is)
+
+module _ {A : Type 0} (table : Slab held.Registration) (entries : List (ℕ × Vec ℕ A)) (queues : List (List Record)) (pending : List ℕ)
+    (kept : IsKept table entries queues pending) (placed : Placed (at table) (listed entries)) (have : HaveSources (at table)) (p : ℕ → Bool) where
+  -- the node of a registration has its key
+  has_key : (k : ℕ) (r : Registration) → at table k ≡ Some r → among r.node (keys_of entries) ≡ true
+  has_key k r is = listed-there r.node k entries (placed r.node k ∙ ap (is_on r.node) is ∙ elim (same_or r.node r.node) [ same e t ↦ t | apart ne t ↦ absurd (ne refl) ])
+
+  -- the source of a transient one has the key of another
+  none_named : list_any p (keys_of entries) ≡ false → NamesNone p (at table) (listed entries)
+  none_named none n = all_imply (StandsOn (at table) (length queues) n) (λ k. names_one p (at table k) ≡ false) one (on n (listed entries)) (kept.stand n)
+    where
+      source : (k : ℕ) (r : Registration) → at table k ≡ Some r → (o : Option ℕ) → r.source ≡ o → list_any p (if_any o) ≡ false
+      source k r is None e = refl
+      source k r is (Some m) e =
+          let w = have k r m is e in
+          let s = own-shape r.observer m (at table w.key) w.own in
+          or_from (p m) false (passes_not p (keys_of entries) m none (subst (λ i. among i (keys_of entries) ≡ true) s.3 (has_key w.key s.0 s.1))) refl
+
+      one : (k : ℕ) → StandsOn (at table) (length queues) n k → names_one p (at table k) ≡ false
+      one k s =
+          let r = s.registration in
+          ap (names_one p) s.is
+          ∙ or_from (p r.node) (list_any p (if_any r.source)) (passes_not p (keys_of entries) r.node none (has_key k r s.is)) (source k r s.is r.source refl)
+
+  -- each node with keys is that of a registration
+  none_keyed : NamesNone p (at table) (listed entries) → list_any p (keys_of entries) ≡ false
+  none_keyed none = none-each p (keys_of entries) one
+    where
+      one : (n : ℕ) → among n (keys_of entries) ≡ true → p n ≡ false
+      one n there =
+          let f = first-key n entries kept.full there in
+          let stand = subst (AllByRecursion (StandsOn (at table) (length queues) n)) f.2 (kept.stand n) in
+          let nameless = subst (AllByRecursion (λ k. names_one p (at table k) ≡ false)) f.2 (none n) in
+          let r = stand.0.registration in
+          subst (λ m. p m ≡ false) stand.0.node (or_parts (p r.node) (list_any p (if_any r.source)) (sym (ap (names_one p) stand.0.is) ∙ nameless.0)).0
+
+  -- so these nodes are asked in place of the registrations
+  pub any-keyed : list_any p (keys_of entries) ≡ list_any (λ (e : ℕ × List Registration). list_any (λ r. list_any p (nodes_of_registration r)) e.1) (nodes_of table entries)
+  any-keyed =
+      let one = λ (r : Registration). list_any p (nodes_of_registration r) in
+      alike (list_any p (keys_of entries)) (list_any (λ (e : ℕ × List Registration). list_any one e.1) (nodes_of table entries))
+      (λ none. none_registered table entries one kept.unique (none_named none))
+      (λ none. none_keyed (none_under_keys table entries one none))

@@ -1,1 +1,0 @@
-use Rattle.dom_ranges.proofs.statics.Statics.new.Goals as goal

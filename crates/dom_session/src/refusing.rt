@@ -1,0 +1,25 @@
+//! What stands in the way of a command, where groups of commands share it.
+
+ghost use Rattle.std.specs.Prelude.{◌≡◌, option_map};
+ghost use Rattle.dom_model.specs.Forests.Kinds.{is_kind};
+ghost use Rattle.dom_session.specs.Views.{reply_view};
+ghost use Rattle.dom_session.specs.Refusing.{kind_refusal};
+
+use crate::reply::Reply;
+use dom_model::OwnError;
+use dom_wrap::of_edit::World;
+use dom_wrap::of_kinds::{DomError, Kind};
+use dom_wrap::of_tree::NodeId;
+
+/// Why a command on nodes of one kind may not act on a node.
+pub fn kind_refusal(world: &World, node: NodeId, kind: Kind) -> Option<Reply>
+    ensures { option_map reply_view result ≡ kind_refusal (is_kind kind) world.now node }
+{
+    if !world.tree.holds(node) {
+        return Some(Reply::Own(OwnError::NoSuchObject));
+    }
+    if !world.tree.is_of_kind(node, kind) {
+        return Some(Reply::Dom(DomError::TypeError));
+    }
+    None
+}

@@ -1,0 +1,11 @@
+-- None of the nodes that the test knows was passed.
+use Rattle.std.proofs.Common.{◌≡◌, ℕ, Bool, List}
+use Rattle.dom_model.specs.PlainLists.Lists.{among}
+use Rattle.dom_model.proofs.Forests.TreeOrder.InsideWalks.{IsAt, IsSearching}
+use Rattle.dom_tree.proofs.tree.Tree.any_inside.Given as goal
+
+abbrev pub invariant-loop-step : goal.invariant-loop-step
+invariant-loop-step g l = record {
+  at : IsAt l.self.forest l.top l.here;
+  searching : (nodes : List ℕ) → ((n : ℕ) (passes : Bool) → goal.F-post g l.test n passes → passes ≡ among n nodes) → IsSearching l.self.forest l.top nodes l.here;
+}

@@ -1,0 +1,89 @@
+//! What stands inside a node: its inclusive descendants (DOM Standard, "Trees").
+
+ghost use Rattle.std.specs.Prelude.{◌≡◌, ℕ, Bool, List, Some, IfSome, true};
+ghost use Rattle.std.specs.List.{list_any};
+ghost use Rattle.dom_model.specs.PlainLists.Lists.{among, after, last_of};
+ghost use Rattle.dom_model.specs.Forests.Forest.{HasNode, ancestors, inclusive_descendants};
+
+use crate::node_id::NodeId;
+use crate::tree::{Tree, number_of, slot_at, slot_of};
+
+impl<X> Tree<X> {
+    /// Whether a number is that of an inclusive descendant of `top`. The tree may hold neither; it does not climb where `top` has no children.
+    pub fn is_inside(&self, top: NodeId, node: NodeId) -> bool
+        ensures { result ≡ among node (inclusive_descendants self.now.forest top) }
+    {
+        self.sound();
+        self.links.sound();
+        let Some(slot) = slot_at(&self.table, top) else {
+            return false;
+        };
+        match self.links.first(slot) {
+            None => node == top,
+            Some(_) => self.holds(node) && self.is_ancestor(top, node),
+        }
+    }
+
+    /// The node that follows in tree order, among the inclusive descendants of `top`.
+    pub fn next_inside(&self, top: NodeId, id: NodeId) -> Option<NodeId>
+        requires held { HasNode self.now.forest id }
+        requires under { among top (ancestors id self.now.forest) ≡ true }
+        ensures { result ≡ after id (inclusive_descendants self.now.forest top) }
+    {
+        self.sound();
+        self.links.sound();
+        let mut here = slot_of(&self.table, id);
+        if let Some(child) = self.links.first(here) {
+            return Some(number_of(&self.links, child));
+        }
+        let end = slot_of(&self.table, top);
+        while here != end {
+            if let Some(next) = self.links.next(here) {
+                return Some(number_of(&self.links, next));
+            }
+            here = self.links.parent(here).unwrap();
+        }
+        None
+    }
+
+    /// The last of the inclusive descendants in tree order.
+    pub fn last_inside(&self, id: NodeId) -> NodeId
+        requires { HasNode self.now.forest id }
+        ensures { Some result ≡ last_of (inclusive_descendants self.now.forest id) }
+    {
+        self.sound();
+        self.links.sound();
+        let mut here = slot_of(&self.table, id);
+        while let Some(last) = self.links.last(here) {
+            here = last;
+        }
+        number_of(&self.links, here)
+    }
+
+    /// Whether a test passes for an inclusive descendant of `top`. It asks them in tree order, and where it has asked `steps` of them, and there are more, it has no answer.
+    ///
+    /// The clause is for a test that tells whether a node is one of some.
+    pub fn any_inside<F: Fn(NodeId) -> bool>(
+        &self,
+        top: NodeId,
+        steps: usize,
+        test: F,
+    ) -> Option<bool>
+        requires held { HasNode self.now.forest top }
+        requires callable { F.IsAlwaysCallable test }
+        ensures { (nodes : List ℕ) → ((n : ℕ) (passes : Bool) → F.post test n passes → passes ≡ among n nodes) → IfSome result (λ any. any ≡ list_any (λ m. among m (inclusive_descendants self.now.forest top)) nodes) }
+    {
+        self.sound();
+        let mut here = top;
+        for _step in 0..steps {
+            if test(here) {
+                return Some(true);
+            }
+            match self.next_inside(top, here) {
+                Some(next) => here = next,
+                None => return Some(false),
+            }
+        }
+        None
+    }
+}
