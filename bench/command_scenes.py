@@ -215,6 +215,14 @@ def discarded_beside_records(records):
     return watch + texts + [["setAttribute", 1, "a", "v"] for _ in range(records)], [["discard", 2 + k] for k in range(COMMANDS)], COMMANDS
 
 
+def discarded_beside_observed(nodes):
+    """Texts without a parent go, while other nodes are observed."""
+    making = [["createObserver"]] + [["createText", 0, "a"] for _ in range(COMMANDS)]
+    for number in range(COMMANDS + 1, COMMANDS + nodes + 1):
+        making += [["createElement", 0, "p"], ["observe", 0, number, {"attributes": True}]]
+    return making, [["discard", 1 + k] for k in range(COMMANDS)], COMMANDS
+
+
 def discarded_beside_static_ranges(ranges):
     """Texts without a parent go, while static ranges of another node stand."""
     texts = [["createText", 0, "a"] for _ in range(COMMANDS)]
@@ -268,6 +276,13 @@ def compared_in_the_midst(children):
     return put_in_front(children) + ends, [["comparePoint", 0, 1, children // 2 + k % 3] for k in range(100)], 100
 
 
+def set_far_from_the_end(children):
+    """A range starts anew in children that were each put in front, while it ends in another, far from these."""
+    there = 2 * children // 3
+    ends = [["createRange", 0], ["setEnd", 0, children // 3, 0], ["setStart", 0, there, 0]]
+    return put_in_front(children) + ends, [["setStart", 0, there + k % 3, 0] for k in range(100)], 100
+
+
 def moved_beside_released(ranges):
     """A group of a hundred leaves moves to and fro, while ranges stand that were released, and one that is live."""
     nodes = 1000
@@ -319,12 +334,14 @@ PAIRS = (
     ("observe of a node that is observed", ("among 100 observers", "among 10,000"), observed_again, (100, 10000)),
     ("a child that comes, goes and is told of", ("after 1 removal told of", "after 10,000 told of at once"), notified_after, (1, 10000)),
     ("discard of a Text", ("with no record that waits", "beside 50,000"), discarded_beside_records, (0, 50000)),
+    ("discard of a Text", ("with no other node observed", "with 10,000"), discarded_beside_observed, (0, 10000)),
     ("discard of a Text", ("with no static range", "beside 50,000"), discarded_beside_static_ranges, (0, 50000)),
     ("discard of an element with two Texts", ("with no static range", "beside 50,000"), groups_discarded_beside_static_ranges, (0, 50000)),
     ("discard of a Text", ("with no iterator or walker", "beside 10,000 of each"), discarded_beside_walks, (0, 10000)),
     ("discard of a Document", ("after 100 other nodes went", "after 100,000"), documents_discarded, (100, 100000)),
     ("selectNode in the midst", ("of 100 children", "of 50,000"), selected_in_the_midst, (100, 50000)),
     ("comparePoint in the midst", ("of 100 children", "of 50,000"), compared_in_the_midst, (100, 50000)),
+    ("setStart far from the end", ("among 100 children", "among 50,000"), set_far_from_the_end, (100, 50000)),
     ("a group that moves", ("with no released range", "beside 10,000"), moved_beside_released, (0, 10000)),
     ("extractContents out of a chain, for each level", ("40 deep", "4,000 deep"), taken_out_of_a_chain, (40, 4000)),
     ("cloneContents out of a chain, for each level", ("40 deep", "4,000 deep"), cloned_out_of_a_chain, (40, 4000)),
