@@ -15,7 +15,7 @@ use crate::kept::Kept;
 use crate::places::{Ends, IteratorAt, Place, StaticEnds, WalkerAt};
 use crate::status::{HP_NONE, HP_OK};
 use crate::telling::flag_number;
-use dom_session::of_kinds::NodeType;
+use dom_kinds::NodeType;
 use dom_session::{Answer, Kind, NodeId};
 use dom_wire::{Command, Reply};
 

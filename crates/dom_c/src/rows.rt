@@ -12,7 +12,7 @@ use crate::kept::Kept;
 use crate::labels::name_part;
 use crate::lending::{Bytes, Text};
 use crate::status::{HP_CLOSED, HP_NOT_THERE, HP_OK, HP_OUT_OF_MEMORY};
-use dom_session::of_kinds::NodeType;
+use dom_kinds::NodeType;
 use dom_session::{Answer, Kind, TreeRow};
 use dom_wire::Reply;
 

@@ -11,7 +11,7 @@ use Rattle.dom_model.specs.RangesAndContents.Ranges.{check_point}
 use Rattle.dom_model.specs.Soundness.Sound.{IsBoundary, IsRange}
 use Rattle.dom_model.proofs.Forests.Entries.{occurs-HasNode}
 use Rattle.dom_model.proofs.RangesAndContents.RangesSet.{boundary_checked}
-use Rattle.dom_wrap.specs.dom_ranges.Tables.{IsBoundaryIn, IsRangeIn, refused}
+use Rattle.dom_ranges.specs.Tables.{IsBoundaryIn, IsRangeIn, refused}
 
 not_refused : (o : Option DomError) → is_ok (refused o) ≡ true → o ≡ None
 not_refused None h = refl

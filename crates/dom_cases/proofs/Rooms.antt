@@ -9,9 +9,9 @@ use Rattle.dom_model.proofs.Counting.CountsOfContents.{size-original}
 use Rattle.dom_model.proofs.Counting.CountsOfExtraction.{IsGrownTo, extract-grown, surround-to}
 use Rattle.dom_model.proofs.Counting.CopiesOfContents.{clone_contents-grown}
 use Rattle.dom_model.proofs.Counting.NumbersKept.{in_order}
-use Rattle.dom_wrap.specs.dom_edit.declared.world.World.{World}
-use Rattle.dom_wrap.specs.dom_edit.Whole.{IsWhole, unwatched}
-use Rattle.dom_wrap.specs.dom_edit.Leaving.{sound-unwatched}
+use Rattle.dom_edit.specs.declared.world.World.{World}
+use Rattle.dom_edit.specs.Whole.{IsWhole, unwatched}
+use Rattle.dom_edit.proofs.Leaving.{sound-unwatched}
 use Rattle.dom_wrap.specs.Outcomes.{left_by}
 
 pub room-copy_few : (made : ℕ) (deep : Bool) (n : ℕ) (f : Forest Content) → made < 1000 → size f < 1000 → made + size (original deep n f) ≤ 4294967295

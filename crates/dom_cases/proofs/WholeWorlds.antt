@@ -3,11 +3,11 @@ use Rattle.std.proofs.Common.{◌≡◌, ℕ, true, [], ◌∷◌, subst}
 use Rattle.dom_model.specs.PlainLists.Lists.{among}
 use Rattle.dom_model.specs.Forests.Forest.{HasNode}
 use Rattle.dom_model.proofs.PlainLists.Numbers.{same_or, same, apart}
-use Rattle.dom_wrap.specs.dom_observe.Held.{NamesOnly}
-use Rattle.dom_wrap.specs.dom_observe.HeldNames.{held-after}
-use Rattle.dom_wrap.specs.dom_observe.Watchers.{Watchers}
-use Rattle.dom_wrap.specs.dom_edit.declared.world.World.{World}
-use Rattle.dom_wrap.specs.dom_edit.Whole.{IsWhole}
+use Rattle.dom_observe.specs.Held.{NamesOnly}
+use Rattle.dom_observe.proofs.HeldNames.{held-after}
+use Rattle.dom_observe.specs.Watchers.{Watchers}
+use Rattle.dom_edit.specs.declared.world.World.{World}
+use Rattle.dom_edit.specs.Whole.{IsWhole}
 
 module _ (v : World) (whole : IsWhole v) where
   pub whole-watched : (n : ℕ) (o : Watchers) → HasNode v.tree.forest n → NamesOnly (n ∷ []) v.observers o → IsWhole (record v { observers = o })

@@ -22,10 +22,10 @@ use Rattle.dom_model.proofs.Forests.KindsFitting.{KindsFit-root}
 use Rattle.dom_model.proofs.Forests.Paths.{parent-path}
 use Rattle.dom_model.proofs.Forests.Standing.{Stands, Tree, tree_of}
 use Rattle.dom_model.proofs.Worlds.Measured.{entry-beside}
-use Rattle.dom_data.specs.dom_tree.Standing.{MayStand}
-use Rattle.dom_data.specs.dom_edit.declared.world.World.{World}
-use Rattle.dom_data.specs.dom_edit.Whole.{IsWhole, Follows, unwatched}
-use Rattle.dom_data.specs.dom_edit.Following.{follows-then, keeps-unwatched}
+use Rattle.dom_tree.specs.Standing.{MayStand}
+use Rattle.dom_edit.specs.declared.world.World.{World}
+use Rattle.dom_edit.specs.Whole.{IsWhole, Follows, unwatched}
+use Rattle.dom_edit.proofs.Following.{follows-then, keeps-unwatched}
 use Rattle.dom_clone.specs.declared.waiting.Waiting.{Waiting}
 use Rattle.dom_clone.specs.Growing.{made_under}
 use Rattle.dom_clone.specs.Waits.{waiting_for}

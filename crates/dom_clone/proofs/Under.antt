@@ -27,13 +27,13 @@ use Rattle.dom_model.proofs.Forests.OneMoreRoot.{entry-more, entry-new, parent-n
 use Rattle.dom_model.proofs.Forests.ForestsBeside.{ancestors-older}
 use Rattle.dom_model.proofs.Worlds.Owners.{HasOwners-put}
 use Rattle.dom_model.proofs.Soundness.SoundPlacing.{sound-put_one}
-use Rattle.dom_data.specs.dom_tree.Standing.{MayStand}
-use Rattle.dom_data.specs.dom_observe.Watchers.{Watches}
-use Rattle.dom_data.specs.dom_edit.declared.world.World.{World}
-use Rattle.dom_data.specs.dom_edit.Whole.{IsWhole, AreHeld, Keeps, Follows, unwatched}
-use Rattle.dom_data.specs.dom_edit.Covering.{covered-kept}
-use Rattle.dom_data.specs.dom_observe.HeldNames.{held-kept}
-use Rattle.dom_data.specs.dom_edit.Following.{follows-then, keeps-unwatched, sound-unwatched, whole-sound}
+use Rattle.dom_tree.specs.Standing.{MayStand}
+use Rattle.dom_observe.specs.Watchers.{Watches}
+use Rattle.dom_edit.specs.declared.world.World.{World}
+use Rattle.dom_edit.specs.Whole.{IsWhole, AreHeld, Keeps, Follows, unwatched}
+use Rattle.dom_edit.proofs.Covering.{covered-kept}
+use Rattle.dom_observe.proofs.HeldNames.{held-kept}
+use Rattle.dom_edit.proofs.Following.{follows-then, keeps-unwatched, sound-unwatched, whole-sound}
 use Rattle.dom_clone.specs.Growing.{made_under}
 
 -- what holds of each node holds of what an entry tells

@@ -9,15 +9,15 @@ ghost use Rattle.dom_model.specs.Forests.Forest.{HasNode, size, entry_in};
 ghost use Rattle.dom_model.specs.Worlds.Making.{made_node};
 ghost use Rattle.dom_model.specs.Forests.Nodes.{is_of_kind};
 ghost use Rattle.dom_model.specs.DataAndCopies.Clones.{original, with_copies, clone_node, import_node};
-ghost use Rattle.dom_data.specs.dom_tree.Standing.{MayStand};
-ghost use Rattle.dom_data.specs.dom_edit.Whole.{IsWhole, Follows};
-ghost use Rattle.dom_data.specs.dom_edit.Refusals.{check_adopt, IsRefused};
+ghost use Rattle.dom_tree.specs.Standing.{MayStand};
+ghost use Rattle.dom_edit.specs.Whole.{IsWhole, Follows};
+ghost use Rattle.dom_edit.specs.Refusals.{check_adopt, IsRefused};
 ghost use Rattle.dom_clone.specs.Growing.{made_under};
 
 use crate::waiting::{Waiting, wait_for};
-use dom_data::of_edit::{Content, Refusal, World, document_in};
-use dom_data::of_kinds::{DomError, Kind};
-use dom_data::of_tree::{NodeId, Tree};
+use dom_edit::{Content, Refusal, World, document_in};
+use dom_kinds::{DomError, Kind};
+use dom_tree::{NodeId, Tree};
 use std::alloc::{AllocError, Global};
 
 /// Copies a node, with its descendants where the copy is deep (clone).

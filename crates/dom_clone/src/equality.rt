@@ -7,9 +7,9 @@ ghost use Rattle.dom_model.specs.Worlds.World.{value_of};
 ghost use Rattle.dom_model.specs.DataAndCopies.Clones.{is_equal};
 ghost use Rattle.dom_clone.specs.Meeting.{met, follows_inside, agree_in, are_alike};
 
-use dom_data::of_edit::Content;
-use dom_data::of_kinds::Kind;
-use dom_data::of_tree::{NodeId, Tree};
+use dom_edit::Content;
+use dom_kinds::Kind;
+use dom_tree::{NodeId, Tree};
 
 /// Whether two nodes are of one kind, agree in what their kind has, and have children that are equal in pairs (equals).
 pub fn is_equal(tree: &Tree<Content>, node: NodeId, other: NodeId) -> bool

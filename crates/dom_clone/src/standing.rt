@@ -4,8 +4,8 @@ ghost use Rattle.std.specs.Prelude.{◌≡◌, nat_lt, if◌then◌else◌};
 ghost use Rattle.dom_model.specs.Forests.Forest.{HasNode};
 ghost use Rattle.dom_model.specs.DataAndCopies.Clones.{contains, position};
 
-use dom_data::of_edit::Content;
-use dom_data::of_tree::{NodeId, Tree};
+use dom_edit::Content;
+use dom_tree::{NodeId, Tree};
 
 /// Whether the other is an inclusive descendant of the node (contains).
 pub fn contains(tree: &Tree<Content>, node: NodeId, other: NodeId) -> bool

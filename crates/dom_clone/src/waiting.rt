@@ -3,7 +3,7 @@
 ghost use Rattle.std.specs.Prelude.{◌≡◌, ◌++◌, OnOk};
 ghost use Rattle.dom_clone.specs.Waits.{waiting_for};
 
-use dom_data::of_tree::NodeId;
+use dom_tree::NodeId;
 use std::alloc::AllocError;
 
 /// A node that waits with its following siblings and all that stands below them, and where what is made of them has its place.

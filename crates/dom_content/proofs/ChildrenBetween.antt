@@ -20,9 +20,9 @@ use Rattle.dom_model.proofs.Forests.Indices.{child-listed, child-once, child-par
 use Rattle.dom_model.proofs.Forests.Siblings.{hits-get, get-head, next-child}
 use Rattle.dom_model.proofs.RangesAndContents.ContainedChildren.{up_to-place, up_to-through, ahead_in, through_in, top, forked, contained-between}
 use Rattle.dom_model.proofs.TokenText.EditsMade.EditsOfInsertions.{get-place}
-use Rattle.dom_clone.specs.dom_edit.Places.{IsAmong, from_optional, ahead_of}
-use Rattle.dom_clone.specs.dom_edit.AmongChildren.{IsAmong-after, from_optional-head, next_of-child}
-use Rattle.dom_clone.specs.dom_edit.Placing.{ahead-on, from_successor}
+use Rattle.dom_edit.specs.Places.{IsAmong, from_optional, ahead_of}
+use Rattle.dom_edit.proofs.AmongChildren.{IsAmong-after, from_optional-head, next_of-child}
+use Rattle.dom_edit.proofs.Placing.{ahead-on, from_successor}
 use Rattle.dom_content.specs.Drawing.{index_behind, index_at}
 
 from-head : (ns : List ℕ) → from_optional (slice_get ns 0) ns ≡ ns

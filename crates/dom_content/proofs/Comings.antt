@@ -26,11 +26,11 @@ use Rattle.dom_model.proofs.RangesAndContents.DrawnPieces as model_pieces
 use Rattle.dom_model.proofs.RangesAndContents.DrawnPieces.{is_drawn, data-drawn, IsDrawable, coming, drawn-fragment, new-greater, draws-fragment, draws-clone, draws-clone_with, draws-units, draws-children}
 use Rattle.dom_model.proofs.RangesAndContents.DrawnPaths as paths
 use Rattle.dom_model.proofs.RangesAndContents.DrawnPaths.{child-drawable, draws-tail, draws-head, hits-past, hits-up_to, hits-drop, hits-take}
-use Rattle.dom_clone.specs.dom_edit.declared.world.World.{World}
-use Rattle.dom_clone.specs.dom_edit.Whole.{IsWhole, Keeps, Follows, unwatched}
-use Rattle.dom_clone.specs.dom_edit.Following.{keeps-unwatched}
-use Rattle.dom_clone.specs.dom_edit.Inserting.{IsUnreferred}
-use Rattle.dom_clone.specs.dom_edit.PlacedWorlds.{sound-unwatched}
+use Rattle.dom_edit.specs.declared.world.World.{World}
+use Rattle.dom_edit.specs.Whole.{IsWhole, Keeps, Follows, unwatched}
+use Rattle.dom_edit.proofs.Following.{keeps-unwatched}
+use Rattle.dom_edit.specs.Inserting.{IsUnreferred}
+use Rattle.dom_edit.proofs.PlacedWorlds.{sound-unwatched}
 use Rattle.dom_content.specs.declared.partial.Partial.{Partial}
 use Rattle.dom_content.specs.Paths.{StillHeld, EndsStayOut, Stays, KindsStay, DataStays, opened, inner_of, entered, closed_one}
 use Rattle.dom_content.specs.Coming.{IsRising, IsHolder, may_go_in, IsOld, AreOld, IsUnfinished, AreUnfinished, IsPathTo}

@@ -18,9 +18,9 @@ use Rattle.dom_model.proofs.TokenText.Contents.DeletedLeft.{deleted-left}
 use Rattle.dom_model.proofs.TokenText.Contents.ExtractedLeft.{extracted-left}
 use Rattle.dom_model.proofs.TokenText.Fragments.FragmentsBetween.{extracted-between, cloned-between}
 use Rattle.dom_model.proofs.TokenText.Fragments.OriginsBetween.{cloned-new, cloned-labels, cloned-attributes, extracted-same, extracted-new, extracted-labels, extracted-attributes}
-use Rattle.dom_clone.specs.dom_edit.declared.world.World.{World}
-use Rattle.dom_clone.specs.dom_edit.Whole.{IsWhole, Keeps, Follows, unwatched}
-use Rattle.dom_clone.specs.dom_edit.Following.{keeps-unwatched, sound-unwatched}
+use Rattle.dom_edit.specs.declared.world.World.{World}
+use Rattle.dom_edit.specs.Whole.{IsWhole, Keeps, Follows, unwatched}
+use Rattle.dom_edit.proofs.Following.{keeps-unwatched, sound-unwatched}
 use Rattle.dom_content.specs.Left.{IsLeftOf, HoldsBetween, MovesBetween, CopiesBetween}
 
 -- the token texts of a world of the code are those of each world that it keeps

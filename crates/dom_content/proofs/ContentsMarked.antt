@@ -12,12 +12,12 @@ use Rattle.dom_model.proofs.Forests.Changes.{seen, nothing, just}
 use Rattle.dom_model.proofs.TokenText.Contents.RangeText.{range_text-between}
 use Rattle.dom_model.proofs.TokenText.EditsMade.EditsOfDeletedContents.{leave-delete_contents}
 use Rattle.dom_model.proofs.TokenText.EditsMade.EditsOfDrawnContents.{leave-extract, leave-clone_contents}
-use Rattle.dom_clone.specs.dom_ranges.Tables.{range_in}
-use Rattle.dom_clone.specs.dom_edit.declared.world.World.{World}
-use Rattle.dom_clone.specs.dom_edit.Whole.{IsWhole, Follows, unwatched}
-use Rattle.dom_clone.specs.dom_edit.Markers.{StandByEdits}
-use Rattle.dom_clone.specs.dom_edit.Following.{sound-unwatched}
-use Rattle.dom_clone.specs.dom_edit.Marking.{stand-by_edits}
+use Rattle.dom_ranges.specs.Tables.{range_in}
+use Rattle.dom_edit.specs.declared.world.World.{World}
+use Rattle.dom_edit.specs.Whole.{IsWhole, Follows, unwatched}
+use Rattle.dom_edit.specs.Markers.{StandByEdits}
+use Rattle.dom_edit.proofs.Following.{sound-unwatched}
+use Rattle.dom_edit.proofs.Marking.{stand-by_edits}
 
 module _ (old new : World) (r : ℕ) (before : IsWhole old) (after : IsWhole new) where
   pub markers-deleted : Follows old new (delete_contents r) → StandByEdits old new (delete_contents_edits r)

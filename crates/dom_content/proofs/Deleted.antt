@@ -4,10 +4,10 @@ use Rattle.dom_model.specs.Worlds.World.{Content, Point, Range}
 use Rattle.dom_model.specs.Worlds.World as model
 use Rattle.dom_model.specs.RangesAndContents.Ranges.{range_at}
 use Rattle.dom_model.specs.RangesAndContents.Contents.{for_range, deleted, delete_contents}
-use Rattle.dom_clone.specs.dom_observe.Watchers.{Watches}
-use Rattle.dom_clone.specs.dom_ranges.Tables.{range_in}
-use Rattle.dom_clone.specs.dom_edit.declared.world.World.{World}
-use Rattle.dom_clone.specs.dom_edit.Whole.{Keeps, Follows}
+use Rattle.dom_observe.specs.Watchers.{Watches}
+use Rattle.dom_ranges.specs.Tables.{range_in}
+use Rattle.dom_edit.specs.declared.world.World.{World}
+use Rattle.dom_edit.specs.Whole.{Keeps, Follows}
 
 pub follows-alike : (a b : World) (step other : model.World → model.World) → ((w : model.World) → Keeps a w → other w ≡ step w) → Follows a b step → Follows a b other
 follows-alike a b step other e f = record {

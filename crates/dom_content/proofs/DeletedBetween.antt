@@ -19,11 +19,11 @@ use Rattle.dom_model.proofs.Forests.TreeOrder.Flattened.{hits-numbers}
 use Rattle.dom_model.proofs.Soundness.SoundDeleting.{one, place_left}
 use Rattle.dom_model.proofs.Soundness.SoundNormalizing.{each_kinds, filter-passed}
 use Rattle.dom_model.proofs.RangesAndContents.LiveRangesKept.{KeepsLive, remove_each-live, replace_data-live}
-use Rattle.dom_clone.specs.dom_edit.declared.world.World.{World}
-use Rattle.dom_clone.specs.dom_edit.Whole.{IsWhole, Keeps, Follows, unwatched}
-use Rattle.dom_clone.specs.dom_edit.Following.{follows-then, keeps-unwatched}
-use Rattle.dom_clone.specs.dom_data.StaysWhole.{sound-unwatched}
-use Rattle.dom_clone.specs.dom_ranges.Tables.{range_in}
+use Rattle.dom_edit.specs.declared.world.World.{World}
+use Rattle.dom_edit.specs.Whole.{IsWhole, Keeps, Follows, unwatched}
+use Rattle.dom_edit.proofs.Following.{follows-then, keeps-unwatched}
+use Rattle.dom_data.proofs.StaysWhole.{sound-unwatched}
+use Rattle.dom_ranges.specs.Tables.{range_in}
 use Rattle.dom_content.proofs.Deleted.{follows-alike, range-deleted}
 
 -- the contained nodes whose parent is not contained, in tree order

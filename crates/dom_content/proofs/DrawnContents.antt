@@ -31,13 +31,13 @@ use Rattle.dom_model.proofs.Worlds.Parts.{ancestors-part, path-there}
 use Rattle.dom_model.proofs.RangesAndContents.DrawnPaths.{hits-filter}
 use Rattle.dom_model.proofs.RangesAndContents.PathsToEnds.{common-above}
 use Rattle.dom_model.proofs.TokenText.EditsMade.EditsOfDrawnContents.{live-contents_drawn}
-use Rattle.dom_clone.specs.dom_ranges.Tables.{range_in}
-use Rattle.dom_clone.specs.dom_edit.declared.world.World.{World}
-use Rattle.dom_clone.specs.dom_edit.Inserting.{AreThere}
-use Rattle.dom_clone.specs.dom_edit.Whole.{IsWhole, Keeps, Follows, unwatched}
-use Rattle.dom_clone.specs.dom_edit.Following.{follows-then, keeps-unwatched}
-use Rattle.dom_clone.specs.dom_edit.InsertedNodes.{item-hit}
-use Rattle.dom_clone.specs.dom_data.StaysWhole.{sound-unwatched}
+use Rattle.dom_ranges.specs.Tables.{range_in}
+use Rattle.dom_edit.specs.declared.world.World.{World}
+use Rattle.dom_edit.specs.Inserting.{AreThere}
+use Rattle.dom_edit.specs.Whole.{IsWhole, Keeps, Follows, unwatched}
+use Rattle.dom_edit.proofs.Following.{follows-then, keeps-unwatched}
+use Rattle.dom_edit.proofs.InsertedNodes.{item-hit}
+use Rattle.dom_data.proofs.StaysWhole.{sound-unwatched}
 use Rattle.dom_content.specs.Paths.{HasRoom}
 use Rattle.dom_content.specs.Drawing.{AreParts, in_one_data, parts_drawn, filled}
 use Rattle.dom_content.proofs.Deleted.{follows-alike}

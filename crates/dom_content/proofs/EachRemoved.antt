@@ -6,10 +6,10 @@ use Rattle.dom_model.specs.Forests.Forest.{HasNode}
 use Rattle.dom_model.specs.MutationAlgorithms.Editing.{remove}
 use Rattle.dom_model.specs.DataAndCopies.Data.{remove_each}
 use Rattle.dom_model.proofs.Forests.Entries.{occurs-HasNode, HasNode-occurs}
-use Rattle.dom_clone.specs.dom_edit.declared.world.World.{World}
-use Rattle.dom_clone.specs.dom_edit.Whole.{IsWhole, Follows}
-use Rattle.dom_clone.specs.dom_edit.Following.{follows-none, follows-then}
-use Rattle.dom_clone.specs.dom_edit.InsertedNodes.{item-hit, there-removed}
+use Rattle.dom_edit.specs.declared.world.World.{World}
+use Rattle.dom_edit.specs.Whole.{IsWhole, Follows}
+use Rattle.dom_edit.proofs.Following.{follows-none, follows-then}
+use Rattle.dom_edit.proofs.InsertedNodes.{item-hit, there-removed}
 
 -- all nodes are there, and once those still to come are out, all are
 pub record IsLeaving (initial here : World) (nodes : List ℕ) (i : ℕ) : Type 0 where

@@ -4,11 +4,11 @@ use Rattle.dom_model.specs.Worlds.World.{Point, Range}
 use Rattle.dom_model.specs.Soundness.Sound.{IsRange}
 use Rattle.dom_model.specs.RangesAndContents.Ranges.{collapsed_at, with_range}
 use Rattle.dom_model.proofs.Soundness.SoundRangeSteps.{sound-with_range}
-use Rattle.dom_clone.specs.dom_ranges.Tables.{RangeTable}
-use Rattle.dom_clone.specs.dom_edit.declared.world.World.{World}
-use Rattle.dom_clone.specs.dom_edit.Whole.{AreCovered, IsWhole, Follows, unwatched}
-use Rattle.dom_clone.specs.dom_edit.Following.{keeps-unwatched, whole-sound}
-use Rattle.dom_clone.specs.dom_data.StaysWhole.{sound-unwatched}
+use Rattle.dom_ranges.specs.Tables.{RangeTable}
+use Rattle.dom_edit.specs.declared.world.World.{World}
+use Rattle.dom_edit.specs.Whole.{AreCovered, IsWhole, Follows, unwatched}
+use Rattle.dom_edit.proofs.Following.{keeps-unwatched, whole-sound}
+use Rattle.dom_data.proofs.StaysWhole.{sound-unwatched}
 
 module _ (v : World) (r : ℕ) (p : Point) (u : RangeTable) (is : u ≡ record v.ranges { ranges = slice_set v.ranges.ranges r (Some (collapsed_at p)) }) where
   pub follows-standing : Follows v (record v { ranges = u }) (with_range r (collapsed_at p))

@@ -27,10 +27,10 @@ use Rattle.dom_model.proofs.RangesAndContents.DrawnPaths.{ArePath, IsWithin, hit
 use Rattle.dom_model.proofs.RangesAndContents.PathsToEnds.{common-above, path-down, path-within}
 use Rattle.dom_model.proofs.RangesAndContents.WaysBelow.{IsFork, fork}
 use Rattle.dom_model.proofs.TokenText.EditsMade.EditsOfDrawnContents as drawn
-use Rattle.dom_clone.specs.dom_edit.declared.world.World.{World}
-use Rattle.dom_clone.specs.dom_edit.Whole.{IsWhole, Keeps, Follows, unwatched}
-use Rattle.dom_clone.specs.dom_edit.Following.{keeps-unwatched}
-use Rattle.dom_clone.specs.dom_data.StaysWhole.{sound-unwatched}
+use Rattle.dom_edit.specs.declared.world.World.{World}
+use Rattle.dom_edit.specs.Whole.{IsWhole, Keeps, Follows, unwatched}
+use Rattle.dom_edit.proofs.Following.{keeps-unwatched}
+use Rattle.dom_data.proofs.StaysWhole.{sound-unwatched}
 use Rattle.dom_content.specs.Paths.{Stays}
 use Rattle.dom_content.specs.Coming.{AreOld, MayDraw, IsPathTo}
 use Rattle.dom_content.specs.Drawing.{AreParts, in_one_data}

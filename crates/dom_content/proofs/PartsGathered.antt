@@ -13,7 +13,7 @@ use Rattle.dom_model.proofs.PlainLists.Numbers.{same_or, same, apart}
 use Rattle.dom_model.proofs.Forests.Climbing.{ancestors-there, hits-first, hits-reverse, hits-among}
 use Rattle.dom_model.proofs.Forests.Entries.{occurs-HasNode}
 use Rattle.dom_model.proofs.BoundaryPoints.RootsKept.{hits-up_to}
-use Rattle.dom_clone.specs.dom_edit.Places.{from_optional, ahead_of}
+use Rattle.dom_edit.specs.Places.{from_optional, ahead_of}
 use Rattle.dom_content.specs.Drawing.{AreParts, index_behind}
 use Rattle.dom_content.proofs.PartsBetween.{and-both}
 use Rattle.dom_content.proofs.ChildrenBetween.{first-way, children-found}

@@ -9,10 +9,10 @@ use Rattle.dom_model.specs.Forests.Nodes.{kind_passes}
 use Rattle.dom_model.specs.MutationAlgorithms.Editing.{append}
 use Rattle.dom_model.specs.RangesAndContents.Contents.{units_into, children_into, copy_into, head_into}
 use Rattle.dom_model.proofs.Counting.CountsOfContents.{units_into-grown}
-use Rattle.dom_clone.specs.dom_edit.declared.world.World.{World}
-use Rattle.dom_clone.specs.dom_edit.Whole.{Keeps, Follows}
-use Rattle.dom_clone.specs.dom_edit.Following.{follows-then}
-use Rattle.dom_clone.specs.dom_edit.InsertedNodes.{follows-as}
+use Rattle.dom_edit.specs.declared.world.World.{World}
+use Rattle.dom_edit.specs.Whole.{Keeps, Follows}
+use Rattle.dom_edit.proofs.Following.{follows-then}
+use Rattle.dom_edit.proofs.InsertedNodes.{follows-as}
 use Rattle.dom_content.specs.declared.partial.Partial.{Partial}
 use Rattle.dom_content.specs.Paths.{HasRoom, opened, inner_of, entered, closed_one}
 use Rattle.dom_content.proofs.PathSteps.{if_so, if_not, append-grows, opened-grows, copy-grows, if-grows, room-within}

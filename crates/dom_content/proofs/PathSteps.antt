@@ -15,10 +15,10 @@ use Rattle.dom_model.specs.RangesAndContents.Contents.{new_fragment, units_into,
 use Rattle.dom_model.proofs.Forests.Entries.{occurs-HasNode, HasNode-occurs}
 use Rattle.dom_model.proofs.Counting.CountsKept.{append-kept}
 use Rattle.dom_model.proofs.Counting.CountsOfContents.{units_into-grown}
-use Rattle.dom_clone.specs.dom_edit.declared.world.World.{World}
-use Rattle.dom_clone.specs.dom_edit.Whole.{IsWhole, Keeps, Follows}
-use Rattle.dom_clone.specs.dom_edit.Following.{follows-none, follows-then}
-use Rattle.dom_clone.specs.dom_edit.InsertedNodes.{follows-as}
+use Rattle.dom_edit.specs.declared.world.World.{World}
+use Rattle.dom_edit.specs.Whole.{IsWhole, Keeps, Follows}
+use Rattle.dom_edit.proofs.Following.{follows-none, follows-then}
+use Rattle.dom_edit.proofs.InsertedNodes.{follows-as}
 use Rattle.dom_content.specs.declared.partial.Partial.{Partial}
 use Rattle.dom_content.specs.Paths.{HasRoom, StillHeld, Stays, KindsStay, opened, inner_of, closed_one, closed}
 use Rattle.dom_content.specs.Coming.{IsRising, IsHolder, IsOld, AreOld, MayDraw, IsUnfinished, AreUnfinished, MayClose, IsPathTo}

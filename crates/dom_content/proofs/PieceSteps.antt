@@ -23,11 +23,11 @@ use Rattle.dom_model.proofs.MutationAlgorithms.Extending.{Extends, extends-besid
 use Rattle.dom_model.proofs.Soundness.SoundAppending.{clone_copy, clone_with_copy, fragment_made}
 use Rattle.dom_model.proofs.Counting.CountsKept.{append-kept}
 use Rattle.dom_model.proofs.Counting.CountsOfData.{replace_data-kept}
-use Rattle.dom_clone.specs.dom_edit.declared.world.World.{World}
-use Rattle.dom_clone.specs.dom_edit.Whole.{IsWhole, Keeps, Follows, unwatched}
-use Rattle.dom_clone.specs.dom_edit.Following.{follows-none, follows-then}
-use Rattle.dom_clone.specs.dom_edit.InsertedNodes.{follows-as, forest-after}
-use Rattle.dom_clone.specs.dom_edit.PlacedWorlds.{sound-unwatched}
+use Rattle.dom_edit.specs.declared.world.World.{World}
+use Rattle.dom_edit.specs.Whole.{IsWhole, Keeps, Follows, unwatched}
+use Rattle.dom_edit.proofs.Following.{follows-none, follows-then}
+use Rattle.dom_edit.proofs.InsertedNodes.{follows-as, forest-after}
+use Rattle.dom_edit.proofs.PlacedWorlds.{sound-unwatched}
 use Rattle.dom_content.specs.Paths.{HasRoom, StillHeld, Stays, KindsStay, DataStays}
 use Rattle.dom_content.specs.Coming.{AreOld, MayDraw}
 use Rattle.dom_content.proofs.StaysOf.{stays-none, stays-then}

@@ -14,10 +14,10 @@ use Rattle.dom_model.specs.DataAndCopies.Data.{content_in, joined_data}
 use Rattle.dom_model.proofs.PlainLists.Numbers.{same_or, same, apart}
 use Rattle.dom_model.proofs.BoundaryPoints.PointOrder.{nat_cmp-greater, order-one_node}
 use Rattle.dom_model.proofs.TokenText.EditsMade.EditsOfDrawnContents.{sound-range}
-use Rattle.dom_clone.specs.dom_ranges.Tables.{range_in}
-use Rattle.dom_clone.specs.dom_edit.declared.world.World.{World}
-use Rattle.dom_clone.specs.dom_edit.Whole.{IsWhole, unwatched}
-use Rattle.dom_clone.specs.dom_data.StaysWhole.{sound-unwatched}
+use Rattle.dom_ranges.specs.Tables.{range_in}
+use Rattle.dom_edit.specs.declared.world.World.{World}
+use Rattle.dom_edit.specs.Whole.{IsWhole, unwatched}
+use Rattle.dom_data.proofs.StaysWhole.{sound-unwatched}
 use Rattle.dom_content.specs.Texts.{part_of, text_within, texts_within}
 use Rattle.dom_content.proofs.PartsBetween.{TellsContained}
 

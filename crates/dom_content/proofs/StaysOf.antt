@@ -25,12 +25,12 @@ use Rattle.dom_model.proofs.Forests.WaysMeeting.{above-root}
 use Rattle.dom_model.proofs.Worlds.SameShape.{IsAlike, parent-alike, with_node-alike}
 use Rattle.dom_model.proofs.MutationAlgorithms.Extending.{Extends, IsPut, extends-beside, put_by_insert}
 use Rattle.dom_model.proofs.RangesAndContents.RangesElsewhere.{ends_of}
-use Rattle.dom_clone.specs.dom_ranges.Tables.{live_nodes}
-use Rattle.dom_clone.specs.dom_edit.declared.world.World.{World}
-use Rattle.dom_clone.specs.dom_edit.Whole.{IsWhole, Follows, unwatched}
-use Rattle.dom_clone.specs.dom_edit.Following.{keeps-unwatched}
-use Rattle.dom_clone.specs.dom_edit.Inserting.{IsUnreferred}
-use Rattle.dom_clone.specs.dom_edit.PlacedWorlds.{sound-unwatched}
+use Rattle.dom_ranges.specs.Tables.{live_nodes}
+use Rattle.dom_edit.specs.declared.world.World.{World}
+use Rattle.dom_edit.specs.Whole.{IsWhole, Follows, unwatched}
+use Rattle.dom_edit.proofs.Following.{keeps-unwatched}
+use Rattle.dom_edit.specs.Inserting.{IsUnreferred}
+use Rattle.dom_edit.proofs.PlacedWorlds.{sound-unwatched}
 use Rattle.dom_content.specs.Paths.{StillHeld, EndsStayOut, Stays}
 use Rattle.dom_content.specs.Coming.{IsRising}
 use Rattle.dom_content.proofs.EndsOut.{rooted-there, live-there, AreUnder, under-append, under-beside, under-replaced}

@@ -13,10 +13,10 @@ use Rattle.dom_model.specs.RangesAndContents.BesidePaths.{tail_nodes, head_nodes
 use Rattle.dom_model.proofs.Forests.Climbing.{hits-append, hits-first}
 use Rattle.dom_model.proofs.Forests.Entries.{HasNode-occurs}
 use Rattle.dom_model.proofs.TokenText.Contents.TopsByParts.{tops-by_parts}
-use Rattle.dom_clone.specs.dom_edit.declared.world.World.{World}
-use Rattle.dom_clone.specs.dom_edit.Inserting.{AreThere}
-use Rattle.dom_clone.specs.dom_edit.Whole.{IsWhole, unwatched}
-use Rattle.dom_clone.specs.dom_data.StaysWhole.{sound-unwatched}
+use Rattle.dom_edit.specs.declared.world.World.{World}
+use Rattle.dom_edit.specs.Inserting.{AreThere}
+use Rattle.dom_edit.specs.Whole.{IsWhole, unwatched}
+use Rattle.dom_data.proofs.StaysWhole.{sound-unwatched}
 use Rattle.dom_content.specs.Drawing.{AreParts}
 use Rattle.dom_content.proofs.PathLists.{listed, none-left}
 

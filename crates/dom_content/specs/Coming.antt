@@ -9,7 +9,7 @@ use Rattle.dom_model.specs.Forests.Forest.{Forest, entry_in, parent_of}
 use Rattle.dom_model.specs.Worlds.World.{Content}
 use Rattle.dom_model.specs.Forests.Nodes.{kind_passes, is_of_kind}
 use Rattle.dom_model.specs.DataAndCopies.Data.{content_in}
-use Rattle.dom_clone.specs.dom_edit.declared.world.World.{World}
+use Rattle.dom_edit.specs.declared.world.World.{World}
 use Rattle.dom_content.specs.declared.partial.Partial.{Partial}
 use Rattle.dom_content.specs.Paths.{EndsStayOut}
 

@@ -8,9 +8,9 @@ use Rattle.dom_model.specs.TokenText.Tokens.{unmarked, texts_of, gap_among}
 use Rattle.dom_model.specs.TokenText.Gaps.{text_among, root_text}
 use Rattle.dom_model.specs.TokenText.Between.{before_mark, after_mark, between, left_before, left_after, same_shape, fragment_shape}
 use Rattle.dom_model.specs.TokenText.Originals.{label_of, opened_inside, lies_in, originals, InStep}
-use Rattle.dom_clone.specs.dom_ranges.Tables.{range_in}
-use Rattle.dom_clone.specs.dom_edit.declared.world.World.{World}
-use Rattle.dom_clone.specs.dom_edit.Whole.{unwatched}
+use Rattle.dom_ranges.specs.Tables.{range_in}
+use Rattle.dom_edit.specs.declared.world.World.{World}
+use Rattle.dom_edit.specs.Whole.{unwatched}
 
 -- Of the text of the range's root go the units between its markers, and the pairs of open and close that lie wholly there, and nothing else;
 -- both markers then stand in one gap, behind the closes and ahead of the opens that are left, and nothing lies between them.

@@ -11,9 +11,9 @@ use Rattle.dom_model.specs.MutationAlgorithms.Editing.{append, node_document}
 use Rattle.dom_model.specs.DataAndCopies.Data.{data_of}
 use Rattle.dom_model.specs.DataAndCopies.Clones.{clone_node}
 use Rattle.dom_model.specs.RangesAndContents.Contents.{new_fragment, children_into}
-use Rattle.dom_clone.specs.dom_ranges.Tables.{live_nodes}
-use Rattle.dom_clone.specs.dom_edit.declared.world.World.{World}
-use Rattle.dom_clone.specs.dom_edit.Whole.{Keeps, unwatched}
+use Rattle.dom_ranges.specs.Tables.{live_nodes}
+use Rattle.dom_edit.specs.declared.world.World.{World}
+use Rattle.dom_edit.specs.Whole.{Keeps, unwatched}
 use Rattle.dom_content.specs.declared.partial.Partial.{Partial}
 
 -- in a world that it keeps, no number is left beyond the last one when the step is done

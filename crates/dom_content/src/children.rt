@@ -3,10 +3,10 @@
 ghost use Rattle.std.specs.Prelude.{◌≡◌, take, drop, IfOk};
 ghost use Rattle.dom_model.specs.Forests.Forest.{HasNode, children_of};
 ghost use Rattle.dom_model.specs.PlainLists.Lists.{past, up_to};
-ghost use Rattle.dom_clone.specs.dom_edit.Places.{IsAmong, from_optional, ahead_of};
+ghost use Rattle.dom_edit.specs.Places.{IsAmong, from_optional, ahead_of};
 
-use dom_clone::of_edit::Content;
-use dom_clone::of_tree::{NodeId, Tree};
+use dom_edit::Content;
+use dom_tree::{NodeId, Tree};
 use std::alloc::{AllocError, Global};
 
 // The children of a node from one of them on, and ahead of another.

@@ -8,15 +8,15 @@ ghost use Rattle.dom_model.specs.Soundness.Sound.{IsRange};
 ghost use Rattle.dom_model.specs.RangesAndContents.Ranges.{is_before};
 ghost use Rattle.dom_model.specs.RangesAndContents.Contents.{contained_tops};
 ghost use Rattle.dom_model.specs.RangesAndContents.BesidePaths.{tail_nodes, head_nodes};
-ghost use Rattle.dom_clone.specs.dom_edit.Inserting.{AreThere};
-ghost use Rattle.dom_clone.specs.dom_edit.Whole.{IsWhole, unwatched};
+ghost use Rattle.dom_edit.specs.Inserting.{AreThere};
+ghost use Rattle.dom_edit.specs.Whole.{IsWhole, unwatched};
 ghost use Rattle.dom_content.specs.Drawing.{AreParts};
 
 use crate::children::{children_ahead, children_from, children_past, children_until};
 use crate::parts::Parts;
-use dom_clone::of_edit::{Content, World};
-use dom_clone::of_point::Point;
-use dom_clone::of_tree::{NodeId, Tree};
+use dom_edit::{Content, World};
+use dom_point::Point;
+use dom_tree::{NodeId, Tree};
 use std::alloc::{AllocError, Global};
 
 // The children of a node from an offset on; none of a node with data.

@@ -5,9 +5,9 @@ ghost use Rattle.dom_model.specs.Forests.Forest.{HasNode};
 ghost use Rattle.dom_model.specs.Forests.Kinds.{is_character_data};
 ghost use Rattle.dom_model.specs.Forests.Nodes.{kind_passes};
 
-use dom_clone::of_edit::Content;
-use dom_clone::of_point::Point;
-use dom_clone::of_tree::Tree;
+use dom_edit::Content;
+use dom_point::Point;
+use dom_tree::Tree;
 
 // Whether both points stand in one node that has data.
 pub(crate) fn is_in_one_data(tree: &Tree<Content>, start: Point, end: Point) -> bool

@@ -10,21 +10,21 @@ ghost use Rattle.dom_model.specs.Forests.Nodes.{kind_passes};
 ghost use Rattle.dom_model.specs.DataAndCopies.Data.{data_of, replace_data, remove_each};
 ghost use Rattle.dom_model.specs.RangesAndContents.Ranges.{collapsed_at, with_range};
 ghost use Rattle.dom_model.specs.RangesAndContents.Contents.{is_in_one_data, cut_from, cut_up_to, deleted_between, delete_contents};
-ghost use Rattle.dom_clone.specs.dom_ranges.Tables.{range_in};
+ghost use Rattle.dom_ranges.specs.Tables.{range_in};
 ghost use Rattle.dom_model.specs.TokenText.Edits.{delete_contents_edits};
-ghost use Rattle.dom_clone.specs.dom_edit.Whole.{IsWhole, Follows, unwatched};
-ghost use Rattle.dom_clone.specs.dom_edit.Markers.{StandByEdits};
+ghost use Rattle.dom_edit.specs.Whole.{IsWhole, Follows, unwatched};
+ghost use Rattle.dom_edit.specs.Markers.{StandByEdits};
 ghost use Rattle.dom_content.specs.Drawing.{index_behind};
 ghost use Rattle.dom_content.specs.Left.{IsLeftOf};
 
 use crate::contained::contained_tops;
 use crate::data::is_in_one_data;
 use crate::parts::{head, parts_of};
-use dom_clone::of_data::replace_data_checked;
-use dom_clone::of_edit::{Content, World, data_in};
-use dom_clone::of_point::{Point, point_after};
-use dom_clone::of_ranges::RangeId;
-use dom_clone::of_tree::{NodeId, Tree};
+use dom_data::replace_data_checked;
+use dom_edit::{Content, World, data_in};
+use dom_point::{Point, point_after};
+use dom_ranges::RangeId;
+use dom_tree::{NodeId, Tree};
 use std::alloc::{AllocError, Global};
 
 // Takes units of a node's data out, from an offset on that is within the data.

@@ -6,13 +6,13 @@ ghost use Rattle.dom_model.specs.Forests.Forest.{HasNode};
 ghost use Rattle.dom_model.specs.Forests.Kinds.{is_character_data};
 ghost use Rattle.dom_model.specs.Forests.Nodes.{kind_passes};
 ghost use Rattle.dom_model.specs.RangesAndContents.Contents.{children_into, copy_into};
-ghost use Rattle.dom_clone.specs.dom_edit.Whole.{IsWhole, Keeps, Follows};
+ghost use Rattle.dom_edit.specs.Whole.{IsWhole, Keeps, Follows};
 ghost use Rattle.dom_content.specs.Paths.{HasRoom, Stays, DataStays, opened, inner_of, closed_one, closed};
 ghost use Rattle.dom_content.specs.Coming.{MayDraw, MayClose};
 
 use crate::pieces::{children_into, copy_of, new_fragment, put_last};
-use dom_clone::of_edit::{World, document_in};
-use dom_clone::of_tree::NodeId;
+use dom_edit::{World, document_in};
+use dom_tree::NodeId;
 use smallvec::SmallVec;
 use std::alloc::{AllocError, Global};
 use std::default::MadeWith;

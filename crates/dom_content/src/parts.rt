@@ -11,9 +11,9 @@ ghost use Rattle.dom_model.specs.RangesAndContents.Contents.{path_below};
 ghost use Rattle.dom_content.specs.Drawing.{AreParts, index_behind, index_at};
 
 use crate::children::children_between;
-use dom_clone::of_edit::Content;
-use dom_clone::of_point::{Point, common};
-use dom_clone::of_tree::{NodeId, Tree};
+use dom_edit::Content;
+use dom_point::{Point, common};
+use dom_tree::{NodeId, Tree};
 use std::alloc::{AllocError, Global};
 
 /// What lies in a range in part and what whole: the paths from the common ancestor of its two nodes down to them, and the children of that ancestor that

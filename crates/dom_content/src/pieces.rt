@@ -11,18 +11,18 @@ ghost use Rattle.dom_model.specs.MutationAlgorithms.Insertable.{IsInsertable};
 ghost use Rattle.dom_model.specs.DataAndCopies.Data.{content_in, data_of};
 ghost use Rattle.dom_model.specs.DataAndCopies.Clones.{clone_node};
 ghost use Rattle.dom_model.specs.RangesAndContents.Contents.{new_fragment, clone_with, cut_if, units_into, child_into, children_into};
-ghost use Rattle.dom_clone.specs.dom_edit.Inserting.{IsUnreferred};
-ghost use Rattle.dom_clone.specs.dom_edit.Whole.{IsWhole, Follows, unwatched};
+ghost use Rattle.dom_edit.specs.Inserting.{IsUnreferred};
+ghost use Rattle.dom_edit.specs.Whole.{IsWhole, Follows, unwatched};
 ghost use Rattle.dom_content.specs.Paths.{HasRoom, Stays, KindsStay, DataStays};
 ghost use Rattle.dom_content.specs.Coming.{MayDraw};
 
+use dom_attrs::Attrs;
 use dom_clone::clone_node;
-use dom_clone::of_attrs::Attrs;
-use dom_clone::of_data::replace_data_checked;
-use dom_clone::of_edit::{Content, World, data_in, document_in};
-use dom_clone::of_kinds::{Kind, Label};
-use dom_clone::of_tree::{NodeId, Tree};
-use dom_clone::of_units::Units;
+use dom_data::replace_data_checked;
+use dom_edit::{Content, World, data_in, document_in};
+use dom_kinds::{Kind, Label};
+use dom_tree::{NodeId, Tree};
+use dom_units::Units;
 use std::alloc::{AllocError, Global};
 
 // Makes a fragment without children in a document. Its number is the next one.

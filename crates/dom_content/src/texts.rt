@@ -11,17 +11,17 @@ ghost use Rattle.dom_model.specs.DataAndCopies.Data.{content_in};
 ghost use Rattle.dom_model.specs.TokenText.Tokens.{texts_of};
 ghost use Rattle.dom_model.specs.TokenText.Gaps.{text_among};
 ghost use Rattle.dom_model.specs.TokenText.Between.{text_of_range};
-ghost use Rattle.dom_clone.specs.dom_ranges.Tables.{range_in};
-ghost use Rattle.dom_clone.specs.dom_edit.Whole.{IsWhole, unwatched};
+ghost use Rattle.dom_ranges.specs.Tables.{range_in};
+ghost use Rattle.dom_edit.specs.Whole.{IsWhole, unwatched};
 ghost use Rattle.dom_content.specs.Texts.{part_of, text_within, texts_within};
 
 use crate::contained::last_ahead;
-use dom_clone::of_edit::{Content, World, data_in};
-use dom_clone::of_kinds::Kind;
-use dom_clone::of_point::Point;
-use dom_clone::of_ranges::RangeId;
-use dom_clone::of_tree::{NodeId, Tree};
-use dom_clone::of_units::Units;
+use dom_edit::{Content, World, data_in};
+use dom_kinds::Kind;
+use dom_point::Point;
+use dom_ranges::RangeId;
+use dom_tree::{NodeId, Tree};
+use dom_units::Units;
 use std::alloc::{AllocError, Global};
 
 // Puts a part of the data of a node behind a text, where the node is a Text.

@@ -9,15 +9,15 @@ ghost use Rattle.dom_model.specs.PlainLists.Lists.{past};
 ghost use Rattle.dom_model.specs.Forests.Nodes.{kind_passes};
 ghost use Rattle.dom_model.specs.DataAndCopies.Data.{content_in};
 ghost use Rattle.dom_model.specs.RangesAndContents.Contents.{tail_into, head_into};
-ghost use Rattle.dom_clone.specs.dom_edit.Whole.{IsWhole, Keeps, Follows};
+ghost use Rattle.dom_edit.specs.Whole.{IsWhole, Keeps, Follows};
 ghost use Rattle.dom_content.specs.Paths.{HasRoom, Stays, DataStays, opened, inner_of, entered};
 ghost use Rattle.dom_content.specs.Coming.{MayDraw, IsPathTo};
 
 use crate::children::{children_ahead, children_from, children_past, children_until};
 use crate::partial::{Partial, Partials, close_all, copy_into, open_partial};
 use crate::pieces::{children_into, units_into};
-use dom_clone::of_edit::{Content, World, data_in};
-use dom_clone::of_tree::{NodeId, Tree};
+use dom_edit::{Content, World, data_in};
+use dom_tree::{NodeId, Tree};
 use smallvec::SmallVec;
 use std::alloc::{AllocError, Global};
 

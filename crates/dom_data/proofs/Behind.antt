@@ -18,7 +18,7 @@ use Rattle.dom_model.specs.MutationAlgorithms.Insertable.{IsInsertable}
 use Rattle.dom_model.proofs.Soundness.SoundEditing.{next_child}
 use Rattle.dom_model.proofs.Forests.Indices.{parent-there}
 use Rattle.dom_model.proofs.Worlds.Measured.{entry-beside, parent-beside}
-use Rattle.dom_edit.specs.dom_ranges.Tables.{RangeTable, IsCovered, OffsetsFit, live_nodes}
+use Rattle.dom_ranges.specs.Tables.{RangeTable, IsCovered, OffsetsFit, live_nodes}
 use Rattle.dom_edit.specs.declared.world.World.{World}
 use Rattle.dom_edit.specs.Whole.{IsWhole, Keeps, Follows, unwatched}
 use Rattle.dom_edit.proofs.Following.{keeps-unwatched}

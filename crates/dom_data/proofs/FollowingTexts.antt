@@ -14,7 +14,7 @@ use Rattle.dom_model.proofs.Forests.Climbing.{hits-append, hits-first}
 use Rattle.dom_model.proofs.Forests.Indices.{child-once}
 use Rattle.dom_model.proofs.Forests.PutBack.{hits-after, hits-head_of}
 use Rattle.dom_model.proofs.Forests.Listed.{front}
-use Rattle.dom_edit.specs.dom_tree.Beside.{forward-step}
+use Rattle.dom_tree.proofs.Beside.{forward-step}
 use Rattle.dom_data.specs.Joining.{if_text, next_text, texts_behind, data_among}
 use Rattle.dom_data.proofs.Parting.{text-held}
 

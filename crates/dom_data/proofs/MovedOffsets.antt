@@ -13,7 +13,7 @@ use Rattle.dom_model.specs.Forests.Nodes.{kind_passes}
 use Rattle.dom_model.specs.DataAndCopies.Data.{content_in}
 use Rattle.dom_model.proofs.PlainLists.Numbers.{same_or, same, apart}
 use Rattle.dom_model.proofs.Soundness.SoundData.{length-data}
-use Rattle.dom_edit.specs.dom_ranges.Tables.{FitsMoved, OffsetsFit}
+use Rattle.dom_ranges.specs.Tables.{FitsMoved, OffsetsFit}
 
 -- a map under which each boundary point fits
 pub offsets-fit : (f : Forest Content) (move : Point → Point) → ((p : Point) → IsBoundary f p → p.offset < 2 ^ 64 → (move p).offset < 2 ^ 64) → (ranges : List (Option Range)) → All (λ (r : Option Range). IfSome r (IsRange f)) ranges → OffsetsFit move ranges

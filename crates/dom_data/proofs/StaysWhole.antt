@@ -15,14 +15,14 @@ use Rattle.dom_model.specs.DataAndCopies.Data.{content_in, data_of, with_data, r
 use Rattle.dom_model.specs.Forests.Attributes.{Attribute, with_attribute, without_attribute}
 use Rattle.dom_model.specs.Soundness.Owners.{HasOwners, IsOwned}
 use Rattle.dom_model.proofs.Soundness.SoundData.{sound-replace_units, sound-set_attribute, sound-remove_attribute}
-use Rattle.dom_edit.specs.dom_ranges.Tables.{RangeTable}
+use Rattle.dom_ranges.specs.Tables.{RangeTable}
 use Rattle.dom_model.proofs.PlainLists.Numbers.{same_or, same, apart}
 use Rattle.dom_model.proofs.Worlds.SameShape.{bare_node, with_node-alike, kind-alike, occurs-alike}
 use Rattle.dom_model.proofs.RangesAndContents.RangesSpliced.{there-alike}
 use Rattle.dom_edit.specs.declared.world.World.{World}
 use Rattle.dom_edit.specs.Whole.{AreHeld, AreCovered, IsWhole, Keeps, Follows, unwatched}
-use Rattle.dom_edit.specs.dom_observe.Watchers.{Watches}
-use Rattle.dom_edit.specs.dom_observe.HeldNames.{held-kept}
+use Rattle.dom_observe.specs.Watchers.{Watches}
+use Rattle.dom_observe.proofs.HeldNames.{held-kept}
 use Rattle.std.proofs.lemmas.Bool.Decides.{nat_tests}
 pub use Rattle.dom_edit.proofs.Following.{sound-unwatched}
 use Rattle.dom_edit.proofs.Following.{whole-sound}

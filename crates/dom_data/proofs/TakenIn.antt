@@ -20,7 +20,7 @@ use Rattle.dom_model.proofs.Forests.Entries.{HasNode-occurs}
 use Rattle.dom_model.proofs.Soundness.SoundData.{length-data}
 use Rattle.dom_model.proofs.Soundness.SoundSplitting.{text_has_data}
 use Rattle.dom_model.proofs.Soundness.SoundJoining.{is_child, is_there, first_in, text_first, merged_is, moved, sound-merged_ranges, left, joinable_left}
-use Rattle.dom_edit.specs.dom_ranges.Tables.{RangeTable, OffsetsFit, live_nodes}
+use Rattle.dom_ranges.specs.Tables.{RangeTable, OffsetsFit, live_nodes}
 use Rattle.dom_edit.specs.declared.world.World.{World}
 use Rattle.dom_edit.specs.Whole.{AreCovered, IsWhole, Keeps, Follows, unwatched}
 use Rattle.dom_edit.proofs.Following.{follows-none, follows-then, keeps-unwatched, whole-sound}

@@ -18,7 +18,7 @@ use Rattle.dom_model.proofs.Forests.Climbing.{hits-append, hits-first, hits-not_
 use Rattle.dom_model.proofs.Forests.TreeOrder.Flattened.{hits-numbers}
 use Rattle.dom_model.proofs.Forests.Listed.{hits-itself}
 use Rattle.dom_model.proofs.Soundness.SoundNormalizing.{kept-one}
-use Rattle.dom_edit.specs.dom_traverse.Descendants.{among-inside}
+use Rattle.dom_traverse.proofs.Descendants.{among-inside}
 use Rattle.dom_edit.specs.declared.world.World.{World}
 use Rattle.dom_edit.specs.Whole.{IsWhole, Keeps, Follows, unwatched}
 use Rattle.dom_edit.proofs.Following.{follows-none, follows-then, keeps-unwatched}

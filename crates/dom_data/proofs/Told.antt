@@ -7,8 +7,8 @@ use Rattle.dom_model.specs.Forests.Forest.{Forest, ancestors}
 use Rattle.dom_model.specs.Worlds.World.{Content}
 use Rattle.dom_model.specs.MutationAlgorithms.Editing.{queued}
 use Rattle.dom_model.specs.MutationObservers.Observing.{noted, standing_on}
-use Rattle.dom_edit.specs.dom_observe.Names.{text_of}
-use Rattle.dom_edit.specs.dom_observe.Watchers.{Watches}
+use Rattle.dom_observe.specs.Names.{text_of}
+use Rattle.dom_observe.specs.Watchers.{Watches}
 use Rattle.dom_edit.specs.declared.world.World.{World}
 use Rattle.dom_edit.specs.Whole.{Follows}
 use Rattle.dom_data.specs.Changes.{change_of, Tells}

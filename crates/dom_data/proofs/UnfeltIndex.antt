@@ -3,8 +3,8 @@ use Rattle.std.proofs.Common.{◌≡◌, ℕ, ◌==◌, Bool, true, false, refl,
 use Rattle.dom_model.specs.PlainLists.Lists.{among}
 use Rattle.dom_model.specs.Worlds.World.{Point}
 use Rattle.dom_model.specs.BoundaryPoints.Points.{map_ranges}
-use Rattle.dom_edit.specs.dom_ranges.Tables.{RangeTable, live_nodes}
-use Rattle.dom_edit.specs.dom_ranges.Inside.{ranges-alike}
+use Rattle.dom_ranges.specs.Tables.{RangeTable, live_nodes}
+use Rattle.dom_ranges.proofs.Inside.{ranges-alike}
 use Rattle.dom_model.proofs.RangesAndContents.RangesElsewhere.{among-any}
 
 -- a move by an index that matters in the parent alone is the same by any two indices, unless a live range stands there

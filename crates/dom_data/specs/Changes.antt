@@ -4,7 +4,7 @@ use Rattle.dom_model.specs.declared.RecordType.{RecordType}
 use Rattle.dom_model.specs.Forests.Forest.{Forest, ancestors}
 use Rattle.dom_model.specs.Worlds.World.{Content, Mutation, Observing}
 use Rattle.dom_model.specs.MutationObservers.Observing.{standing_on, noted}
-use Rattle.dom_edit.specs.dom_observe.Watchers.{Watchers, Watches}
+use Rattle.dom_observe.specs.Watchers.{Watchers, Watches}
 
 -- a change of a node's data or attributes
 abbrev pub change_of : RecordType → ℕ → Option (List ℕ) → Option (List ℕ) → Mutation

@@ -9,8 +9,8 @@ ghost use Rattle.dom_edit.specs.Whole.{IsWhole, Follows, unwatched};
 use crate::bodies::{has_in, remove_in, set_in};
 use crate::records::tell_attribute;
 use dom_edit::World;
-use dom_edit::of_tree::NodeId;
-use dom_edit::of_units::Units;
+use dom_tree::NodeId;
+use dom_units::Units;
 use std::alloc::{AllocError, Global};
 
 /// Sets an attribute, in place or as the last, with a record of the old value ("set an attribute value").

@@ -7,9 +7,9 @@ ghost use Rattle.dom_model.specs.Forests.Texts.{spliced};
 ghost use Rattle.dom_model.specs.DataAndCopies.Data.{content_in, with_data, with_attributes};
 
 use dom_edit::Content;
-use dom_edit::of_kinds::Kind;
-use dom_edit::of_tree::{NodeId, Tree};
-use dom_edit::of_units::Units;
+use dom_kinds::Kind;
+use dom_tree::{NodeId, Tree};
+use dom_units::Units;
 use std::alloc::AllocError;
 
 // The kind of a node.

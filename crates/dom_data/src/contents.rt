@@ -15,10 +15,10 @@ ghost use Rattle.dom_data.specs.TextContent.{makes_text};
 use crate::bodies::kind_in;
 use crate::making::make_text;
 use crate::replacing::set_data;
-use dom_edit::of_kinds::Kind;
-use dom_edit::of_tree::{NodeId, Tree};
-use dom_edit::of_units::Units;
 use dom_edit::{Content, World, data_in, document_in};
+use dom_kinds::Kind;
+use dom_tree::{NodeId, Tree};
+use dom_units::Units;
 use std::alloc::{AllocError, Global};
 
 // Puts the data of a node behind a text, where the node is a Text.

@@ -6,11 +6,11 @@ ghost use Rattle.dom_model.specs.Worlds.Making.{made_node, named, with_text};
 ghost use Rattle.dom_model.specs.Forests.Nodes.{is_of_kind};
 ghost use Rattle.dom_edit.specs.Whole.{IsWhole, Follows};
 
-use dom_edit::of_attrs::Attrs;
-use dom_edit::of_kinds::{Kind, Label};
-use dom_edit::of_tree::NodeId;
-use dom_edit::of_units::Units;
+use dom_attrs::Attrs;
 use dom_edit::{Content, World};
+use dom_kinds::{Kind, Label};
+use dom_tree::NodeId;
+use dom_units::Units;
 use std::alloc::{AllocError, Global};
 
 // Makes a Text with these units in a document, a root.

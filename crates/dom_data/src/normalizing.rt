@@ -6,7 +6,7 @@ ghost use Rattle.dom_model.specs.PlainLists.Lists.{hits, among};
 ghost use Rattle.dom_model.specs.Forests.Forest.{HasNode, parent_of, index_of, inclusive_descendants};
 ghost use Rattle.dom_model.specs.Forests.Nodes.{is_of_kind};
 ghost use Rattle.dom_model.specs.DataAndCopies.Data.{data_of, replace_data, following_texts, is_descendant, join_following, normalize_text, normalize_each, normalize};
-ghost use Rattle.dom_edit.specs.dom_ranges.Tables.{live_nodes};
+ghost use Rattle.dom_ranges.specs.Tables.{live_nodes};
 ghost use Rattle.dom_model.specs.TokenText.Edits.{normalize_edits};
 ghost use Rattle.dom_model.specs.DataAndCopies.Joinable.{AreJoinable};
 ghost use Rattle.dom_edit.specs.Whole.{IsWhole, Follows, unwatched};
@@ -16,10 +16,10 @@ ghost use Rattle.dom_data.specs.Joining.{next_text, texts_behind, data_among, Is
 
 use crate::bodies::kind_in;
 use crate::replacing::replace_units;
-use dom_edit::of_kinds::Kind;
-use dom_edit::of_tree::{NodeId, Tree};
-use dom_edit::of_units::Units;
 use dom_edit::{Content, World, data_in};
+use dom_kinds::Kind;
+use dom_tree::{NodeId, Tree};
+use dom_units::Units;
 use std::alloc::{AllocError, Global};
 
 // Puts a node last in a list, where it is a Text.

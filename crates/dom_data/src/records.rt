@@ -9,10 +9,10 @@ ghost use Rattle.dom_edit.specs.Whole.{IsWhole, Follows};
 ghost use Rattle.dom_data.specs.Changes.{change_of};
 
 use crate::bodies::value_in;
-use dom_edit::of_observe::Mutation;
-use dom_edit::of_tree::{NodeId, Tree};
 use dom_edit::{Content, World, data_in};
 use dom_model::RecordType;
+use dom_observe::Mutation;
+use dom_tree::{NodeId, Tree};
 use std::alloc::{AllocError, Global};
 
 // Queues a record of a node's data, which is about to change, for each observer that it interests. Records are made in the observers' own memory.

@@ -13,10 +13,10 @@ ghost use Rattle.dom_data.specs.Reading.{IsNamed};
 
 use crate::bodies::splice_data;
 use crate::records::tell_data;
-use dom_edit::of_kinds::DomError;
-use dom_edit::of_tree::NodeId;
-use dom_edit::of_units::Units;
 use dom_edit::{Refusal, World, data_in};
+use dom_kinds::DomError;
+use dom_tree::NodeId;
+use dom_units::Units;
 use std::alloc::{AllocError, Global};
 
 // Puts `added` in place of the `count` units from `offset` on, with a record of the old data.

@@ -15,10 +15,10 @@ ghost use Rattle.dom_data.specs.Tails.{IsTail};
 use crate::making::make_text;
 use crate::normalizing::index_if_asked;
 use crate::replacing::replace_data_checked;
-use dom_edit::of_kinds::DomError;
-use dom_edit::of_tree::{NodeId, Tree};
-use dom_edit::of_units::Units;
 use dom_edit::{Content, Refusal, World, data_in, document_in};
+use dom_kinds::DomError;
+use dom_tree::{NodeId, Tree};
+use dom_units::Units;
 use std::alloc::{AllocError, Global};
 
 // A law: the count of the children fits a number of the machine.

@@ -14,7 +14,7 @@ use Rattle.dom_model.proofs.Forests.Entries.{HasNode-occurs, occurs-HasNode}
 use Rattle.dom_model.proofs.Forests.Indices.{child-there}
 use Rattle.dom_model.proofs.Forests.Siblings.{index-step}
 use Rattle.dom_model.proofs.Soundness.SoundWorlds.{child_there}
-use Rattle.dom_ranges.specs.dom_tree.Beside.{forward-step}
+use Rattle.dom_tree.proofs.Beside.{forward-step}
 use Rattle.dom_edit.specs.declared.world.World.{World}
 use Rattle.dom_edit.specs.Whole.{IsWhole, Follows}
 use Rattle.dom_edit.specs.Inserting.{reference_in, entering, entering_if_any, AreThere, KeepsNodes}

@@ -11,8 +11,8 @@ ghost use Rattle.dom_edit.specs.Places.{child_of, conditions_at};
 
 use crate::content::Content;
 use crate::surroundings::{Place, is_refused};
-use dom_ranges::of_kinds::{DomError, Kind, may_be_parent};
-use dom_ranges::of_tree::{NodeId, Tree};
+use dom_kinds::{DomError, Kind, may_be_parent};
+use dom_tree::{NodeId, Tree};
 
 // Whether a kind may stand nowhere under the other: a Document, a Text under a Document, a doctype under anything else.
 fn is_misplaced(parent: Kind, kind: Kind) -> bool

@@ -4,8 +4,8 @@ ghost use Rattle.std.specs.Prelude.{◌≡◌, IfOk};
 ghost use Rattle.dom_model.specs.Commands.Answer.{with_text};
 
 use dom_attrs::Attrs;
-use dom_observe::of_units::Units;
-use dom_ranges::of_tree::Body;
+use dom_tree::Body;
+use dom_units::Units;
 use std::alloc::{AllocError, Global};
 use std::marker::Model;
 

@@ -10,8 +10,8 @@ ghost use Rattle.dom_edit.specs.Used.{named_in, is_used};
 ghost use Rattle.dom_edit.specs.Whole.{IsWhole, Shows, Follows};
 
 use crate::world::World;
-use dom_ranges::of_kinds::Kind;
-use dom_ranges::of_tree::NodeId;
+use dom_kinds::Kind;
+use dom_tree::NodeId;
 
 impl World {
     /// Whether nothing outside of a node and its descendants names one of them: no parent, no node of which one is the node document, no

@@ -24,8 +24,8 @@ use crate::questions::reference_child;
 use crate::refusal::Refusal;
 use crate::replacing::{check_only_child, entering_if_any};
 use crate::world::World;
-use dom_ranges::of_kinds::{DomError, Kind};
-use dom_ranges::of_tree::NodeId;
+use dom_kinds::{DomError, Kind};
+use dom_tree::NodeId;
 use std::alloc::{AllocError, Global};
 
 impl World {

@@ -9,8 +9,8 @@ ghost use Rattle.dom_edit.specs.Whole.{IsWhole, Follows};
 
 use crate::content::Content;
 use crate::world::World;
-use dom_ranges::of_kinds::Kind;
-use dom_ranges::of_tree::{NodeId, Tree};
+use dom_kinds::Kind;
+use dom_tree::{NodeId, Tree};
 use std::alloc::{AllocError, Global};
 
 /// Nodes in a row. One alone takes no memory.

@@ -9,7 +9,7 @@ ghost use Rattle.std.specs.Prelude.{Some, [], ◌∷◌};
 
 use crate::content::Content;
 use crate::world::World;
-use dom_ranges::of_tree::{NodeId, Tree};
+use dom_tree::{NodeId, Tree};
 
 // Puts a root in, in the parent's node document. The nodes under it are asked of only where they have another one.
 fn put_in(tree: &mut Tree<Content>, parent: NodeId, child: Option<NodeId>, node: NodeId)

@@ -10,8 +10,8 @@ ghost use Rattle.dom_model.specs.Soundness.Owners.{HasOwners};
 ghost use Rattle.dom_edit.specs.Inserting.{reference_in};
 
 use crate::content::Content;
-use dom_observe::of_units::Units;
-use dom_ranges::of_tree::{NodeId, Tree};
+use dom_tree::{NodeId, Tree};
+use dom_units::Units;
 
 /// What a node comes in before: the child, or the node's next sibling where the child is the node itself; none where it comes in last.
 pub fn reference_child(tree: &Tree<Content>, node: NodeId, child: Option<NodeId>) -> Option<NodeId>

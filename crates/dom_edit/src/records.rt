@@ -10,7 +10,7 @@ ghost use Rattle.dom_edit.specs.Whole.{IsWhole, Follows};
 use crate::world::World;
 use dom_model::RecordType;
 use dom_observe::Mutation;
-use dom_ranges::of_tree::NodeId;
+use dom_tree::NodeId;
 use std::alloc::{AllocError, Global};
 
 impl World {

@@ -1,6 +1,6 @@
 //! Why a call on a world did nothing, or not all of it.
 
-use dom_ranges::of_kinds::DomError;
+use dom_kinds::DomError;
 use std::alloc::AllocError;
 
 /// The name of the standard's exception, or want of memory.

@@ -8,7 +8,7 @@ ghost use Rattle.dom_edit.specs.Inserting.{IsUnreferred};
 ghost use Rattle.dom_edit.specs.Whole.{IsWhole, Follows, Moves};
 
 use crate::world::World;
-use dom_ranges::of_tree::NodeId;
+use dom_tree::NodeId;
 use std::alloc::{AllocError, Global};
 
 impl World {

@@ -13,8 +13,8 @@ use crate::checks::check_insert;
 use crate::content::Content;
 use crate::inserting::{NodeList, entering};
 use crate::world::World;
-use dom_ranges::of_kinds::DomError;
-use dom_ranges::of_tree::{NodeId, Tree};
+use dom_kinds::DomError;
+use dom_tree::{NodeId, Tree};
 use std::alloc::{AllocError, Global};
 
 /// What comes in with a node; nothing where none is given.

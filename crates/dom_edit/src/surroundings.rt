@@ -9,8 +9,8 @@ ghost use Rattle.dom_model.specs.Forests.Nodes.{is_of_kind};
 ghost use Rattle.dom_edit.specs.Places.{child_of, keeps_child, IsUnder, refuses, IsAmong, ahead_of, from_optional, IsFound, IsAround};
 
 use crate::content::Content;
-use dom_ranges::of_kinds::Kind;
-use dom_ranges::of_tree::{NodeId, Tree};
+use dom_kinds::Kind;
+use dom_tree::{NodeId, Tree};
 
 /// Where a node is to come in: before a child or last, or in the place of a child.
 #[derive(Clone, Copy)]

@@ -11,12 +11,12 @@ ghost use Rattle.dom_model.specs.Forests.Nodes.{is_of_kind};
 ghost use Rattle.dom_edit.specs.Whole.{IsWhole, Shows, CoversAhead, Follows};
 
 use crate::content::Content;
+use dom_kinds::{Kind, Label};
 use dom_observe::Observers;
-use dom_observe::of_units::Units;
-use dom_ranges::of_kinds::{Kind, Label};
-use dom_ranges::of_tree::{NodeId, Tree};
 use dom_ranges::{Ranges, Statics};
 use dom_traverse::{NodeIterators, Walkers};
+use dom_tree::{NodeId, Tree};
+use dom_units::Units;
 use std::alloc::{AllocError, Global};
 
 /// The nodes of a session, its live and static ranges, iterators and walkers, and its observers.

@@ -20,8 +20,3 @@ pub use observer_id::ObserverId;
 pub use observers::Observers;
 pub use options::{Options, RawOptions, settle};
 pub use record::{Mutation, Record};
-
-/// What crates above name of `dom_units`.
-pub mod of_units {
-    pub use dom_units::Units;
-}

@@ -15,21 +15,3 @@ pub use questions::{
     checked_point, found_around, found_before, is_before, point_after, point_before, points_around,
     same_root,
 };
-
-/// What crates above name of `dom_kinds`.
-pub mod of_kinds {
-    pub use dom_tree::of_kinds::{
-        DomError, Exception, Kind, Label, NodeType, is_attribute_name, is_doctype_name,
-        is_element_name, may_be_parent,
-    };
-}
-
-/// What crates above name of `dom_pages`.
-pub mod of_pages {
-    pub use dom_tree::of_pages::Pages;
-}
-
-/// What crates above name of `dom_tree`.
-pub mod of_tree {
-    pub use dom_tree::{Body, NodeId, Tree};
-}

@@ -8,7 +8,7 @@ ghost use Rattle.dom_point.specs.Refusals.{refused};
 
 use crate::ordering::{found_order, order};
 use crate::point::Point;
-use dom_tree::of_kinds::{DomError, Kind};
+use dom_kinds::{DomError, Kind};
 use dom_tree::{Body, NodeId, Tree};
 use std::cmp::Ordering;
 

@@ -5,8 +5,8 @@ use Rattle.std.proofs.lemmas.Bool.Decides.{nat_tests}
 use Rattle.std.proofs.lemmas.List.{get_or_past}
 use Rattle.dom_model.specs.PlainLists.Lists.{hits, is_number, head_of, after, before_from, before, left_out}
 use Rattle.dom_model.specs.Worlds.World.{Point}
-use Rattle.dom_point.specs.dom_links.Wiring.{link_unless}
-use Rattle.dom_point.specs.dom_links.Neighbours.{is_number-true, head_of-none, after-none, before_from-none, left_out-none, hits-left_out_same, hits-left_out_other, head_of-left_out, after-left_out, before_from-left_out, meets, first_of}
+use Rattle.dom_links.specs.Wiring.{link_unless}
+use Rattle.dom_links.proofs.Neighbours.{is_number-true, head_of-none, after-none, before_from-none, left_out-none, hits-left_out_same, hits-left_out_other, head_of-left_out, after-left_out, before_from-left_out, meets, first_of}
 use Rattle.dom_ranges.specs.declared.chains.End.{End}
 use Rattle.dom_ranges.specs.Chained.{Heads, free_end, end_at, point_at, covers, cover_of, head_in, head_at, stands_at, IsChained, ForLink, led_on, heads_led, led_back, table_without, heads_without, table_with, heads_with}
 use Rattle.dom_ranges.proofs.Covers as Covers

@@ -3,7 +3,7 @@ use Rattle.std.proofs.Common.{◌≡◌, ℕ, zero, suc, ◌+◌, ◌-◌, ◌�
 use Rattle.std.specs.Option.{IsSome}
 use Rattle.std.proofs.lemmas.Bool.{false≢true}
 use Rattle.std.proofs.lemmas.List.{length-map, length-replicate}
-use Rattle.dom_point.specs.dom_pages.Numbered.{item_at}
+use Rattle.dom_pages.specs.Numbered.{item_at}
 use Rattle.dom_ranges.specs.Chained.{Heads, covers, covered_to, cover_of, head_at}
 
 pub covers-within : (covered : List Bool) (n : ℕ) → covers covered n ≡ true → n < length covered

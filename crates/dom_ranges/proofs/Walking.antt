@@ -6,8 +6,8 @@ use Rattle.dom_model.specs.PlainLists.Lists.{hits, among, is_number, head_of, af
 use Rattle.dom_model.specs.Worlds.World.{Point}
 use Rattle.dom_model.proofs.Forests.Climbing.{hits-not_among, not_among-hits}
 use Rattle.dom_model.proofs.PlainLists.Heads.{hits-first, hits-rest, after-first, after-rest, among-first, among-rest}
-use Rattle.dom_point.specs.dom_links.Neighbours.{after-none, after-left_out, hits-left_out_other}
-use Rattle.dom_point.specs.dom_links.Counting.{length-le_from_once}
+use Rattle.dom_links.proofs.Neighbours.{after-none, after-left_out, hits-left_out_other}
+use Rattle.dom_links.proofs.Counting.{length-le_from_once}
 use Rattle.dom_ranges.specs.declared.chains.End.{End}
 use Rattle.dom_ranges.specs.Chained.{Heads, end_at, point_at, points_of, covers, cover_of, head_at, stands_at, IsChained, HasChains, Rechains, moved_from, on_node, MovesWithin}
 use Rattle.dom_ranges.proofs.Chained.{in-stands, once, chained-within}

@@ -10,7 +10,7 @@ ghost use Rattle.dom_ranges.specs.Chained.{on_node};
 use crate::ranges::Ranges;
 use crate::shift::Shift;
 use dom_point::Point;
-use dom_point::of_tree::{NodeId, Tree};
+use dom_tree::{NodeId, Tree};
 
 impl Ranges {
     /// Nodes come in among a parent's children, `count` of them at the index `at`.

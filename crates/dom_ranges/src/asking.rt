@@ -11,7 +11,7 @@ ghost use Rattle.dom_ranges.specs.Tables.{nodes_at, stands_among, moved_in};
 use crate::chains::{Chains, End};
 use crate::numbers::EndId;
 use dom_point::Point;
-use dom_point::of_tree::{NodeId, Tree};
+use dom_tree::{NodeId, Tree};
 
 // Whether an end stands inside a node.
 fn stands_inside<X>(end: End, tree: &Tree<X>, top: NodeId) -> bool

@@ -8,16 +8,16 @@ ghost use Rattle.std.specs.Prelude.{◌≡◌, ℕ, ◌+◌, ◌^◌, ◌<◌, �
 ghost use Rattle.std.specs.Vec.{vec_len, vec_capacity};
 ghost use Rattle.dom_model.specs.PlainLists.Lists.{among};
 ghost use Rattle.dom_model.specs.Worlds.World.{Point as PointValue};
-ghost use Rattle.dom_point.specs.dom_pages.Numbered.{item_at};
+ghost use Rattle.dom_pages.specs.Numbered.{item_at};
 ghost use Rattle.dom_ranges.specs.Chained.{free_end, end_at, head_at, covers, covered_to, cover_of, point_at, points_of, ForLink, led_on, led_back, heads_led, HasChains, Rechains, unchained, chained_first, on_node, MovesWithin, GoesElsewhere, StaysBeside, table_moved, moved_from};
 ghost use Rattle.dom_ranges.specs.Shifting.{shifted};
 ghost use Rattle.dom_ranges.specs.Tables.{nodes_at, without_slot};
 
 use crate::numbers::{EndId, RangeSlot};
 use crate::shift::Shift;
+use dom_pages::Pages;
 use dom_point::Point;
-use dom_point::of_pages::Pages;
-use dom_point::of_tree::NodeId;
+use dom_tree::NodeId;
 use std::alloc::{AllocError, Global};
 
 /// An end: where it stands, and the ends before and after it in the chain of its node. An end of no live range stands nowhere.

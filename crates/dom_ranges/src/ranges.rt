@@ -10,9 +10,9 @@ ghost use Rattle.dom_ranges.specs.Tables.{IsCovered, range_in, slot_at, live_nod
 
 use crate::chains::Chains;
 use crate::numbers::{RangeId, RangeSlot};
+use dom_pages::Pages;
 use dom_point::Point;
-use dom_point::of_pages::Pages;
-use dom_point::of_tree::{Body, NodeId, Tree};
+use dom_tree::{Body, NodeId, Tree};
 use std::alloc::{AllocError, Global};
 use std::marker::Model;
 

@@ -11,9 +11,9 @@ ghost use Rattle.dom_ranges.specs.Tables.{IsCovered, range_in, StandsIn, refused
 
 use crate::numbers::RangeId;
 use crate::ranges::Ranges;
-use dom_point::of_kinds::{DomError, Kind};
-use dom_point::of_tree::{Body, NodeId, Tree};
+use dom_kinds::{DomError, Kind};
 use dom_point::{Point, checked_point, found_before, points_around, same_root};
+use dom_tree::{Body, NodeId, Tree};
 
 impl Ranges {
     /// Sets the start. In another tree, or past the end, the end moves there too. An index that this asks for is known when it is asked for again.

@@ -5,7 +5,7 @@ ghost use Rattle.dom_model.specs.BoundaryPoints.Points.{after_split, after_merge
 ghost use Rattle.dom_ranges.specs.Shifting.{shifted, spliced_offset};
 
 use dom_point::Point;
-use dom_point::of_tree::NodeId;
+use dom_tree::NodeId;
 
 /// A map of points (DOM Standard, "Live ranges").
 #[derive(Clone, Copy)]

@@ -12,9 +12,9 @@ ghost use Rattle.dom_model.specs.Worlds.Lengths.{node_length};
 ghost use Rattle.dom_ranges.specs.Tables.{refused};
 ghost use Rattle.indexmap.specs.IndexSet.{contains, spare};
 
-use dom_point::of_kinds::{DomError, Kind};
-use dom_point::of_tree::{Body, NodeId, Tree};
+use dom_kinds::{DomError, Kind};
 use dom_point::{Point, found_before, same_root};
+use dom_tree::{Body, NodeId, Tree};
 use indexmap::IndexSet;
 use std::alloc::{AllocError, Global};
 use std::marker::Model;

@@ -33,8 +33,8 @@ use Rattle.dom_session.specs.declared.command.Contents.{Contents}
 use Rattle.dom_session.specs.declared.command.Contents.TheVariants.{RangeText, DeleteContents, ExtractContents, CloneContents, InsertNode, SurroundContents}
 use Rattle.dom_session.specs.declared.reply.Reply.{Reply}
 use Rattle.dom_session.specs.Views.{making_view, editing_view, asking_view, ranging_view, setting_view, comparing_view, static_ranging_view, traversing_view, observing_view, texts_view, attributes_view, copying_view, contents_view, command_view}
-use Rattle.dom_wrap.specs.dom_edit.declared.world.World.{World as CodeWorld}
-use Rattle.dom_wrap.specs.dom_edit.Whole.{Shows, IsShown}
+use Rattle.dom_edit.specs.declared.world.World.{World as CodeWorld}
+use Rattle.dom_edit.specs.Whole.{Shows, IsShown}
 use Rattle.dom_session.specs.Stands.{Held, StandsFor, IsStep, IsAnswered}
 use Rattle.dom_session.specs.Limiting.{numbered}
 

@@ -17,10 +17,10 @@ use Rattle.dom_model.specs.Commands.AnswerRanges.{no_range, on_range, done_or_re
 use Rattle.dom_model.proofs.Counting.CountsOfExtraction.{IsGrownTo, extract-grown, surround-to}
 use Rattle.dom_model.proofs.Counting.CopiesOfContents.{clone_contents-grown}
 use Rattle.dom_model.proofs.Counting.NumbersKept.{in_order}
-use Rattle.dom_wrap.specs.dom_ranges.Tables.{range_in}
-use Rattle.dom_wrap.specs.dom_edit.declared.world.World.{World}
-use Rattle.dom_wrap.specs.dom_edit.Whole.{IsWhole, Keeps, Shows, unwatched}
-use Rattle.dom_wrap.specs.dom_edit.Leaving.{sound-unwatched}
+use Rattle.dom_ranges.specs.Tables.{range_in}
+use Rattle.dom_edit.specs.declared.world.World.{World}
+use Rattle.dom_edit.specs.Whole.{IsWhole, Keeps, Shows, unwatched}
+use Rattle.dom_edit.proofs.Leaving.{sound-unwatched}
 use Rattle.dom_wrap.specs.Outcomes.{left_by}
 use Rattle.dom_session.proofs.Stepping.{guarded-none}
 use Rattle.dom_session.proofs.TreeEdits.{not-none}

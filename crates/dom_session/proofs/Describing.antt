@@ -11,8 +11,8 @@ use Rattle.dom_model.specs.Commands.Reply.{NodeAt}
 use Rattle.dom_model.specs.Commands.Guards.{Bounds, Step, guarded, no_node, answers}
 use Rattle.dom_model.specs.Commands.Answer.{answer}
 use Rattle.dom_model.specs.Commands.AnswerTree.{described}
-use Rattle.dom_wrap.specs.dom_edit.declared.world.World.{World}
-use Rattle.dom_wrap.specs.dom_edit.Whole.{Shows}
+use Rattle.dom_edit.specs.declared.world.World.{World}
+use Rattle.dom_edit.specs.Whole.{Shows}
 use Rattle.dom_session.proofs.TreeEdits.{not-none}
 
 module _ (n document : ℕ) (label : Label) (next parent previous : Option ℕ) where

@@ -15,9 +15,9 @@ use Rattle.dom_model.specs.Commands.Command.{ImportNode, CloneNode}
 use Rattle.dom_model.specs.Commands.Reply as model_reply
 use Rattle.dom_model.specs.Commands.Answer.{refused, answer}
 use Rattle.dom_model.proofs.Counting.CountsOfContents.{size-original}
-use Rattle.dom_wrap.specs.dom_edit.declared.world.World.{World}
-use Rattle.dom_wrap.specs.dom_edit.Whole.{Shows}
-use Rattle.dom_wrap.specs.dom_edit.Refusals.{check_adopt}
+use Rattle.dom_edit.specs.declared.world.World.{World}
+use Rattle.dom_edit.specs.Whole.{Shows}
+use Rattle.dom_edit.specs.Refusals.{check_adopt}
 use Rattle.dom_session.specs.Limiting.{numbered}
 use Rattle.dom_session.proofs.TreeEdits.{not-none, throws-some, throws-none}
 

@@ -21,8 +21,8 @@ use Rattle.dom_model.specs.Commands.Command.{Command, SetAttribute, GetAttribute
 use Rattle.dom_model.specs.Commands.Reply as model_reply
 use Rattle.dom_model.specs.Commands.Answer.{Bounds, Step, guarded, refused, answer}
 use Rattle.dom_model.specs.Commands.Guards.{no_node, wrong_kind, bad_name, no_room, answers, does, checked}
-use Rattle.dom_wrap.specs.dom_edit.declared.world.World.{World}
-use Rattle.dom_wrap.specs.dom_edit.Whole.{Shows, unwatched}
+use Rattle.dom_edit.specs.declared.world.World.{World}
+use Rattle.dom_edit.specs.Whole.{Shows, unwatched}
 use Rattle.dom_session.specs.Refusing.{kind_refusal}
 use Rattle.dom_session.specs.declared.reply.Reply.{Reply}
 use Rattle.dom_session.specs.Stands.{IsStep}

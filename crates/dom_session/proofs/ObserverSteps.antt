@@ -14,11 +14,11 @@ use Rattle.dom_model.specs.Commands.AnswerObserving.{with_observing}
 use Rattle.dom_model.specs.MutationObservers.Records.{options_refusal, options_of, settled, settled_unless, with_observer, observed, disconnected, queue_of, records_taken, told, after_notify}
 use Rattle.dom_model.specs.MutationObservers.Record.{Record, Told}
 use Rattle.dom_model.proofs.PlainLists.Numbers.{same_or, same, apart}
-use Rattle.dom_wrap.specs.dom_observe.Held.{NamesHeld, NamesOnly}
-use Rattle.dom_wrap.specs.dom_observe.Watchers.{Watchers, Watches}
-use Rattle.dom_wrap.specs.dom_observe.HeldNames.{held-after}
-use Rattle.dom_wrap.specs.dom_edit.declared.world.World.{World}
-use Rattle.dom_wrap.specs.dom_edit.Whole.{IsWhole, Shows}
+use Rattle.dom_observe.specs.Held.{NamesHeld, NamesOnly}
+use Rattle.dom_observe.specs.Watchers.{Watchers, Watches}
+use Rattle.dom_observe.proofs.HeldNames.{held-after}
+use Rattle.dom_edit.specs.declared.world.World.{World}
+use Rattle.dom_edit.specs.Whole.{IsWhole, Shows}
 use Rattle.dom_session.specs.declared.reply.Reply.{Reply}
 use Rattle.dom_session.specs.Views.{reply_view}
 use Rattle.dom_session.specs.Stands.{IsStep}

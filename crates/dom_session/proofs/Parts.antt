@@ -8,10 +8,10 @@ use Rattle.dom_model.specs.Commands.Command.{Command}
 use Rattle.dom_model.specs.Commands.Reply.{is_refusal}
 use Rattle.dom_model.specs.Commands.Answer.{Bounds, Step, answer}
 use Rattle.dom_model.proofs.Soundness.SoundAnswers.{sound-answer}
-use Rattle.dom_wrap.specs.dom_ranges.Tables.{RangeTable}
-use Rattle.dom_wrap.specs.dom_edit.declared.world.World.{World}
-use Rattle.dom_wrap.specs.dom_edit.Whole.{AreCovered, IsWhole, Shows, IsShown, Follows, AreHeld}
-use Rattle.dom_wrap.specs.dom_edit.Following.{whole-sound}
+use Rattle.dom_ranges.specs.Tables.{RangeTable}
+use Rattle.dom_edit.specs.declared.world.World.{World}
+use Rattle.dom_edit.specs.Whole.{AreCovered, IsWhole, Shows, IsShown, Follows, AreHeld}
+use Rattle.dom_edit.proofs.Following.{whole-sound}
 use Rattle.dom_session.specs.declared.reply.Reply.{Reply}
 use Rattle.dom_session.specs.Views.{reply_view}
 use Rattle.dom_session.specs.Stands.{IsStep}

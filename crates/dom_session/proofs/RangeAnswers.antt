@@ -16,9 +16,9 @@ use Rattle.dom_model.specs.PlainLists.Lists.{first_refusal}
 use Rattle.dom_model.specs.Forests.Nodes.{is_of_kind, same_root}
 use Rattle.dom_model.specs.RangesAndContents.Ranges.{start_set, end_set, point_before, point_after, around, contents_of, collapsed_at, collapsed, check_point, check_parent, check_contents, place_against, is_point_in}
 use Rattle.dom_model.specs.RangesAndContents.StaticRanges.{check_static}
-use Rattle.dom_wrap.specs.dom_ranges.Tables.{range_in, refused}
-use Rattle.dom_wrap.specs.dom_edit.declared.world.World.{World}
-use Rattle.dom_wrap.specs.dom_edit.Whole.{Shows}
+use Rattle.dom_ranges.specs.Tables.{range_in, refused}
+use Rattle.dom_edit.specs.declared.world.World.{World}
+use Rattle.dom_edit.specs.Whole.{Shows}
 use Rattle.dom_session.proofs.TreeEdits.{not-none}
 
 -- an answer without refusal

@@ -18,9 +18,9 @@ use Rattle.dom_model.proofs.Soundness.SoundWorlds.{IsLive}
 use Rattle.dom_model.proofs.Soundness.SoundRangeSteps.{document_is_no_doctype}
 use Rattle.dom_model.proofs.RangesAndContents.RangesSet.{range_at_point}
 use Rattle.dom_model.specs.RangesAndContents.Ranges.{collapsed_at, around}
-use Rattle.dom_wrap.specs.dom_ranges.Tables.{IsCovered, range_in, StandsIn, IsBoundaryIn, IsRangeIn}
-use Rattle.dom_wrap.specs.dom_edit.declared.world.World.{World}
-use Rattle.dom_wrap.specs.dom_edit.Whole.{IsWhole}
+use Rattle.dom_ranges.specs.Tables.{IsCovered, range_in, StandsIn, IsBoundaryIn, IsRangeIn}
+use Rattle.dom_edit.specs.declared.world.World.{World}
+use Rattle.dom_edit.specs.Whole.{IsWhole}
 
 boundary-in : (f : Forest Content) (p : Point) → IsBoundary f p → IsBoundaryIn unit_count f p
 boundary-in f p b = record { there = b.there; kind = b.kind; within = b.within }

@@ -11,11 +11,11 @@ use Rattle.dom_model.specs.Commands.Answer.{Bounds, Step, guarded, refused, answ
 use Rattle.dom_model.specs.PlainLists.Lists.{first_refusal}
 use Rattle.dom_model.specs.Soundness.Sound.{IsSound}
 use Rattle.dom_model.proofs.Soundness.SoundAnswers.{sound-answer}
-use Rattle.dom_wrap.specs.dom_edit.declared.world.World.{World}
-use Rattle.dom_wrap.specs.dom_edit.declared.refusal.Refusal.{Refusal}
-use Rattle.dom_wrap.specs.dom_edit.declared.refusal.Refusal.TheVariants as refusal
-use Rattle.dom_wrap.specs.dom_edit.Whole.{IsWhole, Shows, Follows}
-use Rattle.dom_wrap.specs.dom_edit.Refusals.{IsRefused}
+use Rattle.dom_edit.specs.declared.world.World.{World}
+use Rattle.dom_edit.specs.declared.refusal.Refusal.{Refusal}
+use Rattle.dom_edit.specs.declared.refusal.Refusal.TheVariants as refusal
+use Rattle.dom_edit.specs.Whole.{IsWhole, Shows, Follows}
+use Rattle.dom_edit.specs.Refusals.{IsRefused}
 use Rattle.dom_session.specs.declared.reply.Reply.{Reply}
 use Rattle.dom_session.specs.declared.reply.Reply.TheVariants.{Dom}
 use Rattle.dom_session.specs.Views.{reply_view}

@@ -11,8 +11,8 @@ use Rattle.dom_model.specs.Commands.AnswerMaking.{closes_instruction, doctype_la
 use Rattle.dom_model.specs.Commands.Command.{Command, NewDocument, CreateElement, CreateText, CreateComment, CreatePI, CreateDoctype, CreateFragment}
 use Rattle.dom_model.specs.Commands.Answer.{Bounds, Step, guarded, refused, no_node, wrong_kind, no_room, bad_name, made_node, makes, named, with_text, answer}
 use Rattle.dom_model.specs.Commands.Guards.{throws}
-use Rattle.dom_wrap.specs.dom_edit.declared.world.World.{World}
-use Rattle.dom_wrap.specs.dom_edit.Whole.{IsWhole, Shows, Follows}
+use Rattle.dom_edit.specs.declared.world.World.{World}
+use Rattle.dom_edit.specs.Whole.{IsWhole, Shows, Follows}
 use Rattle.dom_session.specs.declared.reply.Answer.TheVariants.{Number}
 use Rattle.dom_session.specs.declared.reply.Reply.TheVariants.{Done}
 use Rattle.dom_session.specs.Limiting.{numbered}

@@ -14,9 +14,9 @@ use Rattle.dom_model.specs.Commands.Answer.{Bounds, Step, answer}
 use Rattle.dom_model.specs.Traversal.Iterators.{new_iterator, next_found, previous_found, moved_to_next, moved_to_previous}
 use Rattle.dom_model.specs.Traversal.Walks.{new_walker, walk_found, walker_moved}
 use Rattle.dom_model.proofs.Soundness.SoundAnswers.{sound-answer}
-use Rattle.dom_wrap.specs.dom_edit.declared.world.World.{World}
-use Rattle.dom_wrap.specs.dom_edit.Whole.{IsWhole, Keeps, Shows, IsShown}
-use Rattle.dom_wrap.specs.dom_edit.Following.{whole-sound}
+use Rattle.dom_edit.specs.declared.world.World.{World}
+use Rattle.dom_edit.specs.Whole.{IsWhole, Keeps, Shows, IsShown}
+use Rattle.dom_edit.proofs.Following.{whole-sound}
 use Rattle.dom_session.specs.declared.reply.Reply.{Reply}
 use Rattle.dom_session.specs.Views.{reply_view}
 use Rattle.dom_session.specs.Stands.{IsStep}

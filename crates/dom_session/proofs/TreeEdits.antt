@@ -21,9 +21,9 @@ use Rattle.dom_model.specs.MutationAlgorithms.Discarding.{is_in_use, discarded}
 use Rattle.dom_model.specs.MutationAlgorithms.Checks.{check_insert, check_replace}
 use Rattle.dom_model.specs.Forests.Nodes.{entry_has, kind_passes, is_of_kind}
 use Rattle.dom_model.specs.MutationAlgorithms.Editing.{remove, pre_insert, append, replace, replace_all, adopt}
-use Rattle.dom_wrap.specs.dom_edit.declared.world.World.{World}
-use Rattle.dom_wrap.specs.dom_edit.Whole.{Shows}
-use Rattle.dom_wrap.specs.dom_edit.Refusals.{check_remove_child, check_only_child, check_adopt}
+use Rattle.dom_edit.specs.declared.world.World.{World}
+use Rattle.dom_edit.specs.Whole.{Shows}
+use Rattle.dom_edit.specs.Refusals.{check_remove_child, check_only_child, check_adopt}
 use Rattle.dom_session.specs.Refusing.{lacks_given}
 
 pub not-none : {A : Type 0} (o : Option A) → is_some o ≡ true → is_none o ≡ false

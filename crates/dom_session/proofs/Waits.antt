@@ -13,8 +13,8 @@ use Rattle.dom_model.proofs.Forests.Totals.{IsOnce}
 use Rattle.dom_model.proofs.Forests.Entries.{occurs-HasNode, Lies-entry_in}
 use Rattle.dom_model.proofs.Forests.Indices.{child-once}
 use Rattle.dom_model.proofs.Forests.Climbing.{hits-first, hits-append}
-use Rattle.dom_wrap.specs.dom_clone.declared.waiting.Waiting.{Waiting}
-use Rattle.dom_wrap.specs.dom_clone.Waits.{waiting_for}
+use Rattle.dom_clone.specs.declared.waiting.Waiting.{Waiting}
+use Rattle.dom_clone.specs.Waits.{waiting_for}
 use Rattle.dom_session.specs.Printing.{row_at}
 use Rattle.dom_model.proofs.Forests.TreeOrder.Ordering.{Single, single, tree_at-single, Lies-tree_at, after-front}
 

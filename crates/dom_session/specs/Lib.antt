@@ -5,6 +5,3 @@ pub mod Limiting
 pub mod Bounding
 pub mod Printing
 pub mod Codes
--- what crates above name of those below
-pub mod dom_attrs
-pub mod dom_observe

@@ -10,9 +10,9 @@ use Rattle.dom_model.specs.Forests.Forest.{entry_in}
 use Rattle.dom_model.specs.PlainLists.Lists.{first_refusal}
 use Rattle.dom_model.specs.Forests.Nodes.{kind_passes}
 use Rattle.dom_model.specs.Commands.Reply as model
-use Rattle.dom_wrap.specs.dom_edit.declared.world.World.{World}
-use Rattle.dom_wrap.specs.dom_edit.declared.refusal.Refusal.{Refusal}
-use Rattle.dom_wrap.specs.dom_edit.declared.refusal.Refusal.TheVariants as refusal
+use Rattle.dom_edit.specs.declared.world.World.{World}
+use Rattle.dom_edit.specs.declared.refusal.Refusal.{Refusal}
+use Rattle.dom_edit.specs.declared.refusal.Refusal.TheVariants as refusal
 use Rattle.dom_session.specs.declared.reply.Reply.{Reply}
 use Rattle.dom_session.specs.declared.reply.Reply.TheVariants.{Dom}
 

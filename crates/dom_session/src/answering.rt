@@ -1,7 +1,7 @@
 //! The answer to each command.
 
 ghost use Rattle.std.specs.Prelude.{◌≤◌, IfOk};
-ghost use Rattle.dom_wrap.specs.dom_edit.Whole.{IsShown};
+ghost use Rattle.dom_edit.specs.Whole.{IsShown};
 ghost use Rattle.dom_session.specs.Views.{command_view};
 ghost use Rattle.dom_session.specs.Stands.{IsStep};
 ghost use Rattle.dom_session.specs.Limiting.{numbered};
@@ -21,7 +21,7 @@ use crate::setting::set_ranges;
 use crate::statics::act_on_statics;
 use crate::texts::change_texts;
 use crate::traversing::traverse;
-use dom_wrap::of_edit::World;
+use dom_edit::World;
 use std::alloc::{AllocError, Global};
 
 /// Answers a command, where memory is there: each group of commands by the function for it.

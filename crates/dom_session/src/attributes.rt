@@ -1,24 +1,24 @@
 //! The commands on attributes (DOM Standard, "Interface Element").
 
 ghost use Rattle.std.specs.Prelude.{◌≡◌, ◌<◌, Some, is_some, length, map, slice_get, string_bytes, IfOk};
-ghost use Rattle.dom_wrap.specs.dom_attrs.Entries.{attribute_at};
+ghost use Rattle.dom_attrs.specs.Entries.{attribute_at};
 ghost use Rattle.dom_model.specs.Forests.Attributes.{attribute_value, attribute_names};
 ghost use Rattle.dom_model.specs.Forests.Forest.{HasNode, entry_in};
 ghost use Rattle.dom_model.specs.DataAndCopies.Data.{content_in};
 ghost use Rattle.dom_model.specs.Commands.Command.{SetAttribute, GetAttribute, HasAttribute, RemoveAttribute, ToggleAttribute, AttributeNames};
 ghost use Rattle.dom_model.specs.Commands.Guards.{Bounds};
-ghost use Rattle.dom_wrap.specs.dom_edit.Whole.{IsShown};
+ghost use Rattle.dom_edit.specs.Whole.{IsShown};
 ghost use Rattle.dom_session.specs.Views.{attributes_view};
 ghost use Rattle.dom_session.specs.Stands.{IsStep};
 
 use crate::command::Attributes;
 use crate::refusing::kind_refusal;
 use crate::reply::{Answer, Reply};
-use dom_wrap::of_attrs::Attrs;
-use dom_wrap::of_edit::{Content, World};
-use dom_wrap::of_kinds::{DomError, Kind, is_attribute_name};
-use dom_wrap::of_tree::{NodeId, Tree};
-use dom_wrap::of_units::Units;
+use dom_attrs::Attrs;
+use dom_edit::{Content, World};
+use dom_kinds::{DomError, Kind, is_attribute_name};
+use dom_tree::{NodeId, Tree};
+use dom_units::Units;
 use std::alloc::{AllocError, Global};
 
 /// Sets an attribute of an element.
@@ -38,7 +38,7 @@ pub fn set_attribute(
     if !is_attribute_name(name.as_str()) {
         return Ok(Reply::Dom(DomError::InvalidCharacterError));
     }
-    dom_wrap::of_data::set_attribute(world, alloc, element, name, value)?;
+    dom_data::set_attribute(world, alloc, element, name, value)?;
     Ok(Reply::Done(Answer::Nothing))
 }
 
@@ -115,7 +115,7 @@ pub fn remove_attribute(
     if let Some(reply) = kind_refusal(world, element, Kind::Element) {
         return Ok(reply);
     }
-    dom_wrap::of_data::remove_attribute(world, alloc, element, name)?;
+    dom_data::remove_attribute(world, alloc, element, name)?;
     Ok(Reply::Done(Answer::Nothing))
 }
 
@@ -136,7 +136,7 @@ pub fn toggle_attribute(
     if !is_attribute_name(name.as_str()) {
         return Ok(Reply::Dom(DomError::InvalidCharacterError));
     }
-    let present = dom_wrap::of_data::toggle_attribute(world, alloc, element, name, force)?;
+    let present = dom_data::toggle_attribute(world, alloc, element, name, force)?;
     Ok(Reply::Done(Answer::Flag(present)))
 }
 

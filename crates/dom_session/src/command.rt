@@ -1,12 +1,12 @@
 //! The commands that a session takes, one for each name of the table, in groups.
 
 use dom_model::Move;
-use dom_wrap::of_observe::{ObserverId, RawOptions};
-use dom_wrap::of_point::Point;
-use dom_wrap::of_ranges::{RangeId, StaticId};
-use dom_wrap::of_traverse::{Filter, IteratorId, WalkerId};
-use dom_wrap::of_tree::NodeId;
-use dom_wrap::of_units::Units;
+use dom_observe::{ObserverId, RawOptions};
+use dom_point::Point;
+use dom_ranges::{RangeId, StaticId};
+use dom_traverse::{Filter, IteratorId, WalkerId};
+use dom_tree::NodeId;
+use dom_units::Units;
 
 /// A command that makes a node.
 #[derive(Drop)]

@@ -7,21 +7,19 @@ ghost use Rattle.dom_model.specs.Worlds.World.{Range};
 ghost use Rattle.dom_model.specs.RangesAndContents.Ranges.{place_against, is_point_in, intersects};
 ghost use Rattle.dom_model.specs.Commands.Command.{CompareBoundaryPoints, ComparePoint, IsPointInRange, IntersectsNode, CommonAncestor};
 ghost use Rattle.dom_model.specs.Commands.Guards.{Bounds};
-ghost use Rattle.dom_wrap.specs.dom_ranges.Tables.{StandsIn, refused};
-ghost use Rattle.dom_wrap.specs.dom_edit.Whole.{IsShown};
+ghost use Rattle.dom_ranges.specs.Tables.{StandsIn, refused};
+ghost use Rattle.dom_edit.specs.Whole.{IsShown};
 ghost use Rattle.dom_session.specs.Views.{comparing_view};
 ghost use Rattle.dom_session.specs.Stands.{IsStep};
 
 use crate::command::Comparing;
 use crate::reply::{Answer, Reply};
+use dom_edit::{Content, World};
+use dom_kinds::DomError;
 use dom_model::OwnError;
-use dom_wrap::of_edit::{Content, World};
-use dom_wrap::of_kinds::DomError;
-use dom_wrap::of_point::{
-    Point, checked_point, common, found_around, found_before, found_order, same_root,
-};
-use dom_wrap::of_ranges::RangeId;
-use dom_wrap::of_tree::{NodeId, Tree};
+use dom_point::{Point, checked_point, common, found_around, found_before, found_order, same_root};
+use dom_ranges::RangeId;
+use dom_tree::{NodeId, Tree};
 use std::cmp::Ordering;
 
 // Where a point of the range's root stands: before it, after it, or in it.

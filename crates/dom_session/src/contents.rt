@@ -3,7 +3,7 @@
 ghost use Rattle.std.specs.Prelude.{◌≤◌, IfOk};
 ghost use Rattle.dom_model.specs.Commands.Command.{RangeText, DeleteContents, ExtractContents, CloneContents, InsertNode, SurroundContents};
 ghost use Rattle.dom_model.specs.Commands.Guards.{Bounds};
-ghost use Rattle.dom_wrap.specs.dom_edit.Whole.{IsShown};
+ghost use Rattle.dom_edit.specs.Whole.{IsShown};
 ghost use Rattle.dom_session.specs.Views.{contents_view};
 ghost use Rattle.dom_session.specs.Stands.{IsStep};
 ghost use Rattle.dom_session.specs.Limiting.{numbered};
@@ -11,10 +11,10 @@ ghost use Rattle.dom_session.specs.Limiting.{numbered};
 use crate::command::Contents;
 use crate::copies::lacks_numbers;
 use crate::reply::{Answer, Reply, reply_to};
+use dom_edit::World;
 use dom_model::OwnError;
-use dom_wrap::of_edit::World;
-use dom_wrap::of_ranges::RangeId;
-use dom_wrap::of_tree::NodeId;
+use dom_ranges::RangeId;
+use dom_tree::NodeId;
 use std::alloc::{AllocError, Global};
 
 /// The data of the Texts that lie in a live range.
@@ -25,7 +25,7 @@ pub fn range_text(world: &World, alloc: Global, range: RangeId) -> Result<Reply,
     if !world.ranges.holds(range) {
         return Ok(Reply::Own(OwnError::NoSuchObject));
     }
-    let text = dom_wrap::range_text(world, alloc, range)?;
+    let text = dom_content::range_text(world, alloc, range)?;
     Ok(Reply::Done(Answer::Units(text)))
 }
 
@@ -41,7 +41,7 @@ pub fn delete_contents(
     if !world.ranges.holds(range) {
         return Ok(Reply::Own(OwnError::NoSuchObject));
     }
-    dom_wrap::delete_contents(world, alloc, range)?;
+    dom_content::delete_contents(world, alloc, range)?;
     Ok(Reply::Done(Answer::Nothing))
 }
 
@@ -62,7 +62,7 @@ pub fn extract_contents(
     if lacks_numbers(world, numbers) {
         return Ok(Reply::Own(OwnError::Limit));
     }
-    match dom_wrap::extract(world, alloc, range) {
+    match dom_content::extract(world, alloc, range) {
         Ok(fragment) => Ok(Reply::Done(Answer::Number(fragment.number()))),
         Err(refusal) => reply_to(refusal),
     }
@@ -85,7 +85,7 @@ pub fn clone_contents(
     if lacks_numbers(world, numbers) {
         return Ok(Reply::Own(OwnError::Limit));
     }
-    match dom_wrap::clone_contents(world, alloc, range) {
+    match dom_content::clone_contents(world, alloc, range) {
         Ok(fragment) => Ok(Reply::Done(Answer::Number(fragment.number()))),
         Err(refusal) => reply_to(refusal),
     }

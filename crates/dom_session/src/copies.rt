@@ -5,17 +5,17 @@ ghost use Rattle.dom_model.specs.declared.Kind.TheVariants.{Document};
 ghost use Rattle.dom_model.specs.Forests.Forest.{size};
 ghost use Rattle.dom_model.specs.Commands.Command.{ImportNode, CloneNode, IsEqual, IsContaining, ComparePosition};
 ghost use Rattle.dom_model.specs.Commands.Guards.{Bounds};
-ghost use Rattle.dom_wrap.specs.dom_edit.Whole.{IsShown};
+ghost use Rattle.dom_edit.specs.Whole.{IsShown};
 ghost use Rattle.dom_session.specs.Views.{copying_view};
 ghost use Rattle.dom_session.specs.Stands.{IsStep};
 ghost use Rattle.dom_session.specs.Limiting.{numbered};
 
 use crate::command::Copying;
 use crate::reply::{Answer, Reply, reply_to};
+use dom_edit::World;
+use dom_kinds::{DomError, Kind};
 use dom_model::OwnError;
-use dom_wrap::of_edit::World;
-use dom_wrap::of_kinds::{DomError, Kind};
-use dom_wrap::of_tree::NodeId;
+use dom_tree::NodeId;
 use std::alloc::{AllocError, Global};
 
 /// Whether too few numbers are left for a command that copies: twice the nodes in use, and eight.
@@ -50,7 +50,7 @@ pub fn import_node(
     if lacks_numbers(world, numbers) {
         return Ok(Reply::Own(OwnError::Limit));
     }
-    match dom_wrap::of_clone::import(world, alloc, document, node, deep) {
+    match dom_clone::import(world, alloc, document, node, deep) {
         Ok(copy) => Ok(Reply::Done(Answer::Number(copy.number()))),
         Err(refusal) => reply_to(refusal),
     }
@@ -74,7 +74,7 @@ pub fn clone_node(
     if lacks_numbers(world, numbers) {
         return Ok(Reply::Own(OwnError::Limit));
     }
-    let copy = dom_wrap::of_clone::clone_node(world, alloc, node, deep)?;
+    let copy = dom_clone::clone_node(world, alloc, node, deep)?;
     Ok(Reply::Done(Answer::Number(copy.number())))
 }
 
@@ -92,7 +92,7 @@ pub fn is_equal(world: &World, node: NodeId, other: Option<NodeId>) -> Reply
     if !world.tree.holds(other) {
         return Reply::Own(OwnError::NoSuchObject);
     }
-    Reply::Done(Answer::Flag(dom_wrap::of_clone::is_equal(&world.tree, node, other)))
+    Reply::Done(Answer::Flag(dom_clone::is_equal(&world.tree, node, other)))
 }
 
 /// Whether the second is an inclusive descendant of the first; none is of no node.
@@ -109,7 +109,7 @@ pub fn contains(world: &World, node: NodeId, other: Option<NodeId>) -> Reply
     if !world.tree.holds(other) {
         return Reply::Own(OwnError::NoSuchObject);
     }
-    Reply::Done(Answer::Flag(dom_wrap::of_clone::contains(&world.tree, node, other)))
+    Reply::Done(Answer::Flag(dom_clone::contains(&world.tree, node, other)))
 }
 
 /// Where the second stands, seen from the first.
@@ -120,7 +120,7 @@ pub fn compare_position(world: &World, node: NodeId, other: NodeId) -> Reply
     if !world.tree.holds(node) || !world.tree.holds(other) {
         return Reply::Own(OwnError::NoSuchObject);
     }
-    let position = dom_wrap::of_clone::position(&world.tree, node, other);
+    let position = dom_clone::position(&world.tree, node, other);
     Reply::Done(Answer::Number(u32::from(position)))
 }
 

@@ -7,17 +7,17 @@ ghost use Rattle.dom_model.specs.Forests.Nodes.{is_of_kind};
 ghost use Rattle.dom_model.specs.Commands.AnswerTree.{is_child_node};
 ghost use Rattle.dom_model.specs.Commands.Command.{InsertBefore, AppendChild, AdoptNode, ReplaceChild, RemoveChild, Remove, ReplaceChildren, Discard};
 ghost use Rattle.dom_model.specs.Commands.Guards.{Bounds};
-ghost use Rattle.dom_wrap.specs.dom_edit.Whole.{IsWhole, IsShown};
+ghost use Rattle.dom_edit.specs.Whole.{IsWhole, IsShown};
 ghost use Rattle.dom_session.specs.Views.{editing_view};
 ghost use Rattle.dom_session.specs.Stands.{IsStep};
 ghost use Rattle.dom_session.specs.Refusing.{lacks_given};
 
 use crate::command::Editing;
 use crate::reply::{Answer, Reply, reply_to};
+use dom_edit::World;
+use dom_kinds::{DomError, Kind, may_be_parent};
 use dom_model::OwnError;
-use dom_wrap::of_edit::World;
-use dom_wrap::of_kinds::{DomError, Kind, may_be_parent};
-use dom_wrap::of_tree::NodeId;
+use dom_tree::NodeId;
 use std::alloc::{AllocError, Global};
 
 // Whether there is such a node, where one is given.

@@ -26,20 +26,15 @@ pub use command::{
     Asking, Attributes, Command, Comparing, Contents, Copying, Editing, Making, Observing, Ranging,
     Setting, StaticRanging, Texts, Traversing,
 };
+pub use dom_attrs::Attrs;
+pub use dom_edit::Content;
+pub use dom_kinds::{DomError, Kind, Label};
 pub use dom_model::{Move, OwnError, RecordType, Verdict};
-pub use dom_wrap::of_attrs::Attrs;
-pub use dom_wrap::of_edit::Content;
-pub use dom_wrap::of_kinds::{DomError, Kind, Label};
-pub use dom_wrap::of_observe::{ObserverId, RawOptions, Record};
-pub use dom_wrap::of_point::Point;
-pub use dom_wrap::of_ranges::{RangeId, StaticId};
-pub use dom_wrap::of_traverse::{Filter, IteratorId, Rule, WalkerId};
-pub use dom_wrap::of_tree::NodeId;
-pub use dom_wrap::of_units::Units;
+pub use dom_observe::{ObserverId, RawOptions, Record};
+pub use dom_point::Point;
+pub use dom_ranges::{RangeId, StaticId};
+pub use dom_traverse::{Filter, IteratorId, Rule, WalkerId};
+pub use dom_tree::NodeId;
+pub use dom_units::Units;
 pub use reply::{Answer, Description, Reply, Told, TreeRow};
 pub use session::{Ended, Limits, Session};
-
-/// What crates above name of `dom_kinds`.
-pub mod of_kinds {
-    pub use dom_wrap::of_kinds::{Exception, NodeType};
-}

@@ -6,18 +6,18 @@ ghost use Rattle.dom_model.specs.Commands.Answer.{named};
 ghost use Rattle.dom_model.specs.Commands.AnswerMaking.{doctype_label, closes_instruction};
 ghost use Rattle.dom_model.specs.Commands.Command.{NewDocument, CreateElement, CreateText, CreateComment, CreatePI, CreateDoctype, CreateFragment};
 ghost use Rattle.dom_session.specs.Views.{making_view, reply_view};
-ghost use Rattle.dom_wrap.specs.dom_edit.Whole.{IsShown};
+ghost use Rattle.dom_edit.specs.Whole.{IsShown};
 ghost use Rattle.dom_session.specs.Stands.{IsStep};
 ghost use Rattle.dom_session.specs.Refusing.{making_refusal};
 ghost use Rattle.dom_session.specs.Limiting.{numbered};
 
 use crate::command::Making;
 use crate::reply::{Answer, Reply};
+use dom_edit::{Content, World};
+use dom_kinds::{DomError, Kind, Label, is_doctype_name, is_element_name};
 use dom_model::OwnError;
-use dom_wrap::of_edit::{Content, World};
-use dom_wrap::of_kinds::{DomError, Kind, Label, is_doctype_name, is_element_name};
-use dom_wrap::of_tree::NodeId;
-use dom_wrap::of_units::Units;
+use dom_tree::NodeId;
+use dom_units::Units;
 use std::alloc::{AllocError, Global};
 
 /// The label of a Document.

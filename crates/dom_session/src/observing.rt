@@ -3,18 +3,18 @@
 ghost use Rattle.std.specs.Prelude.{◌≡◌, ◌≤◌, IfOk};
 ghost use Rattle.dom_model.specs.Commands.Command.{CreateObserver, Observe, Disconnect, TakeRecords, Notify, Pending};
 ghost use Rattle.dom_model.specs.Commands.Guards.{Bounds};
-ghost use Rattle.dom_wrap.specs.dom_observe.Notifying.{told_of};
-ghost use Rattle.dom_wrap.specs.dom_edit.Whole.{IsShown};
+ghost use Rattle.dom_observe.specs.Notifying.{told_of};
+ghost use Rattle.dom_edit.specs.Whole.{IsShown};
 ghost use Rattle.dom_session.specs.Views.{observing_view};
 ghost use Rattle.dom_session.specs.Stands.{IsStep};
 ghost use Rattle.dom_session.specs.Limiting.{numbered};
 
 use crate::command::Observing;
 use crate::reply::{Answer, Reply, Told};
+use dom_edit::World;
 use dom_model::OwnError;
-use dom_wrap::of_edit::World;
-use dom_wrap::of_observe::{ObserverId, Observers, RawOptions, Record, settle};
-use dom_wrap::of_tree::NodeId;
+use dom_observe::{ObserverId, Observers, RawOptions, Record, settle};
+use dom_tree::NodeId;
 use std::alloc::{AllocError, Global};
 
 /// Makes a mutation observer, with nothing to observe yet (`new MutationObserver()`).

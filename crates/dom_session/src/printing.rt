@@ -10,10 +10,10 @@ ghost use Rattle.dom_session.specs.Stands.{IsStep};
 ghost use Rattle.dom_session.specs.Printing.{row_at};
 
 use crate::reply::{Answer, Reply, TreeRow};
+use dom_clone::{Waiting, wait_for};
+use dom_edit::{Content, World};
 use dom_model::OwnError;
-use dom_wrap::of_clone::{Waiting, wait_for};
-use dom_wrap::of_edit::{Content, World};
-use dom_wrap::of_tree::{NodeId, Tree};
+use dom_tree::{NodeId, Tree};
 use std::alloc::{AllocError, Global};
 
 // The row of one node.

@@ -4,16 +4,16 @@ ghost use Rattle.std.specs.Prelude.{◌≡◌, IfOk};
 ghost use Rattle.dom_model.specs.Forests.Forest.{HasNode, children_of};
 ghost use Rattle.dom_model.specs.Commands.Command.{DescribeNode, Children, Index, Length, Root};
 ghost use Rattle.dom_model.specs.Commands.Guards.{Bounds};
-ghost use Rattle.dom_wrap.specs.dom_edit.Whole.{IsShown};
+ghost use Rattle.dom_edit.specs.Whole.{IsShown};
 ghost use Rattle.dom_session.specs.Views.{asking_view};
 ghost use Rattle.dom_session.specs.Stands.{IsStep};
 
 use crate::command::Asking;
 use crate::printing::print_tree;
 use crate::reply::{Answer, Description, Reply};
+use dom_edit::{Content, World};
 use dom_model::OwnError;
-use dom_wrap::of_edit::{Content, World};
-use dom_wrap::of_tree::{NodeId, Tree};
+use dom_tree::{NodeId, Tree};
 use std::alloc::{AllocError, Global};
 
 /// Tells where a node stands, and what it is.

@@ -3,19 +3,19 @@
 ghost use Rattle.std.specs.Prelude.{◌≤◌, IfOk};
 ghost use Rattle.dom_model.specs.Commands.Command.{CreateRange, CloneRange, DescribeRange, ReleaseRange};
 ghost use Rattle.dom_model.specs.Commands.Guards.{Bounds};
-ghost use Rattle.dom_wrap.specs.dom_edit.Whole.{IsShown};
+ghost use Rattle.dom_edit.specs.Whole.{IsShown};
 ghost use Rattle.dom_session.specs.Views.{ranging_view};
 ghost use Rattle.dom_session.specs.Stands.{IsStep};
 ghost use Rattle.dom_session.specs.Limiting.{numbered};
 
 use crate::command::Ranging;
 use crate::reply::{Answer, Reply};
+use dom_edit::World;
+use dom_kinds::{DomError, Kind};
 use dom_model::OwnError;
-use dom_wrap::of_edit::World;
-use dom_wrap::of_kinds::{DomError, Kind};
-use dom_wrap::of_point::Point;
-use dom_wrap::of_ranges::RangeId;
-use dom_wrap::of_tree::NodeId;
+use dom_point::Point;
+use dom_ranges::RangeId;
+use dom_tree::NodeId;
 use std::alloc::AllocError;
 
 /// Makes a live range whose ends both stand at the start of a document.

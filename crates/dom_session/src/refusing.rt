@@ -6,10 +6,10 @@ ghost use Rattle.dom_session.specs.Views.{reply_view};
 ghost use Rattle.dom_session.specs.Refusing.{kind_refusal};
 
 use crate::reply::Reply;
+use dom_edit::World;
+use dom_kinds::{DomError, Kind};
 use dom_model::OwnError;
-use dom_wrap::of_edit::World;
-use dom_wrap::of_kinds::{DomError, Kind};
-use dom_wrap::of_tree::NodeId;
+use dom_tree::NodeId;
 
 /// Why a command on nodes of one kind may not act on a node.
 pub fn kind_refusal(world: &World, node: NodeId, kind: Kind) -> Option<Reply>

@@ -3,13 +3,13 @@
 ghost use Rattle.std.specs.Prelude.{◌≡◌};
 ghost use Rattle.dom_session.specs.Refusing.{reply_to};
 
+use dom_edit::{Content, Refusal};
+use dom_kinds::{DomError, Label};
 use dom_model::OwnError;
-use dom_wrap::of_edit::{Content, Refusal};
-use dom_wrap::of_kinds::{DomError, Label};
-use dom_wrap::of_observe::{ObserverId, Record};
-use dom_wrap::of_point::Point;
-use dom_wrap::of_tree::NodeId;
-use dom_wrap::of_units::Units;
+use dom_observe::{ObserverId, Record};
+use dom_point::Point;
+use dom_tree::NodeId;
+use dom_units::Units;
 use std::alloc::AllocError;
 use std::cmp::Ordering;
 use std::marker::Model;

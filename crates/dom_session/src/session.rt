@@ -10,7 +10,7 @@ ghost use Rattle.dom_session.specs.Bounding.{bounds_of};
 use crate::answering::answered;
 use crate::command::Command;
 use crate::reply::Reply;
-use dom_wrap::of_edit::World;
+use dom_edit::World;
 use std::alloc::{AllocError, Global};
 use std::marker::Model;
 
@@ -49,7 +49,7 @@ impl Model for Session {
     ghost view = { λ s. record { world = s.world; bounds = bounds_of s.limits; ended = s.ended } };
 
     ghost use Rattle.std.specs.Prelude.{◌≡◌, ◌≤◌, false};
-    ghost use Rattle.dom_wrap.specs.dom_edit.Whole.{IsShown};
+    ghost use Rattle.dom_edit.specs.Whole.{IsShown};
 
     ghost invariant = { λ s. (s.limits.numbers ≤ 4294967295) × (s.ended ≡ false → IsShown s.world) };
 }

@@ -7,19 +7,19 @@ ghost use Rattle.dom_model.specs.Commands.Command.{Command as PlainCommand, SetS
 ghost use Rattle.dom_model.specs.Commands.Guards.{Bounds};
 ghost use Rattle.dom_model.specs.Commands.Answer.{answer};
 ghost use Rattle.dom_model.specs.Commands.AnswerRanges.{sets_start, sets_end};
-ghost use Rattle.dom_wrap.specs.dom_edit.Whole.{IsShown, Shows};
+ghost use Rattle.dom_edit.specs.Whole.{IsShown, Shows};
 ghost use Rattle.dom_session.specs.Views.{setting_view};
 ghost use Rattle.dom_session.specs.Stands.{IsStep};
 
 use crate::command::Setting;
 use crate::questions::find_index;
 use crate::reply::{Answer, Reply};
+use dom_edit::World;
+use dom_kinds::DomError;
 use dom_model::OwnError;
-use dom_wrap::of_edit::World;
-use dom_wrap::of_kinds::DomError;
-use dom_wrap::of_point::{Point, point_after, point_before};
-use dom_wrap::of_ranges::RangeId;
-use dom_wrap::of_tree::NodeId;
+use dom_point::{Point, point_after, point_before};
+use dom_ranges::RangeId;
+use dom_tree::NodeId;
 
 /// Sets the start of a live range.
 pub fn set_start(world: &mut World, range: RangeId, node: NodeId, offset: u32) -> Reply

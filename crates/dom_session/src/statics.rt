@@ -3,17 +3,17 @@
 ghost use Rattle.std.specs.Prelude.{◌≤◌, IfOk};
 ghost use Rattle.dom_model.specs.Commands.Command.{CreateStaticRange, DescribeStaticRange};
 ghost use Rattle.dom_model.specs.Commands.Guards.{Bounds};
-ghost use Rattle.dom_wrap.specs.dom_edit.Whole.{IsShown};
+ghost use Rattle.dom_edit.specs.Whole.{IsShown};
 ghost use Rattle.dom_session.specs.Views.{static_ranging_view};
 ghost use Rattle.dom_session.specs.Stands.{IsStep};
 ghost use Rattle.dom_session.specs.Limiting.{numbered};
 
 use crate::command::StaticRanging;
 use crate::reply::{Answer, Reply};
+use dom_edit::World;
 use dom_model::OwnError;
-use dom_wrap::of_edit::World;
-use dom_wrap::of_point::Point;
-use dom_wrap::of_ranges::{StaticId, Statics};
+use dom_point::Point;
+use dom_ranges::{StaticId, Statics};
 use std::alloc::AllocError;
 
 /// Makes a static range. Its offsets may lie past the lengths of its nodes.

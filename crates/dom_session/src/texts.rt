@@ -4,7 +4,7 @@ ghost use Rattle.std.specs.Prelude.{◌≡◌, ◌≤◌, option_map, IfOk};
 ghost use Rattle.dom_model.specs.Forests.Kinds.{is_character_data};
 ghost use Rattle.dom_model.specs.Commands.Command.{GetData, SetData, AppendData, InsertData, DeleteData, ReplaceData, SubstringData, SplitText, TextContent, SetTextContent, Normalize};
 ghost use Rattle.dom_model.specs.Commands.Guards.{Bounds};
-ghost use Rattle.dom_wrap.specs.dom_edit.Whole.{IsShown};
+ghost use Rattle.dom_edit.specs.Whole.{IsShown};
 ghost use Rattle.dom_session.specs.Views.{texts_view, reply_view};
 ghost use Rattle.dom_session.specs.Stands.{IsStep};
 ghost use Rattle.dom_session.specs.Limiting.{numbered};
@@ -13,11 +13,11 @@ ghost use Rattle.dom_session.specs.Refusing.{kind_refusal};
 use crate::command::Texts;
 use crate::refusing::kind_refusal;
 use crate::reply::{Answer, Reply, reply_to};
+use dom_edit::{World, data_in};
+use dom_kinds::{DomError, Kind};
 use dom_model::OwnError;
-use dom_wrap::of_edit::{World, data_in};
-use dom_wrap::of_kinds::{DomError, Kind};
-use dom_wrap::of_tree::NodeId;
-use dom_wrap::of_units::Units;
+use dom_tree::NodeId;
+use dom_units::Units;
 use std::alloc::{AllocError, Global};
 
 // Why a node has no data.
@@ -58,7 +58,7 @@ pub fn set_data(
     if let Some(reply) = refusal(world, node) {
         return Ok(reply);
     }
-    dom_wrap::of_data::set_data(world, alloc, node, text)?;
+    dom_data::set_data(world, alloc, node, text)?;
     Ok(Reply::Done(Answer::Nothing))
 }
 
@@ -77,7 +77,7 @@ pub fn replace_data(
     if let Some(reply) = refusal(world, node) {
         return Ok(reply);
     }
-    match dom_wrap::of_data::replace_data(world, alloc, node, offset, count, text) {
+    match dom_data::replace_data(world, alloc, node, offset, count, text) {
         Ok(()) => Ok(Reply::Done(Answer::Nothing)),
         Err(refusal) => reply_to(refusal),
     }
@@ -142,7 +142,7 @@ pub fn substring_data(
     if let Some(reply) = refusal(world, node) {
         return Ok(reply);
     }
-    match dom_wrap::of_data::substring(world, alloc, node, offset as usize, count as usize) {
+    match dom_data::substring(world, alloc, node, offset as usize, count as usize) {
         Ok(units) => Ok(Reply::Done(Answer::Units(units))),
         Err(refusal) => reply_to(refusal),
     }
@@ -156,7 +156,7 @@ pub fn text_content(world: &World, alloc: Global, node: NodeId) -> Result<Reply,
     if !world.tree.holds(node) {
         return Ok(Reply::Own(OwnError::NoSuchObject));
     }
-    let text = dom_wrap::of_data::text_content(world, alloc, node)?;
+    let text = dom_data::text_content(world, alloc, node)?;
     Ok(Reply::Done(Answer::MaybeUnits(text)))
 }
 
@@ -178,7 +178,7 @@ pub fn set_text_content(
     if numbers <= world.tree.made() {
         return Ok(Reply::Own(OwnError::Limit));
     }
-    dom_wrap::of_data::set_text_content(world, alloc, node, text)?;
+    dom_data::set_text_content(world, alloc, node, text)?;
     Ok(Reply::Done(Answer::Nothing))
 }
 
@@ -200,7 +200,7 @@ pub fn split_text(
     if numbers <= world.tree.made() {
         return Ok(Reply::Own(OwnError::Limit));
     }
-    match dom_wrap::of_data::split(world, alloc, text, offset as usize) {
+    match dom_data::split(world, alloc, text, offset as usize) {
         Ok(new) => Ok(Reply::Done(Answer::Number(new.number()))),
         Err(refusal) => reply_to(refusal),
     }
@@ -214,7 +214,7 @@ pub fn normalize(world: &mut World, alloc: Global, node: NodeId) -> Result<Reply
     if !world.tree.holds(node) {
         return Ok(Reply::Own(OwnError::NoSuchObject));
     }
-    dom_wrap::of_data::normalize(world, alloc, node)?;
+    dom_data::normalize(world, alloc, node)?;
     Ok(Reply::Done(Answer::Nothing))
 }
 

@@ -4,17 +4,17 @@ ghost use Rattle.std.specs.Prelude.{◌≡◌, ◌≤◌, IfOk};
 ghost use Rattle.dom_model.specs.Commands.Command.{CreateIterator, CreateWalker, DescribeIterator, NextNode, PreviousNode, DescribeWalker, SetCurrent, Walk};
 ghost use Rattle.dom_model.specs.Commands.Guards.{Bounds};
 ghost use Rattle.dom_model.specs.Commands.Reply.{Done, MaybeNumber};
-ghost use Rattle.dom_wrap.specs.dom_edit.Whole.{IsShown};
+ghost use Rattle.dom_edit.specs.Whole.{IsShown};
 ghost use Rattle.dom_session.specs.Views.{traversing_view, reply_view};
 ghost use Rattle.dom_session.specs.Stands.{IsStep};
 ghost use Rattle.dom_session.specs.Limiting.{numbered};
 
 use crate::command::Traversing;
 use crate::reply::{Answer, Reply};
+use dom_edit::World;
 use dom_model::{Move, OwnError};
-use dom_wrap::of_edit::World;
-use dom_wrap::of_traverse::{Filter, IteratorId, WalkerId};
-use dom_wrap::of_tree::NodeId;
+use dom_traverse::{Filter, IteratorId, WalkerId};
+use dom_tree::NodeId;
 use std::alloc::AllocError;
 
 // The number of a node, where one is found.

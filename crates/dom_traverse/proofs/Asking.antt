@@ -7,8 +7,8 @@ use Rattle.dom_model.specs.PlainLists.Lists.{hits, is_number, head_of, after}
 use Rattle.dom_model.proofs.PlainLists.Heads.{hits-first, hits-rest, after-first, after-rest}
 use Rattle.dom_model.proofs.Forests.Climbing.{hits-append}
 use Rattle.dom_model.proofs.Forests.TreeOrder.Ordering.{after-front}
-use Rattle.dom_tree.specs.dom_links.Neighbours.{is_number-true}
-use Rattle.dom_tree.specs.dom_links.Counting.{length-le_from_once}
+use Rattle.dom_links.proofs.Neighbours.{is_number-true}
+use Rattle.dom_links.proofs.Counting.{length-le_from_once}
 use Rattle.dom_traverse.specs.declared.seats.Seat.{Seat}
 use Rattle.dom_traverse.specs.Seats.{Heads, seat_at, place_at, head_at, IsChained, HasChains}
 use Rattle.dom_traverse.proofs.Chained.{once, in-chain, chained-within}

@@ -4,8 +4,8 @@ use Rattle.std.proofs.lemmas.Bool.{cases_Bool, cases_eq, cases_lt, eq-eqb, ne_eq
 use Rattle.std.proofs.lemmas.Bool.Decides.{nat_tests}
 use Rattle.std.proofs.lemmas.List.{get_or_past}
 use Rattle.dom_model.specs.PlainLists.Lists.{hits, is_number, head_of, after, before_from, before, left_out}
-use Rattle.dom_tree.specs.dom_links.Wiring.{link_unless}
-use Rattle.dom_tree.specs.dom_links.Neighbours.{is_number-true, left_out-none, hits-left_out_same, hits-left_out_other, head_of-left_out, after-left_out, before_from-left_out, meets, first_of}
+use Rattle.dom_links.specs.Wiring.{link_unless}
+use Rattle.dom_links.proofs.Neighbours.{is_number-true, left_out-none, hits-left_out_same, hits-left_out_other, head_of-left_out, after-left_out, before_from-left_out, meets, first_of}
 use Rattle.dom_traverse.specs.declared.seats.Seat.{Seat}
 use Rattle.dom_traverse.specs.Seats.{Heads, free_seat, seat_at, place_at, head_at, stands_at, IsChained, ForLink, led_on, heads_led, led_back, seats_without, heads_without, seats_with, heads_with}
 use Rattle.dom_traverse.proofs.ListsBeside.{after-there, before-there, head-there, has-head}

@@ -4,8 +4,8 @@ ghost use Rattle.std.specs.Prelude.{◌≡◌, ℕ};
 ghost use Rattle.dom_model.specs.Traversal.Filters.{shows, is_rule_for, ruled, verdict_on, accepts, rejects};
 ghost use Rattle.dom_model.specs.Forests.Forest.{HasNode};
 
+use dom_kinds::{Kind, NodeType};
 use dom_model::Verdict;
-use dom_tree::of_kinds::{Kind, NodeType};
 use dom_tree::{NodeId, Tree};
 use std::marker::Model;
 

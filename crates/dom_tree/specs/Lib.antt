@@ -8,6 +8,3 @@ pub mod Slots
 pub mod Spelled
 pub mod Standing
 pub mod Ways
--- what crates above name of those below
-pub mod dom_links
-pub mod dom_pages

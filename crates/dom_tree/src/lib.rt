@@ -21,16 +21,3 @@ pub use children::Children;
 pub use meeting::Meeting;
 pub use node_id::NodeId;
 pub use tree::Tree;
-
-/// What crates above name of `dom_kinds`.
-pub mod of_kinds {
-    pub use dom_kinds::{
-        DomError, Exception, Kind, Label, NodeType, is_attribute_name, is_doctype_name,
-        is_element_name, may_be_parent,
-    };
-}
-
-/// What crates above name of `dom_pages`.
-pub mod of_pages {
-    pub use dom_pages::Pages;
-}

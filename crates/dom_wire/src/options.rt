@@ -4,7 +4,7 @@ ghost use Rattle.std.specs.Prelude.{◌≡◌, Some, map, string_bytes, codes};
 ghost use Rattle.serde_json.specs.Find.{get, as_bool, as_str};
 ghost use Rattle.serde_json.specs.View.{view, items_view};
 ghost use Rattle.dom_model.specs.Commands.Line.{if_member, each_item, list_in, options_in};
-ghost use Rattle.dom_session.specs.dom_observe.Names.{names_of};
+ghost use Rattle.dom_observe.specs.Names.{names_of};
 ghost use Rattle.dom_wire.specs.Reads.{Decodes};
 
 use crate::error::ReadError;

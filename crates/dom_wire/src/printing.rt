@@ -15,8 +15,8 @@ use crate::rows::write_rows;
 use crate::values::{
     write_maybe_number, write_maybe_units, write_names, write_numbers, write_order, write_units,
 };
+use dom_kinds::Exception;
 use dom_model::OwnError;
-use dom_session::of_kinds::Exception;
 use dom_session::{Answer, Reply};
 use json::Writer;
 use std::alloc::{AllocError, Global};

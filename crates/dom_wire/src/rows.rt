@@ -2,12 +2,12 @@
 
 ghost use Rattle.std.specs.Prelude.{◌≡◌, ◌<◌, [], ◌∷◌, map, length, slice_get, Some};
 ghost use Rattle.json.specs.Token.{string};
-ghost use Rattle.dom_session.specs.dom_attrs.Entries.{attribute_at};
+ghost use Rattle.dom_attrs.specs.Entries.{attribute_at};
 ghost use Rattle.dom_model.specs.Commands.Printed.{attribute_json, row_json, detail_json, list_json};
 ghost use Rattle.dom_wire.specs.Prints.{tokens_of, tokens_of_all, Adds};
 
 use crate::values::write_units;
-use dom_session::of_kinds::NodeType;
+use dom_kinds::NodeType;
 use dom_session::{Attrs, Kind, Label, TreeRow, Units};
 use json::Writer;
 use std::alloc::{AllocError, Global};

@@ -3,7 +3,7 @@
 ghost use Rattle.std.specs.Prelude.{map, string_bytes};
 ghost use Rattle.serde_json.specs.Data.{string};
 ghost use Rattle.dom_model.specs.Commands.Printed.{or_null, number_json, numbers_json, units_json, names_json, order_json};
-ghost use Rattle.dom_session.specs.dom_observe.Names.{name_of};
+ghost use Rattle.dom_observe.specs.Names.{name_of};
 ghost use Rattle.dom_wire.specs.Prints.{tokens_of, Adds};
 
 use dom_session::{NodeId, Units};

@@ -24,12 +24,12 @@ use Rattle.dom_model.proofs.Worlds.Parts.{path-there}
 use Rattle.dom_model.proofs.BoundaryPoints.RemovalOrder.{ancestors-split}
 use Rattle.dom_model.proofs.Soundness.SoundExtracting.{common_above}
 use Rattle.dom_model.proofs.RangesAndContents.StartsAhead.{got_place}
-use Rattle.dom_content.specs.dom_ranges.Tables.{range_in}
-use Rattle.dom_content.specs.dom_edit.declared.world.World.{World}
-use Rattle.dom_content.specs.dom_edit.Whole.{IsWhole, unwatched}
-use Rattle.dom_content.specs.dom_edit.Places.{from_optional, IsAmong}
-use Rattle.dom_content.specs.dom_edit.PlacedWorlds.{sound-unwatched}
-use Rattle.dom_content.specs.dom_edit.AmongChildren.{next_of-child}
+use Rattle.dom_ranges.specs.Tables.{range_in}
+use Rattle.dom_edit.specs.declared.world.World.{World}
+use Rattle.dom_edit.specs.Whole.{IsWhole, unwatched}
+use Rattle.dom_edit.specs.Places.{from_optional, IsAmong}
+use Rattle.dom_edit.proofs.PlacedWorlds.{sound-unwatched}
+use Rattle.dom_edit.proofs.AmongChildren.{next_of-child}
 use Rattle.dom_wrap.specs.Allowing.{is_near, is_refused_at, is_refused_between, is_unplaceable, is_left_element, first_behind, surround_refusal_of}
 use Rattle.dom_wrap.proofs.AllowPlaces.{insert-told, parent-is}
 use Rattle.dom_wrap.proofs.AllowShape.{near-told}

@@ -31,7 +31,7 @@ use Rattle.dom_model.proofs.Soundness.SoundInsertedNode.{insert-next}
 use Rattle.dom_model.specs.DataAndCopies.Data.{data_of, split}
 use Rattle.dom_model.specs.Worlds.Lengths.{unit_count, node_length}
 use Rattle.std.proofs.lemmas.Bool.Decides.{nat_tests}
-use Rattle.dom_content.specs.dom_edit.Leaving.{parent-held}
+use Rattle.dom_edit.proofs.Leaving.{parent-held}
 use Rattle.dom_model.proofs.Forests.Changes.{seen, nothing, just}
 use Rattle.dom_model.proofs.MutationAlgorithms.ChecksKept.{refusal-head}
 use Rattle.dom_model.proofs.BoundaryPoints.SplitEnds.{split_parts}
@@ -40,12 +40,12 @@ use Rattle.dom_model.proofs.Soundness.SoundSplitting.{text_has_data}
 use Rattle.dom_model.proofs.Soundness.SoundRangeSteps.{live_range}
 use Rattle.dom_model.proofs.Soundness.SoundWorlds.{IsLive}
 use Rattle.std.proofs.lemmas.List.{get_or_past, get_or-set_same, length-set}
-use Rattle.dom_content.specs.dom_ranges.Tables.{RangeTable, range_in, refused}
-use Rattle.dom_content.specs.dom_edit.declared.world.World.{World}
-use Rattle.dom_content.specs.dom_edit.Whole.{AreCovered, IsWhole, Keeps, Follows, unwatched}
-use Rattle.dom_content.specs.dom_edit.Following.{keeps-unwatched, follows-then, whole-sound}
-use Rattle.dom_content.specs.dom_edit.PlacedWorlds.{sound-unwatched}
-use Rattle.dom_content.specs.dom_edit.InsertedNodes.{follows-as, forest-after}
+use Rattle.dom_ranges.specs.Tables.{RangeTable, range_in, refused}
+use Rattle.dom_edit.specs.declared.world.World.{World}
+use Rattle.dom_edit.specs.Whole.{AreCovered, IsWhole, Keeps, Follows, unwatched}
+use Rattle.dom_edit.proofs.Following.{keeps-unwatched, follows-then, whole-sound}
+use Rattle.dom_edit.proofs.PlacedWorlds.{sound-unwatched}
+use Rattle.dom_edit.proofs.InsertedNodes.{follows-as, forest-after}
 use Rattle.dom_wrap.specs.Outcomes.{left_by, LeavesSound, IsPlaceable, MayEndAt, MayTake}
 
 pub if_so : {A : Type 0} (t : Bool) (x y : A) → t ≡ true → (if t then x else y) ≡ x

@@ -8,12 +8,12 @@ use Rattle.dom_model.proofs.Forests.Entries.{occurs-HasNode}
 use Rattle.dom_model.proofs.Soundness.SoundContents.{sound-extract}
 use Rattle.dom_model.proofs.TokenText.EditsMade.EditsOfInsertedNodes.{sound-inserted, leave-insert_node}
 use Rattle.dom_model.proofs.TokenText.EditsMade.EditsOfSurrounding.{KeepSound, leave-surround}
-use Rattle.dom_content.specs.dom_ranges.Tables.{range_in}
-use Rattle.dom_content.specs.dom_edit.declared.world.World.{World}
-use Rattle.dom_content.specs.dom_edit.Whole.{IsWhole, Follows, unwatched}
-use Rattle.dom_content.specs.dom_edit.Markers.{StandByEdits}
-use Rattle.dom_content.specs.dom_edit.Following.{sound-unwatched}
-use Rattle.dom_content.specs.dom_edit.Marking.{stand-by_edits}
+use Rattle.dom_ranges.specs.Tables.{range_in}
+use Rattle.dom_edit.specs.declared.world.World.{World}
+use Rattle.dom_edit.specs.Whole.{IsWhole, Follows, unwatched}
+use Rattle.dom_edit.specs.Markers.{StandByEdits}
+use Rattle.dom_edit.proofs.Following.{sound-unwatched}
+use Rattle.dom_edit.proofs.Marking.{stand-by_edits}
 use Rattle.dom_wrap.specs.Outcomes.{left_by}
 use Rattle.dom_wrap.proofs.SurroundingSteps.{ok-left}
 

@@ -19,8 +19,8 @@ use Rattle.dom_model.proofs.Worlds.Measured.{length-parent}
 use Rattle.dom_model.proofs.Soundness.SoundEditing.{IsChecked, checks}
 use Rattle.dom_model.proofs.RangesAndContents.Drawing.{passes_there}
 use Rattle.dom_model.proofs.RangesAndContents.PlacesLeft.{length_within}
-use Rattle.dom_content.specs.dom_edit.declared.world.World.{World}
-use Rattle.dom_content.specs.dom_edit.Whole.{IsWhole, unwatched}
+use Rattle.dom_edit.specs.declared.world.World.{World}
+use Rattle.dom_edit.specs.Whole.{IsWhole, unwatched}
 use Rattle.dom_wrap.specs.Outcomes.{index_before}
 
 length-numbers : (f : Forest Content) → length (numbers f) ≡ size f

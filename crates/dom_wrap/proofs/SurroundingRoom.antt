@@ -15,8 +15,8 @@ use Rattle.dom_model.specs.RangesAndContents.Wrapping.{Outcome, and_then, unless
 use Rattle.dom_model.proofs.Counting.CountsKept.{remove-kept, insert-kept, pre_insert-kept, replace_all-kept}
 use Rattle.dom_model.proofs.Counting.CountsOfExtraction.{IsGrownTo, insert_node-to}
 use Rattle.dom_model.proofs.RangesAndContents.LiveRangesKept.{live-there}
-use Rattle.dom_content.specs.dom_edit.declared.world.World.{World}
-use Rattle.dom_content.specs.dom_edit.Whole.{Keeps, unwatched}
+use Rattle.dom_edit.specs.declared.world.World.{World}
+use Rattle.dom_edit.specs.Whole.{Keeps, unwatched}
 use Rattle.dom_wrap.specs.Outcomes.{left_by, HasRoom, put_around}
 use Rattle.dom_wrap.proofs.InsertedNode.{if_so, unless-none, unless-allows}
 

@@ -25,12 +25,12 @@ use Rattle.dom_model.proofs.Soundness.SoundEditing.{checks_insert, insertable}
 use Rattle.dom_model.proofs.Soundness.SoundRangeSteps.{sound-with_range}
 use Rattle.dom_model.proofs.TokenText.EditsMade.EditsOfDrawnContents.{sound-range, check-range, there-contents_drawn, fragment-contents_drawn, live-contents_drawn}
 use Rattle.dom_model.proofs.TokenText.EditsMade.EditsOfInsertedNodes.{kept-insert_node}
-use Rattle.dom_content.specs.dom_ranges.Tables.{RangeTable, range_in}
-use Rattle.dom_content.specs.dom_edit.declared.world.World.{World}
-use Rattle.dom_content.specs.dom_edit.Whole.{AreCovered, IsWhole, Keeps, Follows, unwatched}
-use Rattle.dom_content.specs.dom_edit.Following.{keeps-unwatched, follows-then, whole-sound}
-use Rattle.dom_content.specs.dom_edit.Leaving.{sound-unwatched, it_is}
-use Rattle.dom_content.specs.dom_edit.InsertedNodes.{follows-as}
+use Rattle.dom_ranges.specs.Tables.{RangeTable, range_in}
+use Rattle.dom_edit.specs.declared.world.World.{World}
+use Rattle.dom_edit.specs.Whole.{AreCovered, IsWhole, Keeps, Follows, unwatched}
+use Rattle.dom_edit.proofs.Following.{keeps-unwatched, follows-then, whole-sound}
+use Rattle.dom_edit.proofs.Leaving.{sound-unwatched, it_is}
+use Rattle.dom_edit.proofs.InsertedNodes.{follows-as}
 use Rattle.dom_wrap.specs.Outcomes.{left_by, Passes, MayTake, put_around}
 use Rattle.dom_wrap.proofs.InsertedNode.{unless-none, unless-allows, left-alike, start-alike, parent-alike, reference-alike}
 

@@ -1,9 +1,2 @@
 pub mod Outcomes
 pub mod Allowing
--- what crates above name of those below
-pub mod dom_attrs
-pub mod dom_clone
-pub mod dom_data
-pub mod dom_edit
-pub mod dom_observe
-pub mod dom_ranges

@@ -9,9 +9,9 @@ use Rattle.dom_model.specs.Soundness.Sound.{IsSound}
 use Rattle.dom_model.specs.MutationAlgorithms.Checks.{check_insert}
 use Rattle.dom_model.specs.MutationAlgorithms.Editing.{remove}
 use Rattle.dom_model.specs.RangesAndContents.Wrapping.{Outcome, and_then, is_text, end_if_collapsed, placed_at, insert_node, try_pre_insert, try_select, refusal_in}
-use Rattle.dom_content.specs.dom_edit.declared.world.World.{World}
-use Rattle.dom_content.specs.dom_ranges.Tables.{range_in}
-use Rattle.dom_content.specs.dom_edit.Whole.{Keeps, Follows, unwatched}
+use Rattle.dom_edit.specs.declared.world.World.{World}
+use Rattle.dom_ranges.specs.Tables.{range_in}
+use Rattle.dom_edit.specs.Whole.{Keeps, Follows, unwatched}
 
 -- the world after the steps; the world as it was where one of them refuses
 abbrev pub left_by : Outcome → model.World → model.World

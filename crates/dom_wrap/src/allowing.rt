@@ -9,17 +9,17 @@ ghost use Rattle.dom_model.specs.MutationAlgorithms.Checks.{has_kind};
 ghost use Rattle.dom_model.specs.Forests.Nodes.{is_of_kind};
 ghost use Rattle.dom_model.specs.RangesAndContents.Contents.{common_of};
 ghost use Rattle.dom_model.specs.RangesAndContents.Wrapping.{check_whole_surround};
-ghost use Rattle.dom_content.specs.dom_ranges.Tables.{range_in};
-ghost use Rattle.dom_content.specs.dom_edit.Whole.{IsWhole, unwatched};
-ghost use Rattle.dom_content.specs.dom_edit.Places.{from_optional, IsAmong};
+ghost use Rattle.dom_ranges.specs.Tables.{range_in};
+ghost use Rattle.dom_edit.specs.Whole.{IsWhole, unwatched};
+ghost use Rattle.dom_edit.specs.Places.{from_optional, IsAmong};
 ghost use Rattle.dom_wrap.specs.Allowing.{is_near, is_refused_at, is_refused_between, is_refused, is_unplaceable, is_left_element, first_behind};
 
 use crate::inserting::{parent_at, reference_at};
-use dom_content::of_edit::{Content, World, check_insert};
-use dom_content::of_kinds::{DomError, Kind};
-use dom_content::of_point::{Point, common, is_before};
-use dom_content::of_ranges::RangeId;
-use dom_content::of_tree::{NodeId, Tree};
+use dom_edit::{Content, World, check_insert};
+use dom_kinds::{DomError, Kind};
+use dom_point::{Point, common, is_before};
+use dom_ranges::RangeId;
+use dom_tree::{NodeId, Tree};
 
 // Whether an end stands in a node, or in a Text that is a child of it.
 fn is_near(tree: &Tree<Content>, node: NodeId, end: NodeId) -> bool

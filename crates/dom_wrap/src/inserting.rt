@@ -10,18 +10,18 @@ ghost use Rattle.dom_model.specs.MutationAlgorithms.Editing.{nodes_of};
 ghost use Rattle.dom_model.specs.DataAndCopies.Data.{data_of};
 ghost use Rattle.dom_model.specs.RangesAndContents.Wrapping.{insert_node, is_text, inserted_at, placed_at, refusal_in, check_start, reference_at, parent_at, reference_after, split_at, offset_past, end_if_collapsed};
 ghost use Rattle.dom_model.specs.TokenText.Edits.{insert_node_edits};
-ghost use Rattle.dom_content.specs.dom_ranges.Tables.{range_in};
-ghost use Rattle.dom_content.specs.dom_edit.Whole.{IsWhole, Keeps, Follows, unwatched};
-ghost use Rattle.dom_content.specs.dom_edit.Markers.{StandByEdits};
-ghost use Rattle.dom_content.specs.dom_edit.Refusals.{IsRefused};
+ghost use Rattle.dom_ranges.specs.Tables.{range_in};
+ghost use Rattle.dom_edit.specs.Whole.{IsWhole, Keeps, Follows, unwatched};
+ghost use Rattle.dom_edit.specs.Markers.{StandByEdits};
+ghost use Rattle.dom_edit.specs.Refusals.{IsRefused};
 ghost use Rattle.dom_wrap.specs.Outcomes.{left_by, index_before, HasRoom, IsPlaceable, MayEndAt, MayTake};
 
-use dom_content::of_data::split_checked;
-use dom_content::of_edit::{Refusal, World, check_insert, reference_child};
-use dom_content::of_kinds::{DomError, Kind};
-use dom_content::of_point::Point;
-use dom_content::of_ranges::RangeId;
-use dom_content::of_tree::NodeId;
+use dom_data::split_checked;
+use dom_edit::{Refusal, World, check_insert, reference_child};
+use dom_kinds::{DomError, Kind};
+use dom_point::Point;
+use dom_ranges::RangeId;
+use dom_tree::NodeId;
 use std::alloc::{AllocError, Global};
 
 // Whether something may come in at a start: not in an instruction or comment, in no Text without a parent, and not in itself.

@@ -7,18 +7,18 @@ ghost use Rattle.dom_model.specs.MutationAlgorithms.Editing.{replace_all};
 ghost use Rattle.dom_model.specs.RangesAndContents.Ranges.{check_parent};
 ghost use Rattle.dom_model.specs.RangesAndContents.Wrapping.{surround, try_select, check_whole_surround};
 ghost use Rattle.dom_model.specs.TokenText.Edits.{surround_edits};
-ghost use Rattle.dom_content.specs.dom_ranges.Tables.{range_in};
-ghost use Rattle.dom_content.specs.dom_edit.Whole.{IsWhole, Follows, unwatched};
-ghost use Rattle.dom_content.specs.dom_edit.Markers.{StandByEdits};
-ghost use Rattle.dom_content.specs.dom_edit.Refusals.{IsRefused};
+ghost use Rattle.dom_ranges.specs.Tables.{range_in};
+ghost use Rattle.dom_edit.specs.Whole.{IsWhole, Follows, unwatched};
+ghost use Rattle.dom_edit.specs.Markers.{StandByEdits};
+ghost use Rattle.dom_edit.specs.Refusals.{IsRefused};
 ghost use Rattle.dom_wrap.specs.Outcomes.{left_by, put_around, HasRoom, Passes, MayTake};
 
 use crate::allowing::can_surround;
 use crate::inserting::insert_at_start;
 use dom_content::extract_checked;
-use dom_content::of_edit::{Refusal, World};
-use dom_content::of_ranges::RangeId;
-use dom_content::of_tree::NodeId;
+use dom_edit::{Refusal, World};
+use dom_ranges::RangeId;
+use dom_tree::NodeId;
 use std::alloc::{AllocError, Global};
 
 // Takes all children out of a node.

@@ -9,8 +9,8 @@ ghost use Rattle.dom_edit.specs.Refusals.{IsRefused};
 ghost use Rattle.dom_edit.specs.Whole.{IsWhole};
 
 use dom_clone::import;
-use dom_edit::of_tree::NodeId;
 use dom_edit::{Refusal, World};
+use dom_tree::NodeId;
 use std::alloc::Global;
 
 /// Imports a Document into another, which is refused.

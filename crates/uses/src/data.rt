@@ -9,10 +9,10 @@ ghost use Rattle.dom_model.specs.DataAndCopies.Data.{check_offset, set_text_cont
 ghost use Rattle.dom_edit.specs.Refusals.{IsRefused};
 ghost use Rattle.dom_edit.specs.Whole.{IsWhole, Follows, unwatched};
 
-use dom_clone::of_data::{set_text_content, split};
-use dom_edit::of_tree::NodeId;
-use dom_edit::of_units::Units;
+use dom_data::{set_text_content, split};
 use dom_edit::{Refusal, World};
+use dom_tree::NodeId;
+use dom_units::Units;
 use std::alloc::{AllocError, Global};
 
 /// Empties a node: of its data, or of all that stands below it where it is an element or a fragment.

@@ -10,11 +10,11 @@ ghost use Rattle.dom_model.specs.DataAndCopies.Data.{content_in};
 ghost use Rattle.dom_edit.specs.Whole.{IsWhole, Keeps};
 ghost use Rattle.uses.specs.Paragraph.{empty_paragraph, paragraph};
 
-use dom_edit::of_kinds::{Kind, Label};
-use dom_edit::of_point::Point;
-use dom_edit::of_tree::NodeId;
-use dom_edit::of_units::Units;
 use dom_edit::{Content, Refusal, World};
+use dom_kinds::{Kind, Label};
+use dom_point::Point;
+use dom_tree::NodeId;
+use dom_units::Units;
 use std::alloc::{AllocError, Global};
 
 // A label with a name alone.

@@ -4,9 +4,9 @@ ghost use Rattle.std.specs.Prelude.{◌≡◌, ◌<◌, length, Some, IsSome, If
 ghost use Rattle.dom_model.specs.BoundaryPoints.Points.{after_splice};
 ghost use Rattle.dom_ranges.specs.Tables.{IsCovered, IsBoundaryIn, OffsetsFit, range_in};
 
-use dom_ranges::of_point::Point;
-use dom_ranges::of_tree::{Body, NodeId, Tree};
+use dom_point::Point;
 use dom_ranges::{RangeId, Ranges};
+use dom_tree::{Body, NodeId, Tree};
 use std::alloc::AllocError;
 
 /// Makes a live range whose ends both stand at one point of a tree.

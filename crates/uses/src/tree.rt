@@ -4,7 +4,7 @@ ghost use Rattle.std.specs.Prelude.{◌≡◌, ◌<◌, ◌∷◌, ◌++◌, [],
 ghost use Rattle.dom_model.specs.Forests.Kinds.{may_stand_in};
 ghost use Rattle.dom_model.specs.Forests.Forest.{HasNode, entry_in, parent_of, children_of};
 
-use dom_tree::of_kinds::Label;
+use dom_kinds::Label;
 use dom_tree::{NodeId, Tree};
 use std::alloc::AllocError;
 

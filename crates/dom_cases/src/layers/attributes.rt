@@ -1,12 +1,12 @@
 //! Attributes that are set, removed and toggled. Where memory is wanting, they stay as they are.
 
-ghost use Rattle.dom_wrap.specs.dom_edit.Whole.{IsWhole};
+ghost use Rattle.dom_edit.specs.Whole.{IsWhole};
 
 use crate::layers::building::{Scene, expect_held, expect_units, name, played, units};
-use dom_wrap::of_data::{remove_attribute, set_attribute, toggle_attribute};
-use dom_wrap::of_edit::World;
-use dom_wrap::of_kinds::Kind;
-use dom_wrap::of_tree::NodeId;
+use dom_data::{remove_attribute, set_attribute, toggle_attribute};
+use dom_edit::World;
+use dom_kinds::Kind;
+use dom_tree::NodeId;
 use std::alloc::{AllocError, Global};
 use std::process::Abort;
 use std::test::Fail;

@@ -1,14 +1,14 @@
 //! A small world that observer 0 watches, built at the second try where a growth is refused, and what is asked of it.
 
 ghost use Rattle.std.specs.Prelude.{◌≡◌, IfOk};
-ghost use Rattle.dom_wrap.specs.dom_edit.Whole.{IsWhole};
+ghost use Rattle.dom_edit.specs.Whole.{IsWhole};
 
-use dom_wrap::of_attrs::Attrs;
-use dom_wrap::of_edit::{Content, Refusal, World};
-use dom_wrap::of_kinds::{Kind, Label};
-use dom_wrap::of_observe::{ObserverId, RawOptions, settle};
-use dom_wrap::of_tree::NodeId;
-use dom_wrap::of_units::Units;
+use dom_attrs::Attrs;
+use dom_edit::{Content, Refusal, World};
+use dom_kinds::{Kind, Label};
+use dom_observe::{ObserverId, RawOptions, settle};
+use dom_tree::NodeId;
+use dom_units::Units;
 use std::alloc::{AllocError, Global};
 use std::process::Abort;
 use std::test::Fail;

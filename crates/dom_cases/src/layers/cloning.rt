@@ -1,15 +1,15 @@
 //! Nodes that are copied, and copied into another document. Where memory is wanting, the originals stay as they are.
 
-ghost use Rattle.dom_wrap.specs.dom_edit.Whole.{IsWhole};
+ghost use Rattle.dom_edit.specs.Whole.{IsWhole};
 
 use crate::layers::building::{
     Scene, allowed, expect_children, expect_data, expect_document, expect_held, expect_root,
     played, second_document,
 };
-use dom_wrap::of_clone::{clone_node, import, is_equal};
-use dom_wrap::of_edit::World;
-use dom_wrap::of_kinds::Kind;
-use dom_wrap::of_tree::NodeId;
+use dom_clone::{clone_node, import, is_equal};
+use dom_edit::World;
+use dom_kinds::Kind;
+use dom_tree::NodeId;
 use std::alloc::{AllocError, Global};
 use std::process::Abort;
 use std::test::Fail;

@@ -1,15 +1,15 @@
 //! What lies in a live range read, deleted, extracted and copied. Where memory is wanting, the world goes on from what it is then.
 
-ghost use Rattle.dom_wrap.specs.dom_edit.Whole.{IsWhole};
+ghost use Rattle.dom_edit.specs.Whole.{IsWhole};
 
 use crate::layers::building::{
     Scene, allowed, expect_children, expect_data, expect_held, expect_root, expect_units, played,
 };
 use crate::layers::selecting::{expect_ends, select, select_between};
-use dom_wrap::of_edit::World;
-use dom_wrap::of_ranges::RangeId;
-use dom_wrap::of_tree::NodeId;
-use dom_wrap::{clone_contents, delete_contents, extract, range_text};
+use dom_content::{clone_contents, delete_contents, extract, range_text};
+use dom_edit::World;
+use dom_ranges::RangeId;
+use dom_tree::NodeId;
 use std::alloc::{AllocError, Global};
 use std::process::Abort;
 use std::test::Fail;

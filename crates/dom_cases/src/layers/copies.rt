@@ -1,10 +1,10 @@
 //! The calls on a small tree and its copies.
-use dom_wrap::of_attrs::Attrs;
-use dom_wrap::of_clone::{contains, is_equal, position};
-use dom_wrap::of_edit::Content;
-use dom_wrap::of_kinds::{Kind, Label};
-use dom_wrap::of_tree::{NodeId, Tree};
-use dom_wrap::of_units::Units;
+use dom_attrs::Attrs;
+use dom_clone::{contains, is_equal, position};
+use dom_edit::Content;
+use dom_kinds::{Kind, Label};
+use dom_tree::{NodeId, Tree};
+use dom_units::Units;
 use std::alloc::{AllocError, Global};
 use std::process::Abort;
 use std::test::Fail;

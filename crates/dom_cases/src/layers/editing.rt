@@ -2,15 +2,15 @@
 
 ghost use Rattle.std.specs.Option.{ForSome};
 ghost use Rattle.dom_model.specs.Forests.Forest.{HasNode};
-ghost use Rattle.dom_wrap.specs.dom_edit.Whole.{IsWhole};
+ghost use Rattle.dom_edit.specs.Whole.{IsWhole};
 
 use crate::layers::building::{
     Scene, allowed, appended, expect_children, expect_data, expect_document, expect_held,
     expect_root, expect_roots, made, played, second_document,
 };
-use dom_wrap::of_edit::{Refusal, World};
-use dom_wrap::of_kinds::{DomError, Kind, may_be_parent};
-use dom_wrap::of_tree::NodeId;
+use dom_edit::{Refusal, World};
+use dom_kinds::{DomError, Kind, may_be_parent};
+use dom_tree::NodeId;
 use std::alloc::{AllocError, Global};
 use std::process::Abort;
 use std::test::Fail;

@@ -1,7 +1,7 @@
 //! Options of observers, and the registrations of one observer on many nodes.
-use dom_wrap::of_kinds::{DomError, Kind, Label};
-use dom_wrap::of_observe::{ObserverId, Observers, RawOptions, Record, settle};
-use dom_wrap::of_tree::NodeId;
+use dom_kinds::{DomError, Kind, Label};
+use dom_observe::{ObserverId, Observers, RawOptions, Record, settle};
+use dom_tree::NodeId;
 use std::alloc::{AllocError, Global};
 use std::process::Abort;
 use std::test::Fail;

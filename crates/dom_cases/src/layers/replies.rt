@@ -1,11 +1,11 @@
 //! Printed replies.
 
+use dom_attrs::Attrs;
 use dom_serve::write_reply;
 use dom_session::{
     Answer, Content, Description, DomError, Kind, Label, NodeId, ObserverId, OwnError, Point,
     Record, RecordType, Reply, Told, TreeRow, Units,
 };
-use dom_wrap::of_attrs::Attrs;
 use std::alloc::{AllocError, Global};
 use std::cmp::Ordering;
 use std::test::Fail;

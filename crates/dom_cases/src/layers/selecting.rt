@@ -1,11 +1,11 @@
 //! A live range in the small world, and what is asked of it.
 
-ghost use Rattle.dom_wrap.specs.dom_edit.Whole.{IsWhole};
+ghost use Rattle.dom_edit.specs.Whole.{IsWhole};
 
-use dom_wrap::of_edit::World;
-use dom_wrap::of_point::{Point, checked_point, order};
-use dom_wrap::of_ranges::RangeId;
-use dom_wrap::of_tree::NodeId;
+use dom_edit::World;
+use dom_point::{Point, checked_point, order};
+use dom_ranges::RangeId;
+use dom_tree::NodeId;
 use std::alloc::AllocError;
 use std::cmp::Ordering;
 use std::process::Abort;

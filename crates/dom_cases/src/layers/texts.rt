@@ -1,17 +1,17 @@
 //! Data, Texts and attributes that change, and the text of nodes. Where memory is wanting, the world goes on from what it is then.
 
-ghost use Rattle.dom_wrap.specs.dom_edit.Whole.{IsWhole};
+ghost use Rattle.dom_edit.specs.Whole.{IsWhole};
 
 use crate::layers::building::{
     Scene, allowed, expect_children, expect_data, expect_held, expect_root, expect_roots,
     expect_units, played, units,
 };
-use dom_wrap::of_data::{
+use dom_data::{
     normalize, replace_data, set_data, set_text_content, split, substring, text_content,
 };
-use dom_wrap::of_edit::{Refusal, World};
-use dom_wrap::of_kinds::{DomError, Kind};
-use dom_wrap::of_tree::NodeId;
+use dom_edit::{Refusal, World};
+use dom_kinds::{DomError, Kind};
+use dom_tree::NodeId;
 use std::alloc::{AllocError, Global};
 use std::process::Abort;
 use std::test::Fail;

@@ -1,9 +1,9 @@
 //! Observers where each growth may be refused. What a refused call leaves is asked, and then the call is made again.
 
 use crate::layers::observing::{label, nothing, take, watch};
-use dom_wrap::of_observe::{Mutation, ObserverId, Observers, RawOptions, Record, RecordType};
-use dom_wrap::of_tree::{NodeId, Tree};
-use dom_wrap::of_units::Units;
+use dom_observe::{Mutation, ObserverId, Observers, RawOptions, Record, RecordType};
+use dom_tree::{NodeId, Tree};
+use dom_units::Units;
 use std::alloc::{AllocError, Global};
 use std::process::Abort;
 use std::test::Fail;

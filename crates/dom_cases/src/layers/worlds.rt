@@ -1,13 +1,13 @@
 //! Examples of a copied content, and of nodes that are made, adopted and asked about.
 
-ghost use Rattle.dom_wrap.specs.dom_edit.Whole.{IsWhole};
+ghost use Rattle.dom_edit.specs.Whole.{IsWhole};
 
 use crate::layers::building::first;
-use dom_wrap::of_attrs::Attrs;
-use dom_wrap::of_edit::{Content, Refusal, World};
-use dom_wrap::of_kinds::{DomError, Kind, Label};
-use dom_wrap::of_tree::NodeId;
-use dom_wrap::of_units::Units;
+use dom_attrs::Attrs;
+use dom_edit::{Content, Refusal, World};
+use dom_kinds::{DomError, Kind, Label};
+use dom_tree::NodeId;
+use dom_units::Units;
 use std::alloc::{AllocError, Global};
 use std::process::Abort;
 use std::test::Fail;

@@ -1,14 +1,14 @@
 //! What is put at the start of a live range, and around what lies in it. Where memory is wanting, the world goes on from what it is then.
 
-ghost use Rattle.dom_wrap.specs.dom_edit.Whole.{IsWhole};
+ghost use Rattle.dom_edit.specs.Whole.{IsWhole};
 
 use crate::layers::building::{
     Scene, allowed, expect_children, expect_data, expect_held, expect_roots, played,
 };
 use crate::layers::selecting::{expect_ends, select};
-use dom_wrap::of_edit::World;
-use dom_wrap::of_ranges::RangeId;
-use dom_wrap::of_tree::NodeId;
+use dom_edit::World;
+use dom_ranges::RangeId;
+use dom_tree::NodeId;
 use dom_wrap::{insert_node, surround};
 use std::alloc::{AllocError, Global};
 use std::process::Abort;

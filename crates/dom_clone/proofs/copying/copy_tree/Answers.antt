@@ -1,7 +1,7 @@
 use Rattle.std.proofs.Common.{◌≡◌, ℕ, List, [], ◌∷◌, length, refl, ap, sym, subst, arith, unwrap_or}
 use Rattle.dom_model.specs.Forests.Forest.{size}
 use Rattle.dom_model.specs.DataAndCopies.Clones.{original, with_copies}
-use Rattle.dom_data.specs.dom_edit.Whole.{Follows}
+use Rattle.dom_edit.specs.Whole.{Follows}
 use Rattle.dom_clone.specs.declared.waiting.Waiting.{Waiting}
 use Rattle.dom_clone.proofs.Partial.{some-copied, first-held, copying-starts, copied-alone, copying-ends, next-held, parent-held, may-stand, more-to_come, original-held, next-made, copying-goes_on}
 use Rattle.dom_clone.proofs.copying.copy_tree.Goals as goal

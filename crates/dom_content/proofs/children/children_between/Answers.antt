@@ -1,9 +1,9 @@
 -- Each step takes one child, up to the one that ends the list.
 use Rattle.std.proofs.Common.{true, false, [], ◌∷◌, refl, sym, ◌∙◌, append_assoc, append-nil}
 use Rattle.dom_model.specs.Forests.Forest.{children_of}
-use Rattle.dom_clone.specs.dom_edit.Places.{ahead_of}
-use Rattle.dom_clone.specs.dom_edit.AmongChildren.{from_optional-given, parent-among}
-use Rattle.dom_clone.specs.dom_edit.Placing.{ahead-here, ahead-on, ahead-none}
+use Rattle.dom_edit.specs.Places.{ahead_of}
+use Rattle.dom_edit.proofs.AmongChildren.{from_optional-given, parent-among}
+use Rattle.dom_edit.proofs.Placing.{ahead-here, ahead-on, ahead-none}
 use Rattle.dom_content.proofs.ChildrenBetween.{given-is}
 use Rattle.dom_content.proofs.children.children_between.Goals as goal
 use Rattle.dom_content.proofs.children.children_between.Goals.{in-Some+then-eq, in-None}

@@ -3,7 +3,7 @@ use Rattle.std.proofs.Common.{◌≡◌, ℕ, true, false, List, Option, ap, sym
 use Rattle.std.specs.Prelude.{IfOk}
 use Rattle.dom_model.specs.PlainLists.Lists.{is_number}
 use Rattle.dom_model.specs.Forests.Forest.{children_of}
-use Rattle.dom_clone.specs.dom_edit.Places.{IsAmong, from_optional}
+use Rattle.dom_edit.specs.Places.{IsAmong, from_optional}
 use Rattle.dom_content.proofs.ChildrenBetween.{given-is, next-among, past-next, past-none}
 use Rattle.dom_content.proofs.children.children_past.Goals as goal
 

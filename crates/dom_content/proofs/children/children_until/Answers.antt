@@ -3,8 +3,8 @@ use Rattle.std.proofs.Common.{◌≡◌, ℕ, List, ap, ◌∙◌, subst}
 use Rattle.std.specs.Prelude.{IfOk}
 use Rattle.dom_model.specs.Forests.Forest.{children_of}
 use Rattle.dom_model.proofs.Forests.Indices.{child-once}
-use Rattle.dom_clone.specs.dom_edit.Places.{ahead_of, from_optional}
-use Rattle.dom_clone.specs.dom_edit.AmongChildren.{IsAmong-head, from_optional-head}
+use Rattle.dom_edit.specs.Places.{ahead_of, from_optional}
+use Rattle.dom_edit.proofs.AmongChildren.{IsAmong-head, from_optional-head}
 use Rattle.dom_content.proofs.ChildrenBetween.{ahead-got}
 use Rattle.dom_content.proofs.children.children_until.Goals as goal
 

@@ -2,8 +2,8 @@
 use Rattle.std.proofs.Common.{ℕ, List, ◌++◌, ap, sym, ◌∙◌, subst}
 use Rattle.dom_model.specs.Worlds.World.{Point, Range}
 use Rattle.dom_model.specs.RangesAndContents.BesidePaths.{tail_nodes, head_nodes}
-use Rattle.dom_clone.specs.dom_edit.Inserting.{AreThere}
-use Rattle.dom_clone.specs.dom_edit.Whole.{unwatched}
+use Rattle.dom_edit.specs.Inserting.{AreThere}
+use Rattle.dom_edit.specs.Whole.{unwatched}
 use Rattle.dom_content.proofs.DrawnContents.{first-held, last-held}
 use Rattle.dom_content.proofs.TopsOfPaths.{tops-of_parts}
 use Rattle.dom_content.proofs.contained.contained_tops.Goals as goal

@@ -2,7 +2,7 @@
 use Rattle.dom_model.specs.RangesAndContents.BesidePaths.{tail_nodes}
 use Rattle.std.proofs.Common.{◌≡◌, ◌-◌, ◌++◌, drop, length, ap, ◌∙◌, arith}
 use Rattle.std.proofs.lemmas.Grind.{common_steps}
-use Rattle.dom_clone.specs.dom_edit.Whole.{unwatched}
+use Rattle.dom_edit.specs.Whole.{unwatched}
 use Rattle.dom_content.proofs.TopsOfPaths.{on-path, tail-last, tail-more}
 use Rattle.dom_content.proofs.contained.tail_nodes.Goals as goal
 

@@ -7,7 +7,7 @@ use Rattle.dom_model.specs.Worlds.World.{Point, Range}
 use Rattle.dom_model.specs.Forests.Nodes.{kind_passes}
 use Rattle.dom_model.specs.DataAndCopies.Data.{data_of}
 use Rattle.dom_model.proofs.Soundness.SoundDeleting.{offset_of_start}
-use Rattle.dom_clone.specs.dom_edit.Whole.{unwatched}
+use Rattle.dom_edit.specs.Whole.{unwatched}
 use Rattle.dom_content.proofs.PartsBetween.{and-both}
 use Rattle.dom_content.proofs.RangeTexts.{range-held, ahead-of}
 use Rattle.dom_content.proofs.DeletedBetween.{follows-between}

@@ -1,5 +1,5 @@
 -- Both ends are set at once.
-use Rattle.dom_clone.specs.dom_edit.Leaving.{held-covered}
+use Rattle.dom_edit.proofs.Leaving.{held-covered}
 use Rattle.dom_content.proofs.EndsSet.{follows-standing, whole-standing}
 use Rattle.dom_content.proofs.deleting.stand_at.Goals as goal
 

@@ -3,7 +3,7 @@ use Rattle.std.proofs.Common.{sym, ◌∙◌, subst}
 use Rattle.std.proofs.lemmas.Result.{err_from_is_err_and}
 use Rattle.dom_model.specs.Worlds.World.{Range}
 use Rattle.dom_model.specs.RangesAndContents.Contents.{extracted, extract}
-use Rattle.dom_clone.specs.dom_edit.Refusals.{IsRefused}
+use Rattle.dom_edit.specs.Refusals.{IsRefused}
 use Rattle.dom_content.specs.Left.{HoldsBetween, MovesBetween}
 use Rattle.dom_content.proofs.ContentsLeft.{left-extracted, held-extracted, moved-extracted}
 use Rattle.dom_content.proofs.ContentsMarked.{asked-range, markers-extracted}

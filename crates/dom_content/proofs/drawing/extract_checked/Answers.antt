@@ -2,7 +2,7 @@ use Rattle.std.proofs.lemmas.Result.{on_ok_weaker}
 use Rattle.dom_model.specs.Worlds.World.{Range}
 use Rattle.dom_model.specs.RangesAndContents.Contents.{extracted, extract}
 use Rattle.dom_model.proofs.TokenText.EditsMade.EditsOfDrawnContents.{check-range}
-use Rattle.dom_clone.specs.dom_edit.Whole.{unwatched}
+use Rattle.dom_edit.specs.Whole.{unwatched}
 use Rattle.dom_content.proofs.RangeTexts.{range-held}
 use Rattle.dom_content.proofs.Deleted.{follows-alike}
 use Rattle.dom_content.proofs.DrawnContents.{range-extracted, room-extracted}

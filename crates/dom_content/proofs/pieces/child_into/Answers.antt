@@ -3,7 +3,7 @@ use Rattle.std.proofs.Common.{[], true, subst, sym}
 use Rattle.std.proofs.lemmas.Result.{on_ok_weaker}
 use Rattle.std.specs.Prelude.{OnOk}
 use Rattle.dom_model.specs.RangesAndContents.Contents.{child_into}
-use Rattle.dom_clone.specs.dom_edit.Whole.{Follows}
+use Rattle.dom_edit.specs.Whole.{Follows}
 use Rattle.dom_content.specs.Paths.{HasRoom}
 use Rattle.dom_content.proofs.PieceSteps.{room-child, follows-child}
 use Rattle.dom_content.proofs.StaysOf.{stays-then}

@@ -4,7 +4,7 @@ use Rattle.std.specs.Prelude.{OnOk}
 use Rattle.dom_model.specs.declared.Kind.TheVariants.{DocumentFragment}
 use Rattle.dom_model.specs.Worlds.World.{no_content}
 use Rattle.dom_model.specs.Worlds.Making.{made_node, named}
-use Rattle.dom_clone.specs.dom_edit.Whole.{Follows}
+use Rattle.dom_edit.specs.Whole.{Follows}
 use Rattle.std.proofs.lemmas.Result.{on_ok_weaker}
 use Rattle.dom_content.proofs.PieceSteps.{room-fragment, data-fragment, fragment-held}
 use Rattle.dom_content.proofs.StaysOf.{stays-fragment}

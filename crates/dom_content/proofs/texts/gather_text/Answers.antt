@@ -6,7 +6,7 @@ use Rattle.dom_model.specs.RangesAndContents.Contents.{range_text}
 use Rattle.dom_model.specs.Forests.Forest.{entry_in}
 use Rattle.dom_model.specs.Worlds.World.{Point}
 use Rattle.dom_model.specs.DataAndCopies.Data.{content_in}
-use Rattle.dom_clone.specs.dom_edit.Whole.{unwatched}
+use Rattle.dom_edit.specs.Whole.{unwatched}
 use Rattle.dom_content.specs.Texts.{part_of, texts_within}
 use Rattle.dom_content.proofs.RangeTexts.{range-held, ahead-of, apart-kinds, apart-nodes, none-less, pieces-text}
 use Rattle.dom_content.proofs.texts.gather_text.Goals as goal

@@ -10,8 +10,8 @@ use Rattle.dom_model.specs.DataAndCopies.Data.{content_in}
 use Rattle.dom_edit.specs.declared.world.World.{World}
 use Rattle.dom_edit.proofs.NodesKept.{one-there}
 use Rattle.dom_edit.proofs.Named.{whole-named}
-use Rattle.dom_edit.specs.dom_observe.Held.{nodes_of_mutation, NamesOnly}
-use Rattle.dom_edit.specs.dom_observe.Watchers.{Watches}
+use Rattle.dom_observe.specs.Held.{nodes_of_mutation, NamesOnly}
+use Rattle.dom_observe.specs.Watchers.{Watches}
 use Rattle.dom_data.proofs.Told.{follows-told}
 use Rattle.dom_data.proofs.records.tell_attribute.Goals as goal
 

@@ -1,5 +1,5 @@
 use Rattle.std.proofs.Common.{◌≡◌, string_bytes, add-one}
-use Rattle.dom_wrap.specs.dom_attrs.Entries.{attribute_at}
+use Rattle.dom_attrs.specs.Entries.{attribute_at}
 use Rattle.dom_session.proofs.NodeData.{names-next}
 use Rattle.dom_session.proofs.attributes.names_in.Goals as goal
 

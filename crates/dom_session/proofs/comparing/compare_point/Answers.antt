@@ -7,7 +7,7 @@ use Rattle.dom_model.specs.Worlds.World.{Point, Range}
 use Rattle.dom_model.specs.RangesAndContents.Ranges.{check_point, place_against}
 use Rattle.dom_model.specs.Forests.Nodes.{same_root}
 use Rattle.dom_model.specs.Commands.Command.{ComparePoint}
-use Rattle.dom_wrap.specs.dom_ranges.Tables.{range_in}
+use Rattle.dom_ranges.specs.Tables.{range_in}
 use Rattle.dom_session.specs.declared.reply.Answer.TheVariants.{Order}
 use Rattle.dom_session.specs.declared.reply.Reply.TheVariants.{Done, Dom}
 use Rattle.dom_session.proofs.Stepping.{step-stays}

@@ -2,7 +2,7 @@ use Rattle.std.proofs.Common.{◌≡◌, true, refl}
 use Rattle.std.specs.Prelude.{is_some}
 use Rattle.dom_model.specs.RangesAndContents.Contents.{delete_contents}
 use Rattle.dom_model.specs.Commands.Command.{DeleteContents}
-use Rattle.dom_wrap.specs.dom_ranges.Tables.{range_in}
+use Rattle.dom_ranges.specs.Tables.{range_in}
 use Rattle.dom_session.specs.declared.reply.Answer.TheVariants.{Nothing}
 use Rattle.dom_session.specs.declared.reply.Reply.TheVariants.{Done}
 use Rattle.dom_session.proofs.Stepping.{step-follows}

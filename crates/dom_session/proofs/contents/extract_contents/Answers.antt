@@ -3,8 +3,8 @@ use Rattle.std.specs.Prelude.{is_some}
 use Rattle.dom_model.specs.Forests.Forest.{size}
 use Rattle.dom_model.specs.RangesAndContents.Contents.{check_extract, extract}
 use Rattle.dom_model.specs.Commands.Command.{ExtractContents}
-use Rattle.dom_wrap.specs.dom_ranges.Tables.{range_in}
-use Rattle.dom_wrap.specs.dom_edit.Whole.{unwatched}
+use Rattle.dom_ranges.specs.Tables.{range_in}
+use Rattle.dom_edit.specs.Whole.{unwatched}
 use Rattle.dom_session.specs.declared.reply.Answer.TheVariants.{Number}
 use Rattle.dom_session.specs.declared.reply.Reply.TheVariants.{Done}
 use Rattle.dom_session.specs.Limiting.{numbered}

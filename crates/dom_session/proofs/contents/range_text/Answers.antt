@@ -1,7 +1,7 @@
 use Rattle.std.proofs.Common.{◌≡◌, true}
 use Rattle.std.specs.Prelude.{is_some}
 use Rattle.dom_model.specs.Commands.Command.{RangeText}
-use Rattle.dom_wrap.specs.dom_ranges.Tables.{range_in}
+use Rattle.dom_ranges.specs.Tables.{range_in}
 use Rattle.dom_session.specs.declared.reply.Answer.TheVariants.{Units}
 use Rattle.dom_session.specs.declared.reply.Reply.TheVariants.{Done}
 use Rattle.dom_session.proofs.Stepping.{step-stays}

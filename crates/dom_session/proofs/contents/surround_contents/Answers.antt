@@ -3,8 +3,8 @@ use Rattle.std.specs.Prelude.{is_some}
 use Rattle.dom_model.specs.Forests.Forest.{entry_in, size}
 use Rattle.dom_model.specs.RangesAndContents.Wrapping.{surround, check_whole_surround}
 use Rattle.dom_model.specs.Commands.Command.{SurroundContents}
-use Rattle.dom_wrap.specs.dom_ranges.Tables.{range_in}
-use Rattle.dom_wrap.specs.dom_edit.Whole.{unwatched}
+use Rattle.dom_ranges.specs.Tables.{range_in}
+use Rattle.dom_edit.specs.Whole.{unwatched}
 use Rattle.dom_wrap.specs.Outcomes.{left_by}
 use Rattle.dom_session.specs.declared.reply.Answer.TheVariants.{Nothing}
 use Rattle.dom_session.specs.declared.reply.Reply.TheVariants.{Done}

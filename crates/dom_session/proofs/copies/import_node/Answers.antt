@@ -6,7 +6,7 @@ use Rattle.dom_model.specs.Forests.Forest.{entry_in, size}
 use Rattle.dom_model.specs.Forests.Nodes.{kind_passes}
 use Rattle.dom_model.specs.DataAndCopies.Clones.{import_node}
 use Rattle.dom_model.specs.Commands.Command.{ImportNode}
-use Rattle.dom_wrap.specs.dom_edit.Refusals.{check_adopt}
+use Rattle.dom_edit.specs.Refusals.{check_adopt}
 use Rattle.dom_session.specs.declared.reply.Answer.TheVariants.{Number}
 use Rattle.dom_session.specs.declared.reply.Reply.TheVariants.{Done}
 use Rattle.dom_session.specs.Limiting.{numbered}

@@ -8,7 +8,7 @@ use Rattle.dom_model.specs.Forests.Kinds.{is_kind}
 use Rattle.dom_model.specs.Commands.Command.{AdoptNode}
 use Rattle.dom_model.specs.Forests.Nodes.{kind_passes}
 use Rattle.dom_model.specs.MutationAlgorithms.Editing.{adopt}
-use Rattle.dom_wrap.specs.dom_edit.Refusals.{check_adopt}
+use Rattle.dom_edit.specs.Refusals.{check_adopt}
 use Rattle.dom_session.proofs.Stepping.{step-follows, steps-refused}
 use Rattle.dom_session.proofs.TreeEdits.{answer-adopt_node, refused-adopt_node}
 use Rattle.dom_session.proofs.editing.adopt_node.Goals as goal

@@ -2,7 +2,7 @@ use Rattle.std.proofs.Common.{refl, sym, ◌∙◌}
 use Rattle.dom_model.specs.declared.OwnError.TheVariants.{InUse}
 use Rattle.dom_model.specs.Commands.Command.{Discard}
 use Rattle.dom_model.specs.MutationAlgorithms.Discarding.{is_in_use, discarded}
-use Rattle.dom_wrap.specs.dom_edit.Used.{is_used}
+use Rattle.dom_edit.specs.Used.{is_used}
 use Rattle.dom_session.specs.declared.reply.Answer.TheVariants.{Nothing}
 use Rattle.dom_session.specs.declared.reply.Reply.TheVariants.{Done, Own}
 use Rattle.dom_session.proofs.Stepping.{step-follows, step-stays}

@@ -5,7 +5,7 @@ use Rattle.dom_session.specs.declared.reply.Answer.TheVariants.{Number}
 use Rattle.dom_session.specs.declared.reply.Reply.TheVariants.{Done}
 use Rattle.dom_model.specs.Commands.Command.{RemoveChild}
 use Rattle.dom_model.specs.MutationAlgorithms.Editing.{remove}
-use Rattle.dom_wrap.specs.dom_edit.Refusals.{check_remove_child}
+use Rattle.dom_edit.specs.Refusals.{check_remove_child}
 use Rattle.dom_session.proofs.Stepping.{step-follows, steps-refused}
 use Rattle.dom_session.proofs.TreeEdits.{answer-remove_child, refused-remove_child}
 use Rattle.dom_session.proofs.editing.remove_child.Goals as goal

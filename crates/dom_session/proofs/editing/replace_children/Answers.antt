@@ -8,7 +8,7 @@ use Rattle.dom_model.specs.declared.DomError.TheVariants.{TypeError}
 use Rattle.dom_model.specs.Forests.Kinds.{Label, may_be_parent}
 use Rattle.dom_model.specs.Commands.Command.{ReplaceChildren}
 use Rattle.dom_model.specs.MutationAlgorithms.Editing.{replace_all}
-use Rattle.dom_wrap.specs.dom_edit.Refusals.{check_only_child}
+use Rattle.dom_edit.specs.Refusals.{check_only_child}
 use Rattle.dom_session.specs.declared.reply.Reply.TheVariants.{Dom}
 use Rattle.dom_session.proofs.Stepping.{step-follows, step-stays, steps-refused}
 use Rattle.dom_session.proofs.TreeEdits.{not-true, kind_passes-label, answer-replace_children, refused-replace_children, refused-parent}

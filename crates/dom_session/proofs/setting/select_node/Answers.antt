@@ -4,8 +4,8 @@ use Rattle.dom_model.specs.Forests.Forest.{HasNode, entry_in}
 use Rattle.dom_model.specs.RangesAndContents.Ranges.{around, check_parent}
 use Rattle.dom_model.specs.Commands.Command.{SelectNode}
 use Rattle.dom_model.proofs.Forests.Above.{above}
-use Rattle.dom_wrap.specs.dom_edit.Whole.{IsShown}
-use Rattle.dom_wrap.specs.dom_ranges.Tables.{range_in}
+use Rattle.dom_edit.specs.Whole.{IsShown}
+use Rattle.dom_ranges.specs.Tables.{range_in}
 use Rattle.dom_session.specs.declared.reply.Answer.TheVariants.{Nothing}
 use Rattle.dom_session.specs.declared.reply.Reply.TheVariants.{Done}
 use Rattle.dom_session.proofs.Parts.{step-set}

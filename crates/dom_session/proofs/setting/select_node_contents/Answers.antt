@@ -4,7 +4,7 @@ use Rattle.dom_model.specs.Forests.Forest.{entry_in}
 use Rattle.dom_model.specs.Worlds.Lengths.{unit_count}
 use Rattle.dom_model.specs.RangesAndContents.Ranges.{contents_of, check_contents}
 use Rattle.dom_model.specs.Commands.Command.{SelectNodeContents}
-use Rattle.dom_wrap.specs.dom_ranges.Tables.{range_in}
+use Rattle.dom_ranges.specs.Tables.{range_in}
 use Rattle.dom_session.specs.declared.reply.Answer.TheVariants.{Nothing}
 use Rattle.dom_session.specs.declared.reply.Reply.TheVariants.{Done, Dom}
 use Rattle.dom_session.proofs.Parts.{step-ranges, step-refused}

@@ -6,7 +6,7 @@ use Rattle.dom_model.specs.Worlds.Lengths.{unit_count}
 use Rattle.dom_model.specs.Worlds.World.{Point}
 use Rattle.dom_model.specs.RangesAndContents.Ranges.{start_set, check_point}
 use Rattle.dom_model.specs.Commands.Command.{SetStart}
-use Rattle.dom_wrap.specs.dom_ranges.Tables.{range_in}
+use Rattle.dom_ranges.specs.Tables.{range_in}
 use Rattle.dom_session.specs.declared.reply.Answer.TheVariants.{Nothing}
 use Rattle.dom_session.specs.declared.reply.Reply.TheVariants.{Done, Dom}
 use Rattle.dom_session.proofs.Parts.{step-set, step-refused}

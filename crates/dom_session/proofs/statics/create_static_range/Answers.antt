@@ -6,8 +6,8 @@ use Rattle.dom_model.specs.Forests.Forest.{entry_in}
 use Rattle.dom_model.specs.Worlds.World.{Point, Range}
 use Rattle.dom_model.specs.RangesAndContents.StaticRanges.{check_static}
 use Rattle.dom_model.specs.Commands.Command.{CreateStaticRange}
-use Rattle.dom_wrap.specs.dom_ranges.Tables.{refused}
-use Rattle.dom_wrap.specs.dom_edit.Whole.{AreHeld}
+use Rattle.dom_ranges.specs.Tables.{refused}
+use Rattle.dom_edit.specs.Whole.{AreHeld}
 use Rattle.dom_session.specs.declared.reply.Answer.TheVariants.{Number}
 use Rattle.dom_session.specs.declared.reply.Reply.TheVariants.{Done, Dom}
 use Rattle.dom_session.specs.Limiting.{numbered}

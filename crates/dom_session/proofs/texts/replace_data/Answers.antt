@@ -1,6 +1,6 @@
 use Rattle.std.proofs.Common.{refl, sym, Some, None}
 use Rattle.dom_model.specs.DataAndCopies.Data.{check_offset, replace_data}
-use Rattle.dom_wrap.specs.dom_edit.Whole.{unwatched}
+use Rattle.dom_edit.specs.Whole.{unwatched}
 use Rattle.dom_model.specs.Commands.Command.{ReplaceData}
 use Rattle.dom_session.specs.declared.reply.Answer.TheVariants.{Nothing}
 use Rattle.dom_session.specs.declared.reply.Reply.TheVariants.{Done}

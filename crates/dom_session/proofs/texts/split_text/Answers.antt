@@ -2,7 +2,7 @@ use Rattle.std.proofs.Common.{◌≡◌, ◌+◌, nat_lt, false, Some, None, ref
 use Rattle.std.proofs.lemmas.Bool.Decides.{nat_tests}
 use Rattle.dom_model.specs.DataAndCopies.Data.{check_offset, split}
 use Rattle.dom_model.specs.Commands.Command.{SplitText}
-use Rattle.dom_wrap.specs.dom_edit.Whole.{unwatched}
+use Rattle.dom_edit.specs.Whole.{unwatched}
 use Rattle.dom_session.specs.declared.reply.Answer.TheVariants.{Number}
 use Rattle.dom_session.specs.declared.reply.Reply.TheVariants.{Done}
 use Rattle.dom_session.specs.Views.{reply_view}

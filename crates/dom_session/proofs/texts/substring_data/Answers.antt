@@ -1,12 +1,12 @@
 use Rattle.std.proofs.Common.{refl, sym, Option, Some, None}
 use Rattle.dom_model.specs.declared.DomError.{DomError}
 use Rattle.dom_model.specs.DataAndCopies.Data.{check_offset, substring_data}
-use Rattle.dom_wrap.specs.dom_edit.Whole.{unwatched}
-use Rattle.dom_wrap.specs.dom_edit.declared.world.World.{World}
-use Rattle.dom_wrap.specs.dom_edit.declared.refusal.Refusal.{Refusal}
-use Rattle.dom_wrap.specs.dom_edit.declared.refusal.Refusal.TheVariants as refusal
-use Rattle.dom_wrap.specs.dom_edit.Refusals.{IsRefused}
-use Rattle.dom_wrap.specs.dom_data.Reading.{IsNamed}
+use Rattle.dom_edit.specs.Whole.{unwatched}
+use Rattle.dom_edit.specs.declared.world.World.{World}
+use Rattle.dom_edit.specs.declared.refusal.Refusal.{Refusal}
+use Rattle.dom_edit.specs.declared.refusal.Refusal.TheVariants as refusal
+use Rattle.dom_edit.specs.Refusals.{IsRefused}
+use Rattle.dom_data.specs.Reading.{IsNamed}
 use Rattle.dom_model.specs.Commands.Command.{SubstringData}
 use Rattle.dom_session.specs.declared.reply.Answer.TheVariants.{Units}
 use Rattle.dom_session.specs.declared.reply.Reply.TheVariants.{Done}

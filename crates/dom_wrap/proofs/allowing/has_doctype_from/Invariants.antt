@@ -3,8 +3,8 @@ use Rattle.std.proofs.Common.{◌≡◌}
 use Rattle.dom_model.specs.declared.Kind.TheVariants.{DocumentType}
 use Rattle.dom_model.specs.Forests.Forest.{children_of}
 use Rattle.dom_model.specs.MutationAlgorithms.Checks.{has_kind}
-use Rattle.dom_content.specs.dom_edit.AmongChildren.{AreAmong}
-use Rattle.dom_content.specs.dom_edit.Places.{from_optional}
+use Rattle.dom_edit.proofs.AmongChildren.{AreAmong}
+use Rattle.dom_edit.specs.Places.{from_optional}
 use Rattle.dom_wrap.proofs.allowing.has_doctype_from.Given as goal
 
 abbrev pub invariant-loop-child : goal.invariant-loop-child

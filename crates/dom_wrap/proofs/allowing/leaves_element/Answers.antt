@@ -3,8 +3,8 @@ use Rattle.std.specs.List.{list_any}
 use Rattle.dom_model.specs.Forests.Forest.{children_of}
 use Rattle.dom_model.proofs.Forests.Chains.{root-child}
 use Rattle.dom_model.proofs.Forests.Indices.{child-parent, child-there}
-use Rattle.dom_content.specs.dom_edit.Whole.{unwatched}
-use Rattle.dom_content.specs.dom_edit.AmongChildren.{first-among, HasNode-child}
+use Rattle.dom_edit.specs.Whole.{unwatched}
+use Rattle.dom_edit.proofs.AmongChildren.{first-among, HasNode-child}
 use Rattle.dom_wrap.specs.Allowing.{is_left_element}
 use Rattle.dom_wrap.proofs.AllowCode.{found-first}
 use Rattle.dom_wrap.proofs.allowing.leaves_element.Goals as goal

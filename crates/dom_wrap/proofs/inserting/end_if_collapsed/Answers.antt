@@ -1,7 +1,7 @@
 use Rattle.std.proofs.Common.{sym, tests, rules, arith}
 use Rattle.std.proofs.lemmas.Grind.{common_steps}
 use Rattle.dom_model.specs.Worlds.World.{Range}
-use Rattle.dom_content.specs.dom_edit.Leaving.{held-covered}
+use Rattle.dom_edit.proofs.Leaving.{held-covered}
 use Rattle.dom_wrap.proofs.InsertedNode.{grown-range, set-done, follows-ended, whole-ended}
 use Rattle.dom_wrap.proofs.inserting.end_if_collapsed.Goals as goal
 

@@ -4,8 +4,8 @@ use Rattle.dom_model.specs.Worlds.World.{Range}
 use Rattle.dom_model.proofs.Soundness.SoundDeleting.{offset_of_start}
 use Rattle.dom_model.proofs.Soundness.SoundSplitting.{text_has_data}
 use Rattle.dom_model.proofs.TokenText.EditsMade.EditsOfDrawnContents.{sound-range}
-use Rattle.dom_content.specs.dom_edit.Whole.{unwatched}
-use Rattle.dom_content.specs.dom_edit.Following.{sound-unwatched}
+use Rattle.dom_edit.specs.Whole.{unwatched}
+use Rattle.dom_edit.proofs.Following.{sound-unwatched}
 use Rattle.dom_wrap.proofs.InsertedNode.{checks-passed, held-split, placeable, insert-allowed-so, follows-inserted}
 use Rattle.dom_wrap.proofs.SurroundingSteps.{on-ok_both}
 use Rattle.dom_wrap.proofs.inserting.insert_at_start.Goals as goal

@@ -1,7 +1,7 @@
 -- The sum fits, and is the offset.
 use Rattle.std.proofs.Common.{◌+◌, ap, sym, ◌∙◌, arith}
 use Rattle.dom_model.proofs.Forests.Entries.{occurs-HasNode}
-use Rattle.dom_content.specs.dom_edit.Whole.{unwatched}
+use Rattle.dom_edit.specs.Whole.{unwatched}
 use Rattle.dom_wrap.specs.Outcomes.{index_before}
 use Rattle.dom_wrap.proofs.PlacesPast.{offset-sum, sum-within}
 use Rattle.dom_wrap.proofs.inserting.offset_past.Goals as goal

@@ -1,4 +1,4 @@
-use Rattle.dom_content.specs.dom_edit.Leaving.{held-covered, parent-held}
+use Rattle.dom_edit.proofs.Leaving.{held-covered, parent-held}
 use Rattle.dom_wrap.proofs.SurroundingSteps.{passes-selected, whole-selected}
 use Rattle.dom_wrap.proofs.surrounding.select.Goals as goal
 

@@ -4,8 +4,8 @@ use Rattle.dom_model.specs.Forests.Forest.{HasNode}
 use Rattle.dom_model.specs.RangesAndContents.Contents.{extract}
 use Rattle.dom_model.specs.MutationAlgorithms.Editing.{replace_all}
 use Rattle.dom_model.specs.RangesAndContents.Wrapping.{try_extract}
-use Rattle.dom_content.specs.dom_edit.Whole.{unwatched}
-use Rattle.dom_content.specs.dom_edit.Following.{keeps-unwatched}
+use Rattle.dom_edit.specs.Whole.{unwatched}
+use Rattle.dom_edit.proofs.Following.{keeps-unwatched}
 use Rattle.dom_wrap.specs.Outcomes.{Passes, MayTake, put_around}
 use Rattle.dom_wrap.proofs.SurroundingRoom.{room-extract, room-emptied}
 use Rattle.dom_wrap.proofs.SurroundingSteps.{Stays, take-next, take-step, take-whole, extract-passes, stays-extracted, fragment-there, stays-emptied, passes-extracted, follows-surrounded}

@@ -4,7 +4,7 @@ use Rattle.std.specs.Prelude.{is_some, is_ok}
 use Rattle.dom_model.specs.Forests.Forest.{entry_in, root_of}
 use Rattle.dom_model.specs.Worlds.Lengths.{unit_count}
 use Rattle.dom_model.specs.RangesAndContents.Ranges.{check_point}
-use Rattle.dom_wrap.specs.dom_ranges.Tables.{refused}
+use Rattle.dom_ranges.specs.Tables.{refused}
 use Rattle.dom_cases.proofs.LiveRanges.{range-checked, range-in}
 use Rattle.dom_cases.proofs.layers.selecting.range_made.Goals as goal
 

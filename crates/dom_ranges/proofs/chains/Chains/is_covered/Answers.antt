@@ -1,5 +1,5 @@
 use Rattle.std.proofs.Common.{is_some, ap, ◌∙◌}
-use Rattle.dom_point.specs.dom_pages.Numbered.{item_at}
+use Rattle.dom_pages.specs.Numbered.{item_at}
 use Rattle.dom_ranges.proofs.Covers.{item-tells}
 use Rattle.dom_ranges.proofs.chains.Chains.is_covered.Goals as goal
 

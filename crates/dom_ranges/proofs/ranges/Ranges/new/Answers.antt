@@ -1,5 +1,5 @@
 use Rattle.std.proofs.Common.{ℕ, ap, tests, rules}
-use Rattle.dom_point.specs.dom_pages.Numbered.{Numbered}
+use Rattle.dom_pages.specs.Numbered.{Numbered}
 use Rattle.dom_ranges.proofs.Making.{IsInOrder-empty}
 use Rattle.dom_ranges.proofs.ranges.Ranges.new.Goals as goal
 

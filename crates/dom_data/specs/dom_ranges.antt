@@ -1,3 +1,0 @@
--- What crates above name of dom_ranges.
-pub use Rattle.dom_edit.specs.dom_ranges.Tables
-pub use Rattle.dom_edit.specs.dom_ranges.Ends

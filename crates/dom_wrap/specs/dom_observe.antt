@@ -1,6 +1,0 @@
--- What crates above name of dom_observe.
-pub use Rattle.dom_content.specs.dom_observe.Held
-pub use Rattle.dom_content.specs.dom_observe.Names
-pub use Rattle.dom_content.specs.dom_observe.Notifying
-pub use Rattle.dom_content.specs.dom_observe.Watchers
-pub use Rattle.dom_content.specs.dom_observe.HeldNames
