@@ -1,42 +1,45 @@
 #!/usr/bin/env python3
-"""Proves and builds what is missing of `domserve`, and tells on standard error how far it is.
+"""Proves and builds what is missing of `domserve`, or of other crates, and tells on standard error how far it is.
 
-Each crate is proved as the gate proves it: from nothing, over the statements of the crates below it. Crates that do not stand on each other
-are proved side by side, as far as there are processors and memory. What is proved stays under crates/NAME/out, so a start that was cut off
-goes on where it stopped. The steps are those of `rt ci`, which this script takes from the kit's own program.
+Each crate is proved as `rt ci` proves it: from nothing, over the statements of the crates below it; those that do not stand on each other side by side,
+as far as there are processors and memory. What is proved is kept in the kit's own store on this machine, by the sums of all that was read, for later
+starts, for the gate, and for other copies of the repository; so a start that was cut off goes on where it stopped. The program, or an archive, then
+stands in crates/NAME/out, beside the sum of what it was built of. The work goes on in a copy, so files may change meanwhile.
 """
-
 import argparse
+import contextlib
 import copy
+import functools
+import hashlib
 import importlib.machinery
 import importlib.util
 import os
-import re
+import shutil
 import signal
 import subprocess
 import sys
+import tempfile
 import threading
 import time
 
 ROOT = os.path.dirname(os.path.dirname(os.path.realpath(__file__)))
 PROGRAM = "domserve"
-PARTS = ("src", "specs", "proofs")
-# What `rt` calls the task that proves a crate: it gets the processors that no other waits for.
+# What `rt` calls the task that proves a crate.
 PROOF = "proof"
 # How often a start that takes long says what it is at, in seconds.
 PAUSE = 60
 
 
+@functools.lru_cache(maxsize=None)
 def kit():
     """Returns the kit's program `rt`, as a module."""
     try:
         page = subprocess.run(["rt", "doc"], capture_output=True, text=True, check=True).stdout.strip()
     except (OSError, subprocess.CalledProcessError):
         sys.exit(f"{PROGRAM}: there is no rt here: the Rattle kit proves and builds the program")
-    path = f"{os.path.dirname(page)}/bin/rt"
-    loader = importlib.machinery.SourceFileLoader("rt", path)
-    rt = importlib.util.module_from_spec(importlib.util.spec_from_loader("rt", loader))
     sys.dont_write_bytecode = True
+    loader = importlib.machinery.SourceFileLoader("rt", f"{os.path.dirname(page)}/bin/rt")
+    rt = importlib.util.module_from_spec(importlib.util.spec_from_loader("rt", loader))
     loader.exec_module(rt)
     rt.rtlib.Crate = rt.Crate
     rt.Crate.cuts_libraries = True
@@ -44,68 +47,72 @@ def kit():
     return rt
 
 
-def graph():
+def listed():
     """Returns for each crate of crates.txt the crates of this repository that it lists."""
-    rows = {}
     with open(f"{ROOT}/crates.txt", encoding="utf-8") as it:
-        for line in it:
-            found = re.match(r"(\w+)[^:]*:(.*)", line.partition("#")[0])
-            if found:
-                rows[found[1]] = found[2].split()
-    return {name: [dep for dep in deps if dep in rows] for name, deps in rows.items()}
+        rows = [line.partition("#")[0].partition(":") for line in it]
+    found = {head.split()[0]: deps.split() for head, _, deps in rows if head.strip()}
+    return {name: [dep for dep in deps if dep in found] for name, deps in found.items()}
 
 
-def below(crates, name):
-    """Returns the crates below one, each after those that it stands on."""
+def with_lower(rows, name):
+    """Returns a crate and those below it, each after those that it stands on."""
     found = []
-    for dep in crates[name]:
-        found += [it for it in [*below(crates, dep), dep] if it not in found]
-    return found
+    for dep in rows[name]:
+        found += [it for it in with_lower(rows, dep) if it not in found]
+    return [*found, name]
 
 
-def made(name):
-    """Returns the file that is written once a crate is proved and built."""
-    return f"{ROOT}/crates/{name}/out/{PROGRAM if name == PROGRAM else 'proved'}"
+def sum_of(names):
+    """Returns a sum of all files that these crates are proved of."""
+    total = hashlib.sha256()
+    parts = [f"{ROOT}/crates/{name}/{part}" for name in names for part in ("src", "specs", "proofs")]
+    files = [f"{at}/{it}" for part in parts for at, _, found in os.walk(part) for it in found]
+    for file in sorted([f"{ROOT}/crates.txt", *files]):
+        with open(file, "rb") as it:
+            total.update(f"{os.path.relpath(file, ROOT)} {hashlib.sha256(it.read()).hexdigest()}\n".encode())
+    return total.hexdigest()
 
 
-def newest(name):
-    """Returns when the newest file of a crate was written."""
-    files = [f"{ROOT}/crates.txt"]
-    for part in PARTS:
-        for at, _, names in os.walk(f"{ROOT}/crates/{name}/{part}"):
-            files += [f"{at}/{it}" for it in names]
-    return max(os.path.getmtime(it) for it in files)
+def built(name):
+    """Returns the file that a program or a static library is built into, and the file beside it that tells of what."""
+    file = f"{ROOT}/crates/{name}/out/{name}"
+    return file, f"{file}.sum"
 
 
-def is_fresh(crates, name, known):
-    """Returns whether a crate is built of the files that are there, over what is built below it."""
-    if name not in known:
-        is_lower_fresh = all([is_fresh(crates, it, known) for it in crates[name]])
-        at = os.path.getmtime(made(name)) if os.path.exists(made(name)) else 0
-        known[name] = is_lower_fresh and at >= max([newest(name), *(os.path.getmtime(made(it)) for it in crates[name])])
-    return known[name]
+def is_fresh(name):
+    """Returns whether a crate is built of the files that are there."""
+    file, noted = built(name)
+    if not os.path.isfile(file) or not os.path.isfile(noted):
+        return False
+    with open(noted, encoding="utf-8") as it:
+        return it.read() == sum_of(with_lower(listed(), name))
 
 
-def take(crates, wanted):
-    """Marks as proved the libraries that `rt ci` has proved and left, of the files that are there, where all below them are too."""
-    known = {}
-    for name in wanted:
-        rlib = f"{ROOT}/crates/{name}/out/rlib/{name}.rlib"
-        is_new = os.path.isdir(rlib) and not os.path.exists(f"{ROOT}/crates/{name}/out/rlib/stamp") and os.path.getmtime(rlib) >= newest(name)
-        if is_new and all(known[it] for it in crates[name]):
-            with open(made(name), "a", encoding="utf-8"):
-                os.utime(made(name))
-            known[name] = True
-        else:
-            known[name] = False
-    return [name for name in wanted if not known[name]]
+def store(rt, crates):
+    """Returns the kit's store, which here keeps a static library's archive as well, as out/NAME."""
+
+    class Store(rt.Kept):
+        def key(self, crate):
+            return hashlib.sha256(f"archive {super().key(crate)}".encode()).hexdigest() if crate.is_static else super().key(crate)
+
+        def made(self, crate, tests):
+            return [crate.name] * os.path.isfile(f"{crate.folder}/out/{crate.name}") if crate.is_static else super().made(crate, tests)
+
+        def is_whole(self, crate, tests, files):
+            return files == [crate.name] if crate.is_static else super().is_whole(crate, tests, files)
+
+    return Store(crates)
 
 
 class Start:
-    """One start: what is to be proved, and how far it is."""
+    """One start, over a copy of the crates: what is to be proved, and how far it is."""
 
-    def __init__(self, rt, wanted):
-        self.rt, self.wanted = rt, wanted
+    def __init__(self, rt, top, names):
+        self.rt, self.names = rt, names
+        rt.Crate.allowed = rt.handles_of(top)
+        self.crates = {it.name: it for it in rt.rtlib.crates_below(top) if it.name in names}
+        self.kept = store(rt, [*self.crates.values()])
         self.running, self.done = set(), 0
         self.began, self.saying = time.monotonic(), threading.Lock()
 
@@ -119,44 +126,62 @@ class Start:
         while not ended.wait(PAUSE):
             self.say(f"at {', '.join(sorted(self.running))}")
 
+    def build(self, crate, jobs):
+        """Proves a crate from nothing, and returns whether it is proved; a static library's archive is then out/NAME."""
+        flags = ["--jobs", str(jobs)]
+        if not crate.is_static:
+            return not crate.ci(flags, False)
+        status = crate.build_static(flags)
+        if not status:
+            os.rename(f"{crate.folder}/out/lib{crate.name}.a", f"{crate.folder}/out/{crate.name}")
+        return not status
+
+    def take_or_build(self, crate, jobs):
+        """Takes a crate from the store, or proves it and keeps it there; returns whether it is proved, and whether it was kept already."""
+        key = self.kept.key(crate)
+        with self.kept.in_turn(crate, False, key):
+            was_kept = self.kept.give(crate, False, key)
+            is_proved = was_kept or self.build(crate, jobs)
+            if is_proved and not crate.is_static:
+                self.kept.is_built(crate)
+            if is_proved and not was_kept:
+                self.kept.keep(crate, False, key)
+        return is_proved, was_kept
+
     def prove(self, crate, given, jobs):
         """Proves and builds one crate where all below it are, and returns whether it is."""
-        if not all(given.get((it.name, PROOF), True) for it in crate.below()):
+        if not all(given[it.name, PROOF] for it in crate.below()):
             return False
-        crate, log = copy.copy(crate), f"{crate.folder}/out/start.log"
+        crate = copy.copy(crate)
         os.makedirs(f"{crate.folder}/out", exist_ok=True)
         self.running.add(crate.name)
-        with open(log, "w+", encoding="utf-8", errors="replace") as crate.out:
-            status = crate.ci(["--jobs", str(jobs)], False)
-        self.running.discard(crate.name)
-        if status:
-            self.tell_why(crate.name, log)
-            return False
-        with open(made(crate.name), "a", encoding="utf-8"):
-            os.utime(made(crate.name))
+        with tempfile.TemporaryFile("w+", encoding="utf-8", errors="replace") as crate.out:
+            is_proved, was_kept = self.take_or_build(crate, jobs)
+            self.running.discard(crate.name)
+            if not is_proved:
+                self.tell_why(crate)
+                return False
         self.done += 1
-        self.say(f"{self.done} of {len(self.wanted)} proved: {crate.name}")
+        self.say(f"{self.done} of {len(self.names)} {'kept' if was_kept else 'proved'}: {crate.name}")
         return True
 
-    def tell_why(self, name, log):
-        with open(log, encoding="utf-8", errors="replace") as it:
-            lines = [line for line in it if not re.match(r"statements |library |fn .*: proved", line)]
+    def tell_why(self, crate):
+        crate.out.seek(0)
+        lines = [it for it in crate.out if not it.startswith(("statements ", "library ")) and not it.endswith(": proved\n")]
         print("".join(lines[-20:]), end="", file=sys.stderr)
-        self.say(f"{name} was not proved; all that was said of it: {log}")
+        self.say(f"{crate.name} was not proved: rt check in crates/{crate.name} says more")
 
     def run(self):
         """Proves each crate once those below it are proved, and returns whether all are."""
         tasks = {}
-        crates = {it.name: it for it in self.rt.rtlib.crates_below(ROOT)}
-        for name in self.wanted:
-            crate = crates[name]
-            waits = [(it.name, PROOF) for it in crate.below() if it.name in self.wanted]
+        for crate in self.crates.values():
             call = lambda given, jobs, crate=crate: self.prove(crate, given, jobs)
-            tasks[name, PROOF] = (waits, crate.count(rb"\n"), self.rt.need(crate), call)
+            tasks[crate.name, PROOF] = ([(it.name, PROOF) for it in crate.below()], crate.count(rb"\n"), self.rt.need(crate), call)
         ended = threading.Event()
         threading.Thread(target=self.tell, args=(ended,), daemon=True).start()
         given = self.rt.in_lanes(tasks)
         ended.set()
+        self.kept.shrink()
         return all(given.values())
 
 
@@ -166,32 +191,56 @@ def end(number, _):
     os.killpg(os.getpgrp(), number)
 
 
+def bring(top, name):
+    """Copies what was built into the crate's own out/, with the sum of what it was built of."""
+    made = f"{top}/crates/{name}/out/{name}"
+    if os.path.isfile(made):
+        file, noted = built(name)
+        os.makedirs(os.path.dirname(file), exist_ok=True)
+        for it in (file, noted):
+            with contextlib.suppress(FileNotFoundError):
+                os.remove(it)
+        shutil.copy(made, file)
+        with open(noted, "w", encoding="utf-8") as it:
+            it.write(sum_of(with_lower(listed(), name)))
+
+
+def start(names):
+    """Proves these crates and those below them, and builds them; returns whether all are proved."""
+    missing = [it for it in names if not is_fresh(it)]
+    if not missing:
+        return True
+    rt, rows = kit(), listed()
+    rt.sweep()
+    before = sum_of(rows)
+    with tempfile.TemporaryDirectory(prefix=f"rt-copy-{os.getpid()}-") as room:
+        rt.copy_crates(ROOT, f"{room}/repository")
+        os.mkdir(f"{room}/repository/.git")
+        wanted = {it for name in missing for it in with_lower(rows, name)}
+        run = Start(rt, f"{room}/repository", wanted)
+        run.say(f"proving {', '.join(missing)} and what stands below, {len(wanted)} crates, once")
+        is_proved = run.run()
+        if is_proved and sum_of(rows) == before:
+            for name in missing:
+                bring(f"{room}/repository", name)
+    return is_proved
+
+
 def main():
     words = argparse.ArgumentParser(description=__doc__, formatter_class=argparse.RawDescriptionHelpFormatter)
-    words.add_argument("--is-fresh", action="store_true", help="only tell by the status whether the program is built of the files that are there")
-    words.add_argument("--take", action="store_true", help="take the libraries that `rt ci` has just proved and left, so that none is proved again")
     words.add_argument("crates", nargs="*", metavar="CRATE", help="prove these crates and what stands below them, in place of the program")
-    given = words.parse_args()
-    crates, known = graph(), {}
-    for it in given.crates:
-        if it not in crates:
+    names = words.parse_args().crates or [PROGRAM]
+    for it in names:
+        if it not in listed():
             words.error(f"crates.txt has no crate {it}")
-    if given.take:
-        left = take(crates, below(crates, PROGRAM))
-        print(f"{PROGRAM}: not taken, since rt ci has left no library of the files that are there: {', '.join(left)}" if left else f"{PROGRAM}: every library is taken")
-        return 1 if left else 0
-    all_of_it = []
-    for name in given.crates or [PROGRAM]:
-        all_of_it += [it for it in [*below(crates, name), name] if it not in all_of_it]
-    wanted = [it for it in all_of_it if not is_fresh(crates, it, known)]
-    if given.is_fresh or not wanted:
-        return 1 if wanted else 0
-    start = Start(kit(), wanted)
     for it in (signal.SIGTERM, signal.SIGHUP, signal.SIGINT):
         signal.signal(it, end)
-    what = "" if given.crates else " and building the program, once"
-    start.say(f"proving {len(wanted)} of {len(all_of_it)} crates{what}")
-    return 0 if start.run() else 1
+    if not start(names):
+        return 1
+    for it in names:
+        if is_fresh(it):
+            print(built(it)[0])
+    return 0
 
 
 if __name__ == "__main__":
