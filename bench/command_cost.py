@@ -2,8 +2,8 @@
 """Counts the instructions of commands of the built program, in pairs that should be equal but for a tenth.
 
 A word leaves only the pairs whose name has it. For each pair two scenes are made under callgrind, uncounted, and then the commands are
-counted; what one command (or one node copied or taken) costs is told, and the run fails where the larger is more than a tenth above the
-smaller. Counts are those of the whole program: reading the line, the edit and the reply.
+counted; what one command (or one node copied or taken) costs is told, less what an empty line takes, and the run fails where the second is more
+than a tenth above the first. So a count is that of the command: its line's text beyond an empty one, the edit and the reply.
 """
 import json
 import os
@@ -17,18 +17,19 @@ from running import words_of
 
 # so few lines that their replies fit into a pipe
 BATCH = 100
+# how many empty lines are counted
+LINES = 1000
 
 
 def answered(program, lines):
-    """The program's replies to lines, each read as it is given: as many lines are under way as a pipe holds."""
+    """The program's replies to lines, each read as it is given: as many lines are under way as a pipe holds. None stands for an empty line."""
     for at in range(0, len(lines), BATCH):
         batch = lines[at:at + BATCH]
-        text = "".join(json.dumps(line, separators=(",", ":")) + "\n" for line in batch)
-        program.stdin.write(text.encode())
+        program.stdin.write("".join(("" if line is None else json.dumps(line, separators=(",", ":"))) + "\n" for line in batch).encode())
         program.stdin.flush()
         for line in batch:
             reply = program.stdout.readline()
-            if not reply.startswith(b'{"ok"'):
+            if not reply.startswith(b'{"ok"' if line else b'{"error":"bad-json"'):
                 sys.exit(f"{json.dumps(line)} was answered {reply.decode()[:80]!r}")
 
 
@@ -73,9 +74,11 @@ def main():
     if not pairs:
         sys.exit(f"command_cost.py: no pair's name has {' and '.join(given.words)}")
     with tempfile.TemporaryDirectory() as work:
+        empty = instructions(given.program, [], [None] * LINES, work) / LINES
+        print(f"an empty line: {empty:.0f}, which the others are told without", flush=True)
         for name, sides, scene, sizes in pairs:
             scenes = [scene(size) for size in sizes]
-            counts = [instructions(given.program, making, commands, work) / count for making, commands, count in scenes]
+            counts = [(instructions(given.program, making, lines, work) - len(lines) * empty) / count for making, lines, count in scenes]
             apart = is_apart(name, sides, counts) or apart
     sys.exit(apart)
 
