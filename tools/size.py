@@ -1,259 +1,334 @@
 #!/usr/bin/env python3
 """Runs the built program on large inputs with a stack of 1 MiB, checks each reply by rule, and tells how long each part took.
 
-COUNT is how many elements the chain has, how many children the parent and how many live ranges there are: 100,000 where it is not given.
-Observers are a tenth of it, and commands whose memory is measured are ten times as many. The parts: a chain of elements that is made,
-printed, walked, copied, compared, normalized, discarded, and dropped at the end of the input; a parent with many children; many live
-ranges that are made, moved and released; many observers of which one is told; memory while nodes, ranges and records come and go, which
-stays level; a line of 1 GiB in a small memory.
+COUNT is how many elements the chain has, how many children the parent and how many live ranges there are: 100,000 where it is not given. Observers are
+a tenth of it, and commands whose memory is measured are ten times as many. The parts: a chain of elements that is made, printed, walked, copied,
+compared, normalized, discarded, and dropped at the end of the input; a parent with many children; many live ranges; many observers of which one is
+told; memory while nodes, ranges and records come and go, which stays level; a line of 1 GiB in a small memory.
 """
+import json
+import resource
+import subprocess
+import sys
+import time
+
 from running import words_of
-from size_memory import level, line_without_end
-from size_session import NO_OBJECT, NULL, Session, made, ok
+
+STACK = 1 << 20
+# A pipe holds so many bytes, so that writing them never waits for the program.
+BATCH = 60_000
+# How many bytes the program may grow by while as much is made as is discarded, however often.
+LEVEL = 1 << 18
+# The address space that a line without an end is served in, and its bytes.
+SPACE, LONG = 64 << 20, 1 << 30
+UNITS = 1000
+EMPTY = [[0, 0, 9, "#document"]]
+
+
+def ok(value):
+    return '{"ok":' + json.dumps(value, separators=(",", ":"), ensure_ascii=False) + "}"
+
+
+def error(name):
+    return f'{{"error":"{name}"}}'
+
+
+def pair(due, *command):
+    """A command's line, and the reply that is due."""
+    return json.dumps(command, separators=(",", ":")), ok(due) if not isinstance(due, str) or not due.startswith("{") else due
+
+
+class Session:
+    """A run of the program that is fed line by line, each reply compared."""
+
+    program, seen = None, 0
+
+    def __init__(self, name, space=None):
+        def limits():
+            resource.setrlimit(resource.RLIMIT_STACK, (STACK, STACK))
+            if space:
+                resource.setrlimit(resource.RLIMIT_AS, (space, space))
+
+        self.name = name
+        self.process = subprocess.Popen([self.program], stdin=subprocess.PIPE, stdout=subprocess.PIPE, preexec_fn=limits)
+
+    def send(self, batch):
+        self.process.stdin.write("".join(line + "\n" for line, _ in batch).encode())
+        self.process.stdin.flush()
+        for line, due in batch:
+            reply = self.process.stdout.readline().decode().rstrip("\n")
+            if reply != due:
+                sys.exit(f"{self.name}: {line[:200]}: {reply[:200]}, and due was {due[:200]}")
+            Session.seen += 1
+
+    def ask(self, step, pairs):
+        """Sends all lines of a step, and tells how long it took."""
+        start, count, batch, size = time.time(), 0, [], 0
+        for line, due in pairs:
+            if size + len(line) >= BATCH and batch:
+                self.send(batch)
+                batch, size = [], 0
+            batch.append((line, due))
+            size, count = size + len(line) + 1, count + 1
+        self.send(batch)
+        taken = time.time() - start
+        print(f"{self.name}, {step}: {count:,} commands in {taken:.2f} s, {taken / count * 1e6:.1f} us each", flush=True)
+
+    def memory(self, field="VmRSS"):
+        """Bytes of memory that the program has."""
+        with open(f"/proc/{self.process.pid}/status", encoding="ascii") as file:
+            return next(int(line.split()[1]) << 10 for line in file if line.startswith(field))
+
+    def end(self):
+        """Ends the input; what stands is dropped, and the status is 0."""
+        start = time.time()
+        self.process.stdin.close()
+        rest, status = self.process.stdout.read(), self.process.wait()
+        if rest or status:
+            sys.exit(f"{self.name}: at the end of the input {rest[:200]} and status {status}")
+        print(f"{self.name}, end: {time.time() - start:.2f} s", flush=True)
 
 
 def chain_made(count):
-    yield '["createElement",0,"e"]', made(1)
+    yield pair(1, "createElement", 0, "e")
     for number in range(2, count + 1):
-        yield '["createElement",0,"e"]', made(number)
-        yield f'["appendChild",{number - 1},{number}]', made(number)
+        yield pair(number, "createElement", 0, "e")
+        yield pair(number, "appendChild", number - 1, number)
+
+
+def there_and_back(count, first, ahead, back):
+    """A walk from the first element to the last, and back."""
+    for number in [*range(first, count + 1), None]:
+        yield pair(number, *ahead)
+    for number in [*range(count - 2 + first, 0, -1), None]:
+        yield pair(number, *back)
 
 
 def chain_walked(count):
-    yield '["createWalker",1,4294967295,[]]', made(0)
-    for number in [*range(2, count + 1), "null"]:
-        yield '["walk",0,"nextNode"]', made(number)
-    for number in [*range(count - 1, 0, -1), "null"]:
-        yield '["walk",0,"previousNode"]', made(number)
-    for number in [*range(2, count + 1), "null"]:
-        yield '["walk",0,"lastChild"]', made(number)
-    for number in [*range(count - 1, 0, -1), "null"]:
-        yield '["walk",0,"parentNode"]', made(number)
-
-
-def chain_iterated(count):
-    yield '["createIterator",1,4294967295,[]]', made(0)
-    for number in [*range(1, count + 1), "null"]:
-        yield '["nextNode",0]', made(number)
-    for number in [*range(count, 0, -1), "null"]:
-        yield '["previousNode",0]', made(number)
+    yield pair(0, "createWalker", 1, 4294967295, [])
+    yield from there_and_back(count, 2, ("walk", 0, "nextNode"), ("walk", 0, "previousNode"))
+    yield from there_and_back(count, 2, ("walk", 0, "lastChild"), ("walk", 0, "parentNode"))
+    yield pair(0, "createIterator", 1, 4294967295, [])
+    for number in [*range(1, count + 1), None]:
+        yield pair(number, "nextNode", 0)
+    for number in [*range(count, 0, -1), None]:
+        yield pair(number, "previousNode", 0)
 
 
 def chain_compared(count):
     copy = count + 1
-    for line, due in [
-        (f'["isEqual",1,{copy}]', "true"),
-        (f'["comparePosition",1,{count}]', 20),
-        (f'["comparePosition",{count},1]', 10),
-        (f'["comparePosition",1,{copy}]', 37),
-        (f'["comparePosition",{copy},1]', 35),
-        (f'["contains",1,{count}]', "true"),
-        (f'["contains",{count},1]', "false"),
-        (f'["root",{2 * count}]', copy),
-        (f'["textContent",{copy}]', '""'),
-        ('["createRange",0]', 0),
-        ('["setStart",0,1,0]', "null"),
-        (f'["setEnd",0,{count},0]', "null"),
-        (f'["comparePoint",0,{count // 2},1]', 1),
-        (f'["comparePoint",0,{count // 2},0]', 0),
-        (f'["isPointInRange",0,{count // 2},1]', "false"),
-        ('["commonAncestor",0]', 1),
-        ('["releaseRange",0]', "null"),
-    ]:
-        yield line, made(due)
+    yield pair(True, "isEqual", 1, copy)
+    for one, other, due in ((1, count, 20), (count, 1, 10), (1, copy, 37), (copy, 1, 35)):
+        yield pair(due, "comparePosition", one, other)
+    yield pair(True, "contains", 1, count)
+    yield pair(False, "contains", count, 1)
+    yield pair(copy, "root", 2 * count)
+    yield pair("", "textContent", copy)
+    yield pair(0, "createRange", 0)
+    yield pair(None, "setStart", 0, 1, 0)
+    yield pair(None, "setEnd", 0, count, 0)
+    yield pair(1, "comparePoint", 0, count // 2, 1)
+    yield pair(0, "comparePoint", 0, count // 2, 0)
+    yield pair(1, "commonAncestor", 0)
+    yield pair(None, "releaseRange", 0)
 
 
-def chain_normalized(count):
+def chain_ended(count):
+    """Texts in the copy are joined, the copy is discarded, and the chain taken apart."""
     copy, last, text = count + 1, 2 * count, 2 * count + 1
-    yield '["createText",0,"t"]', made(text)
-    yield f'["appendChild",{last},{text}]', made(text)
-    yield '["createText",0,""]', made(text + 1)
-    yield f'["appendChild",{last},{text + 1}]', made(text + 1)
-    yield f'["normalize",{copy}]', NULL
-    yield f'["children",{last}]', ok([text])
-    yield f'["textContent",{copy}]', ok("t")
-    yield f'["isEqual",1,{copy}]', ok(False)
-
-
-def chain_discarded(count):
-    copy = count + 1
-    yield '["discard",1]', '{"error":"in-use"}'
-    yield f'["discard",{copy}]', NULL
-    yield f'["node",{copy}]', NO_OBJECT
-    yield f'["node",{2 * count}]', NO_OBJECT
-    yield f'["node",{2 * count + 1}]', NO_OBJECT
-    yield '["appendChild",0,1]', made(1)
-    yield '["setTextContent",1,"end"]', NULL
-    yield f'["root",{count}]', made(2)
+    for number, data in ((text, "t"), (text + 1, "")):
+        yield pair(number, "createText", 0, data)
+        yield pair(number, "appendChild", last, number)
+    yield pair(None, "normalize", copy)
+    yield pair([text], "children", last)
+    yield pair("t", "textContent", copy)
+    yield pair(False, "isEqual", 1, copy)
+    yield pair(error("in-use"), "discard", 1)
+    yield pair(None, "discard", copy)
+    for number in (copy, last, text):
+        yield pair(error("no-such-object"), "node", number)
+    yield pair(1, "appendChild", 0, 1)
+    yield pair(None, "setTextContent", 1, "end")
+    yield pair(2, "root", count)
 
 
 def chain(count):
     session = Session("chain")
     session.ask("made", chain_made(count))
-    session.ask("printed", [('["tree",1]', ok([[at, at + 1, 1, "e", []] for at in range(count)]))])
+    session.ask("printed", [pair([[at, at + 1, 1, "e", []] for at in range(count)], "tree", 1)])
     session.ask("walked", chain_walked(count))
-    session.ask("iterated", chain_iterated(count))
-    session.ask("copied", [('["cloneNode",1,true]', made(count + 1))])
+    session.ask("copied", [pair(count + 1, "cloneNode", 1, True)])
     session.ask("compared", chain_compared(count))
-    session.ask("normalized", chain_normalized(count))
-    session.ask("discarded", chain_discarded(count))
+    session.ask("ended", chain_ended(count))
     session.end()
     session = Session("chain under the Document")
     session.ask("made", chain_made(count))
-    session.ask("appended", [('["appendChild",0,1]', made(1)), ('["length",0]', made(1))])
+    session.ask("appended", [pair(1, "appendChild", 0, 1), pair(1, "length", 0)])
     session.end()
 
 
 def children_made(count):
-    yield '["createElement",0,"e"]', made(1)
-    for number in range(2, count + 2):
-        yield '["createElement",0,"f"]', made(number)
-        yield f'["appendChild",1,{number}]', made(number)
-
-
-def children_asked(count):
     last = count + 1
-    yield '["length",1]', made(count)
-    yield '["children",1]', ok(list(range(2, last + 1)))
-    yield f'["index",{last}]', made(count - 1)
-    yield f'["index",{last // 2}]', made(last // 2 - 2)
-    yield f'["comparePosition",2,{last}]', made(4)
-    yield f'["comparePosition",{last},2]', made(2)
+    yield pair(1, "createElement", 0, "e")
+    for number in range(2, count + 2):
+        yield pair(number, "createElement", 0, "f")
+        yield pair(number, "appendChild", 1, number)
+    yield pair([*range(2, last + 1)], "children", 1)
+    yield pair(count - 1, "index", last)
+    yield pair(last // 2 - 2, "index", last // 2)
+    yield pair(4, "comparePosition", 2, last)
 
 
 def children_moved(count):
-    """The last child is put first, a thousand times, beside a live range behind the children."""
-    yield '["createRange",0]', made(0)
-    yield f'["setStart",0,1,{count}]', NULL
+    """The last child is put first, a thousand times, beside a live range behind the children; then these go, and in the end all."""
+    yield pair(0, "createRange", 0)
+    yield pair(None, "setStart", 0, 1, count)
     for step in range(1000):
         moved = count + 1 - step
-        yield f'["insertBefore",1,{moved},{moved + 1 if step else 2}]', made(moved)
-        yield f'["index",{moved}]', made(0)
-    yield '["range",0]', ok([1, count, 1, count])
-
-
-def children_taken(count):
-    """Removals from the front, where the children that were moved now stand, lowest number first."""
-    first = count + 1 - 999
+        yield pair(moved, "insertBefore", 1, moved, moved + 1 if step else 2)
+        yield pair(0, "index", moved)
+    yield pair([1, count, 1, count], "range", 0)
     for step in range(1000):
-        yield f'["removeChild",1,{first + step}]', made(first + step)
-        yield '["range",0]', ok([1, count - 1 - step, 1, count - 1 - step])
-    yield '["replaceChildren",1,null]', NULL
-    yield '["range",0]', ok([1, 0, 1, 0])
-    yield '["length",1]', made(0)
-    yield '["index",2]', made(0)
+        first, left = count + 1 - 999, count - 1 - step
+        yield pair(first + step, "removeChild", 1, first + step)
+        yield pair([1, left, 1, left], "range", 0)
+    yield pair(None, "replaceChildren", 1, None)
+    yield pair([1, 0, 1, 0], "range", 0)
+    yield pair(0, "index", 2)
 
 
 def children(count):
     session = Session("children")
     session.ask("made", children_made(count))
-    session.ask("asked", children_asked(count))
     session.ask("moved", children_moved(count))
-    session.ask("taken", children_taken(count))
     session.end()
 
 
-UNITS = 1000
-
-
 def ranges_made(count):
-    yield '["createText",0,"' + "a" * UNITS + '"]', made(1)
+    yield pair(1, "createText", 0, "a" * UNITS)
     for number in range(count):
-        yield '["createRange",0]', made(number)
-        yield f'["setStart",{number},1,{number % UNITS}]', NULL
-        yield f'["setEnd",{number},1,{UNITS}]', NULL
+        yield pair(number, "createRange", 0)
+        yield pair(None, "setStart", number, 1, number % UNITS)
+        yield pair(None, "setEnd", number, 1, UNITS)
 
 
 def ranges_moved(count):
-    """Two units at the front move each end that is not there; then the Text goes out of an element, with all ends."""
-    yield '["insertData",1,0,"bb"]', NULL
+    """Two units at the front move each end that is not there; then the Text is split, and goes out of an element, with all ends; then they go."""
+    yield pair(None, "insertData", 1, 0, "bb")
+    yield pair(2, "createElement", 0, "e")
+    yield pair(1, "appendChild", 2, 1)
+    yield pair(3, "splitText", 1, 2)
     for number in range(count):
         start = number % UNITS
-        yield f'["range",{number}]', ok([1, start + 2 if start else 0, 1, UNITS + 2])
-    yield '["createElement",0,"e"]', made(2)
-    yield '["appendChild",2,1]', made(1)
-    yield '["splitText",1,2]', made(3)
+        yield pair([3, start, 3, UNITS] if start else [1, 0, 3, UNITS], "range", number)
+    yield pair(3, "removeChild", 2, 3)
     for number in range(count):
-        start = number % UNITS
-        yield f'["range",{number}]', ok([3, start, 3, UNITS] if start else [1, 0, 3, UNITS])
-    yield '["removeChild",2,3]', made(3)
+        yield pair([2, 1, 2, 1] if number % UNITS else [1, 0, 2, 1], "range", number)
     for number in range(count):
-        yield f'["range",{number}]', ok([2, 1, 2, 1] if number % UNITS else [1, 0, 2, 1])
-
-
-def ranges_released(count):
-    for number in range(count):
-        yield f'["releaseRange",{number}]', NULL
-    yield '["range",0]', NO_OBJECT
-    yield f'["range",{count - 1}]', NO_OBJECT
-    yield '["createRange",0]', made(count)
+        yield pair(None, "releaseRange", number)
+    yield pair(error("no-such-object"), "range", count - 1)
+    yield pair(count, "createRange", 0)
 
 
 def ranges(count):
     session = Session("ranges")
     session.ask("made", ranges_made(count))
     session.ask("moved", ranges_moved(count))
-    session.ask("released", ranges_released(count))
     session.end()
 
 
 def observers_made(count):
-    yield '["createElement",0,"e"]', made(1)
+    yield pair(1, "createElement", 0, "e")
     for number in range(count):
-        yield '["createObserver"]', made(number)
-        yield f'["observe",{number},1,{{"attributeFilter":["a{number}"]}}]', NULL
+        yield pair(number, "createObserver")
+        yield pair(None, "observe", number, 1, {"attributeFilter": [f"a{number}"]})
 
 
-def observers_told(count, times):
-    for step in range(times):
+def observers_told(count):
+    for step in range(1000):
         number = step * 7919 % count
         record = ["attributes", 1, [], [], None, None, f"a{number}", None]
-        yield f'["setAttribute",1,"a{number}","v"]', NULL
-        yield '["pending"]', ok([number])
-        yield '["notify"]', ok([[number, [record]]])
-        yield f'["removeAttribute",1,"a{number}"]', NULL
-        yield f'["takeRecords",{number}]', ok([record])
-        yield '["notify"]', '{"ok":[]}'
-
-
-def observers_spread(count):
-    """Each observer on a node of its own as well, all under one parent."""
+        yield pair(None, "setAttribute", 1, f"a{number}", "v")
+        yield pair([number], "pending")
+        yield pair([[number, [record]]], "notify")
+        yield pair(None, "removeAttribute", 1, f"a{number}")
+        yield pair([record], "takeRecords", number)
+        yield pair([], "notify")
     for number in range(count):
-        yield '["createElement",0,"f"]', made(number + 2)
-        yield f'["appendChild",1,{number + 2}]', made(number + 2)
-        yield f'["observe",{number},{number + 2},{{"childList":true}}]', NULL
-
-
-def observers_told_below(count, times):
-    """A change of one of those nodes, which tells the one observer."""
-    child = count + 2
-    yield '["createElement",0,"g"]', made(child)
-    before = None
-    for step in range(times):
-        number = step * 7919 % count
-        parent = number + 2
-        yield f'["appendChild",{parent},{child}]', made(child)
-        came = [number, [["childList", parent, [child], [], None, None, None, None]]]
-        left = [before, [["childList", (before or 0) + 2, [], [child], None, None, None, None]]]
-        yield '["notify"]', ok([came] if before is None else [left, came])
-        before = number
-
-
-def observers_gone(count):
-    for number in range(count):
-        yield f'["disconnect",{number}]', NULL
-    yield '["setAttribute",1,"a0","v"]', NULL
-    yield '["pending"]', '{"ok":[]}'
+        yield pair(None, "disconnect", number)
+    yield pair(None, "setAttribute", 1, "a0", "v")
+    yield pair([], "pending")
 
 
 def observers(count):
     session = Session("observers")
     session.ask("made", observers_made(count))
-    session.ask("told", observers_told(count, 1000))
-    session.ask("spread", observers_spread(count))
-    session.ask("told below", observers_told_below(count, 1000))
-    session.ask("disconnected", observers_gone(count))
+    session.ask("told", observers_told(count))
     session.end()
+
+
+def round_of_nodes(at):
+    """A tree of nodes that comes and goes; their numbers go on."""
+    one = 3 * at + 1
+    yield pair(one, "createElement", 0, "e")
+    yield pair(one + 1, "createText", 0, "some text")
+    yield pair(one + 2, "createComment", 0, "c")
+    yield pair(one + 1, "appendChild", one, one + 1)
+    yield pair(one + 2, "appendChild", one, one + 2)
+    yield pair(None, "setAttribute", one, "name", "value")
+    yield pair("some text", "textContent", one)
+    yield pair(None, "discard", one)
+
+
+def round_of_ranges(at):
+    yield pair(at, "createRange", 0)
+    yield pair(None, "setEnd", at, 0, 0)
+    yield pair(None, "releaseRange", at)
+
+
+def round_of_copies(at):
+    """A copy of the element that stands, and a change of it that an observer is told of."""
+    yield pair(2 * at + 3, "cloneNode", 1, True)
+    yield pair(None, "discard", 2 * at + 3)
+    yield pair(None, "setData", 2, f"text {at}")
+    yield pair([["characterData", 2, [], [], None, None, None, None]], "takeRecords", 0)
+
+
+OBSERVED = [
+    pair(1, "createElement", 0, "e"),
+    pair(2, "createText", 0, "t"),
+    pair(2, "appendChild", 1, 2),
+    pair(0, "createObserver"),
+    pair(None, "observe", 0, 2, {"characterData": True}),
+]
+
+
+def stays_level(name, start, part, rounds):
+    """Memory while a round is run again and again: what it grows by after a tenth of the rounds."""
+    session, levels = Session(name), []
+    session.ask("begun", [pair(EMPTY, "tree", 0), *start])
+    for tenth in range(10):
+        session.ask(f"part {tenth + 1}", (it for at in range(rounds * tenth // 10, rounds * (tenth + 1) // 10) for it in part(at)))
+        levels.append(session.memory())
+    session.end()
+    grown = max(levels) - levels[0]
+    print(f"{name}: {levels[0]:,} bytes of memory after a tenth, {levels[-1]:,} at the end", flush=True)
+    if grown > LEVEL:
+        sys.exit(f"{name}: memory grew by {grown:,} bytes in {rounds - rounds // 10:,} rounds")
+
+
+def line_without_end():
+    """A line of 1 GiB, in a memory that holds a small part of it."""
+    session = Session("line of 1 GiB", SPACE)
+    session.ask("begun", [pair(EMPTY, "tree", 0)])
+    before = session.memory("VmHWM")
+    for _ in range(LONG >> 16):
+        session.process.stdin.write(b"a" * (1 << 16))
+    session.ask("ended", [("", error("line-too-long")), pair(EMPTY, "tree", 0)])
+    grown = session.memory("VmHWM") - before
+    session.end()
+    if grown > 4 << 20:
+        sys.exit(f"line of 1 GiB: memory grew by {grown:,} bytes")
 
 
 def takes_count(parser):
@@ -263,11 +338,11 @@ def takes_count(parser):
 def main():
     given = words_of(__doc__, takes_count)
     Session.program = given.program
-    chain(given.count)
-    children(given.count)
-    ranges(given.count)
-    observers(given.count // 10)
-    level(given.count * 10)
+    for part, size in ((chain, 1), (children, 1), (ranges, 1), (observers, 0.1)):
+        part(int(given.count * size))
+    stays_level("nodes that come and go", [], round_of_nodes, given.count)
+    stays_level("ranges that come and go", [], round_of_ranges, 2 * given.count)
+    stays_level("copies and records that come and go", OBSERVED, round_of_copies, 2 * given.count)
     line_without_end()
     print(f"{Session.seen:,} replies were as they are due")
 

@@ -37,7 +37,7 @@ def pkgconfig(prefix, lib="", include=""):
 
 
 def start():
-    """The script that proves what is missing."""
+    """The script that proves what is missing, as a module."""
     spec = importlib.util.spec_from_file_location("start", os.path.join(ROOT, "tools/start.py"))
     found = importlib.util.module_from_spec(spec)
     sys.dont_write_bytecode = True
@@ -55,30 +55,11 @@ def kit():
 
 
 def build():
-    """Proves what is missing below the crate, then proves and builds the crate, and returns the archive."""
+    """Proves and builds what is missing of the crate and below it, or takes it from the kit's store, and returns the archive."""
     proving = start()
-    archive = os.path.join(ROOT, f"crates/{CRATE}/out/lib{CRATE}.a")
-    crates, known = proving.graph(), {}
-    below = proving.below(crates, CRATE)
-    missing = [it for it in below if not proving.is_fresh(crates, it, known)]
-    newest = max([proving.newest(CRATE), *(os.path.getmtime(proving.made(it)) for it in below if it not in missing)])
-    if not missing and os.path.exists(archive) and os.path.getmtime(archive) >= newest:
-        return archive
-    rt = proving.kit()
-    if missing:
-        run = proving.Start(rt, missing)
-        run.say(f"proving {len(missing)} of {len(below)} crates below the library, once")
-        if not run.run():
-            sys.exit(1)
-    crate = {it.name: it for it in rt.rtlib.crates_below(ROOT)}[CRATE]
-    os.makedirs(f"{crate.folder}/out", exist_ok=True)
-    log = f"{crate.folder}/out/make.log"
-    print(f"proving and building {CRATE}; all that is said of it: {log}", file=sys.stderr)
-    with open(log, "w", encoding="utf-8", errors="replace") as crate.out:
-        status = crate.build_static(["--jobs", str(min(os.cpu_count() or 1, 2))])
-    if status or not os.path.exists(archive):
-        sys.exit(f"{CRATE} was not proved and built: {log}")
-    return archive
+    if not proving.start([CRATE]):
+        sys.exit(f"{CRATE} was not proved and built")
+    return proving.built(CRATE)[0]
 
 
 def call(*words, **how):
@@ -176,7 +157,7 @@ def make(given):
 
 def words_of(text):
     parser = argparse.ArgumentParser(description=text, formatter_class=argparse.RawDescriptionHelpFormatter)
-    parser.add_argument("--library", metavar="FILE", help=f"an archive lib{CRATE}.a that is there, in place of one that is proved and built now")
+    parser.add_argument("--library", metavar="FILE", help=f"the archive of {CRATE}, in place of one that is proved and built now")
     parser.add_argument("--c-part", metavar="FILE", help="the kit's part in C (c/liblibc_c.a of the kit)")
     parser.add_argument("--sources", metavar="FOLDER", default=SOURCES, help="the exports that the header is made of (crates/dom_c/src)")
     parser.add_argument("--to", metavar="FOLDER", default=os.path.join(HERE, "out"), help="where the files go (bindings/c/out)")

@@ -1,5 +1,5 @@
 #!/usr/bin/env python3
-"""Tests tools/router.py: all dialogues that take no words at once, a line of each in turn, each under its own name. What comes back under a
+"""Tests router.py: all dialogues that take no words at once, a line of each in turn, each under its own name. What comes back under a
 name has to be the dialogue's replies. Then lines that can't be handed on have to be told, and the others answered.
 """
 import os
@@ -7,9 +7,10 @@ import subprocess
 import sys
 from itertools import zip_longest
 
-from running import LIMIT, ROOT, dialogues, words_of
+sys.path.insert(0, os.path.join(os.path.dirname(os.path.abspath(__file__)), "../../tools"))
+from running import LIMIT, dialogues, words_of
 
-ROUTER = os.path.join(ROOT, "tools/router.py")
+ROUTER = os.path.join(os.path.dirname(os.path.abspath(__file__)), "router.py")
 
 
 def routed(program, lines, *words):
