@@ -1,0 +1,162 @@
+#!/usr/bin/env python3
+"""Counts the instructions of scenes that once cost the square of their size, or worse, at three sizes, each twice the one before.
+
+A word leaves only the scenes whose name has it. What makes a scene is not counted, nor what an empty line takes for each line that is. The run fails
+where twice the size takes more than 2.3 times as much: twice, and what a logarithm or the pages of a table add. --size takes larger ones: the sizes
+below are those of the gate, which are small.
+"""
+import sys
+import tempfile
+
+from command_cost import LINES, instructions, takes_words
+from running import words_of
+
+MOST = 2.3
+SUBTREE = {"childList": True, "subtree": True}
+
+
+def elements(first, count):
+    return [["createElement", 0, "e"]] * count, range(first, first + count)
+
+
+def chain(count):
+    """Elements 1 to count, each in the one before it."""
+    made, numbers = elements(1, count)
+    return made + [["appendChild", it - 1, it] for it in reversed(numbers) if it > 1]
+
+
+def flat(count):
+    """Elements 2 to count + 1 under element 1."""
+    made, _ = elements(1, count + 1)
+    return made + [["appendChild", 1, it] for it in range(2, count + 2)]
+
+
+def ends_in(node):
+    return [["createRange", 0], ["selectNodeContents", 0, node]]
+
+
+def moves_in_a_chain(count):
+    """Nodes of an observed chain are removed and put back, with no notify."""
+    making = chain(count) + [["createObserver"], ["observe", 0, 1, SUBTREE]]
+    return making, [line for _ in range(2) for it in range(count - 20, count) for line in (["remove", it], ["appendChild", it - 1, it], ["takeRecords", 0])]
+
+
+def removals_beside_an_end(count):
+    return flat(count) + ends_in(1), [["remove", it] for it in range(2, count + 2, 2)]
+
+
+def insertions_beside_an_end(count):
+    making = flat(count) + ends_in(1) + elements(0, count // 2)[0]
+    return making, [["insertBefore", 1, count + 2 + at, 2 * at + 2] for at in range(count // 2)]
+
+
+def normalize_beside_an_end(count):
+    making = [["createElement", 0, "e"]]
+    for at in range(count):
+        making += [["createText", 0, "a"], ["createText", 0, "b"], ["createElement", 0, "e"]]
+        making += [["appendChild", 1, 3 * at + number] for number in (2, 3, 4)]
+    return making + ends_in(1), [["normalize", 1]]
+
+
+def contents_of_half(count):
+    making = flat(count) + [["remove", 2], *ends_in(1), ["setStart", 0, 1, 1], ["setEnd", 0, 1, count // 2]]
+    return making, [["extractContents", 0]]
+
+
+def normalize_a_chain(count):
+    making = chain(count) + [["createText", 0, "a"]] * count
+    return making + [["appendChild", it, count + it] for it in range(1, count + 1)], [["normalize", 1]]
+
+
+def watchers_at_depth(made):
+    """A flat tree of a few more nodes is removed, beside a watcher of each node of a chain."""
+
+    def scene(count):
+        making = chain(count) + [line for at in range(count) for line in made(at, at + 1)]
+        top = count + 1
+        making += [["createElement", 0, "e"]] * (count + 52) + [["appendChild", top, it] for it in range(top + 1, top + count + 51)]
+        return making + [["appendChild", top + count + 51, top]], [["remove", top], ["discard", top]]
+
+    return scene
+
+
+def iterators_on_a_text(count):
+    making = chain(count) + [["createText", 0, "a"], ["appendChild", count, count + 1]]
+    for at in range(count):
+        making += [["createIterator", 1, 4, []], ["nextNode", at]]
+    return making, [["remove", count + 1]]
+
+
+def transients_of_one_observer(count):
+    making = chain(count) + [["createObserver"], *(["observe", 0, it, SUBTREE] for it in range(1, count)), ["remove", count]]
+    return making, [["notify"]]
+
+
+def observers_of_a_node(count):
+    return [["createElement", 0, "e"]] + [["createObserver"]] * count, [["observe", at, 1, SUBTREE] for at in range(count)]
+
+
+def rules_of_a_filter(count):
+    rules = [[f"n{at}", "skip"] for at in range(count)]
+    making = [["createElement", 0, "r"]] + [["createElement", 0, f"n{at}"] for at in range(count)]
+    making += [["appendChild", 1, it] for it in range(2, count + 2)] + [["createWalker", 1, 4294967295, rules]]
+    return making, [["walk", 0, "nextNode"]]
+
+
+def removals_under_a_long_filter(count):
+    options = {"attributeFilter": [f"a{at}" for at in range(count)], "subtree": True}
+    return flat(100) + [["createObserver"], ["observe", 0, 1, options]], [["remove", it] for it in range(2, 102)]
+
+
+def contents_of_an_observed_chain(count):
+    making = chain(count) + [["createObserver"], ["observe", 0, 1, SUBTREE], ["createRange", 0], ["selectNodeContents", 0, 1], ["setStart", 0, count // 2, 0]]
+    return making, [["deleteContents", 0]]
+
+
+RANGE = watchers_at_depth(lambda at, node: [["createRange", 0], ["setStart", at, node, 0], ["setEnd", at, node, 0]])
+SCENES = (
+    ("moves in a chain, observed from its top, without notify", moves_in_a_chain, 50),
+    ("removals beside an end in the parent, every second child", removals_beside_an_end, 1000),
+    ("insertions beside an end in the parent, before every second child", insertions_beside_an_end, 1000),
+    ("normalize beside an end in the parent", normalize_beside_an_end, 300),
+    ("extractContents of half of the children, the first of which went", contents_of_half, 1000),
+    ("normalize of a chain with a Text in each element", normalize_a_chain, 500),
+    ("removal and discard beside live ranges at depth", RANGE, 300),
+    ("the same beside iterators", watchers_at_depth(lambda at, node: [["createIterator", node, 1, []]]), 300),
+    ("the same beside walkers", watchers_at_depth(lambda at, node: [["createWalker", node, 1, []]]), 300),
+    ("the same beside static ranges", watchers_at_depth(lambda at, node: [["createStaticRange", node, 0, node, 0]]), 300),
+    ("the same beside observed nodes", watchers_at_depth(lambda at, node: [["createObserver"], ["observe", at, node, {"attributes": True}]]), 300),
+    ("removal of a Text at depth on which iterators stand", iterators_on_a_text, 300),
+    ("notify with transient registrations of one observer on one node", transients_of_one_observer, 500),
+    ("observers that come to observe one node", observers_of_a_node, 500),
+    ("one step of a walker with as many rules as nodes", rules_of_a_filter, 300),
+    ("removals under an observer of many attributes", removals_under_a_long_filter, 200),
+    ("deleteContents of half of an observed chain", contents_of_an_observed_chain, 300),
+)
+
+
+def takes_size(parser):
+    takes_words(parser)
+    parser.add_argument("--size", type=int, default=1, metavar="N", help="so many times the sizes of the gate (1)")
+
+
+def main():
+    given, over = words_of(__doc__, takes_size), 0
+    with tempfile.TemporaryDirectory() as work:
+        empty = instructions(given.program, [], [None] * LINES, work) / LINES
+        for name, scene, least in SCENES:
+            if not all(word in name for word in given.words):
+                continue
+            sizes = [given.size * least * times for times in (1, 2, 4)]
+            counts = [instructions(given.program, making, lines, work) - len(lines) * empty for making, lines in map(scene, sizes)]
+            ratios = [late / max(early, 1) for early, late in zip(counts, counts[1:])]
+            is_over = max(ratios) > MOST
+            told = ", ".join(f"{size:,}: {count:,.0f}" for size, count in zip(sizes, counts))
+            print(f"{name}: {told}; {ratios[0]:.2f} and {ratios[1]:.2f} times{': TOO MUCH' if is_over else ''}", flush=True)
+            over += is_over
+    print(f"{over} scenes take more than {MOST} times as much at twice the size")
+    sys.exit(over > 0)
+
+
+if __name__ == "__main__":
+    main()
