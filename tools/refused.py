@@ -267,10 +267,10 @@ def works(given, library):
     most = {part: 10**9 if given.whole and part not in ("tests", "leaks") else given.most or PARTS[part] for part in PARTS}
     if given.whole:
         most["tests"], most["leaks"] = WHOLE, 20
-    every = [it for crate in CRATES for it in tests_of(crate, library)] if {"store", "tests"} & {*given.parts} else []
+    every = [it for crate in given.crate for it in tests_of(crate, library)] if {"store", "tests"} & {*given.parts} else []
     if "store" in given.parts:
         stands = [it for it in every if it.name.endswith(WITHOUT) or (it.crate, it.name) in STAND]
-        if len(stands) < len(STAND) + 1:
+        if {*STAND} - {(it.crate, it.name) for it in stands if given.crate == [*CRATES]} - ({*STAND} if given.crate != [*CRATES] else {*()}):
             sys.exit("a test of the store has another name")
         yield from (("store", it, PARTS["store"]) for it in stands)
     if "tests" in given.parts:
@@ -283,6 +283,7 @@ def works(given, library):
 def words():
     parser = argparse.ArgumentParser(description=__doc__, formatter_class=argparse.RawDescriptionHelpFormatter)
     parser.add_argument("parts", nargs="*", metavar="PART", help=", ".join(PARTS))
+    parser.add_argument("--crate", action="append", choices=[*CRATES], metavar="CRATE", help="the tests of these crates alone: " + ", ".join(CRATES))
     parser.add_argument("--program", default=PROGRAM, help="the program that is run (crates/domserve/out/domserve)")
     parser.add_argument("--most", type=int, metavar="N", help="how many growths of a test or dialogue are refused (" + ", ".join(f"{it} {PARTS[it]}" for it in PARTS) + ")")
     parser.add_argument("--whole", action="store_true", help="refuse each growth")
@@ -291,7 +292,7 @@ def words():
     unknown = [it for it in given.parts if it not in PARTS]
     if unknown:
         parser.error(f"it knows no part {unknown[0]}")
-    given.parts = given.parts or [*PARTS]
+    given.parts, given.crate = given.parts or [*PARTS], given.crate or [*CRATES]
     return given
 
 
@@ -300,7 +301,7 @@ def can_run(given):
     if "leaks" in given.parts and not shutil.which("valgrind"):
         given.parts.remove("leaks")
         print("left out: what runs under valgrind, since there is no valgrind", flush=True)
-    built = [program_of(it) for it in CRATES] if {"store", "tests"} & {*given.parts} else []
+    built = [program_of(it) for it in given.crate] if {"store", "tests"} & {*given.parts} else []
     built += [given.program] if {"dialogues", "writers", "leaks"} & {*given.parts} else []
     missing = [it for it in built if not os.access(it, os.X_OK)]
     if missing:

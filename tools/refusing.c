@@ -5,18 +5,13 @@
  *   REFUSE_IN=NAME   these hold in a program of that name only
  * At the end it writes "growths G, refused R, left B" to standard error: B blocks are in use. */
 #define _GNU_SOURCE
+#include <dlfcn.h>
 #include <errno.h>
 #include <stddef.h>
 #include <stdio.h>
 #include <stdlib.h>
 #include <string.h>
 #include <unistd.h>
-
-void *__libc_malloc(size_t size);
-void *__libc_calloc(size_t count, size_t size);
-void *__libc_realloc(void *old, size_t size);
-void *__libc_memalign(size_t align, size_t size);
-void __libc_free(void *block);
 
 static unsigned long growths, refused, at, from, after;
 static long left;
@@ -63,41 +58,36 @@ static void *counted(void *block)
 
 void *malloc(size_t size)
 {
-    return is_refused(size) ? NULL : counted(__libc_malloc(size));
+    static void *(*next)(size_t);
+    if (!next)
+        next = dlsym(RTLD_NEXT, "malloc");
+    return is_refused(size) ? NULL : counted(next(size));
 }
 
 void *calloc(size_t count, size_t size)
 {
-    return counted(__libc_calloc(count, size));
+    static void *(*next)(size_t, size_t);
+    if (!next)
+        next = dlsym(RTLD_NEXT, "calloc");
+    return is_refused(count * size) ? NULL : counted(next(count, size));
 }
 
 void *realloc(void *old, size_t size)
 {
-    if (is_refused(size))
-        return NULL;
-    void *block = __libc_realloc(old, size);
-    left += !old && block;
-    left -= old && !size && !block;
-    return block;
-}
-
-void *aligned_alloc(size_t align, size_t size)
-{
-    return is_refused(size) ? NULL : counted(__libc_memalign(align, size));
-}
-
-int posix_memalign(void **to, size_t align, size_t size)
-{
-    if (is_refused(size))
-        return ENOMEM;
-    *to = counted(__libc_memalign(align, size));
-    return *to ? 0 : ENOMEM;
+    static void *(*next)(void *, size_t);
+    if (!next)
+        next = dlsym(RTLD_NEXT, "realloc");
+    void *block = is_refused(size) ? NULL : next(old, size);
+    return old ? block : counted(block);
 }
 
 void free(void *block)
 {
+    static void (*next)(void *);
+    if (!next)
+        next = dlsym(RTLD_NEXT, "free");
     left -= block != NULL;
-    __libc_free(block);
+    next(block);
 }
 
 __attribute__((destructor)) static void tell(void)

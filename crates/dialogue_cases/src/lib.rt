@@ -16,6 +16,8 @@ mod observers;
 #[cfg(test)]
 mod ranges;
 #[cfg(test)]
+mod recovering;
+#[cfg(test)]
 mod refusals;
 #[cfg(test)]
 mod traversal;

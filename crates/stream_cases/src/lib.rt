@@ -4,8 +4,6 @@
 #[cfg(test)]
 mod lines;
 #[cfg(test)]
-mod recovering;
-#[cfg(test)]
 mod replies;
 #[cfg(test)]
 mod sessions;
