@@ -9,8 +9,9 @@ Theorems: for each NAME a file Subject/Name.antt in crates/dom_model/proofs/Dial
 there and be named in the file beside that folder. The bytes that a session reads give the bytes that it writes, and the edits of the
 token text that its commands make leave the ends, texts and worlds that the commands leave. They hold by computation.
 
-Tests: for each subject a file in crates/dom_cases/src/dialogues, with its dialogues, each with a test that serves it whole, in pieces,
-with refused growths, with each read, write and flush failing in turn, and cut in two at each of its bytes.
+Tests: for each subject a file in crates/dialogues/src, with its dialogues, each text on a line; and one in crates/dialogue_cases/src with
+a test of each that serves it whole, in pieces, with refused growths, with each read, write and flush failing in turn, and cut in two at
+each of its bytes.
 """
 import argparse
 import os
@@ -21,7 +22,8 @@ import erased
 ROOT = os.path.dirname(os.path.dirname(os.path.abspath(__file__)))
 DIALOGUES = os.path.join(ROOT, "dialogues")
 THEOREMS = os.path.join(ROOT, "crates/dom_model/proofs/Dialogues")
-TESTS = os.path.join(ROOT, "crates/dom_cases/src/dialogues")
+TABLES = os.path.join(ROOT, "crates/dialogues/src")
+TESTS = os.path.join(ROOT, "crates/dialogue_cases/src")
 
 DEFAULTS = {"numbers": "4294967295", "line": "1048576"}
 
@@ -149,15 +151,8 @@ def write_theorems(subject, dialogues):
         out.write("\n".join(lines) + "\n")
 
 
-def is_raw(text):
-    """Whether a text stands for itself in a raw literal."""
-    return '"##' not in text and all(mark == "\n" or mark.isprintable() for mark in text)
-
-
 def text_literal(text):
-    """The text as a literal, raw where no escape is wanted."""
-    if is_raw(text):
-        return f'r##"{text}"##'
+    """The text as a literal on one line."""
     marks = {"\n": "\\n", '"': '\\"', "\\": "\\\\"}
     return '"' + "".join(marks.get(mark) or (mark if mark.isprintable() else f"\\u{{{ord(mark):x}}}") for mark in text) + '"'
 
@@ -176,7 +171,8 @@ def bytes_of(data):
         return f"Bytes::Raw({bytes_literal(data)})"
 
 
-def test(name, given, wanted, bounds):
+def row(name, given, wanted, bounds):
+    """A dialogue in its table."""
     return (
         f"\npub const {name.upper()}: Dialogue = Dialogue {{\n"
         + f'    name: "{name.replace("_", " ")}",\n    numbers: {bounds["numbers"]},\n    line: {bounds["line"]},\n'
@@ -193,12 +189,15 @@ def cut_test(name):
 
 
 def write_tests(subject, dialogues):
-    """The tests of one subject's dialogues."""
-    with open(os.path.join(TESTS, subject + ".rt"), "w") as out:
-        out.write(f"//! Written by tools/rows.py from dialogues/{subject}.\n")
-        out.write("\nuse crate::cuts::is_answered_in_two;\nuse crate::dialogues::{Bytes, Dialogue};\n")
+    """The table of one subject's dialogues, and their tests."""
+    head = f"//! Written by tools/rows.py from dialogues/{subject}.\n\n"
+    with open(os.path.join(TABLES, subject + ".rt"), "w") as out:
+        out.write(head + "use crate::{Bytes, Dialogue};\n")
         for name, parts in dialogues.items():
-            out.write(test(name, *parts))
+            out.write(row(name, *parts))
+    with open(os.path.join(TESTS, subject + ".rt"), "w") as out:
+        names = ", ".join(name.upper() for name in dialogues)
+        out.write(head + f"use crate::cuts::is_answered_in_two;\nuse dialogues::{subject}::{{{names}}};\n")
         for name in dialogues:
             out.write(cut_test(name))
 
@@ -214,7 +213,8 @@ def main():
         write_tests(subject, dialogues)
         without += erased_in(folder, dialogues)
     erased.write(ROOT, without)
-    subprocess.run(["rt", "fmt"], cwd=os.path.join(ROOT, "crates/dom_cases"), check=True)
+    for written in (TABLES, TESTS):
+        subprocess.run(["rt", "fmt"], cwd=os.path.dirname(written), check=True)
 
 
 if __name__ == "__main__":

@@ -64,10 +64,10 @@ def dialogues(folders):
 
 
 def refusing_malloc(folder):
-    """Compiles the malloc that refuses growths."""
-    library = os.path.join(folder, "refused.so")
-    source = os.path.join(ROOT, "tools/refused_growths/refused_growths.c")
-    subprocess.run(["cc", "-shared", "-fPIC", "-O2", "-Wall", "-o", library, source, "-ldl"], check=True)
+    """Compiles the malloc that counts growths and blocks, and refuses growths."""
+    library = os.path.join(folder, "refusing.so")
+    source = os.path.join(ROOT, "tools/refusing.c")
+    subprocess.run(["cc", "-shared", "-fPIC", "-O2", "-Wall", "-o", library, source], check=True)
     return library
 
 

@@ -1,4 +1,4 @@
-# What the shell scripts of tools and bench make of their words, and the malloc that they run programs under. To be sourced.
+# What the shell scripts of tools and bench make of their words. To be sourced.
 
 # takes MOST WORD..: prints the script's first comment where --help is among its words, and refuses options and more than MOST words.
 takes() {
@@ -17,14 +17,4 @@ takes() {
         esac
     done
     [ $# -le "$most" ] || { echo "${0##*/}: it takes at most $most words" >&2; exit 2; }
-}
-
-# is_count WORD: refuses a word that is no number from 1 on.
-is_count() {
-    [[ $1 =~ ^[1-9][0-9]*$ ]] || { echo "${0##*/}: a number from 1 on is due, not $1" >&2; exit 2; }
-}
-
-# refusing LIBRARY: compiles the malloc that refuses growths.
-refusing() {
-    cc -shared -fPIC -O2 -Wall -o "$1" "$(dirname "${BASH_SOURCE[0]}")/refused_growths/refused_growths.c" -ldl
 }

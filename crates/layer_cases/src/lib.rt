@@ -5,9 +5,13 @@
 #[cfg(test)]
 mod attributes;
 #[cfg(test)]
+mod counted;
+#[cfg(test)]
 mod kinds;
 #[cfg(test)]
 mod links;
+#[cfg(test)]
+mod marks;
 #[cfg(test)]
 mod nodes;
 #[cfg(test)]

@@ -1,24 +1,10 @@
 //! Slots that are linked, cut, taken and taken again, and the memory under them.
+use super::marks::{begins, ends};
 use dom_links::{Links, NodePtr, Pool, Slot};
 use std::alloc::{AllocError, Global};
-use std::cell::Cell;
 use std::process::Abort;
-use std::rc::Rc;
 use std::test::Fail;
 use std_alloc::room::Vacant;
-
-/// A value that counts how often it is dropped.
-struct Counted {
-    drops: Rc<Cell<u32>>,
-}
-
-impl Drop for Counted {
-    fn drop(self) {
-        let count = self.drops.get();
-        self.drops.set(count.wrapping_add(1));
-        let Counted { drops: _ } = self;
-    }
-}
 
 fn added<T: Drop>(rt: &impl Abort, links: &mut Links<T>, value: T) -> Slot {
     let slot = links.add(value);
@@ -198,22 +184,20 @@ fn a_thousand_children(rt: HostRuntime) -> Result<(), Fail> {
     Ok(())
 }
 
-// All nodes stand before the first link. Room of 7,777 bytes marks where that is: a preloaded `malloc` may refuse
-// everything after it, the room of the last line too, and the links come out the same (tools/refused_growths).
+// All nodes stand before the first link.
 #[test]
 fn a_thousand_links_without_a_growth(rt: HostRuntime) -> Result<(), Fail> {
     let mut links = Links::new(rt.alloc());
     let mut slots = Vec::new(rt.alloc());
     let top = added(&rt, &mut links, 5000);
     add_thousand(&rt, &mut links, &mut slots)?;
-    let mut mark: Vec<u8> = Vec::new(rt.alloc());
-    mark.reserve(7777)?;
+    begins(rt.alloc())?;
     put_all(&rt, &mut links, top, slots.as_slice());
     has_children(&rt, &links, top, slots.as_slice());
     cut_all(&rt, &mut links, slots.as_slice());
     has_children(&rt, &links, top, &[]);
-    let mut last: Vec<u8> = Vec::new(rt.alloc());
-    let _refused = last.reserve(1);
+    take_all(&rt, &mut links, slots.as_slice());
+    ends(rt.alloc());
     Ok(())
 }
 
@@ -229,33 +213,13 @@ fn a_refused_add_hands_the_value_back(rt: HostRuntime) {
     }
 }
 
+// More slots than a document of the other tests has.
 #[test]
-fn each_value_is_dropped_once(rt: HostRuntime) -> Result<(), Fail> {
-    let drops = Rc::new(rt.alloc(), Cell::new(0u32))?;
+fn five_million_slots(rt: HostRuntime) {
     let mut links = Links::new(rt.alloc());
-    let first = added(
-        &rt,
-        &mut links,
-        Counted {
-            drops: drops.clone()?,
-        },
-    );
-    for _ in 0..4 {
-        let _slot = added(
-            &rt,
-            &mut links,
-            Counted {
-                drops: drops.clone()?,
-            },
-        );
+    for value in 0..5_000_001u32 {
+        assert!(rt; links.add(value).is_ok());
     }
-    let value = taken(&rt, &mut links, first);
-    assert!(rt; drops.get() == 0);
-    drop(value);
-    assert!(rt; drops.get() == 1);
-    drop(links);
-    assert!(rt; drops.get() == 5);
-    Ok(())
 }
 
 #[derive(Drop)]

@@ -2,6 +2,7 @@
 
 ghost use Rattle.std.specs.Prelude.{◌≤◌, OnOk};
 
+use super::marks::{begins, ends};
 use dom_pages::Pages;
 use std::alloc::AllocError;
 use std::process::Abort;
@@ -154,5 +155,44 @@ fn room(rt: HostRuntime) -> Result<(), Fail> {
     assert!(rt; pages.len() == 1);
     expect(&rt, &pages, &[(0, Some(0)), (1, None)]);
     expect_present(&rt, &pages, &[true, true, true, false]);
+    Ok(())
+}
+
+// Room for more numbers than a page or four have, at one call.
+#[test]
+fn room_for_many(rt: HostRuntime) -> Result<(), Fail> {
+    let mut pages = Pages::new(rt.alloc());
+    reserve(&rt, &mut pages, 20_000)?;
+    expect_present(&rt, &pages, &[true; 19]);
+    Ok(())
+}
+
+// That each number has itself, up to that one.
+fn expect_each(rt: &impl Abort, pages: &Pages<usize>, count: usize) {
+    for number in 0..count {
+        assert!(rt; pages.get(number) == Some(number), "at {number}");
+    }
+}
+
+// Numbers are read, given out in room that is there, changed and taken back.
+#[test]
+fn numbers_without_a_growth(rt: HostRuntime) -> Result<(), Fail> {
+    let mut pages = Pages::new(rt.alloc());
+    give_out(&rt, &mut pages, 0, 2500)?;
+    reserve(&rt, &mut pages, 1)?;
+    begins(rt.alloc())?;
+    expect_each(&rt, &pages, 2500);
+    assert!(rt; pages.get(2500).is_none());
+    assert_eq!(rt; pages.len(), 2500);
+    pages.push_reserved(2500);
+    put(&rt, &mut pages, 2500, 7);
+    expect_present(&rt, &pages, &[true, true, true, false]);
+    take_back(&rt, &mut pages, 0, 1500);
+    ends(rt.alloc());
+    expect(
+        &rt,
+        &pages,
+        &[(1499, None), (1500, Some(1500)), (2500, Some(7))],
+    );
     Ok(())
 }

@@ -2,6 +2,7 @@
 
 ghost use Rattle.std.specs.Prelude.{◌≡◌, [], ◌∷◌, Some, IfOk};
 
+use super::marks::{begins, ends};
 use super::range_scenes::{
     Units, alone, at, child, element, grown, leaves, lies, ranged, refers, release, stands,
     with_texts,
@@ -257,13 +258,6 @@ fn forgotten(rt: HostRuntime) -> Result<(), Fail> {
     Ok(())
 }
 
-// Room of 7,777 bytes marks where an adjusting call begins: a preloaded `malloc` may refuse everything after it, the room that is asked
-// for at the end too, and the ends come out the same (tools/refused_growths).
-fn begins(alloc: Global) -> Result<(), AllocError> {
-    let mut mark: Vec<u8> = Vec::new(alloc);
-    mark.reserve(7777)
-}
-
 // A live range alone that stands there, and the mark.
 fn ready(
     rt: &impl Abort,
@@ -279,11 +273,10 @@ fn ready(
     Ok(ranges)
 }
 
-// That the range has come to these ends, and no growth was asked for.
+// That the range has come to these ends, and the second mark.
 fn has_come(rt: &impl Abort, alloc: Global, ranges: &Ranges, start: Point, end: Point) {
     lies(rt, ranges, RangeId::new(0), start, end);
-    let mut last: Vec<u8> = Vec::new(alloc);
-    let _refused = last.reserve(1);
+    ends(alloc);
 }
 
 #[test]

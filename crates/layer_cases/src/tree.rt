@@ -1,4 +1,5 @@
 //! Indices that are kept or found, and trees that are let go of.
+use super::marks::{begins, ends};
 use super::nodes::{made, nameless, put};
 use dom_kinds::Kind;
 use dom_tree::{NodeId, Tree};
@@ -263,5 +264,23 @@ fn a_tree_is_let_go_of_once_nothing_names_it(rt: HostRuntime) -> Result<(), Fail
     let next = element(&rt, rt.alloc(), &mut tree)?;
     assert_eq!(rt; (next.number(), tree.live()), (6, 2));
     assert!(rt; !tree.holds(parent));
+    Ok(())
+}
+
+// Of three hundred children two are put in order, all are numbered, and one comes to the front; it is cut, and let go of.
+#[test]
+fn children_without_a_growth(rt: HostRuntime) -> Result<(), Fail> {
+    let mut tree = put_in_front(&rt, rt.alloc(), 300)?;
+    let (parent, child) = (NodeId::new(1), NodeId::new(150));
+    begins(rt.alloc())?;
+    assert!(rt; is_first(&rt, &mut tree, NodeId::new(200), NodeId::new(100)));
+    number_children(&rt, &mut tree, parent);
+    cut(&rt, &mut tree, child);
+    put(&rt, &mut tree, parent, child, Some(NodeId::new(301)));
+    assert_eq!(rt; index(&rt, &tree, child), 0);
+    cut(&rt, &mut tree, child);
+    free(&rt, &mut tree, child);
+    ends(rt.alloc());
+    assert!(rt; !tree.holds(child));
     Ok(())
 }

@@ -1,0 +1,202 @@
+//! Reads, writes and flushes that fail, and inputs that do not end within the reads.
+
+use crate::memory::limits_of;
+use dialogues::Dialogue;
+use dom_serve::{Fault, FromRead, Summary, ToWrite, serve, serve_within};
+use stated_pieces::{Taker, USUAL, all_taken, first_lines, in_pieces, newlines, serve_all};
+use std::alloc::Global;
+use std::process::Abort;
+
+const TWO_TREES: &[u8] = b"[\"tree\",0]\n[\"tree\",0]";
+
+const ONE_TREE_PRINTED: &[u8] = b"{\"ok\":[[0,0,9,\"#document\"]]}\n";
+
+#[test]
+fn a_read_fails_after_a_whole_line(rt: HostRuntime) {
+    for (most, reads) in [(1, 20), (7, 3), (65536, 1), (11, 1)] {
+        let mut reader = in_pieces(TWO_TREES, most);
+        reader.reads = reads;
+        let served = serve_all(rt.alloc(), USUAL, reader);
+        assert!(rt;
+            served.ended == Err(Fault::Read) && served.is_clean,
+            "{most}"
+        );
+        assert!(rt; served.written.as_slice() == ONE_TREE_PRINTED, "{most}");
+    }
+}
+
+// That a failed read, after so many that do not fail, is told, and that written then are the replies to the lines whose newline
+// was read. Answers whether that read was made.
+fn fails_at_read(
+    rt: &impl Abort,
+    alloc: Global,
+    dialogue: &Dialogue,
+    most: usize,
+    reads: usize,
+) -> bool {
+    let name = dialogue.name;
+    let input = dialogue.input();
+    let limits = limits_of(dialogue);
+    assert!(rt; 1 <= limits.numbers && limits.numbers <= 4294967295 && 1 <= limits.line);
+    let mut reader = in_pieces(input, most);
+    reader.reads = reads as u64;
+    let served = serve_all(alloc, limits, reader);
+    assert!(rt; served.is_clean, "{name} {most} {reads}");
+    if reads > 0 && (reads - 1).saturating_mul(most) >= input.len() {
+        assert!(rt; served.ended.is_ok(), "{name} {most} {reads}");
+        assert!(rt;
+            served.written.as_slice() == dialogue.output(),
+            "{name} {most} {reads}"
+        );
+        return false;
+    }
+    assert!(rt; served.ended == Err(Fault::Read), "{name} {most} {reads}");
+    let given = input.get(..reads.saturating_mul(most)).unwrap_or(input);
+    let due = first_lines(dialogue.output(), newlines(given));
+    assert!(rt; served.written.as_slice() == due, "{name} {most} {reads}");
+    true
+}
+
+// That each read fails in turn as it should.
+fn fails_at_each_read(rt: &impl Abort, alloc: Global, dialogue: &Dialogue, most: usize) {
+    for reads in 0..=dialogue.input().len().saturating_add(1) {
+        if !fails_at_read(rt, alloc, dialogue, most, reads) {
+            break;
+        }
+    }
+}
+
+// The front of a text that so many writes take, where each takes at most so many bytes of one line.
+fn first_writes(text: &[u8], most: usize, writes: usize) -> &[u8] {
+    let mut left = writes;
+    let mut room: usize = 0;
+    for (at, byte) in text.iter().enumerate() {
+        if room == 0 {
+            if left == 0 {
+                return text.get(..at).unwrap_or(text);
+            }
+            left -= 1;
+            room = most;
+        }
+        room = room.saturating_sub(1);
+        if *byte == b'\n' {
+            room = 0;
+        }
+    }
+    text
+}
+
+// Serves the dialogue in pieces to this writer, and shows that what it took is this, and that serving failed where that is not all.
+fn fails_after(rt: &impl Abort, alloc: Global, dialogue: &Dialogue, mut writer: Taker, due: &[u8]) {
+    let name = dialogue.name;
+    let limits = limits_of(dialogue);
+    assert!(rt; 1 <= limits.numbers && limits.numbers <= 4294967295 && 1 <= limits.line);
+    let mut reader = in_pieces(dialogue.input(), writer.most);
+    let ended = serve(alloc, limits, &mut reader, &mut writer);
+    assert!(rt; writer.taken.as_slice() == due, "{name}");
+    assert!(rt;
+        ended.is_ok() == !writer.failed && writer.later == 0,
+        "{name}"
+    );
+    assert!(rt; ended.is_ok() || ended == Err(Fault::Write), "{name}");
+}
+
+// That where each write fails in turn, what was written is what the writes before it took, and that one that is not made changes nothing.
+fn fails_at_each_write(rt: &impl Abort, alloc: Global, dialogue: &Dialogue, most: usize) {
+    let output = dialogue.output();
+    for writes in 0..=output.len() {
+        let due = first_writes(output, most, writes);
+        let mut writer = all_taken(alloc);
+        writer.most = most;
+        writer.writes = writes as u64;
+        fails_after(rt, alloc, dialogue, writer, due);
+        if due.len() == output.len() {
+            break;
+        }
+    }
+}
+
+// That where each flush fails in turn, what was written is whole lines: a line is passed on as it is written.
+fn fails_at_each_flush(rt: &impl Abort, alloc: Global, dialogue: &Dialogue, most: usize) {
+    let output = dialogue.output();
+    for flushes in 0..=newlines(output) {
+        let mut writer = all_taken(alloc);
+        writer.most = most;
+        writer.flushes = flushes as u64;
+        let due = first_lines(output, flushes.saturating_add(1));
+        fails_after(rt, alloc, dialogue, writer, due);
+    }
+}
+
+// That a writer with room for so many bytes gets that front of the output, and that serving fails where that is not all: a slice takes
+// no more bytes once it is full.
+fn fills_the_room(rt: &impl Abort, alloc: Global, dialogue: &Dialogue, room: usize) {
+    let name = dialogue.name;
+    let limits = limits_of(dialogue);
+    assert!(rt; 1 <= limits.numbers && limits.numbers <= 4294967295 && 1 <= limits.line);
+    let mut space = Vec::new(alloc);
+    assert!(rt; space.resize(room, 0u8).is_ok());
+    let mut reader = in_pieces(dialogue.input(), 65536);
+    let mut writer = ToWrite::new(space.as_mut_slice());
+    let ended = serve(alloc, limits, &mut reader, &mut writer);
+    let rest = writer.into_inner();
+    assert!(rt; rest.is_empty(), "{name} {room}");
+    assert!(rt;
+        ended.is_ok() == (room == dialogue.output().len()),
+        "{name} {room}"
+    );
+    assert!(rt;
+        ended.is_ok() || ended == Err(Fault::Write),
+        "{name} {room}"
+    );
+    assert!(rt;
+        Some(space.as_slice()) == dialogue.output().get(..room),
+        "{name} {room}"
+    );
+}
+
+// The same of each room up to that of the whole output.
+fn fills_each_room(rt: &impl Abort, alloc: Global, dialogue: &Dialogue) {
+    for room in 0..=dialogue.output().len() {
+        fills_the_room(rt, alloc, dialogue, room);
+    }
+}
+
+/// That in pieces of 1, 7 and 65,536 bytes each read, write and flush fails in turn as it should, and that a writer is filled to its last byte.
+pub fn is_told_of_each_fault(rt: &impl Abort, alloc: Global, dialogue: &Dialogue) {
+    for most in [1, 7, 65536] {
+        fails_at_each_read(rt, alloc, dialogue, most);
+        fails_at_each_write(rt, alloc, dialogue, most);
+        fails_at_each_flush(rt, alloc, dialogue, most);
+    }
+    fills_each_room(rt, alloc, dialogue);
+}
+
+// A slice takes no more bytes once it is full.
+#[test]
+fn a_write_that_takes_no_bytes_fails(rt: HostRuntime) {
+    let mut space = [0u8; 40];
+    let mut reader = FromRead::new(TWO_TREES);
+    let mut writer = ToWrite::new(&mut space[..]);
+    let ended = serve(rt.alloc(), USUAL, &mut reader, &mut writer);
+    assert_eq!(rt; ended, Err(Fault::Write));
+    let _rest = writer.into_inner();
+    assert!(rt; ONE_TREE_PRINTED.get(..) == space.get(..29));
+    assert!(rt; ONE_TREE_PRINTED.get(..11) == space.get(29..));
+}
+
+#[test]
+fn more_reads_than_are_allowed(rt: HostRuntime) {
+    for (input, ended) in [
+        (b"\n\n".as_slice(), Ok(Summary { lines: 2 })),
+        (b"\n\n\n".as_slice(), Err(Fault::InputTooLong)),
+    ] {
+        let mut reader = in_pieces(input, 1);
+        let mut writer = all_taken(rt.alloc());
+        let outcome = serve_within(rt.alloc(), USUAL, 3, &mut reader, &mut writer);
+        assert!(rt; outcome == ended);
+        let lines =
+            b"{\"error\":\"bad-json\"}\n{\"error\":\"bad-json\"}\n{\"error\":\"bad-json\"}\n";
+        assert!(rt; writer.taken.as_slice() == first_lines(lines, input.len()));
+    }
+}

@@ -1,0 +1,25 @@
+//! The tests of dialogues from bytes to bytes: whole, cut anywhere, with reads, writes and flushes that fail, and with refused growths.
+#![tactic(auto)]
+
+#[cfg(test)]
+mod bad_input;
+#[cfg(test)]
+mod cuts;
+#[cfg(test)]
+mod faults;
+#[cfg(test)]
+mod lines_and_limits;
+#[cfg(test)]
+mod memory;
+#[cfg(test)]
+mod observers;
+#[cfg(test)]
+mod ranges;
+#[cfg(test)]
+mod recovering;
+#[cfg(test)]
+mod refusals;
+#[cfg(test)]
+mod traversal;
+#[cfg(test)]
+mod trees_and_data;

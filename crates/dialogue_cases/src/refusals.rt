@@ -1,0 +1,92 @@
+//! Dialogues of which any growth may be refused. What the writer takes has its room before, so that a growth that is refused
+//! is one of the server's; where the room itself is refused, there is nothing to show.
+
+use crate::memory::limits_of;
+use dialogues::Dialogue;
+use dialogues::trees_and_data::TREE_PRINTED;
+use dom_serve::{Fault, Summary, serve};
+use stated_pieces::{Taker, USUAL, all_taken, first_lines, in_pieces};
+use std::alloc::{AllocError, Global};
+use std::process::Abort;
+use std::test::Fail;
+
+const OUT_OF_MEMORY: &[u8] = b"{\"error\":\"out-of-memory\"}\n";
+
+// A writer with room for the replies of each dialogue.
+fn roomy(alloc: Global) -> Result<Taker, AllocError> {
+    let mut writer = all_taken(alloc);
+    writer.taken.reserve(2000)?;
+    Ok(writer)
+}
+
+// That the text is some first lines of the output, and then the line that says that memory was wanting.
+fn is_cut_by_want(output: &[u8], text: &[u8]) -> bool {
+    (0..100).any(|count| match text.strip_prefix(first_lines(output, count)) {
+        Some(rest) => rest == OUT_OF_MEMORY,
+        None => false,
+    })
+}
+
+/// That the dialogue is answered whole, or up to a want of memory.
+pub fn is_answered_or_wants(rt: &impl Abort, alloc: Global, dialogue: &Dialogue) {
+    let Ok(mut writer) = roomy(alloc) else {
+        return;
+    };
+    let limits = limits_of(dialogue);
+    assert!(rt; 1 <= limits.numbers && limits.numbers <= 4294967295 && 1 <= limits.line);
+    let mut reader = in_pieces(dialogue.input(), 65536);
+    let ended = serve(alloc, limits, &mut reader, &mut writer);
+    let output = dialogue.output();
+    let text = writer.taken.as_slice();
+    let name = dialogue.name;
+    match ended {
+        Ok(_) => assert!(rt; text == output, "{name}"),
+        Err(fault) => {
+            assert!(rt; fault == Fault::Memory, "{name}");
+            assert!(rt; is_cut_by_want(output, text), "{name}");
+        }
+    }
+}
+
+#[test]
+fn first_dialogue_under_refusals(rt: HostRuntime) {
+    is_answered_or_wants(&rt, rt.alloc(), &TREE_PRINTED);
+}
+
+// That serving to a writer that takes so many writes ends there, or at a want of memory.
+fn fails_or_wants(rt: &impl Abort, alloc: Global, mut writer: Taker, writes: u8) {
+    let dialogue = &TREE_PRINTED;
+    let output = dialogue.output();
+    writer.writes = u64::from(writes);
+    let mut reader = in_pieces(dialogue.input(), 65536);
+    let ended = serve(alloc, USUAL, &mut reader, &mut writer);
+    let text = writer.taken.as_slice();
+    if ended == Err(Fault::Memory) {
+        assert!(rt; is_cut_by_want(output, text));
+    } else {
+        assert_eq!(rt; ended, Err(Fault::Write));
+        assert!(rt; text == first_lines(output, usize::from(writes)));
+    }
+}
+
+// Each reply is one write, and so is the line that says that memory was wanting.
+#[test]
+fn failing_writers_under_refusals(rt: HostRuntime) {
+    for writes in 0..3u8 {
+        if let Ok(writer) = roomy(rt.alloc()) {
+            fails_or_wants(&rt, rt.alloc(), writer, writes);
+        }
+    }
+}
+
+// The first of these tests, where no growth is refused.
+#[test]
+fn first_dialogue_with_memory(rt: HostRuntime) -> Result<(), Fail> {
+    let dialogue = &TREE_PRINTED;
+    let mut writer = roomy(rt.alloc())?;
+    let mut reader = in_pieces(dialogue.input(), 65536);
+    let ended = serve(rt.alloc(), USUAL, &mut reader, &mut writer);
+    assert_eq!(rt; ended, Ok(Summary { lines: 3 }));
+    assert!(rt; writer.taken.as_slice() == dialogue.output());
+    Ok(())
+}

@@ -1,6 +1,0 @@
-use Rattle.std.proofs.Common.{true, arith}
-use Rattle.dom_cases.proofs.Rooms.{room-copy_few}
-use Rattle.dom_cases.proofs.layers.cloning.imported.Goals as goal
-
-pub import-requires-clause-room : goal.import-requires-clause-room
-import-requires-clause-room g c = λ _. room-copy_few c.args.world.now.tree.made true c.new-node.result c.args.world.now.tree.forest (omega arith) (omega arith)

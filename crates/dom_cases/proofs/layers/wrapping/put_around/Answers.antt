@@ -1,6 +1,0 @@
-use Rattle.std.proofs.Common.{arith}
-use Rattle.dom_cases.proofs.Rooms.{room-surround_few}
-use Rattle.dom_cases.proofs.layers.wrapping.put_around.Goals as goal
-
-pub surround-requires-clause-room : goal.surround-requires-clause-room
-surround-requires-clause-room g c = room-surround_few c.args.world.now c.args.range (omega arith) (omega arith) c.new-node.result

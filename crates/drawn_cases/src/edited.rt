@@ -1,0 +1,189 @@
+//! Token texts, drawn as docs/definitions.md draws them. Each edit is drawn twice, from the replies before and after it and on the text
+//! before it alone: the texts are the same, and each end of a live range stands in its marker's gap.
+
+use crate::drawing::{draw, written};
+use crate::edits::{Edit, edited_text, in_order};
+use crate::replies::{Told, told_from};
+use crate::tokens::{Ends, Point, Side, Token, gap_of};
+use dialogues::ranges::{ENDS_AFTER_INSERTION, ENDS_AFTER_REPLACED_DATA, ENDS_AFTER_SPLIT};
+use stated_pieces::{USUAL, first_lines, in_pieces, serve_all};
+use std::alloc::{AllocError, Global};
+use std::process::Abort;
+use std::test::Fail;
+
+// An edit of a dialogue, after so many lines of its input, and the live ranges that are there; the texts before it and after it.
+#[derive(Clone, Copy)]
+struct Case {
+    input: &'static [u8],
+    lines: usize,
+    ranges: usize,
+    edit: Edit,
+    before: &'static str,
+    after: &'static str,
+}
+
+// Puts the lines that ask for the tree of the first node and for the live ranges behind others.
+fn ask(lines: &mut String, ranges: usize) -> Result<(), AllocError> {
+    lines.push_str("[\"tree\",1]\n")?;
+    for range in 0..ranges {
+        write!(lines, "[\"range\",{range}]\n")?;
+    }
+    Ok(())
+}
+
+// Puts the lines of the dialogue up to the edit and with it, and the questions before it and after it, behind others.
+fn give(lines: &mut Vec<u8>, case: &Case, questions: &str) -> Result<(), AllocError> {
+    let front = first_lines(case.input, case.lines);
+    let with_edit = first_lines(case.input, case.lines.saturating_add(1));
+    let edit = with_edit.get(front.len()..).unwrap_or(with_edit);
+    lines.extend_from_slice(front)?;
+    lines.extend_from_slice(questions.as_bytes())?;
+    lines.extend_from_slice(edit)?;
+    lines.extend_from_slice(questions.as_bytes())
+}
+
+// These lines alone.
+fn asked(alloc: Global, case: &Case) -> Result<Vec<u8>, AllocError> {
+    let mut questions = String::new(alloc);
+    ask(&mut questions, case.ranges)?;
+    let mut lines = Vec::new(alloc);
+    give(&mut lines, case, questions.as_str())?;
+    Ok(lines)
+}
+
+// That each end of a live range stands in its marker's gap.
+fn stand_in_gaps(
+    rt: &impl Abort,
+    alloc: Global,
+    text: &[Token],
+    ranges: &[Ends],
+) -> Result<(), AllocError> {
+    for (range, ends) in ranges.iter().enumerate() {
+        let start = gap_of(alloc, text, Token::Mark(range, Side::Start))?;
+        let end = gap_of(alloc, text, Token::Mark(range, Side::End))?;
+        assert!(rt;
+            start == Some(ends.start) && end == Some(ends.end),
+            "{range}"
+        );
+    }
+    Ok(())
+}
+
+// That what is told is drawn as the text.
+fn is_drawn(rt: &impl Abort, alloc: Global, told: &Told, text: &str) -> Result<(), AllocError> {
+    let tokens = draw(alloc, told)?;
+    stand_in_gaps(rt, alloc, tokens.as_slice(), told.ranges.as_slice())?;
+    let letters = written(alloc, tokens.as_slice())?;
+    assert!(rt; letters.as_str() == text, "{text}");
+    Ok(())
+}
+
+// That an edited text is, with its markers in order, the text of what is told.
+fn is_text_of(
+    rt: &impl Abort,
+    alloc: Global,
+    edited: &[Token],
+    told: &Told,
+    text: &str,
+) -> Result<(), AllocError> {
+    let ordered = in_order(alloc, edited)?;
+    let due = draw(alloc, told)?;
+    assert!(rt; ordered.as_slice() == due.as_slice(), "{text}");
+    Ok(())
+}
+
+// That a text becomes, edited alone, that of what is told after the edit.
+fn is_edited(
+    rt: &impl Abort,
+    alloc: Global,
+    case: &Case,
+    text: &[Token],
+    after: &Told,
+) -> Result<(), AllocError> {
+    let edited = edited_text(alloc, text, case.edit)?;
+    stand_in_gaps(rt, alloc, edited.as_slice(), after.ranges.as_slice())?;
+    is_text_of(rt, alloc, edited.as_slice(), after, case.after)
+}
+
+// That what is told before the edit and after it is drawn as it is due, and that the first text becomes the second.
+fn are_as_due(
+    rt: &impl Abort,
+    alloc: Global,
+    case: &Case,
+    before: &Told,
+    after: &Told,
+) -> Result<(), AllocError> {
+    is_drawn(rt, alloc, before, case.before)?;
+    is_drawn(rt, alloc, after, case.after)?;
+    let text = draw(alloc, before)?;
+    is_edited(rt, alloc, case, text.as_slice(), after)
+}
+
+// That the replies tell this.
+fn tell_as_due(rt: &impl Abort, alloc: Global, case: &Case, replies: &[u8]) -> Result<(), Fail> {
+    let replies = str::from_utf8(replies)?;
+    let behind = case.lines.saturating_add(case.ranges).saturating_add(2);
+    let before = told_from(alloc, replies, case.lines, case.ranges)?;
+    let after = told_from(alloc, replies, behind, case.ranges)?;
+    are_as_due(rt, alloc, case, &before, &after)?;
+    Ok(())
+}
+
+fn is_drawn_and_edited(rt: &impl Abort, alloc: Global, case: &Case) -> Result<(), Fail> {
+    let lines = asked(alloc, case)?;
+    let served = serve_all(alloc, USUAL, in_pieces(lines.as_slice(), 65536));
+    assert!(rt; served.ended.is_ok() && served.is_clean);
+    tell_as_due(rt, alloc, case, served.written.as_slice())
+}
+
+#[test]
+fn an_insertion(rt: HostRuntime) -> Result<(), Fail> {
+    let case = Case {
+        input: ENDS_AFTER_INSERTION.input(),
+        lines: 10,
+        ranges: 1,
+        edit: Edit::Move(4, Point { node: 1, offset: 0 }),
+        before: r#"<p>"a""[0b""n]0"</p>"#,
+        after: r#"<p>"n""a""[0b"]0</p>"#,
+    };
+    is_drawn_and_edited(&rt, rt.alloc(), &case)
+}
+
+#[test]
+fn replaced_data(rt: HostRuntime) -> Result<(), Fail> {
+    let case = Case {
+        input: ENDS_AFTER_REPLACED_DATA.input(),
+        lines: 7,
+        ranges: 2,
+        edit: Edit::Splice(Point { node: 1, offset: 2 }, 3, b"XY"),
+        before: r#""ab[0c]0de[1f]1g""#,
+        after: r#""ab[0]0[1XYf]1g""#,
+    };
+    is_drawn_and_edited(&rt, rt.alloc(), &case)
+}
+
+#[test]
+fn data_cut_off(rt: HostRuntime) -> Result<(), Fail> {
+    let case = Case {
+        input: ENDS_AFTER_REPLACED_DATA.input(),
+        lines: 11,
+        ranges: 2,
+        edit: Edit::Splice(Point { node: 1, offset: 4 }, 4294967295, b""),
+        before: r#""ab[0]0[1XYf]1g""#,
+        after: r#""ab[0]0[1XY]1""#,
+    };
+    is_drawn_and_edited(&rt, rt.alloc(), &case)
+}
+
+#[test]
+fn a_split(rt: HostRuntime) -> Result<(), Fail> {
+    let case = Case {
+        input: ENDS_AFTER_SPLIT.input(),
+        lines: 11,
+        ranges: 2,
+        edit: Edit::Parting(Point { node: 2, offset: 2 }, 4),
+        before: r#"<p>"ab[0c]0d"[1"e"]1</p>"#,
+        after: r#"<p>"ab[0""c]0d"[1"e"]1</p>"#,
+    };
+    is_drawn_and_edited(&rt, rt.alloc(), &case)
+}

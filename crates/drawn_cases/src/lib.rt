@@ -1,0 +1,13 @@
+//! The tests of token texts: drawn from the replies before and after an edit, and on the text alone.
+#![tactic(auto)]
+
+#[cfg(test)]
+mod drawing;
+#[cfg(test)]
+mod edited;
+#[cfg(test)]
+mod edits;
+#[cfg(test)]
+mod replies;
+#[cfg(test)]
+mod tokens;

@@ -1,0 +1,7 @@
+//! The tests of observers: options, registrations and records.
+#![tactic(auto)]
+
+#[cfg(test)]
+mod observing;
+#[cfg(test)]
+mod watching;

@@ -1,0 +1,300 @@
+//! Observers where each growth may be refused. What a refused call leaves is asked, and then the call is made again.
+
+use crate::observing::{label, nothing, take, watch};
+use dom_observe::{Mutation, ObserverId, Observers, RawOptions, Record, RecordType};
+use dom_tree::{NodeId, Tree};
+use dom_units::Units;
+use std::alloc::{AllocError, Global};
+use std::process::Abort;
+use std::test::Fail;
+
+// A root.
+fn root(rt: &impl Abort, tree: &mut Tree<u8>, alloc: Global) -> Result<NodeId, AllocError> {
+    assert!(rt; tree.made() < 10);
+    match tree.make(label(alloc), 0, None) {
+        Ok(node) => Ok(node),
+        Err(_) => tree.make(label(alloc), 0, None),
+    }
+}
+
+// Two roots, 0 and 1.
+fn roots(rt: &impl Abort, alloc: Global) -> Result<Tree<u8>, AllocError> {
+    let mut tree = Tree::new(alloc);
+    let first = root(rt, &mut tree, alloc)?;
+    let second = root(rt, &mut tree, alloc)?;
+    assert!(rt; first.number() == 0 && second.number() == 1);
+    Ok(tree)
+}
+
+// Makes observer 0. Where that is refused, there is none.
+fn make(rt: &impl Abort, observers: &mut Observers) -> Result<(), AllocError> {
+    assert_eq!(rt; observers.made(), 0);
+    if observers.make().is_err() {
+        assert_eq!(rt; observers.made(), 0);
+        let _ = observers.make()?;
+    }
+    assert_eq!(rt; observers.made(), 1);
+    Ok(())
+}
+
+// The data of a node and of all below it.
+fn below() -> RawOptions {
+    let mut given = nothing();
+    given.character_data_old_value = Some(true);
+    given.subtree = Some(true);
+    given
+}
+
+// Makes observer 0, which watches what is below node 0. Where that is refused, it watches nothing.
+fn begin(rt: &impl Abort, observers: &mut Observers) -> Result<(), AllocError> {
+    make(rt, observers)?;
+    let (observer, node) = (ObserverId::new(0), NodeId::new(0));
+    if watch(rt, observers, observer, node, below()).is_err() {
+        assert!(rt; observers.is_idle());
+        watch(rt, observers, observer, node, below())?;
+    }
+    assert!(rt; !observers.is_idle());
+    Ok(())
+}
+
+// A change of the data of a node.
+fn change(
+    rt: &impl Abort,
+    observers: &mut Observers,
+    tree: &Tree<u8>,
+    alloc: Global,
+    target: NodeId,
+    old: &str,
+) -> Result<(), AllocError> {
+    assert!(rt; tree.holds(target));
+    let old_value = Units::from_str(alloc, old)?;
+    let mutation = Mutation {
+        what: RecordType::CharacterData,
+        target,
+        added: &[],
+        removed: &[],
+        previous: None,
+        next: None,
+        name: None,
+        old_value: Some(&old_value),
+    };
+    observers.queue(tree, &mutation)
+}
+
+// That this is one record, of that target and with that old value.
+fn expect_one(rt: &impl Abort, records: &[Record], target: NodeId, old: &str) {
+    assert_eq!(rt; records.len(), 1);
+    let record = &records[0];
+    assert!(rt; record.target == target);
+    match &record.old_value {
+        None => assert!(rt; false, "no old value"),
+        Some(value) => {
+            assert!(rt; value.units().iter().copied().eq(old.bytes().map(u16::from)));
+        }
+    }
+}
+
+// How many records wait for observer 0. They are taken.
+fn waiting(rt: &impl Abort, observers: &mut Observers) -> usize {
+    take(rt, observers, ObserverId::new(0)).len()
+}
+
+// The data of a node changes. Where the record is refused, there may be one all the same.
+fn changed(
+    rt: &impl Abort,
+    observers: &mut Observers,
+    tree: &Tree<u8>,
+    alloc: Global,
+    node: NodeId,
+) -> Result<(), AllocError> {
+    if change(rt, observers, tree, alloc, node, "c").is_err() {
+        assert!(rt; waiting(rt, observers) < 2);
+        change(rt, observers, tree, alloc, node, "c")?;
+    }
+    Ok(())
+}
+
+// What a test does with observers of a tree of two roots.
+trait Scene {
+    fn play(
+        rt: &impl Abort,
+        observers: &mut Observers,
+        tree: &Tree<u8>,
+        alloc: Global,
+    ) -> Result<(), AllocError>;
+}
+
+// Plays a scene with observers and a tree of its own. It alone lets go of them, which is dear to prove.
+fn played<S: Scene>(rt: &impl Abort, alloc: Global) -> Result<(), AllocError> {
+    let tree = roots(rt, alloc)?;
+    let mut observers = Observers::new(alloc);
+    S::play(rt, &mut observers, &tree, alloc)
+}
+
+// The observer gets its record.
+struct ARecordIsQueued;
+
+impl Scene for ARecordIsQueued {
+    fn play(
+        rt: &impl Abort,
+        observers: &mut Observers,
+        tree: &Tree<u8>,
+        alloc: Global,
+    ) -> Result<(), AllocError> {
+        begin(rt, observers)?;
+        changed(rt, observers, tree, alloc, NodeId::new(0))?;
+        assert!(rt; observers.pending(0) == Some(ObserverId::new(0)));
+        let records = take(rt, observers, ObserverId::new(0));
+        expect_one(rt, records.as_slice(), NodeId::new(0), "c");
+        Ok(())
+    }
+}
+
+#[test]
+fn a_record_is_queued(rt: HostRuntime) -> Result<(), Fail> {
+    played::<ARecordIsQueued>(&rt, rt.alloc())?;
+    Ok(())
+}
+
+// Node 1 leaves node 0, and is watched until the observer is told.
+fn leave(rt: &impl Abort, observers: &mut Observers, tree: &Tree<u8>) -> Result<(), AllocError> {
+    let (top, node) = (NodeId::new(0), NodeId::new(1));
+    assert!(rt; tree.holds(top));
+    if observers.transients(tree, top, node).is_err() {
+        observers.transients(tree, top, node)?;
+    }
+    Ok(())
+}
+
+// How many observers are told their records.
+fn told(observers: &mut Observers) -> Result<usize, AllocError> {
+    let told = observers.notify()?;
+    Ok(told.len())
+}
+
+// The observer is told its record. Where that is refused, the record may be lost.
+fn tell(rt: &impl Abort, observers: &mut Observers) -> Result<(), AllocError> {
+    match told(observers) {
+        Ok(count) => assert_eq!(rt; count, 1),
+        Err(_) => assert!(rt; told(observers)? < 2),
+    }
+    assert!(rt; observers.pending(0).is_none());
+    Ok(())
+}
+
+// The observer is told of node 1 until it was told once.
+struct ANodeThatLeftIsToldOfOnce;
+
+impl Scene for ANodeThatLeftIsToldOfOnce {
+    fn play(
+        rt: &impl Abort,
+        observers: &mut Observers,
+        tree: &Tree<u8>,
+        alloc: Global,
+    ) -> Result<(), AllocError> {
+        begin(rt, observers)?;
+        leave(rt, observers, tree)?;
+        changed(rt, observers, tree, alloc, NodeId::new(1))?;
+        tell(rt, observers)?;
+        changed(rt, observers, tree, alloc, NodeId::new(1))?;
+        assert_eq!(rt; told(observers)?, 0);
+        Ok(())
+    }
+}
+
+#[test]
+fn a_node_that_left_is_told_of_once(rt: HostRuntime) -> Result<(), Fail> {
+    played::<ANodeThatLeftIsToldOfOnce>(&rt, rt.alloc())?;
+    Ok(())
+}
+
+// Whether observers, or records that wait for them, name a node.
+fn is_named(rt: &impl Abort, observers: &Observers, tree: &Tree<u8>, node: NodeId) -> bool {
+    assert!(rt; tree.holds(node));
+    observers.refers(tree, node)
+}
+
+// A record of node 1 that left node 0.
+fn record_leaving(
+    rt: &impl Abort,
+    observers: &mut Observers,
+    tree: &Tree<u8>,
+) -> Result<(), AllocError> {
+    let (top, node) = (NodeId::new(0), NodeId::new(1));
+    assert!(rt; tree.holds(top));
+    let mutation = Mutation {
+        what: RecordType::ChildList,
+        target: top,
+        added: &[],
+        removed: &[node],
+        previous: None,
+        next: None,
+        name: None,
+        old_value: None,
+    };
+    observers.queue(tree, &mutation)
+}
+
+// Observer 0 watches the children of node 0 in place of what it watched.
+fn watch_children(rt: &impl Abort, observers: &mut Observers) -> Result<(), AllocError> {
+    let mut given = nothing();
+    given.child_list = Some(true);
+    watch(rt, observers, ObserverId::new(0), NodeId::new(0), given)
+}
+
+// A registration names its node, and a transient one its own node too, until the observer is told.
+fn name_registered(
+    rt: &impl Abort,
+    observers: &mut Observers,
+    tree: &Tree<u8>,
+) -> Result<(), AllocError> {
+    let (top, node) = (NodeId::new(0), NodeId::new(1));
+    begin(rt, observers)?;
+    assert!(rt; is_named(rt, observers, tree, top));
+    assert!(rt; !is_named(rt, observers, tree, node));
+    leave(rt, observers, tree)?;
+    assert!(rt; is_named(rt, observers, tree, node));
+    assert_eq!(rt; told(observers)?, 0);
+    assert!(rt; !is_named(rt, observers, tree, node));
+    Ok(())
+}
+
+// A record names the nodes that it tells of, until it is taken.
+fn name_recorded(
+    rt: &impl Abort,
+    observers: &mut Observers,
+    tree: &Tree<u8>,
+) -> Result<(), AllocError> {
+    let (top, node) = (NodeId::new(0), NodeId::new(1));
+    watch_children(rt, observers)?;
+    if record_leaving(rt, observers, tree).is_err() {
+        assert!(rt; waiting(rt, observers) < 2);
+        record_leaving(rt, observers, tree)?;
+    }
+    assert!(rt; is_named(rt, observers, tree, node));
+    assert_eq!(rt; waiting(rt, observers), 1);
+    assert!(rt; !is_named(rt, observers, tree, node));
+    assert!(rt; is_named(rt, observers, tree, top));
+    Ok(())
+}
+
+// What registrations name, and then what records do.
+struct WhatIsNamed;
+
+impl Scene for WhatIsNamed {
+    fn play(
+        rt: &impl Abort,
+        observers: &mut Observers,
+        tree: &Tree<u8>,
+        _: Global,
+    ) -> Result<(), AllocError> {
+        name_registered(rt, observers, tree)?;
+        name_recorded(rt, observers, tree)
+    }
+}
+
+#[test]
+fn what_is_named(rt: HostRuntime) -> Result<(), Fail> {
+    played::<WhatIsNamed>(&rt, rt.alloc())?;
+    Ok(())
+}

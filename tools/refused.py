@@ -1,0 +1,331 @@
+#!/usr/bin/env python3
+"""Runs what `rt ci` built once more under a malloc that refuses growths, and counts the blocks in use at the end.
+
+Parts (all, where none is named):
+  store      the tests of layer_cases whose names end with `without_a_growth`, every growth refused from their first mark on: each asks
+             for the second mark's room alone, and passes; and the tests that meet each growth refused in turn and must pass, as a
+             thousand `add`s, `cover`, `observe` on a hundred nodes
+  tests      each test of single crates with one growth refused: it passes, or it ends with its own word that memory was wanting; those
+             that compare what stands then must pass
+  dialogues  the program over each dialogue with one growth refused, and with all from one on: the first reply lines, never fewer than
+             with an earlier growth refused, then the out-of-memory line, and status 1; where one alone is refused a smaller one may do
+  writers    the same with writers that fail: a closed one, one that is always full, one that is full after some bytes; status 3
+  leaks      the program under valgrind over each dialogue, whole and with single growths refused; left out where there is no valgrind
+
+A test that ends by itself, and each run of the program, leaves no block in use. Of each test or dialogue at most --most growths are
+refused, spread over all of them; store, of which each is, counts as one. With --whole each growth is refused, of tests up to 3,000.
+The last line is `N runs, M bad`; the status is 1 where M is not 0.
+"""
+import argparse
+import multiprocessing
+import os
+import re
+import shutil
+import subprocess
+import sys
+import tempfile
+from collections import Counter, namedtuple
+
+from running import LIMIT, OUT_OF_MEMORY, PROGRAM, ROOT, Run, dialogues, refusing_malloc, run
+
+# For each part the growths that are refused where nothing else is said; `leaks` costs a second a run.
+PARTS = {"store": 3000, "tests": 60, "dialogues": 40, "writers": 3, "leaks": 1}
+# A test of more growths is run with none refused, since each run takes long.
+HEAVY = 100_000
+WHOLE = 3000
+
+# Crates whose tests are run with refusals, and the modules of them that must pass then.
+CRATES = {
+    "layer_cases": (),
+    "observer_cases": ("watching",),
+    "edit_cases": ("attributes", "cloning", "contents", "editing", "texts", "wrapping"),
+    "stream_cases": (),
+}
+WITHOUT = "_without_a_growth"
+# Tests that pass with each of their growths refused, and how many of these each has at least.
+STAND = {
+    ("layer_cases", "links::a_refused_add_hands_the_value_back"): 1000,
+    ("layer_cases", "ranges::refused_room"): 1,
+    ("observer_cases", "observing::a_hundred_nodes"): 100,
+}
+
+WANTING = b"domserve: out of memory\n"
+UNWRITTEN = b"domserve: write failed\n"
+COUNTS = re.compile(rb"growths (\d+), refused (\d+), left (-?\d+)\n")
+# How a test says that memory was wanting: by its answer, or at its assertion that memory was there.
+SAYS = re.compile(rb"^error: Alloc(Error|Failed \{ \.\. \})$", re.M)
+ASSERTS = re.compile(rb"^(assertion failed: ([a-z_]+\.is_ok\(\)|through_a_pointer\(rt\.alloc\(\)\) == Some\(.*\))|  left: Err\(Failed\))$", re.M)
+VALGRIND = ["valgrind", "-q", "--soname-synonyms=somalloc=nouserintercepts", "--error-exitcode=9"]
+VALGRIND += ["--leak-check=full", "--show-leak-kinds=all", "--errors-for-leak-kinds=all"]
+
+# A run, with what the malloc counted; None where the program was stopped.
+Counted = namedtuple("Counted", "status out said growths refused left")
+
+
+class Wrong(Exception):
+    """A run that was not as it is due."""
+
+
+def counted(ran):
+    """A run with what the malloc counted taken out of what it said."""
+    found = COUNTS.search(ran.err)
+    return Counted(ran.status, ran.out, COUNTS.sub(b"", ran.err), *(map(int, found.groups()) if found else (None, None, None)))
+
+
+def spread(growths, most):
+    """At most so many of the growths, the first and the last among them."""
+    if growths <= most:
+        return range(1, growths + 1)
+    return sorted({1 + (growths - 1) * at // max(most - 1, 1) for at in range(most)})
+
+
+def leaves_nothing(found):
+    if found.left != 0:
+        raise Wrong(f"{found.left} blocks are in use at the end")
+
+
+class Test:
+    """One test of a crate."""
+
+    def __init__(self, crate, name, library):
+        self.crate, self.name, self.library = crate, name, library
+        self.must_pass = name.partition("::")[0] in CRATES[crate] or (crate, name) in STAND
+
+    def __str__(self):
+        return f"{self.crate} {self.name}"
+
+    def run(self, **setting):
+        words = [program_of(self.crate), self.name]
+        ran = subprocess.run(words, env={**os.environ, **setting, "LD_PRELOAD": self.library}, capture_output=True, timeout=LIMIT)
+        return counted(Run(ran.returncode, ran.stdout, ran.stderr))
+
+    def passes(self, refused, **setting):
+        """It passes with so many refusals."""
+        found = self.run(**setting)
+        if (found.status, found.refused) != (0, refused):
+            raise Wrong(f"status {found.status}, {found.refused} refused, and {refused} was due: {found.said.decode(errors='replace')}")
+        leaves_nothing(found)
+
+    def refuses(self, growth):
+        """With one growth refused it passes, or says that memory was wanting."""
+        found = self.run(REFUSE_AT=str(growth))
+        told = found.out + found.said
+        if found.status == -6 and ASSERTS.search(told) and not self.must_pass:
+            return
+        if found.refused == 0 or (found.status != 0 and (self.must_pass or found.status != 101 or not SAYS.search(told))):
+            raise Wrong(f"status {found.status}, {found.refused} refused: {told.decode(errors='replace')}")
+        leaves_nothing(found)
+
+
+def program_of(crate):
+    return os.path.join(ROOT, "crates", crate, "out", crate + "_tests")
+
+
+def tests_of(crate, library):
+    listed = subprocess.run([program_of(crate), "--list"], capture_output=True, text=True, check=True).stdout
+    return [Test(crate, line.removesuffix(": test"), library) for line in listed.splitlines() if line.endswith(": test")]
+
+
+class Serving:
+    """The program over one dialogue, with growths refused alone or from one on."""
+
+    def __init__(self, dialogue, program, library):
+        self.dialogue, self.program, self.library = dialogue, program, library
+
+    def __str__(self):
+        return self.dialogue.name
+
+    def run(self, folder, setting, **writer):
+        return counted(run(self.program, self.dialogue.path, self.dialogue.words, folder, {**setting, "LD_PRELOAD": self.library}, **writer))
+
+    def growths(self, folder):
+        """The run without a refusal."""
+        found = self.run(folder, {})
+        if (found.status, found.said, found.out) != (0, b"", self.dialogue.due):
+            raise Wrong(f"not all is answered: {found}")
+        leaves_nothing(found)
+        return found.growths
+
+    def replies(self, found, mode):
+        """How many reply lines stand ahead of the out-of-memory line; None before the program serves, or where it got by."""
+        leaves_nothing(found)
+        if found.refused == 0:
+            raise Wrong("the growth was not asked for")
+        if found.status == 0 and mode == "REFUSE_AT" and (found.said, found.out) == (b"", self.dialogue.due):
+            return None
+        if (found.status, found.said) != (1, WANTING):
+            raise Wrong("status or words")
+        front = found.out.removesuffix(OUT_OF_MEMORY)
+        if found.out and (front == found.out or not self.dialogue.due.startswith(front) or not (front == b"" or front.endswith(b"\n"))):
+            raise Wrong("no front of the replies, and the out-of-memory line")
+        return front.count(b"\n") if found.out else None
+
+    def refuses(self, folder, mode, growths):
+        """The runs with these growths refused; yields each growth, and its run."""
+        lines = 0
+        for growth in growths:
+            found = self.run(folder, {mode: str(growth)})
+            try:
+                count = self.replies(found, mode)
+                if count is not None and count < lines or count is None and lines and found.status:
+                    raise Wrong("fewer replies than with an earlier growth refused")
+            except Wrong as wrong:
+                raise Wrong(f"{mode} {growth}: {wrong}: {found}") from None
+            lines = lines if count is None else count
+            yield growth, found
+
+    def fails_to_write(self, folder, mode, growth, whole):
+        """The run anew with writers that fail; how many runs that was."""
+        room = growth * 7919 % max(len(whole.out), 1)
+        writers = [{"output": False}, {"output": "/dev/full"}, {"room": room}]
+        for writer in writers:
+            found = self.run(folder, {mode: str(growth)}, **writer)
+            due = (3, UNWRITTEN) if whole.out else (whole.status, whole.said)
+            if (found.status, found.said, found.out) != (*due, whole.out[: writer["room"]] if "room" in writer else b""):
+                raise Wrong(f"{mode} {growth} with the writer {writer}: {found}")
+            leaves_nothing(found)
+        return len(writers)
+
+    def under_valgrind(self, setting=()):
+        """The run under valgrind."""
+        words = [*VALGRIND, self.program, *self.dialogue.words]
+        refusing = {**dict(setting), "REFUSE_IN": os.path.basename(self.program), "LD_PRELOAD": self.library} if setting else {}
+        ran = subprocess.run(words, input=self.dialogue.given, env={**os.environ, **refusing}, capture_output=True, timeout=LIMIT)
+        said = COUNTS.sub(b"", ran.stderr)
+        if (ran.returncode, said) not in ([(1, WANTING), (0, b"")] if setting else [(0, b"")]):
+            raise Wrong(f"under valgrind, {setting}: status {ran.returncode} {said.decode(errors='replace')}")
+
+
+# What is tried of one test or dialogue. Each yields after each run, and raises where that was not as it is due.
+
+
+def store(it, most):
+    if it.name.endswith(WITHOUT):
+        it.passes(1, REFUSE_AFTER="7777")
+        yield
+        return
+    found = it.run()
+    yield
+    due = STAND[it.crate, it.name]
+    if found.status or found.growths < due:
+        raise Wrong(f"status {found.status}, {found.growths} growths, and at least {due} are due")
+    for growth in spread(found.growths, most):
+        it.passes(1, REFUSE_AT=str(growth))
+        yield
+
+
+def tests(it, most):
+    found = it.run()
+    yield
+    if found.status:
+        raise Wrong(f"status {found.status} with no refusal: {(found.out + found.said).decode(errors='replace')}")
+    leaves_nothing(found)
+    for growth in spread(found.growths, most) if found.growths <= HEAVY else ():
+        try:
+            it.refuses(growth)
+        except Wrong as wrong:
+            raise Wrong(f"growth {growth}: {wrong}") from None
+        yield
+
+
+def serving(it, most, with_writers):
+    with tempfile.TemporaryDirectory() as folder:
+        growths = it.growths(folder)
+        yield
+        for mode in ("REFUSE_AT", "REFUSE_FROM"):
+            for growth, found in it.refuses(folder, mode, spread(growths, most)):
+                yield
+                for _ in range(it.fails_to_write(folder, mode, growth, found) if with_writers else 0):
+                    yield
+
+
+def leaks(it, most):
+    it.under_valgrind()
+    yield
+    with tempfile.TemporaryDirectory() as folder:
+        growths = it.growths(folder)
+    for growth in spread(growths, most + 1)[1:]:
+        it.under_valgrind((("REFUSE_AT", str(growth)),))
+        yield
+
+
+def tried(work):
+    """Makes the runs of one test or dialogue: the part, how many runs there were, and what was wrong."""
+    part, it, most = work
+    runs = 0
+    ways = {"store": store, "tests": tests, "leaks": leaks}
+    try:
+        for _ in ways[part](it, most) if part in ways else serving(it, most, part == "writers"):
+            runs += 1
+    except (Wrong, subprocess.TimeoutExpired) as wrong:
+        return part, runs + 1, f"{part}: {it}: {wrong}"
+    return part, runs, None
+
+
+def works(given, library):
+    """What is to be tried: the part, the test or dialogue, and the most growths."""
+    most = {part: 10**9 if given.whole and part not in ("tests", "leaks") else given.most or PARTS[part] for part in PARTS}
+    if given.whole:
+        most["tests"], most["leaks"] = WHOLE, 20
+    every = [it for crate in given.crate for it in tests_of(crate, library)] if {"store", "tests"} & {*given.parts} else []
+    if "store" in given.parts:
+        stands = [it for it in every if it.name.endswith(WITHOUT) or (it.crate, it.name) in STAND]
+        if {*STAND} - {(it.crate, it.name) for it in stands if given.crate == [*CRATES]} - ({*STAND} if given.crate != [*CRATES] else {*()}):
+            sys.exit("a test of the store has another name")
+        yield from (("store", it, PARTS["store"]) for it in stands)
+    if "tests" in given.parts:
+        yield from (("tests", it, most["tests"]) for it in every)
+    for part in ("dialogues", "writers", "leaks"):
+        if part in given.parts:
+            yield from ((part, Serving(it, given.program, library), most[part]) for it in dialogues([]))
+
+
+def words():
+    parser = argparse.ArgumentParser(description=__doc__, formatter_class=argparse.RawDescriptionHelpFormatter)
+    parser.add_argument("parts", nargs="*", metavar="PART", help=", ".join(PARTS))
+    parser.add_argument("--crate", action="append", choices=[*CRATES], metavar="CRATE", help="the tests of these crates alone: " + ", ".join(CRATES))
+    parser.add_argument("--program", default=PROGRAM, help="the program that is run (crates/domserve/out/domserve)")
+    parser.add_argument("--most", type=int, metavar="N", help="how many growths of a test or dialogue are refused (" + ", ".join(f"{it} {PARTS[it]}" for it in PARTS) + ")")
+    parser.add_argument("--whole", action="store_true", help="refuse each growth")
+    parser.add_argument("--jobs", type=int, default=os.cpu_count() or 1, metavar="N", help="how many are tried side by side (as many as there are processors)")
+    given = parser.parse_args()
+    unknown = [it for it in given.parts if it not in PARTS]
+    if unknown:
+        parser.error(f"it knows no part {unknown[0]}")
+    given.parts, given.crate = given.parts or [*PARTS], given.crate or [*CRATES]
+    return given
+
+
+def can_run(given):
+    """Leaves out what cannot be tried here, and says so; fails where something is not built."""
+    if "leaks" in given.parts and not shutil.which("valgrind"):
+        given.parts.remove("leaks")
+        print("left out: what runs under valgrind, since there is no valgrind", flush=True)
+    built = [program_of(it) for it in given.crate] if {"store", "tests"} & {*given.parts} else []
+    built += [given.program] if {"dialogues", "writers", "leaks"} & {*given.parts} else []
+    missing = [it for it in built if not os.access(it, os.X_OK)]
+    if missing:
+        sys.exit(f"{os.path.relpath(missing[0], ROOT)} is not built: rt ci builds it")
+
+
+def main():
+    given = words()
+    if not shutil.which("cc"):
+        print("left out: runs in which growths are refused, since there is no cc")
+        return 0
+    can_run(given)
+    runs, bad = Counter(), 0
+    with tempfile.TemporaryDirectory() as folder, multiprocessing.Pool(given.jobs) as pool:
+        for part, count, wrong in pool.imap_unordered(tried, works(given, refusing_malloc(folder))):
+            runs[part] += count
+            bad += wrong is not None
+            if wrong:
+                print(wrong, flush=True)
+    for part in given.parts:
+        print(f"{part}: {runs[part]:,} runs")
+    print(f"{runs.total()} runs, {bad} bad")
+    return 1 if bad else 0
+
+
+if __name__ == "__main__":
+    sys.exit(main())
