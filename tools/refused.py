@@ -12,8 +12,8 @@ Parts (all, where none is named):
   writers    the same with writers that fail: a closed one, one that is always full, one that is full after some bytes; status 3
   leaks      the program under valgrind over each dialogue, whole and with single growths refused; left out where there is no valgrind
 
-A test that ends by itself, and each run of the program, leaves no block in use. Of each test or dialogue at most --most growths are
-refused, spread over all of them; store, of which each is, counts as one. With --whole each growth is refused, of tests up to 3,000.
+A test that ends by itself, and each run of the program, leaves no block in use. Of each test or dialogue some growths are refused, spread
+over all of them; with --whole each, of a test at most 3,000. A test of more than 100,000 growths runs with none refused.
 The last line is `N runs, M bad`; the status is 1 where M is not 0.
 """
 import argparse
@@ -28,8 +28,8 @@ from collections import Counter, namedtuple
 
 from running import LIMIT, OUT_OF_MEMORY, PROGRAM, ROOT, Run, dialogues, refusing_malloc, run
 
-# For each part the growths that are refused where nothing else is said; `leaks` costs a second a run.
-PARTS = {"store": 3000, "tests": 60, "dialogues": 40, "writers": 3, "leaks": 1}
+# For each part the growths of a test or dialogue that are refused where nothing else is said; of `store` it is each.
+PARTS = {"store": sys.maxsize, "tests": 60, "dialogues": 40, "writers": 3, "leaks": 1}
 # A test of more growths is run with none refused, since each run takes long.
 HEAVY = 100_000
 WHOLE = 3000
@@ -262,22 +262,27 @@ def tried(work):
     return part, runs, None
 
 
+def most_of(given, part):
+    """How many growths of a test or dialogue are refused."""
+    if given.whole:
+        return {"tests": WHOLE, "leaks": 20}.get(part, sys.maxsize)
+    return given.most or PARTS[part]
+
+
 def works(given, library):
     """What is to be tried: the part, the test or dialogue, and the most growths."""
-    most = {part: 10**9 if given.whole and part not in ("tests", "leaks") else given.most or PARTS[part] for part in PARTS}
-    if given.whole:
-        most["tests"], most["leaks"] = WHOLE, 20
     every = [it for crate in given.crate for it in tests_of(crate, library)] if {"store", "tests"} & {*given.parts} else []
     if "store" in given.parts:
         stands = [it for it in every if it.name.endswith(WITHOUT) or (it.crate, it.name) in STAND]
-        if {*STAND} - {(it.crate, it.name) for it in stands if given.crate == [*CRATES]} - ({*STAND} if given.crate != [*CRATES] else {*()}):
-            sys.exit("a test of the store has another name")
-        yield from (("store", it, PARTS["store"]) for it in stands)
+        lacking = {it for it in STAND if it[0] in given.crate} - {(it.crate, it.name) for it in stands}
+        if lacking:
+            sys.exit(f"{' has no test '.join(min(lacking))}")
+        yield from (("store", it, sys.maxsize) for it in stands)
     if "tests" in given.parts:
-        yield from (("tests", it, most["tests"]) for it in every)
+        yield from (("tests", it, most_of(given, "tests")) for it in every)
     for part in ("dialogues", "writers", "leaks"):
         if part in given.parts:
-            yield from ((part, Serving(it, given.program, library), most[part]) for it in dialogues([]))
+            yield from ((part, Serving(it, given.program, library), most_of(given, part)) for it in dialogues([]))
 
 
 def words():
@@ -285,9 +290,10 @@ def words():
     parser.add_argument("parts", nargs="*", metavar="PART", help=", ".join(PARTS))
     parser.add_argument("--crate", action="append", choices=[*CRATES], metavar="CRATE", help="the tests of these crates alone: " + ", ".join(CRATES))
     parser.add_argument("--program", default=PROGRAM, help="the program that is run (crates/domserve/out/domserve)")
-    parser.add_argument("--most", type=int, metavar="N", help="how many growths of a test or dialogue are refused (" + ", ".join(f"{it} {PARTS[it]}" for it in PARTS) + ")")
+    told = ", ".join(f"{it} {most}" for it, most in PARTS.items() if it != "store")
+    parser.add_argument("--most", type=int, metavar="N", help=f"how many growths of a test or dialogue are refused ({told})")
     parser.add_argument("--whole", action="store_true", help="refuse each growth")
-    parser.add_argument("--jobs", type=int, default=os.cpu_count() or 1, metavar="N", help="how many are tried side by side (as many as there are processors)")
+    parser.add_argument("--jobs", type=int, default=os.cpu_count() or 1, metavar="N", help="how many are tried side by side (all processors)")
     given = parser.parse_args()
     unknown = [it for it in given.parts if it not in PARTS]
     if unknown:
