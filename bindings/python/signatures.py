@@ -1,5 +1,5 @@
 #!/usr/bin/env python3
-"""Writes the modules of huckleport that say what the library has: _signatures.py (constants, structs, arguments) and _calls.py (each
+"""Writes the modules of huckleport that say what the library has: _signatures.py (constants, structs, arguments) and _by_ctypes.py (each
 call in Python's types), both from the exports of crates/dom_c, and _commands.py (names and arguments) from docs/commands.md.
 
 With --check nothing is written, and it fails where a module is not what the sources give.
@@ -13,8 +13,9 @@ HERE = os.path.dirname(os.path.abspath(__file__))
 ROOT = os.path.dirname(os.path.dirname(HERE))
 PACKAGE = os.path.join(HERE, "huckleport")
 sys.dont_write_bytecode = True
-sys.path.insert(0, os.path.join(ROOT, "bindings/c"))
+sys.path[:0] = [HERE, os.path.join(ROOT, "bindings/c")]
 from exports import SOURCES, modules, status_word
+from members import READS
 
 MADE = "Made by bindings/python/signatures.py; not to be edited."
 FORMS = {
@@ -96,6 +97,11 @@ def signatures(found):
         for it in module.exports:
             words = ", ".join(form for its in it.parameters for form in forms(its))
             text += f'    "{it.name}": ({words},),\n'
+    text += "}\n\n# The names of what each call is handed beside the session.\nPARAMETERS: Dict[str, Tuple[str, ...]] = {\n"
+    for module in found:
+        for it in module.exports:
+            words = "".join(f'"{part.name}", ' for part in it.parameters if part.kind not in ("session", "out"))
+            text += f'    "{it.name[3:]}": ({words.rstrip()}),\n'
     return text + "}\n"
 
 
@@ -116,6 +122,24 @@ def given(it):
     return sys.exit(f"there is no form in Python for: {it}")
 
 
+# How an answer is read whole: the method that reads it, and Python's type.
+WHOLE = {
+    "text": ("_answer_text", "str"),
+    "text?": ("_answer_text_or_none", "Optional[str]"),
+    "numbers": ("_answer_numbers", "List[int]"),
+    "names": ("_answer_names", "List[str]"),
+}
+
+
+def reading(export):
+    """The method that makes a call and reads its whole answer."""
+    handed = [(it, *given(it)) for it in export.parameters if it.kind not in ("out", "session")]
+    takes = "".join(f", {it.name}: {form}" for it, form, _ in handed)
+    words = "".join(f", {word}" for _, _, word in handed)
+    how, answer = WHOLE[READS[export.name[3:]]]
+    return f'    def read_{export.name[3:]}(self{takes}) -> {answer}:\n        return self._whole(self.{how}, "{export.name}"{words})\n'
+
+
 def method(export):
     outs = [it for it in export.parameters if it.kind == "out"]
     handed = [(it, *given(it)) for it in export.parameters if it.kind not in ("out", "session")]
@@ -123,7 +147,8 @@ def method(export):
         sys.exit(f"{export.name}: there is no form in Python for it")
     words = "".join(f", {word}" for _, _, word in handed)
     takes = "".join(f", {it.name}: {form}" for it, form, _ in handed)
-    call, answer = f'self._say("{export.name}"{words})', "None"
+    say = "_let_go" if export.name.startswith("hp_release_") or export.name == "hp_close" else "_say"
+    call, answer = f'self.{say}("{export.name}"{words})', "None"
     if outs and export.name in LINES:
         call, answer = f'return self._bytes("{export.name}"{words})', "bytes"
     elif outs and outs[0].type in LENT:
@@ -140,9 +165,10 @@ def method(export):
 
 def calls(found):
     text = f'"""Each call of the library, in Python\'s types. {MADE}"""\n\nfrom __future__ import annotations\n\n'
-    methods = [method(it) for module in found for it in module.exports]
+    exports = [it for module in found for it in module.exports]
+    methods = [method(it) for it in exports] + [reading(it) for it in exports if it.name[3:] in READS]
     used = sorted({name for name in FORMS.values() if any(f"({name}()" in it for it in methods)})
-    text += f"from ctypes import byref, {', '.join(used)}\nfrom typing import Sequence\n\nfrom . import _signatures\n"
+    text += f"from ctypes import byref, {', '.join(used)}\nfrom typing import List, Optional, Sequence\n\nfrom . import _signatures\n"
     text += "from ._handle import Handle, octets, size, uint8, uint32, uint32s, uint64, utf8, utf16\n\n\n"
     text += 'class Calls(Handle):\n    """A session of the library, with each of its calls by the name that it has in C."""\n\n'
     return text + "\n".join(methods)
@@ -169,7 +195,7 @@ def main():
     parser.add_argument("--sources", default=SOURCES, metavar="FOLDER", help="the folder of the exports (crates/dom_c/src)")
     words = parser.parse_args()
     found = modules(words.sources)
-    made = {"_signatures.py": signatures(found), "_calls.py": calls(found), "_commands.py": commands()}
+    made = {"_signatures.py": signatures(found), "_by_ctypes.py": calls(found), "_commands.py": commands()}
     other = []
     for name, text in made.items():
         path = os.path.join(PACKAGE, name)

@@ -8,9 +8,13 @@
 Names are the standard's in Python's spelling. Texts are ``str``, and offsets count UTF-16 units.
 """
 
+from . import html, xml
 from ._library import LibraryMissing
+from ._lxml import from_lxml, to_lxml
+from .attributes import Attributes
 from .documents import Document
 from .errors import BadValue, DOMException, DOMTypeError, Error, InUse, LimitReached, NoSuchObject, OutOfMemory, SessionClosed
+from .history import History
 from .nodes import (
     CharacterData,
     ChildNode,
@@ -27,10 +31,14 @@ from .nodes import (
 from .observers import MutationObserver, MutationRecord
 from .ranges import AbstractRange, Range, StaticRange
 from .session import Session
+from .texts import from_units, is_well_formed, to_units, utf16_index, utf16_length, utf16_offset, well_formed
 from .traversal import NodeFilter, NodeIterator, TreeWalker
+
+__version__ = "0.1.0"
 
 __all__ = [
     "AbstractRange",
+    "Attributes",
     "BadValue",
     "CharacterData",
     "ChildNode",
@@ -42,6 +50,7 @@ __all__ = [
     "DocumentType",
     "Element",
     "Error",
+    "History",
     "InUse",
     "LibraryMissing",
     "LimitReached",
@@ -61,4 +70,15 @@ __all__ = [
     "StaticRange",
     "Text",
     "TreeWalker",
+    "from_lxml",
+    "from_units",
+    "html",
+    "is_well_formed",
+    "to_lxml",
+    "to_units",
+    "utf16_index",
+    "utf16_length",
+    "utf16_offset",
+    "well_formed",
+    "xml",
 ]

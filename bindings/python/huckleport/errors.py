@@ -2,20 +2,22 @@
 
 from __future__ import annotations
 
-from typing import Dict, Type
+from typing import Any, Dict, Optional, Sequence, Type
 
 from . import _signatures as made
 
 
 class Error(Exception):
-    """A refusal: nothing has changed. ``name`` is how replies print it, ``call`` what was refused."""
+    """A refusal: nothing has changed. ``name`` is how replies print it, ``call`` what was refused, ``reason`` why, where that is known."""
 
-    def __init__(self, status: int, call: str) -> None:
+    def __init__(self, status: int, call: str, reason: Optional[str] = None) -> None:
         self.status = status
         self.name = made.WORDS.get(status, str(status))
         self.call = call
+        self.reason = reason
         meaning = made.MEANINGS.get(status)
-        super().__init__(f"{call}: {self.name}" + (f" ({meaning})" if meaning else ""))
+        said = f"{self.name} ({meaning})" if meaning and not reason else self.name
+        super().__init__(f"{call}: {reason}: {said}" if reason else f"{call}: {said}")
 
 
 class DOMException(Error):
@@ -23,6 +25,7 @@ class DOMException(Error):
 
     @property
     def code(self) -> int:
+        """The standard's number of it."""
         return self.status
 
 
@@ -31,6 +34,7 @@ class DOMTypeError(DOMException, TypeError):
 
     @property
     def code(self) -> int:
+        """The standard's number of it."""
         return 0
 
 
@@ -77,6 +81,9 @@ KINDS: Dict[int, Type[Error]] = {
 }
 
 
-def refusal(status: int, call: str) -> Error:
-    """The exception for a status. Below 32 are the standard's codes."""
-    return KINDS.get(status, DOMException if status < made.HP_TYPE_ERROR else Error)(status, call)
+def refusal(status: int, call: str, calls: Any = None, words: Sequence[Any] = ()) -> Error:
+    """The exception for a status of a call with these words. Below 32 are the standard's codes."""
+    from .reasons import reason
+
+    kind = KINDS.get(status, DOMException if status < made.HP_TYPE_ERROR else Error)
+    return kind(status, call, None if calls is None else reason(status, call, calls, words))

@@ -2,10 +2,11 @@
 
 from __future__ import annotations
 
-from typing import TYPE_CHECKING, Callable, List, NamedTuple, Optional, Tuple, TypeVar
+from typing import TYPE_CHECKING, Iterator, List, NamedTuple, Optional, Tuple, TypeVar, Union
 
 from . import _signatures as made
-from ._handle import if_there
+from ._calls import quick
+from .attributes import Attributes
 from .objects import SessionObject, maybe
 
 if TYPE_CHECKING:
@@ -26,10 +27,12 @@ class Row(NamedTuple):
     system_id: Optional[str]
 
 
+@quick
 class Node(SessionObject):
     """A node of a tree."""
 
     __slots__ = ()
+    _family = 0
 
     ELEMENT_NODE = 1
     TEXT_NODE = 3
@@ -53,23 +56,17 @@ class Node(SessionObject):
         found = maybe(number)
         return None if found is None else self.session._node(found)
 
-    def _name(self, part: int) -> str:
-        """A part of the node's name: 0 name or target, 1 public id, 2 system id."""
-        with self._calls.lock:
-            self._calls.node(self.number)
-            return self._calls.node_name(part)
-
     # what a node is, and where it stands
 
     @property
     def node_type(self) -> int:
+        """The standard's number of its kind, as ``Node.ELEMENT_NODE``."""
         return self._place().kind
 
     @property
     def node_name(self) -> str:
         """The name: that of an element, a target, a doctype, or as ``#text``."""
-        name: str = self.session._printed(lambda: self._calls.node(self.number))["name"]
-        return name
+        return self.session._printed_name(self.number)
 
     @property
     def node_document(self) -> Document:
@@ -84,37 +81,44 @@ class Node(SessionObject):
 
     @property
     def parent_node(self) -> Optional[Node]:
+        """The node above it, or None."""
         return self._node_or_none(self._place().parent)
 
     @property
+    def parent_element(self) -> Optional[Element]:
+        """The element above it, or None: also where its parent is no element."""
+        found = self.parent_node
+        return found if isinstance(found, Element) else None
+
+    @property
     def previous_sibling(self) -> Optional[Node]:
+        """The node before it under the same parent, or None."""
         return self._node_or_none(self._place().previous)
 
     @property
     def next_sibling(self) -> Optional[Node]:
+        """The node behind it under the same parent, or None."""
         return self._node_or_none(self._place().next)
 
     @property
     def child_nodes(self) -> List[Node]:
         """The children, as a list of now: it does not change with the tree."""
-        return [self.session._node(it) for it in self.session._numbers(lambda: self._calls.children(self.number))]
+        return [self.session._node(it) for it in self._calls.read_children(self.number)]
 
     @property
     def first_child(self) -> Optional[Node]:
-        return self._child_at(lambda count: 0)
+        """The first child, or None."""
+        found = self._calls.read_children(self.number)
+        return self.session._node(found[0]) if found else None
 
     @property
     def last_child(self) -> Optional[Node]:
-        return self._child_at(lambda count: count - 1)
-
-    def _child_at(self, place: Callable[[int], int]) -> Optional[Node]:
-        with self._calls.lock:
-            self._calls.children(self.number)
-            count = self._calls.count()
-            number = self._calls.number_at(place(count)) if count else made.HP_NONE
-        return self._node_or_none(number)
+        """The last child, or None."""
+        found = self._calls.read_children(self.number)
+        return self.session._node(found[-1]) if found else None
 
     def has_child_nodes(self) -> bool:
+        """Whether it has a child."""
         return self.first_child is not None
 
     @property
@@ -128,15 +132,19 @@ class Node(SessionObject):
         return self._calls.length(self.number)
 
     def get_root_node(self) -> Node:
+        """The topmost of what it stands under; itself where it has no parent."""
         return self.session._node(self._calls.root(self.number))
 
     def contains(self, other: Optional[Node]) -> bool:
+        """Whether the other is this node or stands below it."""
         return self._calls.contains(self.number, self._of_maybe(other, Node))
 
     def is_equal_node(self, other: Optional[Node]) -> bool:
+        """Whether both are alike: kind, names, data, attributes, and all children."""
         return self._calls.is_equal(self.number, self._of_maybe(other, Node))
 
     def is_same_node(self, other: Optional[Node]) -> bool:
+        """Whether both are one node."""
         return self is other
 
     def compare_document_position(self, other: Node) -> int:
@@ -147,33 +155,46 @@ class Node(SessionObject):
         """The node and all below it, in tree order."""
         return self.session._rows(self)
 
+    def descendants(self) -> Iterator[Node]:
+        """All nodes below it, in tree order, as they stand now."""
+        rows = iter(self.tree())
+        next(rows)
+        return (it.node for it in rows)
+
     # changes
 
     def append_child(self, node: N) -> N:
+        """Puts a node behind its last child, and returns it. A fragment's children come in its place."""
         self._calls.append_child(self.number, self._of(node, Node))
         return node
 
     def insert_before(self, node: N, child: Optional[Node]) -> N:
+        """Puts a node before a child, or behind the last where that is None, and returns the node."""
         self._calls.insert_before(self.number, self._of(node, Node), self._of_maybe(child, Node))
         return node
 
     def replace_child(self, node: Node, child: N) -> N:
+        """Puts a node in place of a child, and returns the child."""
         self._calls.replace_child(self.number, self._of(node, Node), self._of(child, Node))
         return child
 
     def remove_child(self, child: N) -> N:
+        """Takes out a child, and returns it."""
         self._calls.remove_child(self.number, self._of(child, Node))
         return child
 
     def normalize(self) -> None:
+        """Joins Texts that stand side by side below it, and takes out empty ones."""
         self._calls.normalize(self.number)
 
     def clone_node(self: N, deep: bool = False) -> N:
+        """A copy, with all that stands below it where ``deep`` is true."""
         return self.session._keep(type(self), self._calls.clone_node(self.number, deep))
 
     @property
     def text_content(self) -> Optional[str]:
-        return self.session._maybe_text(lambda: self._calls.text_content(self.number))
+        """All text below it, or its data; None for a Document and a doctype. Setting it puts one Text in place of all children."""
+        return self._calls.read_text_content(self.number)
 
     @text_content.setter
     def text_content(self, text: Optional[str]) -> None:
@@ -183,6 +204,17 @@ class Node(SessionObject):
         """Lets this node and all below it go. Refused (``InUse``) while something refers to one of them."""
         self._calls.discard(self.number)
 
+    def _together(self, nodes: Tuple[Union[Node, str], ...]) -> Node:
+        """One node for several, as the standard's members take them: a str is a new Text, and of several a fragment is made."""
+        document = self.node_document
+        found = [document.create_text_node(it) if isinstance(it, str) else it for it in nodes]
+        if len(found) == 1:
+            return found[0]
+        fragment = document.create_document_fragment()
+        for it in found:
+            fragment.append_child(it)
+        return fragment
+
     def __repr__(self) -> str:
         """The tree below it, a node a line."""
         from .showing import shown
@@ -190,73 +222,161 @@ class Node(SessionObject):
         return shown(self)
 
 
+@quick
 class ParentNode(Node):
-    """A node that may have children."""
+    """A node that may have children. In a ``for`` it gives these, as they stand when it begins."""
 
     __slots__ = ()
 
-    def replace_children(self, node: Optional[Node] = None) -> None:
-        """Puts a node, or none, in place of all children."""
-        self._calls.replace_children(self.number, self._of_maybe(node, Node))
+    @property
+    def children(self) -> List[Element]:
+        """The children that are elements, as a list of now."""
+        return [it for it in self.child_nodes if isinstance(it, Element)]
+
+    def __iter__(self) -> Iterator[Node]:
+        return iter(self.child_nodes)
+
+    def append(self, *nodes: Union[Node, str]) -> None:
+        """Puts nodes, or strings as new Texts, behind its last child."""
+        self.append_child(self._together(nodes))
+
+    def prepend(self, *nodes: Union[Node, str]) -> None:
+        """Puts nodes, or strings as new Texts, before its first child."""
+        together = self._together(nodes)
+        self.insert_before(together, self.first_child)
+
+    def replace_children(self, *nodes: Union[Node, str, None]) -> None:
+        """Puts nodes, or strings as new Texts, or nothing, in place of all children."""
+        given = tuple(it for it in nodes if it is not None)
+        self._calls.replace_children(self.number, self._of(self._together(given), Node) if given else made.HP_NONE)
+
+    def get_elements_by_tag_name(self, name: str) -> List[Element]:
+        """The elements of that name below it, in tree order, as a list of now; ``*`` is every name."""
+        rows = self.tree()[1:]
+        return [it.node for it in rows if isinstance(it.node, Element) and name in ("*", it.name)]
+
+    def get_element_by_id(self, id: str) -> Optional[Element]:
+        """The first element below it, in tree order, whose attribute ``id`` has that value, or None."""
+        found = (it.node for it in self.tree()[1:] if ("id", id) in it.attributes)
+        return next((it for it in found if isinstance(it, Element)), None)
 
 
+@quick
 class ChildNode(Node):
     """A node that may have a parent."""
 
     __slots__ = ()
 
     def remove(self) -> None:
+        """Takes it from its parent, where it has one."""
         self._calls.remove(self.number)
+
+    def _beside(self, nodes: Tuple[Union[Node, str], ...], is_behind: bool) -> Optional[Node]:
+        """The next sibling before or behind it that is none of the nodes, which move."""
+        found = self.next_sibling if is_behind else self.previous_sibling
+        while found is not None and found in nodes:
+            found = found.next_sibling if is_behind else found.previous_sibling
+        return found
+
+    def before(self, *nodes: Union[Node, str]) -> None:
+        """Puts nodes, or strings as new Texts, before it; nothing where it has no parent."""
+        parent = self.parent_node
+        if parent is None:
+            return
+        previous = self._beside(nodes, False)
+        together = self._together(nodes)
+        parent.insert_before(together, parent.first_child if previous is None else previous.next_sibling)
+
+    def after(self, *nodes: Union[Node, str]) -> None:
+        """Puts nodes, or strings as new Texts, behind it; nothing where it has no parent."""
+        parent = self.parent_node
+        if parent is not None:
+            following = self._beside(nodes, True)
+            parent.insert_before(self._together(nodes), following)
+
+    def replace_with(self, *nodes: Union[Node, str]) -> None:
+        """Puts nodes, or strings as new Texts, in its place; nothing where it has no parent."""
+        parent = self.parent_node
+        if parent is None:
+            return
+        following = self._beside(nodes, True)
+        together = self._together(nodes)
+        if self.parent_node is parent:
+            parent.replace_child(together, self)
+        else:
+            parent.insert_before(together, following)
 
 
 class DocumentFragment(ParentNode):
+    """A node that holds others on their way: where it is put in, its children come in its place."""
+
     __slots__ = ()
 
 
+@quick
 class DocumentType(ChildNode):
+    """The doctype of a Document."""
+
     __slots__ = ()
 
     @property
     def name(self) -> str:
-        return self._name(0)
+        """Its name, as ``html``."""
+        return self._calls.read_name(self.number, 0)
 
     @property
     def public_id(self) -> str:
-        return self._name(1)
+        """Its public id, which may be empty."""
+        return self._calls.read_name(self.number, 1)
 
     @property
     def system_id(self) -> str:
-        return self._name(2)
+        """Its system id, which may be empty."""
+        return self._calls.read_name(self.number, 2)
 
 
+@quick
 class Element(ParentNode, ChildNode):
+    """An element: a name, attributes, children."""
+
     __slots__ = ()
 
     @property
     def tag_name(self) -> str:
-        return self._name(0)
+        """Its name, as it was given."""
+        return self._calls.read_name(self.number, 0)
+
+    @property
+    def attributes(self) -> Attributes:
+        """Its attributes as a mapping, which changes with the element and changes it."""
+        return Attributes(self)
 
     def get_attribute(self, name: str) -> Optional[str]:
-        return self.session._maybe_text(lambda: self._calls.get_attribute(self.number, name))
+        """The value of an attribute, or None."""
+        return self._calls.read_get_attribute(self.number, name)
 
     def set_attribute(self, name: str, value: str) -> None:
+        """Sets an attribute; a new one stands behind the others."""
         self._calls.set_attribute(self.number, name, value)
 
     def has_attribute(self, name: str) -> bool:
+        """Whether it has an attribute of that name."""
         return self._calls.has_attribute(self.number, name)
 
     def remove_attribute(self, name: str) -> None:
+        """Takes out an attribute, where it is there."""
         self._calls.remove_attribute(self.number, name)
 
     def toggle_attribute(self, name: str, force: Optional[bool] = None) -> bool:
+        """Sets an empty attribute or takes it out: as ``force`` says, or turned. Returns whether it is there then."""
         return self._calls.toggle_attribute(self.number, name, 2 if force is None else int(bool(force)))
 
     def get_attribute_names(self) -> List[str]:
-        with self._calls.lock:
-            self._calls.attribute_names(self.number)
-            return [self._calls.name_at(it) for it in range(self._calls.count())]
+        """The names of its attributes, in order."""
+        return self._calls.read_attribute_names(self.number)
 
 
+@quick
 class CharacterData(ChildNode):
     """A node with data: offsets and counts are UTF-16 units, and not Python's characters."""
 
@@ -264,29 +384,38 @@ class CharacterData(ChildNode):
 
     @property
     def data(self) -> str:
-        return self.session._text(lambda: self._calls.data(self.number))
+        """Its text."""
+        return self._calls.read_data(self.number)
 
     @data.setter
     def data(self, data: str) -> None:
         self._calls.set_data(self.number, data)
 
     def substring_data(self, offset: int, count: int) -> str:
-        return self.session._text(lambda: self._calls.substring_data(self.number, offset, count))
+        """So many units from an offset on; fewer where the data ends."""
+        return self._calls.read_substring_data(self.number, offset, count)
 
     def append_data(self, data: str) -> None:
+        """Puts a text behind its data."""
         self._calls.append_data(self.number, data)
 
     def insert_data(self, offset: int, data: str) -> None:
+        """Puts a text in at an offset."""
         self._calls.insert_data(self.number, offset, data)
 
     def delete_data(self, offset: int, count: int) -> None:
+        """Takes out so many units from an offset on."""
         self._calls.delete_data(self.number, offset, count)
 
     def replace_data(self, offset: int, count: int, data: str) -> None:
+        """Puts a text in place of so many units from an offset on."""
         self._calls.replace_data(self.number, offset, count, data)
 
 
+@quick
 class Text(CharacterData):
+    """A text."""
+
     __slots__ = ()
 
     def split_text(self, offset: int) -> Text:
@@ -295,20 +424,18 @@ class Text(CharacterData):
 
 
 class Comment(CharacterData):
+    """A comment."""
+
     __slots__ = ()
 
 
+@quick
 class ProcessingInstruction(CharacterData):
+    """A processing instruction: a target and data."""
+
     __slots__ = ()
 
     @property
     def target(self) -> str:
-        return self._name(0)
-
-
-def read_row(node: Node, at: int, row: made.hp_row) -> Row:
-    """A row of the last answer, with its node."""
-    calls = node._calls
-    names = [if_there(calls.row_name, at, part) for part in range(3)]
-    pairs = ((calls.row_attribute_name(at, it), calls.row_attribute_value(at, it)) for it in range(row.attributes))
-    return Row(row.depth, node, names[0], tuple(pairs), if_there(calls.row_text, at), names[1], names[2])
+        """Its target."""
+        return self._calls.read_name(self.number, 0)

@@ -4,29 +4,21 @@ from __future__ import annotations
 
 from typing import TYPE_CHECKING, Optional, Type, TypeVar
 
+from ._calls import Thing
 from ._signatures import HP_NONE
 
 if TYPE_CHECKING:
-    from ._calls import Calls
     from .session import Session
 
 K = TypeVar("K", bound="SessionObject")
 
 
-class SessionObject:
+class SessionObject(Thing):
     """What has a number in a session. Sessions and documents make these; the same number is the same object."""
 
-    __slots__ = ("session", "number", "__weakref__")
-    session: Session
-    number: int
-
-    def __init__(self, session: Session, number: int) -> None:
-        self.session = session
-        self.number = number
-
-    @property
-    def _calls(self) -> Calls:
-        return self.session._calls
+    __slots__ = ("__weakref__",)
+    # Numbers of one family are one another's: those of nodes, ranges, static ranges, iterators and walkers.
+    _family = 5
 
     def _of(self, other: object, kind: Type[SessionObject]) -> int:
         """The number of an object that is handed in, which has to be of this session."""
@@ -38,6 +30,13 @@ class SessionObject:
 
     def _of_maybe(self, other: object, kind: Type[SessionObject]) -> int:
         return HP_NONE if other is None else self._of(other, kind)
+
+    def _release(self, call: str) -> None:
+        """Lets the object go, by a call that older libraries do not have."""
+        release = getattr(self._calls, call, None)
+        if release is None:
+            raise NotImplementedError(f"this library has no hp_{call}")
+        release(self.number)
 
     def _said(self) -> str:
         """What repr tells beside class and number."""

@@ -5,16 +5,12 @@ from __future__ import annotations
 from typing import TYPE_CHECKING, Callable, List, NamedTuple, Optional, Sequence
 
 from . import _signatures as made
-from ._handle import if_there
 from .nodes import Node
-from .objects import SessionObject, maybe
+from .objects import SessionObject
 from .traversal import names
 
 if TYPE_CHECKING:
     from .session import Session
-
-# The standard's word for the type of a record.
-TYPES = {made.HP_ATTRIBUTES: "attributes", made.HP_CHARACTER_DATA: "characterData", made.HP_CHILD_LIST: "childList"}
 
 
 class MutationRecord(NamedTuple):
@@ -66,40 +62,15 @@ class MutationObserver(SessionObject):
         self._calls.observe(self.number, self._of(target, Node), options, *names(attribute_filter or ()))
 
     def disconnect(self) -> None:
+        """Ends all watching, and lets the records go that were not told."""
         self._calls.disconnect(self.number)
 
     def take_records(self) -> List[MutationRecord]:
-        with self._calls.lock:
-            self._calls.take_records(self.number)
-            found = [RawRecord(self.session, 0, at) for at in range(self._calls.count())]
-        return [it.record() for it in found]
+        """The records that were not told, which are taken."""
+        found: List[MutationRecord] = self._calls.read_records(self.session, self.number)
+        return self.session._take_left(self) + found
 
-
-class RawRecord:
-    """A record by numbers: all of an answer is read before a node is asked for its kind, which is an answer too."""
-
-    def __init__(self, session: Session, notice: int, at: int) -> None:
-        calls = session._calls
-        self.session = session
-        self.told = calls.record_at(notice, at)
-        self.added = [calls.record_added_at(notice, at, it) for it in range(self.told.added)]
-        self.removed = [calls.record_removed_at(notice, at, it) for it in range(self.told.removed)]
-        self.name = if_there(calls.record_name, notice, at)
-        self.old_value = if_there(calls.record_old_value, notice, at)
-
-    def beside(self, number: int) -> Optional[Node]:
-        found = maybe(number)
-        return None if found is None else self.session._node(found)
-
-    def record(self) -> MutationRecord:
-        node = self.session._node
-        return MutationRecord(
-            TYPES[self.told.type],
-            node(self.told.target),
-            [node(it) for it in self.added],
-            [node(it) for it in self.removed],
-            self.beside(self.told.previous),
-            self.beside(self.told.next),
-            self.name,
-            self.old_value,
-        )
+    def release(self) -> None:
+        """Lets the observer go, where the library can do it: it watches nothing then."""
+        self._release("release_observer")
+        self.session._observers.pop(self.number, None)

@@ -5,6 +5,7 @@ from __future__ import annotations
 from typing import Union
 
 from . import _signatures as made
+from ._calls import quick
 from .nodes import DocumentFragment, Node
 from .objects import SessionObject
 
@@ -19,18 +20,22 @@ class AbstractRange(SessionObject):
 
     @property
     def start_container(self) -> Node:
+        """The node of its start."""
         return self.session._node(self._ends().start)
 
     @property
     def start_offset(self) -> int:
+        """Where in that node it starts: UTF-16 units or children."""
         return self._ends().start_offset
 
     @property
     def end_container(self) -> Node:
+        """The node of its end."""
         return self.session._node(self._ends().end)
 
     @property
     def end_offset(self) -> int:
+        """Where in that node it ends."""
         return self._ends().end_offset
 
     @property
@@ -44,10 +49,12 @@ class AbstractRange(SessionObject):
         return f"({ends.start}, {ends.start_offset})-({ends.end}, {ends.end_offset})"
 
 
+@quick
 class Range(AbstractRange):
     """A live range: its ends move with the edits of the tree. ``str`` gives its text."""
 
     __slots__ = ()
+    _family = 1
 
     START_TO_START = 0
     START_TO_END = 1
@@ -59,63 +66,83 @@ class Range(AbstractRange):
 
     @property
     def common_ancestor_container(self) -> Node:
+        """The deepest node that both ends are in."""
         return self.session._node(self._calls.common_ancestor(self.number))
 
     def set_start(self, node: Node, offset: int) -> None:
+        """Sets the start; the end goes there too where it would stand before it."""
         self._calls.set_start(self.number, self._of(node, Node), offset)
 
     def set_end(self, node: Node, offset: int) -> None:
+        """Sets the end; the start goes there too where it would stand behind it."""
         self._calls.set_end(self.number, self._of(node, Node), offset)
 
     def set_start_before(self, node: Node) -> None:
+        """Sets the start before a node."""
         self._calls.set_start_before(self.number, self._of(node, Node))
 
     def set_start_after(self, node: Node) -> None:
+        """Sets the start behind a node."""
         self._calls.set_start_after(self.number, self._of(node, Node))
 
     def set_end_before(self, node: Node) -> None:
+        """Sets the end before a node."""
         self._calls.set_end_before(self.number, self._of(node, Node))
 
     def set_end_after(self, node: Node) -> None:
+        """Sets the end behind a node."""
         self._calls.set_end_after(self.number, self._of(node, Node))
 
     def collapse(self, to_start: bool = False) -> None:
+        """Moves one end to the other: the start to the end, or as ``to_start`` says."""
         self._calls.collapse(self.number, to_start)
 
     def select_node(self, node: Node) -> None:
+        """Sets the ends around a node."""
         self._calls.select_node(self.number, self._of(node, Node))
 
     def select_node_contents(self, node: Node) -> None:
+        """Sets the ends around what a node has."""
         self._calls.select_node_contents(self.number, self._of(node, Node))
 
     def compare_boundary_points(self, how: int, source_range: Range) -> int:
+        """-1, 0 or 1: how an end of this one stands to an end of the other, as ``Range.START_TO_END`` says."""
         return self._calls.compare_boundary_points(self.number, how, self._of(source_range, Range))
 
     def compare_point(self, node: Node, offset: int) -> int:
+        """-1 before it, 0 in it, 1 behind it."""
         return self._calls.compare_point(self.number, self._of(node, Node), offset)
 
     def is_point_in_range(self, node: Node, offset: int) -> bool:
+        """Whether a point is in it."""
         return self._calls.is_point_in_range(self.number, self._of(node, Node), offset)
 
     def intersects_node(self, node: Node) -> bool:
+        """Whether a part of a node is in it."""
         return self._calls.intersects_node(self.number, self._of(node, Node))
 
     def clone_range(self) -> Range:
+        """A new live range with the same ends."""
         return self.session._keep(Range, self._calls.clone_range(self.number))
 
     def delete_contents(self) -> None:
+        """Deletes what is in it."""
         self._calls.delete_contents(self.number)
 
     def extract_contents(self) -> DocumentFragment:
+        """Takes what is in it into a new fragment."""
         return self.session._keep(DocumentFragment, self._calls.extract_contents(self.number))
 
     def clone_contents(self) -> DocumentFragment:
+        """Copies what is in it into a new fragment."""
         return self.session._keep(DocumentFragment, self._calls.clone_contents(self.number))
 
     def insert_node(self, node: Node) -> None:
+        """Puts a node in at its start."""
         self._calls.insert_node(self.number, self._of(node, Node))
 
     def surround_contents(self, new_parent: Node) -> None:
+        """Takes what is in it into a node, and puts that in its place."""
         self._calls.surround_contents(self.number, self._of(new_parent, Node))
 
     def release(self) -> None:
@@ -123,13 +150,14 @@ class Range(AbstractRange):
         self._calls.release_range(self.number)
 
     def __str__(self) -> str:
-        return self.session._text(lambda: self._calls.range_text(self.number))
+        return self._calls.read_range_text(self.number)
 
 
 class StaticRange(AbstractRange):
     """A range that stays as it was made."""
 
     __slots__ = ()
+    _family = 2
 
     def _ends(self) -> made.hp_static_ends:
         return self._calls.static_range(self.number)
@@ -138,3 +166,7 @@ class StaticRange(AbstractRange):
     def is_valid(self) -> bool:
         """Whether it is valid in the standard's sense now."""
         return self._ends().is_valid != 0
+
+    def release(self) -> None:
+        """Lets the range go, where the library can do it."""
+        self._release("release_static_range")

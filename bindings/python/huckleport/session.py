@@ -5,16 +5,15 @@ from __future__ import annotations
 import json
 import weakref
 from types import TracebackType
-from typing import Any, Callable, Dict, List, Optional, Tuple, Type, TypeVar, cast
+from typing import Dict, List, Optional, Tuple, Type, TypeVar, cast
 
-from ._calls import Calls
-from ._handle import if_there, octets
-from ._signatures import HP_CLOSED, HP_NONE, HP_OUT_OF_MEMORY
+from ._calls import Calls, settle
+from ._signatures import HP_NO_SUCH_OBJECT, HP_NONE, hp_options
 from .documents import Document
-from .errors import refusal
-from .nodes import Comment, DocumentFragment, DocumentType, Element, Node, ProcessingInstruction, Row, Text, read_row
+from .errors import Error, refusal
+from .nodes import Comment, DocumentFragment, DocumentType, Element, Node, ProcessingInstruction, Row, Text
 from .objects import SessionObject
-from .observers import Callback, MutationObserver, MutationRecord, RawRecord
+from .observers import Callback, MutationObserver, MutationRecord
 from .ranges import Range, StaticRange
 from .traversal import NodeIterator, TreeWalker
 
@@ -33,8 +32,7 @@ KINDS: Dict[int, Type[Node]] = {
 
 
 def _close(calls: Calls) -> None:
-    with calls.lock:
-        calls.close()
+    calls.close()
 
 
 class Session:
@@ -48,9 +46,10 @@ class Session:
         self._calls = Calls()
         self._calls.open(numbers, line)
         self._end = weakref.finalize(self, _close, self._calls)
-        self._kept: Dict[Type[SessionObject], weakref.WeakValueDictionary[int, SessionObject]] = {}
         # Observers stay, since their callbacks are still to be called.
         self._observers: Dict[int, MutationObserver] = {}
+        # What was told to observers without a callback when a callback of another raised: it is still to be handed out.
+        self._left: List[Notice] = []
 
     def close(self) -> None:
         """Frees all that the session has. Every use of it, or of what is in it, raises ``SessionClosed`` from then on."""
@@ -58,6 +57,7 @@ class Session:
 
     @property
     def closed(self) -> bool:
+        """Whether the session has ended."""
         return not self._end.alive
 
     def __enter__(self) -> Session:
@@ -76,21 +76,10 @@ class Session:
 
     def _keep(self, kind: Type[K], number: int) -> K:
         """The object of a kind with that number, the same each time."""
-        base: Type[SessionObject] = kind
-        if issubclass(kind, Node):
-            base = Node
-        with self._calls.lock:
-            table = self._kept.setdefault(base, weakref.WeakValueDictionary())
-            found = table.get(number)
-            if found is None:
-                found = table[number] = kind(self, number)
-            return cast(K, found)
+        return cast(K, self._calls.keep(self, kind, number))
 
     def _node(self, number: int) -> Node:
-        with self._calls.lock:
-            table = self._kept.get(Node)
-            found = table.get(number) if table is not None else None
-            return cast(Node, found) if found is not None else self.node(number)
+        return cast(Node, self._calls.node_object(self, number))
 
     def _document(self, number: int) -> Document:
         return self._keep(Document, number)
@@ -100,25 +89,41 @@ class Session:
         return self._keep(KINDS[self._calls.node(number).kind], number)
 
     def range(self, number: int) -> Range:
+        """The live range of that number."""
         self._calls.range(number)
         return self._keep(Range, number)
 
     def static_range(self, number: int) -> StaticRange:
+        """The static range of that number."""
         self._calls.static_range(number)
         return self._keep(StaticRange, number)
 
     def node_iterator(self, number: int) -> NodeIterator:
+        """The iterator of that number."""
         self._calls.iterator(number)
         return self._keep(NodeIterator, number)
 
     def tree_walker(self, number: int) -> TreeWalker:
+        """The walker of that number."""
         self._calls.walker(number)
         return self._keep(TreeWalker, number)
 
     def mutation_observer(self, number: int) -> MutationObserver:
-        """The observer of that number; whether there is one shows when it is used."""
-        with self._calls.lock:
-            return self._observers.setdefault(number, MutationObserver(self, number))
+        """The observer of that number."""
+        if number not in self._observers:
+            self._has_observer(number)
+        return self._observer(number)
+
+    def _observer(self, number: int) -> MutationObserver:
+        return self._observers.setdefault(number, MutationObserver(self, number))
+
+    def _has_observer(self, number: int) -> None:
+        """Asks whether there is an observer: to watch without a type is refused, and for another reason where there is none."""
+        try:
+            self._calls.observe(number, 0, hp_options(2, 2, 2, 2, 2, 2, 0), b"", [])
+        except Error as fault:
+            if fault.status == HP_NO_SUCH_OBJECT:
+                raise refusal(HP_NO_SUCH_OBJECT, "mutation_observer") from None
 
     # what a session makes
 
@@ -128,15 +133,18 @@ class Session:
         return self._document(0)
 
     def create_document(self) -> Document:
+        """A new Document, without children."""
         return self._keep(Document, self._calls.new_document())
 
     def create_static_range(self, start_container: Node, start_offset: int, end_container: Node, end_offset: int) -> StaticRange:
+        """A range that stays as it is made."""
         start, end = self.document._of(start_container, Node), self.document._of(end_container, Node)
         return self._keep(StaticRange, self._calls.create_static_range(start, start_offset, end, end_offset))
 
     def create_mutation_observer(self, callback: Optional[Callback] = None) -> MutationObserver:
-        found = MutationObserver(self, self._calls.create_observer(), callback)
-        self._observers[found.number] = found
+        """A new observer, whose callback ``notify`` calls with the records and the observer."""
+        found = self._observer(self._calls.create_observer())
+        found.callback = callback
         return found
 
     # observers
@@ -144,28 +152,25 @@ class Session:
     def notify(self) -> List[Notice]:
         """Tells each observer its records, by its callback, and returns what was told.
 
-        Where callbacks raise, the others are still called, and then the first exception is raised.
+        Where callbacks raise, the others are still called, and then the first exception is raised. What was told to observers without a
+        callback is then kept for the next ``notify()``, or the observer's next ``take_records()``.
         """
-        with self._calls.lock:
-            self._calls.notify()
-            told = [self._calls.notice_at(at) for at in range(self._calls.count())]
-            raw = [[RawRecord(self, at, it) for it in range(notice.records)] for at, notice in enumerate(told)]
-        found = [(self.mutation_observer(notice.observer), [it.record() for it in records]) for notice, records in zip(told, raw)]
-        faults = []
-        for observer, records in found:
-            if observer.callback is None:
-                continue
-            try:
-                observer.callback(records, observer)
-            except Exception as fault:
-                faults.append(fault)
-        if faults:
-            raise faults[0]
+        told: List[Notice] = []
+        fault = self._calls.tell(self, told)
+        if fault is not None:
+            self._left += [it for it in told if it[0].callback is None]
+            raise fault
+        left, self._left = self._left, []
+        return left + told
+
+    def _take_left(self, observer: MutationObserver) -> List[MutationRecord]:
+        found = [record for it, records in self._left if it is observer for record in records]
+        self._left = [it for it in self._left if it[0] is not observer]
         return found
 
     def pending(self) -> List[MutationObserver]:
         """The observers that wait to be told."""
-        return [self.mutation_observer(it) for it in self._numbers(self._calls.pending)]
+        return [self._observer(it) for it in self._calls.read_pending()]
 
     # lines
 
@@ -173,45 +178,28 @@ class Session:
         """Answers a line of JSON as the program does, and returns the line of the reply with its newline."""
         if not isinstance(line, (bytes, bytearray, memoryview)):
             raise TypeError(f"a line is bytes, and not {type(line).__name__}")
-        with self._calls.lock:
-            status = self._calls._status("hp_line", *octets(bytes(line)))
-            if status in (HP_CLOSED, HP_OUT_OF_MEMORY):
-                raise refusal(status, "line")
-            return self._calls.reply_line()
+        status, reply = self._calls.read_line(bytes(line))
+        if reply is None:
+            raise refusal(status, "line")
+        return reply
 
     # what is read of an answer
 
-    def _numbers(self, ask: Callable[[], None]) -> List[int]:
-        with self._calls.lock:
-            ask()
-            return [self._calls.number_at(at) for at in range(self._calls.count())]
-
-    def _text(self, ask: Callable[[], None]) -> str:
-        with self._calls.lock:
-            ask()
-            return self._calls.text()
-
-    def _maybe_text(self, ask: Callable[[], None]) -> Optional[str]:
-        with self._calls.lock:
-            ask()
-            return if_there(self._calls.text)
-
-    def _printed(self, ask: Callable[[], object]) -> Any:
-        """An answer as its line prints it."""
-        with self._calls.lock:
-            ask()
-            self._calls.print()
-            return json.loads(self._calls.reply_line())["ok"]
+    def _printed_name(self, node: int) -> str:
+        """The name of a node as its line prints it."""
+        name: str = json.loads(self._calls.read_printed(node))["ok"]["name"]
+        return name
 
     def _rows(self, node: Node, most: Optional[int] = None) -> List[Row]:
-        with self._calls.lock:
-            self._calls.tree(node.number)
-            count = self._calls.count()
-            found = []
-            for at in range(count if most is None else min(count, most)):
-                row = self._calls.row_at(at)
-                found.append(read_row(self._keep(KINDS[row.type], row.node), at, row))
-            return found
+        return self._calls.read_tree(self, node.number, most)
 
 
-
+CLASSES: Tuple[Type[object], ...] = (Node, *KINDS.values(), Range, StaticRange, NodeIterator, TreeWalker, Row, MutationRecord)
+settle(
+    {
+        **{it.__name__: it for it in CLASSES},
+        "kinds": KINDS,
+        "refusal": refusal,
+        "printed_name": lambda node: node.session._printed_name(node.number),
+    }
+)

@@ -5,6 +5,7 @@ from __future__ import annotations
 from typing import Iterator, List, Optional, Sequence, Tuple
 
 from . import _signatures as made
+from ._calls import quick
 from .nodes import Node
 from .objects import SessionObject, maybe
 
@@ -39,31 +40,38 @@ def rules(given: Filter) -> Tuple[bytes, List[int], bytes]:
     return (*names([name for name, _ in given]), bytes(verdict for _, verdict in given))
 
 
+@quick
 class NodeIterator(SessionObject):
     """Goes through a tree in tree order, and gives way to removals. It can stand in a ``for``."""
 
     __slots__ = ()
+    _family = 3
 
     def _place(self) -> made.hp_iterator_at:
         return self._calls.iterator(self.number)
 
     @property
     def root(self) -> Node:
+        """The node that it does not leave."""
         return self.session._node(self._place().root)
 
     @property
     def reference_node(self) -> Node:
+        """The node beside which it stands."""
         return self.session._node(self._place().reference)
 
     @property
     def pointer_before_reference_node(self) -> bool:
+        """Whether it stands before that node."""
         return self._place().is_before != 0
 
     def next_node(self) -> Optional[Node]:
+        """Moves on, and returns the node, or None at the end."""
         found = maybe(self._calls.next_node(self.number))
         return None if found is None else self.session._node(found)
 
     def previous_node(self) -> Optional[Node]:
+        """Moves back, and returns the node, or None at the start."""
         found = maybe(self._calls.previous_node(self.number))
         return None if found is None else self.session._node(found)
 
@@ -80,11 +88,16 @@ class NodeIterator(SessionObject):
         place = self._place()
         return f"of {place.root}, {'before' if place.is_before else 'after'} {place.reference}"
 
+    def release(self) -> None:
+        """Lets the iterator go, where the library can do it."""
+        self._release("release_iterator")
+
 
 class TreeWalker(SessionObject):
     """Walks about in a tree by moves."""
 
     __slots__ = ()
+    _family = 4
 
     def _place(self) -> made.hp_walker_at:
         return self._calls.walker(self.number)
@@ -95,10 +108,12 @@ class TreeWalker(SessionObject):
 
     @property
     def root(self) -> Node:
+        """The node that it does not leave."""
         return self.session._node(self._place().root)
 
     @property
     def current_node(self) -> Node:
+        """Where it stands; it can be set."""
         return self.session._node(self._place().current)
 
     @current_node.setter
@@ -108,26 +123,37 @@ class TreeWalker(SessionObject):
     # The directions by the numbers of hp_walk.
 
     def parent_node(self) -> Optional[Node]:
+        """Moves up, and returns the node, or None and stays."""
         return self._walk(0)
 
     def first_child(self) -> Optional[Node]:
+        """Moves to the first child that is accepted."""
         return self._walk(1)
 
     def last_child(self) -> Optional[Node]:
+        """Moves to the last child that is accepted."""
         return self._walk(2)
 
     def previous_sibling(self) -> Optional[Node]:
+        """Moves to the sibling before."""
         return self._walk(3)
 
     def next_sibling(self) -> Optional[Node]:
+        """Moves to the sibling behind."""
         return self._walk(4)
 
     def previous_node(self) -> Optional[Node]:
+        """Moves back in tree order."""
         return self._walk(5)
 
     def next_node(self) -> Optional[Node]:
+        """Moves on in tree order."""
         return self._walk(6)
 
     def _said(self) -> str:
         place = self._place()
         return f"of {place.root}, at {place.current}"
+
+    def release(self) -> None:
+        """Lets the walker go, where the library can do it."""
+        self._release("release_walker")

@@ -6,8 +6,9 @@ import threading
 import unittest
 
 import huckleport as h
-from huckleport._calls import Calls
 from huckleport import _signatures
+from huckleport._by_ctypes import Calls as ByCtypes
+from huckleport._calls import Calls
 
 
 class Objects(unittest.TestCase):
@@ -169,14 +170,14 @@ class Objects(unittest.TestCase):
                 if name in ("hp_open", "hp_close"):
                     continue
                 with self.assertRaises(h.SessionClosed, msg=name):
-                    self.use(getattr(calls, name[3:]))
+                    self.use(getattr(calls, name[3:]), getattr(ByCtypes, name[3:]).__annotations__)
                 count += 1
         self.assertEqual(count, 2 * (len(_signatures.ARGUMENTS) - 2))
 
-    def use(self, call):
+    def use(self, call, annotations):
         """Makes a call with values of its annotations."""
         values = {"int": 0, "str": "a", "bytes": b"", "bool": False, "Sequence[int]": [], "_signatures.hp_options": _signatures.hp_options()}
-        call(*(values[form] for name, form in call.__annotations__.items() if name != "return"))
+        call(*(values[form] for name, form in annotations.items() if name != "return"))
 
     def test_left_session_is_freed(self):
         session = h.Session()
@@ -187,7 +188,7 @@ class Objects(unittest.TestCase):
         self.assertEqual(element.tag_name, "p")
         del element
         gc.collect()
-        self.assertFalse(calls._session.is_open)
+        self.assertFalse(calls.is_open)
 
     def test_threads(self):
         def work():

@@ -1,4 +1,4 @@
-"""docs/python.md: its ten lines print what stands below them, and each name that it lists is there."""
+"""docs/python.md: its examples print what stands below them, and each name that it lists is there."""
 import contextlib
 import io
 import os
@@ -6,6 +6,7 @@ import re
 import unittest
 
 import huckleport
+from tests.rows import is_there
 
 PAGE = os.path.join(os.path.dirname(os.path.abspath(__file__)), "..", "..", "..", "docs", "python.md")
 
@@ -15,16 +16,21 @@ class Page(unittest.TestCase):
         with open(PAGE, encoding="utf-8") as file:
             self.text = file.read()
 
-    def test_example(self):
-        program, due = re.search(r"```python\n(.*?)```\n\n```text\n(.*?)```", self.text, re.S).groups()
-        said = io.StringIO()
-        with contextlib.redirect_stdout(said):
-            exec(program, {})
-        self.assertEqual(said.getvalue(), due)
+    def test_examples(self):
+        found = re.findall(r"```python\n(.*?)```\n\n```text\n(.*?)```", self.text, re.S)
+        self.assertEqual(len(found), 3)
+        for program, due in found:
+            if "html.parse" in program and not is_there("html5lib"):
+                continue
+            said = io.StringIO()
+            with contextlib.redirect_stdout(said):
+                exec(program, {"huckleport": huckleport})
+            self.assertEqual(said.getvalue(), due)
 
     def test_names(self):
         kinds = [it for it in vars(huckleport).values() if isinstance(it, type)]
-        known = {name for it in kinds for name in dir(it)} | {"session", "number"}
+        known = {name for it in kinds for name in dir(it)} | {"session", "number", *huckleport.__all__}
+        known.update(huckleport.html.__all__, huckleport.xml.__all__)
         rows = re.search(r"^## All of it\n(.*?)^## ", self.text, re.S | re.M)[1]
         listed = set(re.findall(r"`(?:\w+\.)?([a-z_]+)(?:\([^`]*\))?`", rows))
         self.assertGreater(len(listed), 100)

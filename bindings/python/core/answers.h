@@ -1,0 +1,538 @@
+/* Whole answers. What the library lends is copied first, and no object that the collector counts is made until all of it is: so neither the
+ * collector nor a signal nor another thread can put another answer in its place. Then Python's objects are made of the copy. */
+#ifndef HUCKLEPORT_ANSWERS_H
+#define HUCKLEPORT_ANSWERS_H
+
+#include "objects.h"
+
+/* ---- lists that grow */
+
+/* Numbers of nodes, and then the kind of each. */
+typedef struct {
+    uint32_t *at;
+    uint8_t *kinds;
+    size_t length, room;
+} Numbers;
+
+static void numbers_drop(Numbers *it)
+{
+    PyMem_Free(it->at);
+    PyMem_Free(it->kinds);
+}
+
+static bool numbers_push(Numbers *it, uint32_t number)
+{
+    if (it->length == it->room) {
+        size_t room = it->room ? 2 * it->room : 32;
+        uint32_t *wider = PyMem_Realloc(it->at, room * sizeof(uint32_t));
+        if (!wider)
+            return PyErr_NoMemory() != NULL;
+        it->at = wider;
+        it->room = room;
+    }
+    it->at[it->length++] = number;
+    return true;
+}
+
+/* Asks for the kind of each node that has no object yet. This takes the place of the last answer, which has been copied. */
+static bool numbers_ask(Numbers *it, Calls *calls)
+{
+    it->kinds = PyMem_Calloc(it->length + 1, 1);
+    if (!it->kinds)
+        return PyErr_NoMemory() != NULL;
+    for (size_t at = 0; at < it->length; at++) {
+        hp_place place;
+        bool is_known = it->at[at] == HP_NONE || (calls->kept.entries && entry_of(&calls->kept, it->at[at], FAMILY_NODE)->object);
+        if (!is_known && hp_node(&calls->session, it->at[at], &place) == HP_OK)
+            it->kinds[at] = place.kind;
+    }
+    return true;
+}
+
+/* The node at a place. */
+static PyObject *numbers_node(const Numbers *it, size_t at, PyObject *session, Calls *calls)
+{
+    uint32_t number = it->at[at];
+    if (number == HP_NONE)
+        return none();
+    if (it->kinds[at])
+        return made(session, calls, kind_of(it->kinds[at]), FAMILY_NODE, number);
+    return node_from(session, calls, number);
+}
+
+/* The nodes from a place on, as a list. */
+static PyObject *numbers_nodes(const Numbers *it, size_t from, size_t count, PyObject *session, Calls *calls)
+{
+    PyObject *found = PyList_New((Py_ssize_t)count);
+    for (size_t at = 0; found && at < count; at++) {
+        PyObject *node = numbers_node(it, from + at, session, calls);
+        if (!node)
+            Py_CLEAR(found);
+        else
+            PyList_SetItem(found, (Py_ssize_t)at, node);
+    }
+    return found;
+}
+
+/* The numbers of the last answer. */
+static bool numbers_read(Numbers *to, hp_session *session)
+{
+    size_t count = 0;
+    uint32_t number = 0;
+    hp_count(session, &count);
+    for (size_t at = 0; at < count; at++) {
+        if (hp_number_at(session, at, &number) == HP_OK && !numbers_push(to, number))
+            return false;
+    }
+    return true;
+}
+
+/* ---- answers of one kind of part */
+
+static PyObject *text_answer(hp_session *session)
+{
+    hp_text_view view;
+    return hp_text(session, &view) == HP_OK ? text_from(view.units, view.length) : none();
+}
+
+static PyObject *numbers_answer(hp_session *session)
+{
+    Numbers numbers = { NULL, NULL, 0, 0 };
+    PyObject *found = numbers_read(&numbers, session) ? PyList_New((Py_ssize_t)numbers.length) : NULL;
+    for (size_t at = 0; found && at < numbers.length; at++)
+        PyList_SetItem(found, (Py_ssize_t)at, PyLong_FromUnsignedLong(numbers.at[at]));
+    numbers_drop(&numbers);
+    return found;
+}
+
+/* Objects that a list is made of, once all of them are there. */
+static PyObject *list_of(PyObject **parts, size_t count)
+{
+    PyObject *found = PyList_New((Py_ssize_t)count);
+    for (size_t at = 0; found && at < count; at++) {
+        Py_INCREF(parts[at]);
+        PyList_SetItem(found, (Py_ssize_t)at, parts[at]);
+    }
+    return found;
+}
+
+static PyObject *names_answer(hp_session *session)
+{
+    size_t count = 0, made_count = 0;
+    hp_count(session, &count);
+    PyObject **parts = PyMem_Calloc(count + 1, sizeof(PyObject *)), *found = NULL;
+    if (!parts)
+        return PyErr_NoMemory();
+    for (size_t at = 0; at < count; at++) {
+        hp_bytes view;
+        parts[at] = hp_name_at(session, at, &view) == HP_OK ? name_from(view.bytes, view.length) : none();
+        if (!parts[at])
+            break;
+        made_count++;
+    }
+    if (made_count == count)
+        found = list_of(parts, count);
+    for (size_t at = 0; at < made_count; at++)
+        Py_DECREF(parts[at]);
+    PyMem_Free(parts);
+    return found;
+}
+
+/* ---- the rows of a tree */
+
+typedef struct {
+    hp_row row;
+    PyObject *names[3], *text;
+    size_t first_pair;
+} Copied;
+
+typedef struct {
+    Copied *rows;
+    size_t count;
+    PyObject **pairs;
+    size_t pairs_length, pairs_room;
+} Rows;
+
+static void rows_drop(Rows *it)
+{
+    for (size_t at = 0; it->rows && at < it->count; at++) {
+        for (int part = 0; part < 3; part++)
+            Py_XDECREF(it->rows[at].names[part]);
+        Py_XDECREF(it->rows[at].text);
+    }
+    for (size_t at = 0; at < it->pairs_length; at++)
+        Py_XDECREF(it->pairs[at]);
+    PyMem_Free(it->rows);
+    PyMem_Free(it->pairs);
+}
+
+static bool rows_push(Rows *it, PyObject *part)
+{
+    if (it->pairs_length == it->pairs_room) {
+        size_t room = it->pairs_room ? 2 * it->pairs_room : 32;
+        PyObject **wider = PyMem_Realloc(it->pairs, room * sizeof(PyObject *));
+        if (!wider) {
+            Py_XDECREF(part);
+            return PyErr_NoMemory() != NULL;
+        }
+        it->pairs = wider;
+        it->pairs_room = room;
+    }
+    it->pairs[it->pairs_length++] = part;
+    return part != NULL;
+}
+
+static bool row_attributes(Rows *to, hp_session *session, size_t at, size_t count)
+{
+    for (size_t pair = 0; pair < count; pair++) {
+        hp_bytes name;
+        hp_text_view value;
+        if (hp_row_attribute_name(session, at, pair, &name) || !rows_push(to, name_from(name.bytes, name.length)))
+            return false;
+        if (hp_row_attribute_value(session, at, pair, &value) || !rows_push(to, text_from(value.units, value.length)))
+            return false;
+    }
+    return true;
+}
+
+/* Copies a row of the last answer. */
+static bool row_copy(Rows *to, hp_session *session, size_t at)
+{
+    Copied *it = &to->rows[at];
+    hp_bytes name;
+    hp_text_view text;
+    if (hp_row_at(session, at, &it->row))
+        return false;
+    it->first_pair = to->pairs_length;
+    for (uint8_t part = 0; part < 3 && hp_row_name(session, at, part, &name) == HP_OK; part++) {
+        it->names[part] = name_from(name.bytes, name.length);
+        if (!it->names[part])
+            return false;
+    }
+    if (hp_row_text(session, at, &text) == HP_OK) {
+        it->text = text_from(text.units, text.length);
+        if (!it->text)
+            return false;
+    }
+    return row_attributes(to, session, at, it->row.attributes);
+}
+
+static bool rows_copy(Rows *to, hp_session *session, size_t most)
+{
+    size_t count = 0;
+    hp_count(session, &count);
+    to->count = count < most ? count : most;
+    to->rows = PyMem_Calloc(to->count + 1, sizeof(Copied));
+    if (!to->rows)
+        return PyErr_NoMemory() != NULL;
+    for (size_t at = 0; at < to->count; at++) {
+        if (!row_copy(to, session, at))
+            return false;
+    }
+    return true;
+}
+
+/* The attributes of a row as pairs. */
+static PyObject *pairs_of(const Rows *rows, const Copied *it)
+{
+    PyObject *found = PyTuple_New((Py_ssize_t)it->row.attributes);
+    for (size_t at = 0; found && at < it->row.attributes; at++) {
+        PyObject **pair = &rows->pairs[it->first_pair + 2 * at];
+        PyObject *both = PyTuple_Pack(2, pair[0], pair[1]);
+        if (!both)
+            Py_CLEAR(found);
+        else
+            PyTuple_SetItem(found, (Py_ssize_t)at, both);
+    }
+    return found;
+}
+
+static PyObject *tuple_new;
+
+/* A named tuple of these parts, whose references go with it. */
+static PyObject *named_tuple(int kind, PyObject **parts, int count)
+{
+    PyObject *plain = PyTuple_New(count), *found = NULL;
+    bool is_whole = plain != NULL;
+    for (int at = 0; at < count; at++) {
+        is_whole = is_whole && parts[at];
+        if (plain && parts[at])
+            PyTuple_SetItem(plain, at, parts[at]);
+        else
+            Py_XDECREF(parts[at]);
+    }
+    if (is_whole)
+        found = PyObject_CallFunctionObjArgs(tuple_new, kinds[kind], plain, NULL);
+    Py_XDECREF(plain);
+    return found;
+}
+
+static PyObject *or_none(PyObject *it)
+{
+    it = it ? it : Py_None;
+    Py_INCREF(it);
+    return it;
+}
+
+static PyObject *row_made(const Rows *rows, const Copied *it, PyObject *session, Calls *calls)
+{
+    PyObject *parts[7] = {
+        PyLong_FromSize_t(it->row.depth),
+        made(session, calls, kind_of(it->row.type), FAMILY_NODE, it->row.node),
+        or_none(it->names[0]),
+        pairs_of(rows, it),
+        or_none(it->text),
+        or_none(it->names[1]),
+        or_none(it->names[2]),
+    };
+    return named_tuple(KIND_ROW, parts, 7);
+}
+
+static PyObject *rows_made(const Rows *rows, PyObject *session, Calls *calls)
+{
+    PyObject *found = PyList_New((Py_ssize_t)rows->count);
+    for (size_t at = 0; found && at < rows->count; at++) {
+        PyObject *row = row_made(rows, &rows->rows[at], session, calls);
+        if (!row)
+            Py_CLEAR(found);
+        else
+            PyList_SetItem(found, (Py_ssize_t)at, row);
+    }
+    return found;
+}
+
+static PyObject *rows_answer(PyObject *session, Calls *calls, size_t most)
+{
+    Rows rows = { NULL, 0, NULL, 0, 0 };
+    PyObject *found = rows_copy(&rows, &calls->session, most) ? rows_made(&rows, session, calls) : NULL;
+    rows_drop(&rows);
+    if (!found && !PyErr_Occurred())
+        PyErr_SetString(PyExc_RuntimeError, "a row is not there");
+    return found;
+}
+
+/* ---- records */
+
+typedef struct {
+    hp_record record;
+    size_t first_node;
+    PyObject *name, *old_value;
+} Noted;
+
+typedef struct {
+    Noted *records;
+    size_t count;
+    Numbers nodes;
+} Records;
+
+static void records_drop(Records *it)
+{
+    for (size_t at = 0; it->records && at < it->count; at++) {
+        Py_XDECREF(it->records[at].name);
+        Py_XDECREF(it->records[at].old_value);
+    }
+    PyMem_Free(it->records);
+    numbers_drop(&it->nodes);
+}
+
+typedef uint8_t NodeAt(hp_session *, size_t, size_t, size_t, uint32_t *);
+
+static bool nodes_copy(Numbers *to, hp_session *session, NodeAt *ask, size_t notice, size_t at, size_t count)
+{
+    uint32_t number = 0;
+    for (size_t place = 0; place < count; place++) {
+        if (ask(session, notice, at, place, &number) || !numbers_push(to, number))
+            return false;
+    }
+    return true;
+}
+
+/* Copies a record: its target, the siblings beside, and then the nodes that came and went, stand among the nodes. */
+static bool record_copy(Records *to, hp_session *session, size_t notice, size_t at)
+{
+    Noted *it = &to->records[at];
+    hp_bytes name;
+    hp_text_view text;
+    if (hp_record_at(session, notice, at, &it->record))
+        return false;
+    it->first_node = to->nodes.length;
+    const uint32_t three[3] = { it->record.target, it->record.previous, it->record.next };
+    for (int place = 0; place < 3; place++) {
+        if (!numbers_push(&to->nodes, three[place]))
+            return false;
+    }
+    if (!nodes_copy(&to->nodes, session, hp_record_added_at, notice, at, it->record.added) ||
+        !nodes_copy(&to->nodes, session, hp_record_removed_at, notice, at, it->record.removed))
+        return false;
+    if (hp_record_name(session, notice, at, &name) == HP_OK && !(it->name = name_from(name.bytes, name.length)))
+        return false;
+    return hp_record_old_value(session, notice, at, &text) || (it->old_value = text_from(text.units, text.length));
+}
+
+/* Copies the records of a notice. */
+static bool records_copy(Records *to, hp_session *session, size_t notice, size_t count)
+{
+    to->records = PyMem_Calloc(count + 1, sizeof(Noted));
+    if (!to->records)
+        return PyErr_NoMemory() != NULL;
+    to->count = count;
+    for (size_t at = 0; at < count; at++) {
+        if (!record_copy(to, session, notice, at))
+            return false;
+    }
+    return true;
+}
+
+/* The standard's word for the type of a record. */
+static PyObject *type_word(uint8_t type)
+{
+    return PyUnicode_FromString(type == HP_ATTRIBUTES ? "attributes" : type == HP_CHARACTER_DATA ? "characterData" : "childList");
+}
+
+static PyObject *record_made(const Records *of, const Noted *it, PyObject *session, Calls *calls)
+{
+    size_t first = it->first_node;
+    PyObject *parts[8] = {
+        type_word(it->record.type),
+        numbers_node(&of->nodes, first, session, calls),
+        numbers_nodes(&of->nodes, first + 3, it->record.added, session, calls),
+        numbers_nodes(&of->nodes, first + 3 + it->record.added, it->record.removed, session, calls),
+        numbers_node(&of->nodes, first + 1, session, calls),
+        numbers_node(&of->nodes, first + 2, session, calls),
+        or_none(it->name),
+        or_none(it->old_value),
+    };
+    return named_tuple(KIND_MUTATION_RECORD, parts, 8);
+}
+
+static PyObject *records_made(const Records *of, PyObject *session, Calls *calls)
+{
+    PyObject *found = PyList_New((Py_ssize_t)of->count);
+    for (size_t at = 0; found && at < of->count; at++) {
+        PyObject *record = record_made(of, &of->records[at], session, calls);
+        if (!record)
+            Py_CLEAR(found);
+        else
+            PyList_SetItem(found, (Py_ssize_t)at, record);
+    }
+    return found;
+}
+
+static PyObject *records_answer(PyObject *session, Calls *calls)
+{
+    Records records = { NULL, 0, { NULL, NULL, 0, 0 } };
+    size_t count = 0;
+    hp_count(&calls->session, &count);
+    bool done = records_copy(&records, &calls->session, 0, count) && numbers_ask(&records.nodes, calls);
+    PyObject *found = done ? records_made(&records, session, calls) : NULL;
+    records_drop(&records);
+    return found;
+}
+
+/* ---- notices: what observers are told */
+
+typedef struct {
+    hp_notice *notices;
+    Records *records;
+    size_t count;
+} Notices;
+
+static void notices_drop(Notices *it)
+{
+    for (size_t at = 0; it->records && at < it->count; at++)
+        records_drop(&it->records[at]);
+    PyMem_Free(it->records);
+    PyMem_Free(it->notices);
+}
+
+static bool notices_copy(Notices *to, Calls *calls)
+{
+    hp_session *session = &calls->session;
+    hp_count(session, &to->count);
+    to->notices = PyMem_Calloc(to->count + 1, sizeof(hp_notice));
+    to->records = PyMem_Calloc(to->count + 1, sizeof(Records));
+    if (!to->notices || !to->records)
+        return PyErr_NoMemory() != NULL;
+    for (size_t at = 0; at < to->count; at++) {
+        if (hp_notice_at(session, at, &to->notices[at]) || !records_copy(&to->records[at], session, at, to->notices[at].records))
+            return false;
+    }
+    for (size_t at = 0; at < to->count; at++) {
+        if (!numbers_ask(&to->records[at].nodes, calls))
+            return false;
+    }
+    return true;
+}
+
+/* An observer and its records. */
+static PyObject *notice_made(const Notices *of, size_t at, PyObject *session, Calls *calls)
+{
+    PyObject *observer = PyObject_CallMethod(session, "_observer", "I", (unsigned)of->notices[at].observer);
+    PyObject *records = observer ? records_made(&of->records[at], session, calls) : NULL;
+    PyObject *found = records ? PyTuple_Pack(2, observer, records) : NULL;
+    Py_XDECREF(observer);
+    Py_XDECREF(records);
+    return found;
+}
+
+/* All notices of the last answer, behind those that the list has. */
+static bool notices_answer(PyObject *list, PyObject *session, Calls *calls)
+{
+    Notices notices = { NULL, NULL, 0 };
+    bool done = notices_copy(&notices, calls);
+    for (size_t at = 0; done && at < notices.count; at++) {
+        PyObject *notice = notice_made(&notices, at, session, calls);
+        done = notice && PyList_Append(list, notice) == 0;
+        Py_XDECREF(notice);
+    }
+    notices_drop(&notices);
+    return done;
+}
+
+/* The exception that is raised now, as an object with its traceback; it is raised no more. */
+static PyObject *caught(void)
+{
+    PyObject *kind, *fault, *trace;
+    PyErr_Fetch(&kind, &fault, &trace);
+    PyErr_NormalizeException(&kind, &fault, &trace);
+    if (trace && fault)
+        PyException_SetTraceback(fault, trace);
+    Py_XDECREF(kind);
+    Py_XDECREF(trace);
+    return fault;
+}
+
+/* Calls the callback of the observer of a notice, where it has one. */
+static bool tell(PyObject *notice)
+{
+    PyObject *observer = PyTuple_GetItem(notice, 0);
+    PyObject *callback = PyObject_GetAttrString(observer, "callback");
+    PyObject *said = callback;
+    if (callback && callback != Py_None) {
+        said = PyObject_CallFunctionObjArgs(callback, PyTuple_GetItem(notice, 1), observer, NULL);
+        Py_XDECREF(said);
+    }
+    Py_XDECREF(callback);
+    return said != NULL;
+}
+
+/* Calls the callbacks of all notices, also where some raise, and returns the first that was raised, or null. */
+static PyObject *tell_all(PyObject *list)
+{
+    PyObject *first = NULL;
+    for (Py_ssize_t at = 0; at < PyList_Size(list); at++) {
+        PyObject *notice = PyList_GetItem(list, at);
+        Py_INCREF(notice);
+        if (!tell(notice)) {
+            PyObject *fault = caught();
+            if (first)
+                Py_XDECREF(fault);
+            else
+                first = fault;
+        }
+        Py_DECREF(notice);
+    }
+    return first;
+}
+
+#endif

@@ -1,0 +1,44 @@
+/* What all of the module has: the stable ABI, the library, and its objects. */
+#ifndef HUCKLEPORT_CORE_H
+#define HUCKLEPORT_CORE_H
+
+#define PY_SSIZE_T_CLEAN
+#define Py_LIMITED_API 0x03080000
+#include <Python.h>
+#include <structmember.h>
+
+#include <stdbool.h>
+#include <stdint.h>
+#include <string.h>
+#include <wchar.h>
+
+#include "huckleport.h"
+
+/* Objects by the kinds of their numbers. Observers are kept by the session. */
+typedef enum { FAMILY_NODE, FAMILY_RANGE, FAMILY_STATIC_RANGE, FAMILY_NODE_ITERATOR, FAMILY_TREE_WALKER, FAMILY_OTHER } Family;
+
+/* The classes of the package: those of nodes stand at the standard's numbers of their kinds. */
+enum {
+    KIND_NODE = 0,
+    KIND_ELEMENT = 1,
+    KIND_TEXT = 3,
+    KIND_PROCESSING_INSTRUCTION = 7,
+    KIND_COMMENT = 8,
+    KIND_DOCUMENT = 9,
+    KIND_DOCUMENT_TYPE = 10,
+    KIND_DOCUMENT_FRAGMENT = 11,
+    KIND_RANGE,
+    KIND_STATIC_RANGE,
+    KIND_NODE_ITERATOR,
+    KIND_TREE_WALKER,
+    KIND_ROW,
+    KIND_MUTATION_RECORD,
+    KINDS
+};
+
+static PyObject *kinds[KINDS];
+
+/* Python's functions that the module calls: what raises a refusal, and what tells a name that has no part in the library's answer. */
+static PyObject *refuse_hook, *name_hook;
+
+#endif

@@ -1,0 +1,319 @@
+/* The calls of a session that read whole answers, and those members of the package's classes that no line of a table says. */
+#ifndef HUCKLEPORT_MEMBERS_H
+#define HUCKLEPORT_MEMBERS_H
+
+#include "answers.h"
+
+/* ---- what a member was given */
+
+static bool is_counted(PyObject *words, Py_ssize_t count, const char *call)
+{
+    if (PyTuple_Size(words) == count)
+        return true;
+    PyErr_Format(PyExc_TypeError, "%s() takes %zd arguments (%zd given)", call, count, PyTuple_Size(words));
+    return false;
+}
+
+static PyObject *word(PyObject *words, Py_ssize_t at)
+{
+    return PyTuple_GetItem(words, at);
+}
+
+/* Puts words by name among those by place. */
+static bool place_named(PyObject *named, const char *const *names, PyObject **given, const char *call)
+{
+    Py_ssize_t left = PyDict_Size(named);
+    for (int at = 0; names[at]; at++) {
+        PyObject *it = PyDict_GetItemString(named, names[at]);
+        if (it && given[at]) {
+            PyErr_Format(PyExc_TypeError, "%s() got multiple values for argument '%s'", call, names[at]);
+            return false;
+        }
+        given[at] = it ? it : given[at];
+        left -= it != NULL;
+    }
+    if (left)
+        PyErr_Format(PyExc_TypeError, "%s() got an unexpected keyword argument", call);
+    return left == 0;
+}
+
+/* The words of a member in the order of their names; what is left out is null. */
+static bool sort(PyObject *words, PyObject *named, const char *const *names, int required, PyObject **given, const char *call)
+{
+    Py_ssize_t count = PyTuple_Size(words), most = 0;
+    for (; names[most]; most++)
+        given[most] = most < count ? PyTuple_GetItem(words, most) : NULL;
+    if (count > most) {
+        PyErr_Format(PyExc_TypeError, "%s() takes at most %zd arguments (%zd given)", call, most, count);
+        return false;
+    }
+    if (named && PyDict_Size(named) && !place_named(named, names, given, call))
+        return false;
+    for (int at = 0; at < required; at++) {
+        if (!given[at]) {
+            PyErr_Format(PyExc_TypeError, "%s() missing a required argument: '%s'", call, names[at]);
+            return false;
+        }
+    }
+    return true;
+}
+
+static PyObject *same(PyObject *it)
+{
+    Py_INCREF(it);
+    return it;
+}
+
+/* ---- calls of a session */
+
+static PyObject *calls_keep(PyObject *self, PyObject *words)
+{
+    uint32_t number = 0;
+    uint8_t family = 0;
+    if (!is_counted(words, 3, "keep") || !family_of(word(words, 1), &family) || !uint32_of(word(words, 2), &number))
+        return NULL;
+    return made(word(words, 0), (Calls *)self, word(words, 1), family, number);
+}
+
+static PyObject *calls_node_object(PyObject *self, PyObject *words)
+{
+    uint32_t number = 0;
+    if (!is_counted(words, 2, "node_object") || !uint32_of(word(words, 1), &number))
+        return NULL;
+    return node_from(word(words, 0), (Calls *)self, number);
+}
+
+static PyObject *name_answer(hp_session *session, uint8_t part)
+{
+    hp_bytes view;
+    return hp_node_name(session, part, &view) == HP_OK ? name_from(view.bytes, view.length) : NULL;
+}
+
+static PyObject *calls_read_name(PyObject *self, PyObject *words)
+{
+    uint32_t node = 0;
+    uint8_t part = 0;
+    hp_place place;
+    if (!is_counted(words, 2, "read_name") || !uint32_of(word(words, 0), &node) || !uint8_of(word(words, 1), &part))
+        return NULL;
+    uint8_t status = hp_node(session_at(self), node, &place);
+    PyObject *found = status ? NULL : name_answer(session_at(self), part);
+    return found || PyErr_Occurred() ? found : refused(status ? status : HP_NOT_THERE, "node", self, words);
+}
+
+static PyObject *line_answer(hp_session *session)
+{
+    hp_bytes view;
+    if (hp_reply_line(session, &view) != HP_OK)
+        return none();
+    return PyBytes_FromStringAndSize((const char *)view.bytes, (Py_ssize_t)view.length);
+}
+
+/* The status of a line, and the line of its reply. */
+static PyObject *calls_read_line(PyObject *self, PyObject *words)
+{
+    Slice line;
+    if (!is_counted(words, 1, "read_line") || !octets_of(word(words, 0), &line))
+        return NULL;
+    uint8_t status = hp_line(session_at(self), line.at, line.length);
+    PyObject *reply = line_answer(session_at(self));
+    return reply ? Py_BuildValue("iN", (int)status, reply) : NULL;
+}
+
+/* The line that prints a node. */
+static PyObject *calls_read_printed(PyObject *self, PyObject *words)
+{
+    uint32_t node = 0;
+    hp_place place;
+    if (!is_counted(words, 1, "read_printed") || !uint32_of(word(words, 0), &node))
+        return NULL;
+    uint8_t status = hp_node(session_at(self), node, &place);
+    status = status ? status : hp_print(session_at(self));
+    return status ? refused(status, "node", self, words) : line_answer(session_at(self));
+}
+
+static PyObject *tree_of(PyObject *self, PyObject *session, PyObject *words, uint32_t node, size_t most)
+{
+    uint8_t status = hp_tree(session_at(self), node);
+    return status ? refused(status, "tree", self, words) : rows_answer(session, (Calls *)self, most);
+}
+
+static PyObject *calls_read_tree(PyObject *self, PyObject *words)
+{
+    uint32_t node = 0;
+    size_t most = SIZE_MAX;
+    if (!is_counted(words, 3, "read_tree") || !uint32_of(word(words, 1), &node))
+        return NULL;
+    if (word(words, 2) != Py_None && !size_of(word(words, 2), &most))
+        return NULL;
+    PyObject *asked = PyTuple_GetSlice(words, 1, 2);
+    PyObject *found = asked ? tree_of(self, word(words, 0), asked, node, most) : NULL;
+    Py_XDECREF(asked);
+    return found;
+}
+
+static PyObject *calls_read_records(PyObject *self, PyObject *words)
+{
+    uint32_t observer = 0;
+    if (!is_counted(words, 2, "read_records") || !uint32_of(word(words, 1), &observer))
+        return NULL;
+    PyObject *asked = PyTuple_GetSlice(words, 1, 2), *found = NULL;
+    uint8_t status = asked ? hp_take_records(session_at(self), observer) : HP_OK;
+    if (asked)
+        found = status ? refused(status, "take_records", self, asked) : records_answer(word(words, 0), (Calls *)self);
+    Py_XDECREF(asked);
+    return found;
+}
+
+/* Tells all observers. The list is given: what it has is told again, and it takes what is told now. Returns what a callback raised, or None. */
+static PyObject *calls_tell(PyObject *self, PyObject *words)
+{
+    if (!is_counted(words, 2, "tell"))
+        return NULL;
+    uint8_t status = hp_notify(session_at(self));
+    PyObject *asked = status ? PyTuple_New(0) : NULL;
+    if (asked) {
+        refused(status, "notify", self, asked);
+        Py_DECREF(asked);
+    }
+    if (status || !notices_answer(word(words, 1), word(words, 0), (Calls *)self))
+        return NULL;
+    PyObject *fault = tell_all(word(words, 1));
+    return fault ? fault : none();
+}
+
+static PyObject *calls_is_open(PyObject *self, void *closure)
+{
+    (void)closure;
+    return PyBool_FromLong(session_at(self)->is_open);
+}
+
+/* ---- members that a table does not say */
+
+/* The names of those kinds that have none of their own, as the library prints them. */
+static PyObject *kind_names[KINDS];
+
+static PyObject *kind_name(PyObject *self, uint8_t kind)
+{
+    if (kind >= KINDS || kind_names[kind])
+        return kind < KINDS ? same(kind_names[kind]) : none();
+    PyObject *found = PyObject_CallFunctionObjArgs(name_hook, self, NULL);
+    if (found && !kind_names[kind])
+        kind_names[kind] = same(found);
+    return found;
+}
+
+static PyObject *part_of_name(PyObject *self, const char *call, uint8_t part, bool is_any)
+{
+    hp_place place;
+    uint8_t status = hp_node(session_of(self), number_of(self), &place);
+    PyObject *found = status ? NULL : name_answer(session_of(self), part);
+    if (found || PyErr_Occurred())
+        return found;
+    if (status || !is_any)
+        return refused_of(status ? status : HP_NOT_THERE, call, self, NULL, 0);
+    return kind_name(self, place.kind);
+}
+
+static PyObject *node_node_name(PyObject *self, PyObject *nothing)
+{
+    (void)nothing;
+    return part_of_name(self, "node", 0, true);
+}
+
+static PyObject *node_first_name(PyObject *self, PyObject *nothing)
+{
+    (void)nothing;
+    return part_of_name(self, "node", 0, false);
+}
+
+static PyObject *node_public_id(PyObject *self, PyObject *nothing)
+{
+    (void)nothing;
+    return part_of_name(self, "node", 1, false);
+}
+
+static PyObject *node_system_id(PyObject *self, PyObject *nothing)
+{
+    (void)nothing;
+    return part_of_name(self, "node", 2, false);
+}
+
+static PyObject *node_owner_document(PyObject *self, PyObject *nothing)
+{
+    (void)nothing;
+    hp_place place;
+    uint8_t status = hp_node(session_of(self), number_of(self), &place);
+    if (status)
+        return refused_of(status, "node", self, NULL, 0);
+    return place.document == number_of(self) ? none() : made_at(self, KIND_DOCUMENT, FAMILY_NODE, place.document);
+}
+
+static PyObject *node_child_nodes(PyObject *self, PyObject *nothing)
+{
+    (void)nothing;
+    Thing *it = (Thing *)self;
+    Numbers numbers = { NULL, NULL, 0, 0 };
+    PyObject *found = NULL;
+    uint8_t status = hp_children(session_of(self), it->number);
+    if (status)
+        return refused_of(status, "children", self, NULL, 0);
+    if (numbers_read(&numbers, session_of(self)) && numbers_ask(&numbers, it->calls))
+        found = numbers_nodes(&numbers, 0, numbers.length, it->session, it->calls);
+    numbers_drop(&numbers);
+    return found;
+}
+
+/* The first or the last child, or HP_NONE. */
+static uint8_t outer_child(hp_session *session, uint32_t node, bool is_last, uint32_t *child)
+{
+#ifdef HAS_OUTER_CHILDREN
+    return is_last ? hp_last_child(session, node, child) : hp_first_child(session, node, child);
+#else
+    size_t count = 0;
+    uint8_t status = hp_children(session, node);
+    *child = HP_NONE;
+    if (status == HP_OK && hp_count(session, &count) == HP_OK && count)
+        hp_number_at(session, is_last ? count - 1 : 0, child);
+    return status;
+#endif
+}
+
+static PyObject *node_outer_child(PyObject *self, bool is_last)
+{
+    uint32_t child = HP_NONE;
+    uint8_t status = outer_child(session_of(self), number_of(self), is_last, &child);
+    return status ? refused_of(status, "children", self, NULL, 0) : node_or_none_at(self, child);
+}
+
+static PyObject *node_first_child(PyObject *self, PyObject *nothing)
+{
+    (void)nothing;
+    return node_outer_child(self, false);
+}
+
+static PyObject *node_last_child(PyObject *self, PyObject *nothing)
+{
+    (void)nothing;
+    return node_outer_child(self, true);
+}
+
+static PyObject *node_has_child_nodes(PyObject *self, PyObject *nothing)
+{
+    (void)nothing;
+    uint32_t child = HP_NONE;
+    uint8_t status = outer_child(session_of(self), number_of(self), false, &child);
+    return status ? refused_of(status, "children", self, NULL, 0) : PyBool_FromLong(child != HP_NONE);
+}
+
+static PyObject *node_tree(PyObject *self, PyObject *nothing)
+{
+    (void)nothing;
+    Thing *it = (Thing *)self;
+    PyObject *words = Py_BuildValue("(O)", self);
+    PyObject *found = words ? tree_of((PyObject *)it->calls, it->session, words, it->number, SIZE_MAX) : NULL;
+    Py_XDECREF(words);
+    return found;
+}
+
+#endif

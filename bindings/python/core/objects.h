@@ -1,0 +1,251 @@
+/* A session of the library, and what it tells by numbers, as Python's objects. */
+#ifndef HUCKLEPORT_OBJECTS_H
+#define HUCKLEPORT_OBJECTS_H
+
+#include "table.h"
+#include "texts.h"
+
+/* A session, and the objects of it that live. */
+typedef struct {
+    PyObject_HEAD
+    hp_session session;
+    Table kept;
+} Calls;
+
+/* An object with a number in a session. */
+typedef struct {
+    PyObject_HEAD
+    PyObject *session;
+    Calls *calls;
+    uint32_t number;
+    uint8_t family;
+    bool is_kept;
+} Thing;
+
+static PyTypeObject *calls_type, *thing_type;
+
+/* ---- refusals */
+
+/* Raises what a status says of a call with these words. */
+static PyObject *refused(uint8_t status, const char *call, PyObject *calls, PyObject *words)
+{
+    PyObject *fault = refuse_hook ? PyObject_CallFunction(refuse_hook, "isOO", (int)status, call, calls, words) : NULL;
+    if (fault)
+        PyErr_SetObject((PyObject *)Py_TYPE(fault), fault);
+    else if (!PyErr_Occurred())
+        PyErr_Format(PyExc_RuntimeError, "%s: %d", call, (int)status);
+    Py_XDECREF(fault);
+    return NULL;
+}
+
+/* The same for a member: the words are its object and what it was given. */
+static PyObject *refused_of(uint8_t status, const char *call, PyObject *self, PyObject **given, int count)
+{
+    PyObject *words = PyTuple_New(1 + count);
+    if (!words)
+        return NULL;
+    Py_INCREF(self);
+    PyTuple_SetItem(words, 0, self);
+    for (int at = 0; at < count; at++) {
+        PyObject *it = given[at] ? given[at] : Py_None;
+        Py_INCREF(it);
+        PyTuple_SetItem(words, 1 + at, it);
+    }
+    refused(status, call, (PyObject *)((Thing *)self)->calls, words);
+    Py_DECREF(words);
+    return NULL;
+}
+
+/* ---- sessions */
+
+static hp_session *session_at(PyObject *calls)
+{
+    return &((Calls *)calls)->session;
+}
+
+static PyObject *calls_new(PyTypeObject *type, PyObject *words, PyObject *named)
+{
+    (void)words;
+    (void)named;
+    return PyType_GenericAlloc(type, 0);
+}
+
+static void calls_dealloc(PyObject *self)
+{
+    PyTypeObject *type = Py_TYPE(self);
+    Calls *it = (Calls *)self;
+    hp_close(&it->session);
+    PyMem_Free(it->kept.entries);
+    PyObject_Free(self);
+    Py_DECREF(type);
+}
+
+/* ---- objects */
+
+static hp_session *session_of(PyObject *thing)
+{
+    return &((Thing *)thing)->calls->session;
+}
+
+static uint32_t number_of(PyObject *thing)
+{
+    return ((Thing *)thing)->number;
+}
+
+static int thing_traverse(PyObject *self, visitproc visit, void *arg)
+{
+    Py_VISIT(((Thing *)self)->session);
+    return 0;
+}
+
+static void thing_dealloc(PyObject *self)
+{
+    PyTypeObject *type = Py_TYPE(self);
+    Thing *it = (Thing *)self;
+    PyObject_GC_UnTrack(self);
+    if (it->is_kept)
+        table_take(&it->calls->kept, it->number, it->family, self);
+    Py_XDECREF(it->session);
+    Py_XDECREF((PyObject *)it->calls);
+    PyObject_GC_Del(self);
+    Py_DECREF(type);
+}
+
+static void settle(Thing *it, PyObject *session, Calls *calls, uint32_t number, uint8_t family)
+{
+    Py_INCREF(session);
+    Py_INCREF((PyObject *)calls);
+    it->session = session;
+    it->calls = calls;
+    it->number = number;
+    it->family = family;
+}
+
+static bool family_of(PyObject *kind, uint8_t *to)
+{
+    PyObject *found = PyObject_GetAttrString(kind, "_family");
+    bool fits = found && uint8_of(found, to);
+    Py_XDECREF(found);
+    return fits;
+}
+
+/* The session and the number come first; what a class takes beside is its own. The object is not kept. */
+static PyObject *thing_new(PyTypeObject *type, PyObject *words, PyObject *named)
+{
+    (void)named;
+    uint32_t number = 0;
+    uint8_t family = FAMILY_OTHER;
+    if (PyTuple_Size(words) < 2) {
+        PyErr_SetString(PyExc_TypeError, "a session and a number are due");
+        return NULL;
+    }
+    PyObject *session = PyTuple_GetItem(words, 0);
+    if (!uint32_of(PyTuple_GetItem(words, 1), &number) || !family_of((PyObject *)type, &family))
+        return NULL;
+    PyObject *calls = PyObject_GetAttrString(session, "_calls"), *found = NULL;
+    if (calls && !PyObject_TypeCheck(calls, calls_type))
+        is_not_due("Session", session);
+    else if (calls)
+        found = PyType_GenericAlloc(type, 0);
+    if (found)
+        settle((Thing *)found, session, (Calls *)calls, number, family);
+    Py_XDECREF(calls);
+    return found;
+}
+
+static int thing_init(PyObject *self, PyObject *words, PyObject *named)
+{
+    (void)self;
+    (void)words;
+    (void)named;
+    return 0;
+}
+
+static PyObject *thing_number(PyObject *self, void *closure)
+{
+    (void)closure;
+    return PyLong_FromUnsignedLong(((Thing *)self)->number);
+}
+
+/* The object of a number: the one that lives, or a new one. Making it may run the collector, and so any other code. */
+static PyObject *made(PyObject *session, Calls *calls, PyObject *kind, uint8_t family, uint32_t number)
+{
+    PyObject *found = table_find(&calls->kept, number, family);
+    if (found)
+        return found;
+    Thing *it = (Thing *)PyType_GenericAlloc((PyTypeObject *)kind, 0);
+    if (!it)
+        return NULL;
+    settle(it, session, calls, number, family);
+    found = table_find(&calls->kept, number, family);
+    it->is_kept = !found && table_put(&calls->kept, number, family, (PyObject *)it);
+    if (it->is_kept)
+        return (PyObject *)it;
+    Py_DECREF((PyObject *)it);
+    return found;
+}
+
+/* The class of a kind that the library tells. */
+static PyObject *kind_of(unsigned kind)
+{
+    return kind < KINDS && kinds[kind] ? kinds[kind] : kinds[KIND_NODE];
+}
+
+/* The node of a number. Where it is not known the library is asked for its kind, and one that is no more is a Node and nothing else. */
+static PyObject *node_from(PyObject *session, Calls *calls, uint32_t number)
+{
+    PyObject *found = table_find(&calls->kept, number, FAMILY_NODE);
+    hp_place place;
+    if (found)
+        return found;
+    bool is_there = hp_node(&calls->session, number, &place) == HP_OK;
+    return made(session, calls, kind_of(is_there ? place.kind : KIND_NODE), FAMILY_NODE, number);
+}
+
+static PyObject *none(void)
+{
+    Py_INCREF(Py_None);
+    return Py_None;
+}
+
+static PyObject *node_at(PyObject *self, uint32_t number)
+{
+    return node_from(((Thing *)self)->session, ((Thing *)self)->calls, number);
+}
+
+static PyObject *node_or_none_at(PyObject *self, uint32_t number)
+{
+    return number == HP_NONE ? none() : node_at(self, number);
+}
+
+static PyObject *made_at(PyObject *self, int kind, uint8_t family, uint32_t number)
+{
+    return made(((Thing *)self)->session, ((Thing *)self)->calls, kinds[kind], family, number);
+}
+
+/* The number of an object that is handed in, which has to be of this session. */
+static bool object_of(PyObject *self, PyObject *other, uint8_t family, const char *due, uint32_t *to)
+{
+    Thing *it = (Thing *)other;
+    if (!PyObject_TypeCheck(other, thing_type) || it->family != family)
+        return is_not_due(due, other);
+    if (it->session != ((Thing *)self)->session) {
+        PyErr_Format(PyExc_ValueError, "the %s is of another session", due);
+        return false;
+    }
+    *to = it->number;
+    return true;
+}
+
+static bool node_of(PyObject *self, PyObject *other, uint32_t *to)
+{
+    return object_of(self, other, FAMILY_NODE, "Node", to);
+}
+
+static bool node_or_none_of(PyObject *self, PyObject *other, uint32_t *to)
+{
+    *to = HP_NONE;
+    return !other || other == Py_None || node_of(self, other, to);
+}
+
+#endif

@@ -1,0 +1,102 @@
+/* A table of the objects that live, by family and number. It holds no reference: an object leaves it when it goes. */
+#ifndef HUCKLEPORT_TABLE_H
+#define HUCKLEPORT_TABLE_H
+
+#include "core.h"
+
+typedef struct {
+    uint32_t number;
+    uint32_t family;
+    PyObject *object;
+} Entry;
+
+typedef struct {
+    Entry *entries;
+    size_t mask;
+    size_t used;
+} Table;
+
+/* Numbers that are neighbours stay neighbours, in blocks of 128. */
+static size_t place_of(const Table *it, uint32_t number, uint32_t family)
+{
+    return (size_t)(number + (number >> 7) * 0x9E3779B1u + family * 0x85EBCA6Bu) & it->mask;
+}
+
+/* Where an entry is, or the empty place where it would be. */
+static Entry *entry_of(const Table *it, uint32_t number, uint32_t family)
+{
+    size_t at = place_of(it, number, family);
+    while (it->entries[at].object && (it->entries[at].number != number || it->entries[at].family != family))
+        at = (at + 1) & it->mask;
+    return &it->entries[at];
+}
+
+/* The object, with a reference of its own. One that is going already is none. (The count of references has 32 bits in later versions.) */
+static PyObject *table_find(const Table *it, uint32_t number, uint32_t family)
+{
+    PyObject *found = it->entries ? entry_of(it, number, family)->object : NULL;
+    if (!found || (uint32_t)Py_REFCNT(found) == 0)
+        return NULL;
+    Py_INCREF(found);
+    return found;
+}
+
+static bool table_grow(Table *it)
+{
+    Table wider = { NULL, it->entries ? 2 * it->mask + 1 : 63, it->used };
+    wider.entries = PyMem_Calloc(wider.mask + 1, sizeof(Entry));
+    if (!wider.entries)
+        return false;
+    for (size_t at = 0; it->entries && at <= it->mask; at++) {
+        Entry *from = &it->entries[at];
+        if (from->object)
+            *entry_of(&wider, from->number, from->family) = *from;
+    }
+    PyMem_Free(it->entries);
+    *it = wider;
+    return true;
+}
+
+static bool table_put(Table *it, uint32_t number, uint32_t family, PyObject *object)
+{
+    if ((!it->entries || 2 * (it->used + 1) > it->mask) && !table_grow(it)) {
+        PyErr_NoMemory();
+        return false;
+    }
+    Entry *to = entry_of(it, number, family);
+    it->used += to->object == NULL;
+    *to = (Entry){ number, family, object };
+    return true;
+}
+
+/* Empties a place, and moves up those that passed it. */
+static void table_close_gap(Table *it, size_t gap)
+{
+    size_t at = gap;
+    while (true) {
+        at = (at + 1) & it->mask;
+        Entry *next = &it->entries[at];
+        if (!next->object)
+            break;
+        size_t home = place_of(it, next->number, next->family);
+        if (((at - home) & it->mask) >= ((at - gap) & it->mask)) {
+            it->entries[gap] = *next;
+            gap = at;
+        }
+    }
+    it->entries[gap].object = NULL;
+}
+
+/* Takes out an object, where it is the one that stands there. */
+static void table_take(Table *it, uint32_t number, uint32_t family, PyObject *object)
+{
+    if (!it->entries)
+        return;
+    Entry *entry = entry_of(it, number, family);
+    if (entry->object != object)
+        return;
+    table_close_gap(it, (size_t)(entry - it->entries));
+    it->used--;
+}
+
+#endif

@@ -1,0 +1,143 @@
+"""Why a call was refused, in words, by questions that are asked after the refusal."""
+
+from __future__ import annotations
+
+import json
+import threading
+from typing import Any, Callable, Dict, List, Optional, Sequence
+
+from . import _signatures as made
+
+# Parameters that are nodes, by their names; and what a parameter of another kind is called by.
+NODES = ("parent", "node", "child", "document", "element", "other", "root", "text", "start", "end")
+ASKED: Dict[str, str] = {"range": "range", "source": "range", "iterator": "iterator", "walker": "walker", "observer": "observer"}
+
+
+class Refused:
+    """A refused call: its words by their names, and what can be asked of the session."""
+
+    def __init__(self, call: str, calls: Any, words: Sequence[Any]) -> None:
+        self.call, self.calls = call, calls
+        values = [made.HP_NONE if it is None else getattr(it, "number", it) for it in words]
+        self.words: Dict[str, Any] = dict(zip(made.PARAMETERS.get(call, ()), values))
+
+    def nodes(self) -> List[str]:
+        """The parameters that name a node."""
+        return [it for it in self.words if it in NODES and isinstance(self.words[it], int) and self.words[it] != made.HP_NONE]
+
+    def place(self, name: str) -> Any:
+        return self.calls.node(self.words[name])
+
+    def said(self, number: int) -> str:
+        """A node in a sentence: ``3 <#text>``."""
+        return f"{number} <{json.loads(self.calls.read_printed(number))['ok']['name']}>"
+
+    def node(self, name: str) -> str:
+        return self.said(self.words[name])
+
+
+def missing(it: Refused) -> Optional[str]:
+    """Which object is not there."""
+    for name in it.nodes():
+        try:
+            it.place(name)
+        except LookupError:
+            return f"there is no node {it.words[name]}, it was discarded or never made"
+    found = [f"{ASKED[name]} {value}" for name, value in it.words.items() if name in ASKED]
+    return f"there is no {' or no '.join(found)}, it was released or never made" if found else None
+
+
+def misplaced(it: Refused) -> Optional[str]:
+    """Why a node can't come where it should."""
+    over = "parent" if "parent" in it.words and it.call != "surround_contents" else "range"
+    if over == "range":
+        return f"{it.node('node' if 'node' in it.words else 'parent')} can't come where range {it.words['range']} stands"
+    if it.words["node"] == made.HP_NONE:
+        return f"{it.node('parent')} has no children"
+    node, parent = it.words["node"], it.words["parent"]
+    detail = ", which it contains" if node == parent or it.calls.contains(node, parent) else ""
+    return f"{it.node('node')} can't stand under {it.node('parent')}{detail}"
+
+
+def not_a_child(it: Refused) -> str:
+    return f"{it.node('child')} is no child of {it.node('parent')}"
+
+
+def bad_name(it: Refused) -> Optional[str]:
+    names = [repr(it.words[name]) for name in ("name", "target") if name in it.words]
+    return f"{names[0]} is no name for it" if names else None
+
+
+def beyond(it: Refused) -> Optional[str]:
+    found = next(iter(it.nodes()), None)
+    if found is None or "offset" not in it.words:
+        return None
+    return f"{it.words['offset']} is beyond the length of {it.node(found)}, which is {it.calls.length(it.words[found])}"
+
+
+def unsupported(it: Refused) -> Optional[str]:
+    if "how" in it.words:
+        return f"{it.words['how']} is no way to compare"
+    return f"{it.node('node')} is a Document" if "node" in it.words else None
+
+
+def elsewhere(it: Refused) -> Optional[str]:
+    found = [it.node(name) for name in it.nodes()] or [f"range {it.words[name]}" for name in ("source",) if name in it.words]
+    return f"{found[-1]} is of another tree than range {it.words['range']}" if found and "range" in it.words else None
+
+
+def no_place(it: Refused) -> Optional[str]:
+    name = next(iter(it.nodes()), None)
+    if name is None:
+        return None
+    is_doctype = it.place(name).kind == 10
+    return f"{it.node(name)} {'is a doctype' if is_doctype else 'has no parent'}"
+
+
+def partly(it: Refused) -> str:
+    return f"range {it.words['range']} holds a part of a node that is no text"
+
+
+def wrong_kind(it: Refused) -> Optional[str]:
+    if it.call == "observe":
+        return f"the options for {it.node('node')} name no type, or go not together"
+    name = next(iter(it.nodes()), None)
+    return f"{it.node(name)} is of no kind that has it" if name else None
+
+
+def in_use(it: Refused) -> str:
+    parent = it.place("node").parent
+    return f"{it.node('node')} " + ("is still referred to" if parent == made.HP_NONE else f"stands under {it.said(parent)}")
+
+
+REASONS: Dict[int, Callable[[Refused], Optional[str]]] = {
+    made.HP_NO_SUCH_OBJECT: missing,
+    made.HP_HIERARCHY_REQUEST_ERROR: misplaced,
+    made.HP_NOT_FOUND_ERROR: not_a_child,
+    made.HP_INVALID_CHARACTER_ERROR: bad_name,
+    made.HP_INDEX_SIZE_ERROR: beyond,
+    made.HP_NOT_SUPPORTED_ERROR: unsupported,
+    made.HP_WRONG_DOCUMENT_ERROR: elsewhere,
+    made.HP_INVALID_NODE_TYPE_ERROR: no_place,
+    made.HP_INVALID_STATE_ERROR: partly,
+    made.HP_TYPE_ERROR: wrong_kind,
+    made.HP_IN_USE: in_use,
+}
+
+
+# A question that is refused itself has no reason.
+_asking = threading.local()
+
+
+def reason(status: int, call: str, calls: Any, words: Sequence[Any]) -> Optional[str]:
+    """Why a call with these words was refused, where that can be told; to tell it never raises."""
+    found = REASONS.get(status)
+    if found is None or getattr(_asking, "is_on", False):
+        return None
+    _asking.is_on = True
+    try:
+        return found(Refused(call, calls, words))
+    except Exception:
+        return None
+    finally:
+        _asking.is_on = False
