@@ -7,7 +7,7 @@ from typing import Any, Iterator, MutableMapping, Optional, Tuple, Union
 
 from .documents import Document
 from .errors import DOMException
-from .nodes import DocumentFragment, Element, Text
+from .nodes import DocumentFragment, Element, Node, Text
 
 HTMLParser: Any = import_module("html5lib").HTMLParser
 base: Any = import_module("html5lib.treebuilders.base")
@@ -53,6 +53,8 @@ class Built(base.Node):  # type: ignore[misc]
         self.namespace = namespace
         self.parent: Optional[Built] = None
         self._flags: Any = []
+        # What was put in last at the end.
+        self.tail: Optional[Node] = None
 
     @property
     def nameTuple(self) -> Tuple[str, str]:
@@ -70,6 +72,7 @@ class Built(base.Node):  # type: ignore[misc]
 
     def appendChild(self, node: Built) -> None:
         self.node.append_child(node.node)
+        self.tail = node.node
         node.parent = self
 
     def insertBefore(self, node: Built, refNode: Built) -> None:
@@ -78,11 +81,18 @@ class Built(base.Node):  # type: ignore[misc]
 
     def insertText(self, data: str, insertBefore: Optional[Built] = None) -> None:
         behind = None if insertBefore is None else insertBefore.node
-        last = self.node.last_child if behind is None else behind.previous_sibling
+        last = self.last() if behind is None else behind.previous_sibling
         if isinstance(last, Text):
             last.append_data(data)
-        else:
-            self.node.insert_before(self.node.node_document.create_text_node(data), behind)
+            return
+        text = self.node.insert_before(self.node.node_document.create_text_node(data), behind)
+        self.tail = text if behind is None else self.tail
+
+    def last(self) -> Optional[Node]:
+        """The last child, which is what was put in last where that still stands at the end."""
+        if self.tail is None or self.tail.parent_node is not self.node or self.tail.next_sibling is not None:
+            self.tail = self.node.last_child
+        return self.tail
 
     def removeChild(self, node: Built) -> None:
         if node.node.parent_node is self.node:

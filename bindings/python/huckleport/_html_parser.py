@@ -18,6 +18,8 @@ class Filling(HTMLParser):
         super().__init__(convert_charrefs=True)
         self.made = root.node_document
         self.open: List[Node] = [root]
+        # The Text that the next characters go on with.
+        self.last: Optional[Text] = None
 
     def put(self, node: Node) -> bool:
         """Puts a node in; what can't stand there is left out."""
@@ -25,6 +27,7 @@ class Filling(HTMLParser):
             self.open[-1].append_child(node)
         except DOMException:
             return False
+        self.last = node if isinstance(node, Text) else None
         return True
 
     def handle_starttag(self, tag: str, attrs: List[Tuple[str, Optional[str]]]) -> None:
@@ -47,14 +50,14 @@ class Filling(HTMLParser):
             found = self.open[at]
             if isinstance(found, Element) and found.tag_name == tag:
                 del self.open[at:]
+                self.last = None
                 return
 
     def handle_data(self, data: str) -> None:
-        last = self.open[-1].last_child
-        if isinstance(last, Text):
-            last.append_data(data)
-        else:
+        if self.last is None:
             self.put(self.made.create_text_node(data))
+        else:
+            self.last.append_data(data)
 
     def handle_comment(self, data: str) -> None:
         self.put(self.made.create_comment(data))

@@ -38,11 +38,14 @@ class Filling:
         self.parser.StartDoctypeDeclHandler = self.doctype
         self.parser.EndDoctypeDeclHandler = self.end_doctype
         self.is_in_doctype = False
+        # The Text that the next characters go on with.
+        self.last: Optional[Text] = None
 
     def put(self, node: Node) -> None:
         # (what the doctype holds is no node of a tree)
         if not self.is_in_doctype:
             self.open[-1].append_child(node)
+            self.last = node if isinstance(node, Text) else None
 
     def start(self, name: str, attributes: List[str]) -> None:
         element = self.made.create_element(name)
@@ -53,13 +56,13 @@ class Filling:
 
     def end(self, name: str) -> None:
         self.open.pop()
+        self.last = None
 
     def text(self, data: str) -> None:
-        last = self.open[-1].last_child
-        if isinstance(last, Text):
-            last.append_data(data)
-        else:
+        if self.last is None:
             self.put(self.made.create_text_node(data))
+        else:
+            self.last.append_data(data)
 
     def comment(self, data: str) -> None:
         self.put(self.made.create_comment(data))
