@@ -4,7 +4,7 @@
  * Nothing here tells what a document is; each question goes to the addon, which answers a status. A refusal is thrown as a Refusal, which is no
  * Error: an interface's method turns it into an exception of its own realm.
  */
-import { has, native, out } from './native.js';
+import { has, native, out } from "./native.js";
 
 export { has, native, out };
 
@@ -22,7 +22,7 @@ export const FRAGMENT = 11;
 
 /** Why a call was refused: the library's status, and words where the status does not say it. */
 export class Refusal {
-  constructor(status, message = '') {
+  constructor(status, message = "") {
     this.status = status;
     this.message = message;
   }
@@ -35,7 +35,7 @@ export function check(status) {
 
 /** A text that a call lends, or null where it is not there. */
 export function lent(answer) {
-  if (typeof answer === 'string') return answer;
+  if (typeof answer === "string") return answer;
   if (answer === native.HP_NOT_THERE) return null;
   throw new Refusal(answer);
 }
@@ -108,7 +108,7 @@ export class Session {
 
   /** Answers a line of JSON, as bytes or as a string, with the line of its reply. */
   line(line) {
-    check(native.hp_line(this.index, typeof line === 'string' ? Buffer.from(line) : line));
+    check(native.hp_line(this.index, typeof line === "string" ? Buffer.from(line) : line));
     this.changed();
     return lent(native.hp_reply_line(this.index));
   }
@@ -181,7 +181,7 @@ export class Session {
   loseObserver(number) {
     this.observers.delete(number);
     native.hp_disconnect(this.index, number);
-    if (has('hp_release_observer')) native.hp_release_observer(this.index, number);
+    if (has("hp_release_observer")) native.hp_release_observer(this.index, number);
     this.#sweepSoon();
   }
 

@@ -1,8 +1,8 @@
 /** CharacterData, Text, Comment and ProcessingInstruction. */
-import { check, COMMENT, INSTRUCTION, lent, native, out, TEXT } from './core.js';
-import { childNode, createComment, createText, dataOf, namePart, nextOf, previousOf, setData, siblings } from './nodes.js';
-import { known } from './webidl.js';
-import { isNode, kindOf, numberOf, sessionOf, wrap } from './wrappers.js';
+import { check, COMMENT, INSTRUCTION, lent, native, out, TEXT } from "./core.js";
+import { childNode, createComment, createText, dataOf, namePart, nextOf, previousOf, setData, siblings } from "./nodes.js";
+import { known } from "./webidl.js";
+import { isNode, kindOf, numberOf, sessionOf, wrap } from "./wrappers.js";
 
 /** A call that changes the data of a node. */
 const changing =
@@ -24,23 +24,23 @@ function substringData(node, offset, count) {
   return lent(native.hp_text(index));
 }
 
-const OFFSET = 'unsigned long';
+const OFFSET = "unsigned long";
 
 export const CharacterData = known({
-  name: 'CharacterData',
-  parent: 'Node',
+  name: "CharacterData",
+  parent: "Node",
   is: (it) => isNode(it) && [TEXT, INSTRUCTION, COMMENT].includes(kindOf(it)),
   attributes: {
-    data: { type: 'DOMString or empty', get: dataOf, set: setData },
+    data: { type: "DOMString or empty", get: dataOf, set: setData },
     length,
     ...siblings,
   },
   operations: {
     substringData: [[OFFSET, OFFSET], substringData],
-    appendData: [['DOMString'], changing('hp_append_data')],
-    insertData: [[OFFSET, 'DOMString'], changing('hp_insert_data')],
-    deleteData: [[OFFSET, OFFSET], changing('hp_delete_data')],
-    replaceData: [[OFFSET, OFFSET, 'DOMString'], changing('hp_replace_data')],
+    appendData: [["DOMString"], changing("hp_append_data")],
+    insertData: [[OFFSET, "DOMString"], changing("hp_insert_data")],
+    deleteData: [[OFFSET, OFFSET], changing("hp_delete_data")],
+    replaceData: [[OFFSET, OFFSET, "DOMString"], changing("hp_replace_data")],
     ...childNode.operations,
   },
   hidden: childNode.hidden,
@@ -60,7 +60,7 @@ function splitText(text, offset) {
 function wholeText(text) {
   let first = text;
   for (let it = previousOf(text); it && isText(it); it = previousOf(it)) first = it;
-  let whole = '';
+  let whole = "";
   for (let it = first; it && isText(it); it = nextOf(it)) whole += dataOf(it);
   return whole;
 }
@@ -69,8 +69,8 @@ function wholeText(text) {
 const constructed = (make) => [['DOMString = ""'], (realm, target, data) => realm.constructed(target, make(realm.document, data))];
 
 export const Text = known({
-  name: 'Text',
-  parent: 'CharacterData',
+  name: "Text",
+  parent: "CharacterData",
   is: isText,
   construct: constructed(createText),
   attributes: { wholeText },
@@ -78,15 +78,15 @@ export const Text = known({
 });
 
 export const Comment = known({
-  name: 'Comment',
-  parent: 'CharacterData',
+  name: "Comment",
+  parent: "CharacterData",
   is: (it) => isNode(it) && kindOf(it) === COMMENT,
   construct: constructed(createComment),
 });
 
 export const ProcessingInstruction = known({
-  name: 'ProcessingInstruction',
-  parent: 'CharacterData',
+  name: "ProcessingInstruction",
+  parent: "CharacterData",
   is: (it) => isNode(it) && kindOf(it) === INSTRUCTION,
   attributes: { target: (node) => namePart(node, 0) },
 });

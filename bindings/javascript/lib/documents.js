@@ -1,7 +1,7 @@
 /** Document, DocumentType, DocumentFragment and DOMImplementation. */
-import { check, DOCTYPE, DOCUMENT, ELEMENT, FRAGMENT, lent, native, out, Refusal } from './core.js';
-import { elementsBelow, isElement } from './elements.js';
-import { extracted, HTML, markedElement, small, SVG } from './names.js';
+import { check, DOCTYPE, DOCUMENT, ELEMENT, FRAGMENT, lent, native, out, Refusal } from "./core.js";
+import { elementsBelow, isElement } from "./elements.js";
+import { extracted, HTML, markedElement, small, SVG } from "./names.js";
 import {
   adoptNode,
   appendChild,
@@ -17,20 +17,20 @@ import {
   namePart,
   nextOf,
   parentNode,
-} from './nodes.js';
-import { createRange } from './ranges.js';
-import { createNodeIterator, createTreeWalker } from './traversal.js';
-import { known } from './webidl.js';
-import { isNode, keptOf, kindOf, makeThing, numberOf, realmOf, sessionOf, thingOf, wrap, wrapDocument } from './wrappers.js';
+} from "./nodes.js";
+import { createRange } from "./ranges.js";
+import { createNodeIterator, createTreeWalker } from "./traversal.js";
+import { known } from "./webidl.js";
+import { documentIs, isNode, keptOf, kindOf, makeThing, numberOf, realmOf, sessionOf, thingOf, wrap, wrapDocument } from "./wrappers.js";
 
 // ---- New Documents.
 
-const XML_TYPE = 'application/xml';
-const TYPES = { [HTML]: 'application/xhtml+xml', [SVG]: 'image/svg+xml' };
+const XML_TYPE = "application/xml";
+const TYPES = { [HTML]: "application/xhtml+xml", [SVG]: "image/svg+xml" };
 
 /** What the facade knows of a Document of HTML, or of XML. */
-export const htmlIs = (realm, url = 'about:blank') => ({ realm, isHtml: true, contentType: 'text/html', url });
-export const xmlIs = (realm, contentType = XML_TYPE) => ({ realm, isHtml: false, contentType, url: 'about:blank' });
+export const htmlIs = (realm, url = "about:blank") => ({ realm, isHtml: true, contentType: "text/html", url });
+export const xmlIs = (realm, contentType = XML_TYPE) => ({ realm, isHtml: false, contentType, url: "about:blank" });
 
 /** A further Document of a session. */
 export function newDocument(session, its) {
@@ -38,7 +38,7 @@ export function newDocument(session, its) {
   return wrapDocument(session, out[0], its);
 }
 
-const isOf = (document) => sessionOf(document).documents.get(numberOf(document));
+const isOf = (document) => documentIs(sessionOf(document), numberOf(document));
 
 function createElement(document, name) {
   const { isHtml, contentType } = isOf(document);
@@ -52,7 +52,7 @@ export function createElementNS(document, namespace, qualified) {
 }
 
 function createCDATASection() {
-  throw new Refusal(native.HP_NOT_SUPPORTED_ERROR, 'there are no CDATA sections');
+  throw new Refusal(native.HP_NOT_SUPPORTED_ERROR, "there are no CDATA sections");
 }
 
 function childOfKind(node, kind) {
@@ -99,7 +99,7 @@ function readIds(session, number) {
 
 function idOfRow(session, row, attributes) {
   for (let at = 0; at < attributes; at++) {
-    if (native.hp_row_attribute_name(session.index, row, at) === 'id') return lent(native.hp_row_attribute_value(session.index, row, at));
+    if (native.hp_row_attribute_name(session.index, row, at) === "id") return lent(native.hp_row_attribute_value(session.index, row, at));
   }
   return null;
 }
@@ -125,7 +125,7 @@ const implementation = (document) =>
 function createDocument(it, namespace, qualified, doctype) {
   const { document } = implementationOf(it);
   const made = newDocument(sessionOf(document), xmlIs(realmOf(document), TYPES[namespace]));
-  const element = qualified === '' ? null : createElementNS(made, namespace, qualified);
+  const element = qualified === "" ? null : createElementNS(made, namespace, qualified);
   if (doctype) appendChild(made, doctype);
   if (element) appendChild(made, element);
   return made;
@@ -133,11 +133,11 @@ function createDocument(it, namespace, qualified, doctype) {
 
 /** The elements that a Document of HTML begins with. */
 export function furnish(document, title) {
-  appendChild(document, createDoctype(document, 'html', '', ''));
-  const html = appendChild(document, createElement(document, 'html'));
-  const head = appendChild(html, createElement(document, 'head'));
-  if (title !== undefined) appendChild(appendChild(head, createElement(document, 'title')), createText(document, title));
-  appendChild(html, createElement(document, 'body'));
+  appendChild(document, createDoctype(document, "html", "", ""));
+  const html = appendChild(document, createElement(document, "html"));
+  const head = appendChild(html, createElement(document, "head"));
+  if (title !== undefined) appendChild(appendChild(head, createElement(document, "title")), createText(document, title));
+  appendChild(html, createElement(document, "body"));
   return document;
 }
 
@@ -147,11 +147,11 @@ function createHTMLDocument(it, title) {
 }
 
 export const DOMImplementation = known({
-  name: 'DOMImplementation',
+  name: "DOMImplementation",
   is: (it) => implementationOf(it) !== undefined,
   operations: {
-    createDocumentType: [['DOMString', 'DOMString', 'DOMString'], (it, ...words) => createDoctype(implementationOf(it).document, ...words)],
-    createHTMLDocument: [['DOMString = undefined'], createHTMLDocument],
+    createDocumentType: [["DOMString", "DOMString", "DOMString"], (it, ...words) => createDoctype(implementationOf(it).document, ...words)],
+    createHTMLDocument: [["DOMString = undefined"], createHTMLDocument],
     hasFeature: [[], () => true],
   },
 });
@@ -159,8 +159,8 @@ export const DOMImplementation = known({
 // ---- The interfaces.
 
 export const DocumentType = known({
-  name: 'DocumentType',
-  parent: 'Node',
+  name: "DocumentType",
+  parent: "Node",
   is: (it) => isNode(it) && kindOf(it) === DOCTYPE,
   attributes: {
     name: (doctype) => namePart(doctype, 0),
@@ -171,53 +171,53 @@ export const DocumentType = known({
   hidden: childNode.hidden,
 });
 
-DOMImplementation.operations.createDocument = [['DOMString?', 'DOMString or empty', 'DocumentType? = null'], createDocument];
+DOMImplementation.operations.createDocument = [["DOMString?", "DOMString or empty", "DocumentType? = null"], createDocument];
 
 export const DocumentFragment = known({
-  name: 'DocumentFragment',
-  parent: 'Node',
+  name: "DocumentFragment",
+  parent: "Node",
   is: (it) => isNode(it) && kindOf(it) === FRAGMENT,
   construct: [[], (realm, target) => realm.constructed(target, createFragment(realm.document))],
   attributes: parentNode.attributes,
-  operations: { getElementById: [['DOMString'], getElementById], ...parentNode.operations },
+  operations: { getElementById: [["DOMString"], getElementById], ...parentNode.operations },
   hidden: parentNode.hidden,
 });
 
-const encoding = () => 'UTF-8';
-const SHOW = ['Node', 'unsigned long = 4294967295', 'NodeFilter? = null'];
+const encoding = () => "UTF-8";
+const SHOW = ["Node", "unsigned long = 4294967295", "NodeFilter? = null"];
 
 export const Document = known({
-  name: 'Document',
-  parent: 'Node',
+  name: "Document",
+  parent: "Node",
   is: (it) => isNode(it) && kindOf(it) === DOCUMENT,
   construct: [[], (realm, target) => realm.constructed(target, newDocument(sessionOf(realm.document), xmlIs(realm)))],
   attributes: {
     implementation,
     URL: (document) => isOf(document).url,
     documentURI: (document) => isOf(document).url,
-    compatMode: (document) => (isOf(document).isQuirky ? 'BackCompat' : 'CSS1Compat'),
+    compatMode: (document) => (isOf(document).isQuirky ? "BackCompat" : "CSS1Compat"),
     characterSet: encoding,
     charset: encoding,
     inputEncoding: encoding,
     contentType: (document) => isOf(document).contentType,
     doctype: (document) => childOfKind(document, DOCTYPE),
     documentElement: (document) => childOfKind(document, ELEMENT),
-    head: (document) => inRoot(document, 'head'),
-    body: (document) => inRoot(document, 'body', 'frameset'),
+    head: (document) => inRoot(document, "head"),
+    body: (document) => inRoot(document, "body", "frameset"),
     ...parentNode.attributes,
   },
   operations: {
     ...elementsBelow,
-    getElementById: [['DOMString'], getElementById],
-    createElement: [['DOMString', 'any = undefined'], createElement],
-    createElementNS: [['DOMString?', 'DOMString', 'any = undefined'], createElementNS],
+    getElementById: [["DOMString"], getElementById],
+    createElement: [["DOMString", "any = undefined"], createElement],
+    createElementNS: [["DOMString?", "DOMString", "any = undefined"], createElementNS],
     createDocumentFragment: [[], createFragment],
-    createTextNode: [['DOMString'], createText],
-    createCDATASection: [['DOMString'], createCDATASection],
-    createComment: [['DOMString'], createComment],
-    createProcessingInstruction: [['DOMString', 'DOMString'], createInstruction],
-    importNode: [['Node', 'boolean = false'], importNode],
-    adoptNode: [['Node'], adoptNode],
+    createTextNode: [["DOMString"], createText],
+    createCDATASection: [["DOMString"], createCDATASection],
+    createComment: [["DOMString"], createComment],
+    createProcessingInstruction: [["DOMString", "DOMString"], createInstruction],
+    importNode: [["Node", "boolean = false"], importNode],
+    adoptNode: [["Node"], adoptNode],
     createRange: [[], createRange],
     createNodeIterator: [SHOW, createNodeIterator],
     createTreeWalker: [SHOW, createTreeWalker],

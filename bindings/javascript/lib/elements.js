@@ -1,14 +1,14 @@
 /** Element: its names, its attributes, and the elements below it. */
-import { check, ELEMENT, lent, native, out } from './core.js';
-import { htmlCollection } from './lists.js';
-import { attributeName, elementName, extracted, HTML, markedAttribute, small } from './names.js';
-import { childNode, documentIs, nameOf, parentNode, siblings, tagName } from './nodes.js';
-import { known } from './webidl.js';
-import { isNode, kindOf, numberOf, realmOf, sessionOf } from './wrappers.js';
+import { check, ELEMENT, lent, native, out } from "./core.js";
+import { htmlCollection } from "./lists.js";
+import { attributeName, elementName, extracted, HTML, markedAttribute, small } from "./names.js";
+import { childNode, isOfDocument, nameOf, parentNode, siblings, tagName } from "./nodes.js";
+import { known } from "./webidl.js";
+import { isNode, kindOf, numberOf, realmOf, sessionOf } from "./wrappers.js";
 
 export const isElement = (it) => isNode(it) && kindOf(it) === ELEMENT;
 
-const isOfHtml = (element) => nameOf(element).namespace === HTML && documentIs(element).isHtml;
+const isOfHtml = (element) => nameOf(element).namespace === HTML && isOfDocument(element).isHtml;
 
 /** The name of an attribute as the standard looks for it: in small letters for an element of HTML in a Document of HTML. */
 const sought = (element, name) => (/[A-Z]/.test(name) && isOfHtml(element) ? small(name) : name);
@@ -31,7 +31,7 @@ function byQualified(element, name) {
 }
 
 function byNamespace(element, namespace, local) {
-  const its = namespace === '' ? null : namespace;
+  const its = namespace === "" ? null : namespace;
   return names(element).find((it) => it.namespace === its && it.local === local);
 }
 
@@ -55,7 +55,7 @@ function change(element, call, ...words) {
   return answer;
 }
 
-export const setAttributeMarked = (element, core, value) => change(element, 'hp_set_attribute', core, value);
+export const setAttributeMarked = (element, core, value) => change(element, "hp_set_attribute", core, value);
 
 function setAttributeNS(element, namespace, qualified, value) {
   const its = extracted(namespace, qualified);
@@ -64,19 +64,19 @@ function setAttributeNS(element, namespace, qualified, value) {
 }
 
 function removeAttribute(element, core) {
-  change(element, 'hp_remove_attribute', core);
+  change(element, "hp_remove_attribute", core);
 }
 
 const FORCE = { false: 0, true: 1, undefined: 2 };
 
 function toggleAttribute(element, name, force) {
-  return change(element, 'hp_toggle_attribute', byQualified(element, sought(element, name)), FORCE[force === undefined ? force : Boolean(force)]) === 1;
+  return change(element, "hp_toggle_attribute", byQualified(element, sought(element, name)), FORCE[force === undefined ? force : Boolean(force)]) === 1;
 }
 
 /** An attribute that stands for a property of text. */
 const reflected = (name) => ({
-  type: 'DOMString',
-  get: (element) => valueOf(element, byQualified(element, name)) ?? '',
+  type: "DOMString",
+  get: (element) => valueOf(element, byQualified(element, name)) ?? "",
   set: (element, value) => setAttributeMarked(element, byQualified(element, name), value),
 });
 
@@ -102,65 +102,65 @@ function below(node, fits) {
 
 function getElementsByTagName(node, qualified) {
   const read = () => {
-    const ofHtml = documentIs(node).isHtml ? small(qualified) : qualified;
-    return below(node, (name) => qualified === '*' || name.qualified === (name.namespace === HTML ? ofHtml : qualified));
+    const ofHtml = isOfDocument(node).isHtml ? small(qualified) : qualified;
+    return below(node, (name) => qualified === "*" || name.qualified === (name.namespace === HTML ? ofHtml : qualified));
   };
   return htmlCollection(realmOf(node), sessionOf(node), read);
 }
 
 function getElementsByTagNameNS(node, namespace, local) {
-  const its = namespace === '' ? null : namespace;
-  const fits = (name) => (its === '*' || name.namespace === its) && (local === '*' || name.local === local);
+  const its = namespace === "" ? null : namespace;
+  const fits = (name) => (its === "*" || name.namespace === its) && (local === "*" || name.local === local);
   return htmlCollection(realmOf(node), sessionOf(node), () => below(node, fits));
 }
 
 /** What Documents and elements have. */
 export const elementsBelow = {
-  getElementsByTagName: [['DOMString'], getElementsByTagName],
-  getElementsByTagNameNS: [['DOMString?', 'DOMString'], getElementsByTagNameNS],
+  getElementsByTagName: [["DOMString"], getElementsByTagName],
+  getElementsByTagNameNS: [["DOMString?", "DOMString"], getElementsByTagNameNS],
 };
 
 export const Element = known({
-  name: 'Element',
-  parent: 'Node',
+  name: "Element",
+  parent: "Node",
   is: isElement,
   attributes: {
     namespaceURI: (element) => nameOf(element).namespace,
     prefix: (element) => nameOf(element).prefix,
     localName: (element) => nameOf(element).local,
     tagName,
-    id: reflected('id'),
-    className: reflected('class'),
+    id: reflected("id"),
+    className: reflected("class"),
     ...siblings,
     ...parentNode.attributes,
   },
   operations: {
     hasAttributes: [[], (element) => names(element).length > 0],
     getAttributeNames: [[], (element) => names(element).map((it) => it.qualified)],
-    getAttribute: [['DOMString'], (element, name) => valueOf(element, byQualified(element, sought(element, name)))],
+    getAttribute: [["DOMString"], (element, name) => valueOf(element, byQualified(element, sought(element, name)))],
     getAttributeNS: [
-      ['DOMString?', 'DOMString'],
+      ["DOMString?", "DOMString"],
       (element, namespace, local) => {
         const found = byNamespace(element, namespace, local);
         return found ? valueOf(element, found.core) : null;
       },
     ],
     setAttribute: [
-      ['DOMString', 'DOMString'],
+      ["DOMString", "DOMString"],
       (element, name, value) => void setAttributeMarked(element, byQualified(element, sought(element, name)), value),
     ],
-    setAttributeNS: [['DOMString?', 'DOMString', 'DOMString'], setAttributeNS],
-    removeAttribute: [['DOMString'], (element, name) => removeAttribute(element, byQualified(element, sought(element, name)))],
+    setAttributeNS: [["DOMString?", "DOMString", "DOMString"], setAttributeNS],
+    removeAttribute: [["DOMString"], (element, name) => removeAttribute(element, byQualified(element, sought(element, name)))],
     removeAttributeNS: [
-      ['DOMString?', 'DOMString'],
+      ["DOMString?", "DOMString"],
       (element, namespace, local) => {
         const found = byNamespace(element, namespace, local);
         if (found) removeAttribute(element, found.core);
       },
     ],
-    toggleAttribute: [['DOMString', 'any = undefined'], toggleAttribute],
-    hasAttribute: [['DOMString'], (element, name) => hasOf(element, byQualified(element, sought(element, name)))],
-    hasAttributeNS: [['DOMString?', 'DOMString'], (element, namespace, local) => byNamespace(element, namespace, local) !== undefined],
+    toggleAttribute: [["DOMString", "any = undefined"], toggleAttribute],
+    hasAttribute: [["DOMString"], (element, name) => hasOf(element, byQualified(element, sought(element, name)))],
+    hasAttributeNS: [["DOMString?", "DOMString"], (element, namespace, local) => byNamespace(element, namespace, local) !== undefined],
     ...elementsBelow,
     ...childNode.operations,
     ...parentNode.operations,

@@ -1,9 +1,9 @@
 /** The package: the standard's interfaces over the core, Documents, windows, and Documents in and out. */
-import { has, Session as Core } from './core.js';
-import { furnish, htmlIs, newDocument, xmlIs } from './documents.js';
-import { readFragment, readHTML, readXML, serialize } from './parsing.js';
-import { firstDocument, Realm } from './realm.js';
-import { sessionOf } from './wrappers.js';
+import { has, Session as Core } from "./core.js";
+import { htmlIs, newDocument, xmlIs } from "./documents.js";
+import { readFragment, readHTML, readXML, serialize, treeAdapter } from "./parsing.js";
+import { firstDocument, Realm } from "./realm.js";
+import { numberIn, sessionOf, settleAll, wrap } from "./wrappers.js";
 
 const realm = new Realm();
 
@@ -47,8 +47,23 @@ export class Session {
     return this.#document;
   }
 
+  /** Answers a line of JSON, as a string or as bytes, with the line of its reply. Lines and objects may be mixed. */
   line(line) {
-    return realm.guarded(() => this.#core.line(line));
+    return realm.guarded(() => {
+      const reply = this.#core.line(line);
+      settleAll(this.#core);
+      return reply;
+    });
+  }
+
+  /** The node of a number, as lines have it. */
+  node(number) {
+    return realm.guarded(() => wrap(this.#core, number));
+  }
+
+  /** The number of a node. */
+  number(node) {
+    return realm.guarded(() => numberIn(this.#core, node));
   }
 
   close() {
@@ -69,21 +84,18 @@ export function createDocument({ beside, xml = false } = {}) {
 }
 
 /**
- * A window: an object with all interfaces, of a realm of its own, and a Document of HTML with a head and a body. `global` is an object that it all
- * is put on, whose exceptions and arrays are used; `beside` is a Document whose session it shares; `report` takes what callbacks throw; `empty`
- * leaves the Document without an element.
+ * A window: an object that has all interfaces, of a realm of its own, and a `document`, one of HTML with nothing in it. What it throws and the arrays
+ * that it makes are by the constructors of `global`, a context's global object. `beside` is a window or a Document whose session it shares, so
+ * that nodes can move between the two; `report` takes what observers' callbacks throw.
  */
-export function createWindow({ global, beside, report, empty = false, url } = {}) {
+export function createWindow(global = globalThis, { beside, report, url } = {}) {
   const its = new Realm({ global, report });
-  const made = its.guarded(() =>
-    beside ? newDocument(sessionOf(beside), htmlIs(its, url)) : firstDocument(its, new Core(), htmlIs(its, url)),
+  const neighbour = beside?.document ?? beside;
+  its.document = its.guarded(() =>
+    neighbour ? newDocument(sessionOf(neighbour), htmlIs(its, url)) : firstDocument(its, new Core(), htmlIs(its, url)),
   );
-  its.document = empty ? made : its.guarded(() => furnish(made));
-  const window = global ?? {};
-  for (const [name, value] of Object.entries({ ...its.interfaces, document: made })) {
-    Object.defineProperty(window, name, { value, enumerable: false, writable: true, configurable: true });
-  }
-  return window;
+  const members = Object.entries({ ...its.interfaces, document: its.document });
+  return Object.defineProperties({}, Object.fromEntries(members.map(([name, value]) => [name, { value, writable: true, configurable: true }])));
 }
 
 /** A Document of a page of HTML: a new one of a session of its own, or `document`, which has no child yet. Needs parse5. */
@@ -101,4 +113,4 @@ export function parseXML(xml, { document = createDocument({ xml: true }) } = {})
   return realm.guarded(() => readXML(document, `${xml}`));
 }
 
-export { serialize };
+export { serialize, treeAdapter };

@@ -1,7 +1,7 @@
 /** NodeList and HTMLCollection: lists of nodes by index, live ones and those of a moment. */
-import { check, DOCUMENT, ELEMENT, FRAGMENT, native, out } from './core.js';
-import { known } from './webidl.js';
-import { kindOf, numberOf, sessionOf, wrap } from './wrappers.js';
+import { check, DOCUMENT, ELEMENT, FRAGMENT, native, out } from "./core.js";
+import { known } from "./webidl.js";
+import { kindOf, numberOf, sessionOf, wrap } from "./wrappers.js";
 
 /** The kinds whose length counts children; that of others counts units. */
 const MAY_HAVE_CHILDREN = new Set([ELEMENT, DOCUMENT, FRAGMENT]);
@@ -50,7 +50,7 @@ class ChildrenIs extends LiveIs {
 
   at(index) {
     if (index > 0) return super.at(index);
-    const first = this.session.step('all', numberOf(this.node), 'firstChild');
+    const first = this.session.step("all", numberOf(this.node), "firstChild");
     return first === native.HP_NONE ? null : wrap(this.session, first);
   }
 }
@@ -74,7 +74,7 @@ const PAST = 4294967295;
 
 /** The index that a property's name is, or -1. */
 function indexOf(key) {
-  if (typeof key !== 'string') return -1;
+  if (typeof key !== "string") return -1;
   const first = key.charCodeAt(0);
   if (!(first >= 48 && first <= 57)) return -1;
   const index = key >>> 0;
@@ -139,45 +139,45 @@ function listed(realm, name, known, its) {
 }
 
 /** The live list of a node's children. */
-export const liveNodeList = (realm, node, read) => listed(realm, 'NodeList', nodeLists, new ChildrenIs(node, read));
+export const liveNodeList = (realm, node, read) => listed(realm, "NodeList", nodeLists, new ChildrenIs(node, read));
 
 /** A list of nodes that does not change. */
-export const stillNodeList = (realm, nodes) => listed(realm, 'NodeList', nodeLists, new StillIs(nodes));
+export const stillNodeList = (realm, nodes) => listed(realm, "NodeList", nodeLists, new StillIs(nodes));
 
 /** A live list of elements. */
-export const htmlCollection = (realm, session, read) => listed(realm, 'HTMLCollection', collections, new LiveIs(session, read));
+export const htmlCollection = (realm, session, read) => listed(realm, "HTMLCollection", collections, new LiveIs(session, read));
 
 function borrow(realm, prototype, names) {
   for (const name of names) {
     const value = realm.global.Array.prototype[name];
-    Object.defineProperty(prototype, name, { value, enumerable: typeof name === 'string', writable: true, configurable: true });
+    Object.defineProperty(prototype, name, { value, enumerable: typeof name === "string", writable: true, configurable: true });
   }
 }
 
 export const NodeList = known({
-  name: 'NodeList',
+  name: "NodeList",
   is: (it) => nodeLists.has(it),
   attributes: { length: (list) => nodeLists.get(list).length },
-  operations: { item: [['unsigned long'], (list, index) => nodeLists.get(list).at(index)] },
-  finish: (realm, made) => borrow(realm, made.prototype, ['entries', 'forEach', 'keys', 'values', Symbol.iterator]),
+  operations: { item: [["unsigned long"], (list, index) => nodeLists.get(list).at(index)] },
+  finish: (realm, made) => borrow(realm, made.prototype, ["entries", "forEach", "keys", "values", Symbol.iterator]),
 });
 
 function namedItem(list, name) {
   const its = collections.get(list);
-  for (let at = 0; name !== '' && at < its.length; at++) {
+  for (let at = 0; name !== "" && at < its.length; at++) {
     const element = its.at(at);
-    if (element.getAttribute('id') === name || element.getAttribute('name') === name) return element;
+    if (element.getAttribute("id") === name || element.getAttribute("name") === name) return element;
   }
   return null;
 }
 
 export const HTMLCollection = known({
-  name: 'HTMLCollection',
+  name: "HTMLCollection",
   is: (it) => collections.has(it),
   attributes: { length: (list) => collections.get(list).length },
   operations: {
-    item: [['unsigned long'], (list, index) => collections.get(list).at(index)],
-    namedItem: [['DOMString'], namedItem],
+    item: [["unsigned long"], (list, index) => collections.get(list).at(index)],
+    namedItem: [["DOMString"], namedItem],
   },
   finish: (realm, made) => borrow(realm, made.prototype, [Symbol.iterator]),
 });

@@ -4,15 +4,15 @@
  *
  * Names without a mark are elements of HTML and attributes of no namespace.
  */
-import { native, Refusal } from './core.js';
+import { native, Refusal } from "./core.js";
 
-export const HTML = 'http://www.w3.org/1999/xhtml';
-export const SVG = 'http://www.w3.org/2000/svg';
-export const XML = 'http://www.w3.org/XML/1998/namespace';
-export const XMLNS = 'http://www.w3.org/2000/xmlns/';
+export const HTML = "http://www.w3.org/1999/xhtml";
+export const SVG = "http://www.w3.org/2000/svg";
+export const XML = "http://www.w3.org/XML/1998/namespace";
+export const XMLNS = "http://www.w3.org/2000/xmlns/";
 
-const MARK = '\uFDD0';
-const PREFIXED = 'p';
+const MARK = "\uFDD0";
+const PREFIXED = "p";
 const NAMESPACE_ERROR = 14;
 const MARKED = /^(.*)\uFDD0(\d+)(p?)$/su;
 
@@ -31,7 +31,7 @@ function numberOfNamespace(session, namespace) {
 }
 
 function cut(qualified, isPrefixed) {
-  const at = isPrefixed ? qualified.indexOf(':') : -1;
+  const at = isPrefixed ? qualified.indexOf(":") : -1;
   return { prefix: at < 0 ? null : qualified.slice(0, at), local: qualified.slice(at + 1) };
 }
 
@@ -57,7 +57,7 @@ export const attributeName = (session, core) => known(session, session.attribute
 
 function marked(session, namespace, qualified, isPrefixed, plain) {
   if (namespace === plain && !isPrefixed && !qualified.includes(MARK)) return qualified;
-  return `${qualified}${MARK}${numberOfNamespace(session, namespace)}${isPrefixed ? PREFIXED : ''}`;
+  return `${qualified}${MARK}${numberOfNamespace(session, namespace)}${isPrefixed ? PREFIXED : ""}`;
 }
 
 /** The name that the core has of an element. */
@@ -78,12 +78,12 @@ const PREFIX = /^[^\t\n\f\r \0/>]+$/;
 
 /** A namespace and a qualified name, tested together as the standard does; what the core tests of a name is left to it. */
 export function extracted(namespace, qualified) {
-  const its = namespace === '' ? null : namespace;
-  const isPrefixed = qualified.includes(':');
+  const its = namespace === "" ? null : namespace;
+  const isPrefixed = qualified.includes(":");
   const { prefix, local } = cut(qualified, isPrefixed);
-  refuseUnless(prefix === null || (PREFIX.test(prefix) && local !== ''), native.HP_INVALID_CHARACTER_ERROR);
+  refuseUnless(prefix === null || (PREFIX.test(prefix) && local !== ""), native.HP_INVALID_CHARACTER_ERROR);
   refuseUnless(prefix === null || its !== null, NAMESPACE_ERROR);
-  refuseUnless(prefix !== 'xml' || its === XML, NAMESPACE_ERROR);
-  refuseUnless((qualified === 'xmlns' || prefix === 'xmlns') === (its === XMLNS), NAMESPACE_ERROR);
+  refuseUnless(prefix !== "xml" || its === XML, NAMESPACE_ERROR);
+  refuseUnless((qualified === "xmlns" || prefix === "xmlns") === (its === XMLNS), NAMESPACE_ERROR);
   return { namespace: its, isPrefixed, prefix, local };
 }

@@ -1,8 +1,8 @@
 /** The addon, which make.py builds. HUCKLEPORT_ADDON names another file. */
-import { createRequire } from 'node:module';
-import { fileURLToPath } from 'node:url';
+import { createRequire } from "node:module";
+import { fileURLToPath } from "node:url";
 
-const place = process.env.HUCKLEPORT_ADDON ?? fileURLToPath(new URL('../out/huckleport.node', import.meta.url));
+const place = process.env.HUCKLEPORT_ADDON ?? fileURLToPath(new URL("../out/huckleport.node", import.meta.url));
 
 function load() {
   try {
@@ -18,4 +18,4 @@ export const native = load();
 export const out = native.numbers;
 
 /** Whether the library has a call of that name. */
-export const has = (call) => typeof native[call] === 'function';
+export const has = (call) => typeof native[call] === "function";

@@ -1,11 +1,12 @@
 /** Node, and what Documents, fragments and elements have in common: children that are elements, and several nodes at once. */
-import { check, DOCTYPE, DOCUMENT, ELEMENT, FRAGMENT, INSTRUCTION, lent, listed, native, NONE, out, TEXT, COMMENT } from './core.js';
-import { elementName } from './names.js';
-import { htmlCollection, liveNodeList } from './lists.js';
-import { known } from './webidl.js';
+import { check, DOCTYPE, DOCUMENT, ELEMENT, FRAGMENT, INSTRUCTION, lent, listed, native, NONE, out, TEXT, COMMENT } from "./core.js";
+import { elementName } from "./names.js";
+import { htmlCollection, liveNodeList } from "./lists.js";
+import { known } from "./webidl.js";
 import {
   arrive,
   childrenOf,
+  documentIs,
   isNode,
   keptOf,
   kindOf,
@@ -20,7 +21,7 @@ import {
   wrapDocument,
   wrapMade,
   wrapOrNull,
-} from './wrappers.js';
+} from "./wrappers.js";
 
 // ---- Questions: each is a call of the library.
 
@@ -46,8 +47,8 @@ function stepped(node, show, move) {
   return wrapOrNull(session, session.step(show, numberOf(node), move));
 }
 
-export const firstChildOf = (node) => stepped(node, 'all', 'firstChild');
-export const lastChildOf = (node) => stepped(node, 'all', 'lastChild');
+export const firstChildOf = (node) => stepped(node, "all", "firstChild");
+export const lastChildOf = (node) => stepped(node, "all", "lastChild");
 
 /** The children of a node by their numbers. */
 export function childNumbers(node) {
@@ -74,9 +75,9 @@ export function nameOf(element) {
 }
 
 /** What the session knows of a node's Document. */
-export function documentIs(node) {
+export function isOfDocument(node) {
   ask(node);
-  return sessionOf(node).documents.get(out[DOCUMENT_AT]);
+  return documentIs(sessionOf(node), out[DOCUMENT_AT]);
 }
 
 function nodeName(node) {
@@ -91,13 +92,13 @@ function nodeName(node) {
   }
 }
 
-const NAMES = { [TEXT]: '#text', [COMMENT]: '#comment', [DOCUMENT]: '#document', [FRAGMENT]: '#document-fragment' };
-const HTML = 'http://www.w3.org/1999/xhtml';
+const NAMES = { [TEXT]: "#text", [COMMENT]: "#comment", [DOCUMENT]: "#document", [FRAGMENT]: "#document-fragment" };
+const HTML = "http://www.w3.org/1999/xhtml";
 
 /** An element's qualified name, in capitals for one of HTML in a Document of HTML. */
 export function tagName(element) {
   const name = nameOf(element);
-  return name.namespace === HTML && documentIs(element).isHtml ? name.capital : name.qualified;
+  return name.namespace === HTML && isOfDocument(element).isHtml ? name.capital : name.qualified;
 }
 
 const hasData = (node) => [TEXT, INSTRUCTION, COMMENT].includes(kindOf(node));
@@ -123,7 +124,7 @@ function textContent(node) {
 function setTextContent(node, text) {
   const session = sessionOf(node);
   const gone = hasData(node) ? [] : childrenOf(node);
-  check(native.hp_set_text_content(session.index, numberOf(node), text ?? ''));
+  check(native.hp_set_text_content(session.index, numberOf(node), text ?? ""));
   gone.forEach(settle);
   session.changed();
 }
@@ -138,7 +139,7 @@ const isBeside = (node, other) => other === null || sessionOf(node) === sessionO
 const DISCONNECTED = 1 | 32;
 
 function comparePosition(node, other) {
-  if (isBeside(node, other)) return compared('hp_compare_position', node, other);
+  if (isBeside(node, other)) return compared("hp_compare_position", node, other);
   return DISCONNECTED | (sessionOf(node).index < sessionOf(other).index ? 4 : 2);
 }
 
@@ -254,12 +255,12 @@ function copied(node, call, ...words) {
   const session = sessionOf(node);
   check(native[call](session.index, ...words));
   const copy = out[0];
-  return kindOf(node) === DOCUMENT ? wrapDocument(session, copy, { ...documentIs(node) }) : wrap(session, copy);
+  return kindOf(node) === DOCUMENT ? wrapDocument(session, copy, { ...isOfDocument(node) }) : wrap(session, copy);
 }
 
-export const cloneNode = (node, deep) => copied(node, 'hp_clone_node', numberOf(node), Number(deep));
+export const cloneNode = (node, deep) => copied(node, "hp_clone_node", numberOf(node), Number(deep));
 export const importNode = (document, node, deep) =>
-  copied(node, 'hp_import_node', numberOf(document), numberIn(sessionOf(document), node), Number(deep));
+  copied(node, "hp_import_node", numberOf(document), numberIn(sessionOf(document), node), Number(deep));
 
 export function adoptNode(document, node) {
   const session = sessionOf(document);
@@ -279,12 +280,12 @@ export function created(document, kind, call, ...words) {
   return wrapMade(its, out[0], kind);
 }
 
-export const createElementMarked = (document, name) => created(document, ELEMENT, 'hp_create_element', name);
-export const createText = (document, data) => created(document, TEXT, 'hp_create_text', data);
-export const createComment = (document, data) => created(document, COMMENT, 'hp_create_comment', data);
-export const createInstruction = (document, target, data) => created(document, INSTRUCTION, 'hp_create_pi', target, data);
-export const createDoctype = (document, ...words) => created(document, DOCTYPE, 'hp_create_doctype', ...words);
-export const createFragment = (document) => created(document, FRAGMENT, 'hp_create_fragment');
+export const createElementMarked = (document, name) => created(document, ELEMENT, "hp_create_element", name);
+export const createText = (document, data) => created(document, TEXT, "hp_create_text", data);
+export const createComment = (document, data) => created(document, COMMENT, "hp_create_comment", data);
+export const createInstruction = (document, target, data) => created(document, INSTRUCTION, "hp_create_pi", target, data);
+export const createDoctype = (document, ...words) => created(document, DOCTYPE, "hp_create_doctype", ...words);
+export const createFragment = (document) => created(document, FRAGMENT, "hp_create_fragment");
 
 // ---- Several nodes at once, as the standard composes them of single steps.
 
@@ -328,7 +329,7 @@ function replaceWith(node, ...given) {
   else insertBefore(parent, come, next);
 }
 
-const SEVERAL = ['...(Node or DOMString)'];
+const SEVERAL = ["...(Node or DOMString)"];
 
 /** What elements, doctypes and character data have. */
 export const childNode = {
@@ -338,20 +339,20 @@ export const childNode = {
     replaceWith: [SEVERAL, replaceWith],
     remove: [[], remove],
   },
-  hidden: ['before', 'after', 'replaceWith', 'remove'],
+  hidden: ["before", "after", "replaceWith", "remove"],
 };
 
 /** What elements and character data have. */
 export const siblings = {
-  previousElementSibling: (node) => stepped(node, 'elements', 'previousSibling'),
-  nextElementSibling: (node) => stepped(node, 'elements', 'nextSibling'),
+  previousElementSibling: (node) => stepped(node, "elements", "previousSibling"),
+  nextElementSibling: (node) => stepped(node, "elements", "nextSibling"),
 };
 
 /** The children of a node that are elements, by their numbers. */
 function elementNumbers(node) {
   const session = sessionOf(node);
   const found = [];
-  for (let at = session.step('elements', numberOf(node), 'firstChild'); at !== NONE; at = session.step('elements', at, 'nextSibling')) found.push(at);
+  for (let at = session.step("elements", numberOf(node), "firstChild"); at !== NONE; at = session.step("elements", at, "nextSibling")) found.push(at);
   return found;
 }
 
@@ -359,8 +360,8 @@ function elementNumbers(node) {
 export const parentNode = {
   attributes: {
     children: (node) => (keptOf(node).children ??= htmlCollection(realmOf(node), sessionOf(node), () => elementNumbers(node))),
-    firstElementChild: (node) => stepped(node, 'elements', 'firstChild'),
-    lastElementChild: (node) => stepped(node, 'elements', 'lastChild'),
+    firstElementChild: (node) => stepped(node, "elements", "firstChild"),
+    lastElementChild: (node) => stepped(node, "elements", "lastChild"),
     childElementCount: (node) => elementNumbers(node).length,
   },
   operations: {
@@ -368,14 +369,14 @@ export const parentNode = {
     prepend: [SEVERAL, (node, ...given) => void insertBefore(node, oneOf(documentOf(node), given), firstChildOf(node))],
     replaceChildren: [SEVERAL, (node, ...given) => replaceAll(node, given.length ? oneOf(documentOf(node), given) : null)],
   },
-  hidden: ['append', 'prepend', 'replaceChildren'],
+  hidden: ["append", "prepend", "replaceChildren"],
 };
 
 const childNodes = (node) =>
   (keptOf(node).childNodes ??= liveNodeList(realmOf(node), node, () => childNumbers(node)));
 
 export const Node = known({
-  name: 'Node',
+  name: "Node",
   is: isNode,
   constants: {
     ELEMENT_NODE: 1,
@@ -400,7 +401,7 @@ export const Node = known({
   attributes: {
     nodeType: kindOf,
     nodeName,
-    baseURI: (node) => documentIs(node).url,
+    baseURI: (node) => isOfDocument(node).url,
     isConnected: (node) => kindOf(rootOf(node)) === DOCUMENT,
     ownerDocument: (node) => (kindOf(node) === DOCUMENT ? null : documentOf(node)),
     parentNode: parentOf,
@@ -414,24 +415,24 @@ export const Node = known({
     previousSibling: previousOf,
     nextSibling: nextOf,
     nodeValue: {
-      type: 'DOMString?',
+      type: "DOMString?",
       get: (node) => (hasData(node) ? dataOf(node) : null),
-      set: (node, text) => hasData(node) && setData(node, text ?? ''),
+      set: (node, text) => hasData(node) && setData(node, text ?? ""),
     },
-    textContent: { type: 'DOMString?', get: textContent, set: setTextContent },
+    textContent: { type: "DOMString?", get: textContent, set: setTextContent },
   },
   operations: {
-    getRootNode: [['any = undefined'], rootOf],
+    getRootNode: [["any = undefined"], rootOf],
     hasChildNodes: [[], (node) => firstChildOf(node) !== null],
     normalize: [[], normalize],
-    cloneNode: [['boolean = false'], cloneNode],
-    isEqualNode: [['Node?'], (node, other) => isBeside(node, other) && compared('hp_is_equal', node, other) === 1],
-    isSameNode: [['Node?'], (node, other) => node === other],
-    compareDocumentPosition: [['Node'], comparePosition],
-    contains: [['Node?'], (node, other) => isBeside(node, other) && compared('hp_contains', node, other) === 1],
-    insertBefore: [['Node', 'Node?'], insertBefore],
-    appendChild: [['Node'], appendChild],
-    replaceChild: [['Node', 'Node'], replaceChild],
-    removeChild: [['Node'], removeChild],
+    cloneNode: [["boolean = false"], cloneNode],
+    isEqualNode: [["Node?"], (node, other) => isBeside(node, other) && compared("hp_is_equal", node, other) === 1],
+    isSameNode: [["Node?"], (node, other) => node === other],
+    compareDocumentPosition: [["Node"], comparePosition],
+    contains: [["Node?"], (node, other) => isBeside(node, other) && compared("hp_contains", node, other) === 1],
+    insertBefore: [["Node", "Node?"], insertBefore],
+    appendChild: [["Node"], appendChild],
+    replaceChild: [["Node", "Node"], replaceChild],
+    removeChild: [["Node"], removeChild],
   },
 });

@@ -1,13 +1,13 @@
 /** MutationObserver and MutationRecord. The core queues records; here they become objects, and callbacks are called. */
-import { check, lent, native, OK, out } from './core.js';
-import { stillNodeList } from './lists.js';
-import { attributeName } from './names.js';
-import { converted, convertible, known } from './webidl.js';
-import { keptOf, makeThing, numberOf, sessionOf, thingOf, wrap, wrapOrNull } from './wrappers.js';
+import { check, lent, native, OK, out } from "./core.js";
+import { stillNodeList } from "./lists.js";
+import { attributeName } from "./names.js";
+import { converted, convertible, known } from "./webidl.js";
+import { keptOf, makeThing, numberOf, sessionOf, thingOf, wrap, wrapOrNull } from "./wrappers.js";
 
-const TYPES = ['attributes', 'characterData', 'childList'];
-const ATTRIBUTES = TYPES.indexOf('attributes');
-const CHILD_LIST = TYPES.indexOf('childList');
+const TYPES = ["attributes", "characterData", "childList"];
+const ATTRIBUTES = TYPES.indexOf("attributes");
+const CHILD_LIST = TYPES.indexOf("childList");
 const HEAD = 6;
 
 // ---- Reading: first all that is told, by numbers, since the answer is lent only until the next call; then the objects.
@@ -15,7 +15,7 @@ const HEAD = 6;
 /** The records of a notice as plain objects of numbers and texts. */
 function read(session, notice, count) {
   const told = native.records(session.index, notice, count);
-  if (typeof told === 'number') check(told);
+  if (typeof told === "number") check(told);
   const found = [];
   for (let at = 0; at < told.length; ) {
     const [type, target, added, removed, previous, next] = told.subarray(at, at + HEAD);
@@ -50,10 +50,10 @@ const recordOf = (it) => thingOf(it, RecordIs);
 const recordsOf = (realm, session, told) =>
   realm.array(told.map((it) => makeThing(new RecordIs(realm, session, it), realm.interfaces.MutationRecord)));
 
-const MEMBERS = 'type target addedNodes removedNodes previousSibling nextSibling attributeName attributeNamespace oldValue'.split(' ');
+const MEMBERS = "type target addedNodes removedNodes previousSibling nextSibling attributeName attributeNamespace oldValue".split(" ");
 
 export const MutationRecord = known({
-  name: 'MutationRecord',
+  name: "MutationRecord",
   is: (it) => recordOf(it) !== undefined,
   attributes: Object.fromEntries(MEMBERS.map((name) => [name, (record) => recordOf(record)[name]])),
 });
@@ -88,7 +88,7 @@ function numberFor(observer, session) {
   return numbers.get(session);
 }
 
-const SWITCHES = ['childList', 'attributes', 'characterData', 'subtree', 'attributeOldValue', 'characterDataOldValue'];
+const SWITCHES = ["childList", "attributes", "characterData", "subtree", "attributeOldValue", "characterDataOldValue"];
 const ABSENT = 2;
 const encoder = new TextEncoder();
 
@@ -105,17 +105,17 @@ function observe(observer, target, options) {
 
 /** The options of an observer as the core takes them; members are read in the order of their names. */
 function optionsOf(value) {
-  const from = converted('dictionary', value);
+  const from = converted("dictionary", value);
   const given = {};
-  for (const name of ['attributeFilter', ...SWITCHES].sort()) {
+  for (const name of ["attributeFilter", ...SWITCHES].sort()) {
     const its = from[name];
-    if (its !== undefined) given[name] = converted(name === 'attributeFilter' ? 'sequence<DOMString>' : 'boolean', its);
+    if (its !== undefined) given[name] = converted(name === "attributeFilter" ? "sequence<DOMString>" : "boolean", its);
   }
-  const switches = Uint8Array.of(...SWITCHES.map((name) => (name in given ? Number(given[name]) : ABSENT)), 'attributeFilter' in given ? 1 : 0);
+  const switches = Uint8Array.of(...SWITCHES.map((name) => (name in given ? Number(given[name]) : ABSENT)), "attributeFilter" in given ? 1 : 0);
   return { switches, names: given.attributeFilter ?? [] };
 }
 
-convertible('MutationObserverInit', optionsOf);
+convertible("MutationObserverInit", optionsOf);
 
 function disconnect(observer) {
   const its = observerOf(observer);
@@ -171,11 +171,11 @@ function call(observer, records) {
 }
 
 export const MutationObserver = known({
-  name: 'MutationObserver',
+  name: "MutationObserver",
   is: (it) => observerOf(it) !== undefined,
-  construct: [['Function'], (realm, target, callback) => makeThing(new ObserverIs(realm, callback), target)],
+  construct: [["Function"], (realm, target, callback) => makeThing(new ObserverIs(realm, callback), target)],
   operations: {
-    observe: [['Node', 'MutationObserverInit = {}'], observe],
+    observe: [["Node", "MutationObserverInit = {}"], observe],
     disconnect: [[], disconnect],
     takeRecords: [[], takeRecords],
   },

@@ -1,8 +1,8 @@
 /** Documents in and out: HTML by parse5, and XML by saxes, where these are installed. Both are asked for only when they are needed. */
-import { createRequire } from 'node:module';
-import { COMMENT, DOCTYPE, ELEMENT, native, TEXT } from './core.js';
-import { attributesOf, isElement } from './elements.js';
-import { markedAttribute, markedElement } from './names.js';
+import { createRequire } from "node:module";
+import { COMMENT, DOCTYPE, ELEMENT, native, TEXT } from "./core.js";
+import { attributesOf, isElement } from "./elements.js";
+import { markedAttribute, markedElement } from "./names.js";
 import {
   appendChild,
   childNumbers,
@@ -22,10 +22,10 @@ import {
   parentOf,
   previousOf,
   remove,
-} from './nodes.js';
-import { isNode, keptOf, kindOf, numberOf, sessionOf, wrap } from './wrappers.js';
+} from "./nodes.js";
+import { documentIs, isNode, keptOf, kindOf, numberOf, sessionOf, wrap } from "./wrappers.js";
 
-const WHERE = [process.cwd(), import.meta.dirname ?? '.', '/usr/share/nodejs'];
+const WHERE = [process.cwd(), import.meta.dirname ?? ".", "/usr/share/nodejs"];
 
 /** A package that is looked for beside the program, beside this one, and where Debian has its packages. */
 function wanted(name, what) {
@@ -46,7 +46,7 @@ function appendData(text, data) {
 }
 
 /** An attribute of the parser's on an element. A name that the core does not take is left out. */
-function addAttribute(element, { name, value, namespace = null, prefix = '' }) {
+function addAttribute(element, { name, value, namespace = null, prefix = "" }) {
   const session = sessionOf(element);
   const core = markedAttribute(session, namespace, prefix ? `${prefix}:${name}` : name, Boolean(prefix));
   native.hp_set_attribute(session.index, numberOf(element), core, value);
@@ -72,7 +72,7 @@ function adoptAttributes(element, attributes) {
 const parserAttribute = ({ local, value, namespace, prefix }) => ({ name: local, value, namespace: namespace ?? undefined, prefix: prefix ?? undefined });
 
 function setDocumentMode(document, mode) {
-  sessionOf(document).documents.get(numberOf(document)).isQuirky = mode === 'quirks';
+  documentIs(sessionOf(document), numberOf(document)).isQuirky = mode === "quirks";
 }
 
 /** How parse5 builds and reads a tree of a Document: its tree adapter. */
@@ -90,7 +90,7 @@ export function treeAdapter(document) {
     adoptAttributes,
     setDocumentType: (its, ...words) => void appendChild(its, createDoctype(its, ...words)),
     setDocumentMode,
-    getDocumentMode: (its) => (its.compatMode === 'BackCompat' ? 'quirks' : 'no-quirks'),
+    getDocumentMode: (its) => (its.compatMode === "BackCompat" ? "quirks" : "no-quirks"),
     setTemplateContent: (element, content) => void (keptOf(element).content = content),
     getTemplateContent: (element) => keptOf(element).content ?? createFragment(documentOf(element)),
     getFirstChild: firstChildOf,
@@ -116,7 +116,7 @@ export function treeAdapter(document) {
 
 /** Reads a page of HTML into a Document that has no child yet. */
 export function readHTML(document, html) {
-  wanted('parse5', 'parsing HTML').parse(html, { treeAdapter: treeAdapter(document) });
+  wanted("parse5", "parsing HTML").parse(html, { treeAdapter: treeAdapter(document) });
   return document;
 }
 
@@ -124,13 +124,13 @@ export function readHTML(document, html) {
 export function readFragment(context, html) {
   const document = documentOf(context);
   const within = isElement(context) ? context : null;
-  return wanted('parse5', 'parsing HTML').parseFragment(within, html, { treeAdapter: treeAdapter(document) });
+  return wanted("parse5", "parsing HTML").parseFragment(within, html, { treeAdapter: treeAdapter(document) });
 }
 
 /** A node and what is in it as HTML: of a Document and a fragment what is in it. */
 export function serialize(node) {
-  if (!isNode(node)) throw new TypeError('this is no node');
-  const { serialize: inner, serializeOuter } = wanted('parse5', 'serializing HTML');
+  if (!isNode(node)) throw new TypeError("this is no node");
+  const { serialize: inner, serializeOuter } = wanted("parse5", "serializing HTML");
   const words = { treeAdapter: treeAdapter(documentOf(node)) };
   return isElement(node) ? serializeOuter(node, words) : inner(node, words);
 }
@@ -141,8 +141,8 @@ const DOCTYPE_FORM = /^\s*([^\s[]+)(?:\s+PUBLIC\s+(?:"([^"]*)"|'([^']*)')(?:\s+(
 
 function doctypeOf(document, text) {
   const [, name, ...ids] = DOCTYPE_FORM.exec(text);
-  const publicId = ids[0] ?? ids[1] ?? '';
-  const systemId = ids.slice(2).find((it) => it !== undefined) ?? '';
+  const publicId = ids[0] ?? ids[1] ?? "";
+  const systemId = ids.slice(2).find((it) => it !== undefined) ?? "";
   return createDoctype(document, name, publicId, systemId);
 }
 
@@ -187,15 +187,15 @@ class Builder {
   }
 }
 
-const EVENTS = ['opentag', 'closetag', 'text', 'cdata', 'comment', 'processinginstruction', 'doctype'];
+const EVENTS = ["opentag", "closetag", "text", "cdata", "comment", "processinginstruction", "doctype"];
 
 /** Reads a text of XML into a Document that has no child yet; what is not well-formed is a SyntaxError. */
 export function readXML(document, xml) {
-  const { SaxesParser } = wanted('saxes', 'parsing XML');
+  const { SaxesParser } = wanted("saxes", "parsing XML");
   const builder = new Builder(document);
   const parser = new SaxesParser({ xmlns: true });
   for (const name of EVENTS) parser.on(name, (told) => builder[name](told));
-  parser.on('error', (fault) => {
+  parser.on("error", (fault) => {
     throw new SyntaxError(fault.message, { cause: fault });
   });
   parser.write(xml).close();

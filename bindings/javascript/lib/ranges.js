@@ -1,8 +1,8 @@
 /** AbstractRange, Range and StaticRange. */
-import { check, lent, native, out } from './core.js';
-import { following } from './nodes.js';
-import { convertible, dictionary, known } from './webidl.js';
-import { childrenOf, makeThing, numberIn, numberOf, realmOf, sessionOf, settle, thingOf, wrap } from './wrappers.js';
+import { check, lent, native, out } from "./core.js";
+import { following } from "./nodes.js";
+import { convertible, dictionary, known } from "./webidl.js";
+import { childrenOf, makeThing, numberIn, numberOf, realmOf, sessionOf, settle, thingOf, wrap } from "./wrappers.js";
 
 /** What a range knows: its number in its session, and the containers that it was last seen with, which it holds. */
 class EndsAre {
@@ -35,7 +35,7 @@ const rangeOf = (it) => thingOf(it, RangeIs);
 function container(it, side) {
   const its = endsOf(it);
   its.ask();
-  return (its[side] = wrap(its.session, out[side === 'start' ? 0 : 2]));
+  return (its[side] = wrap(its.session, out[side === "start" ? 0 : 2]));
 }
 
 function offset(it, at) {
@@ -63,7 +63,7 @@ function ranged(session, its, call, target) {
   return made;
 }
 
-const made = (realm, session, target) => ranged(session, new RangeIs(realm, session, out[0]), 'hp_release_range', target);
+const made = (realm, session, target) => ranged(session, new RangeIs(realm, session, out[0]), "hp_release_range", target);
 
 export function createRange(document, target = realmOf(document).interfaces.Range) {
   const session = sessionOf(document);
@@ -106,7 +106,7 @@ function isBeside(range, node) {
 }
 
 function commonAncestor(range) {
-  const number = asked(range, 'hp_common_ancestor');
+  const number = asked(range, "hp_common_ancestor");
   return wrap(rangeOf(range).session, number);
 }
 
@@ -121,7 +121,7 @@ function text(range) {
 /** Makes a change of what is in a range; wrappers follow those that left their parents. */
 function within(range, call, ...words) {
   const { session, number } = rangeOf(range);
-  const ancestor = asked(range, 'hp_common_ancestor');
+  const ancestor = asked(range, "hp_common_ancestor");
   let answer;
   following(session, ancestor, () => {
     check(native[call](session.index, number, ...words));
@@ -132,13 +132,13 @@ function within(range, call, ...words) {
 }
 
 function deleteContents(range) {
-  within(range, 'hp_delete_contents');
+  within(range, "hp_delete_contents");
 }
 
-const extractContents = (range) => wrap(rangeOf(range).session, within(range, 'hp_extract_contents'));
+const extractContents = (range) => wrap(rangeOf(range).session, within(range, "hp_extract_contents"));
 
 function cloneContents(range) {
-  const number = asked(range, 'hp_clone_contents');
+  const number = asked(range, "hp_clone_contents");
   return wrap(rangeOf(range).session, number);
 }
 
@@ -154,83 +154,83 @@ function insertNode(range, node) {
 function surroundContents(range, parent) {
   const { session } = rangeOf(range);
   const children = childrenOf(parent);
-  within(range, 'hp_surround_contents', numberIn(session, parent));
+  within(range, "hp_surround_contents", numberIn(session, parent));
   [...children, parent].forEach(settle);
 }
 
-const SET = ['Node', 'unsigned long'];
+const SET = ["Node", "unsigned long"];
 
 export const AbstractRange = known({
-  name: 'AbstractRange',
+  name: "AbstractRange",
   is: (it) => endsOf(it) !== undefined,
   attributes: {
-    startContainer: (it) => container(it, 'start'),
+    startContainer: (it) => container(it, "start"),
     startOffset: (it) => offset(it, 1),
-    endContainer: (it) => container(it, 'end'),
+    endContainer: (it) => container(it, "end"),
     endOffset: (it) => offset(it, 3),
     collapsed,
   },
 });
 
 // The members that a static range is made of, each of them required, in the order in which they are read.
-convertible('StaticRangeInit', dictionary({ endContainer: 'Node', endOffset: 'unsigned long', startContainer: 'Node', startOffset: 'unsigned long' }));
+convertible("StaticRangeInit", dictionary({ endContainer: "Node", endOffset: "unsigned long", startContainer: "Node", startOffset: "unsigned long" }));
 
 export const StaticRange = known({
-  name: 'StaticRange',
-  parent: 'AbstractRange',
+  name: "StaticRange",
+  parent: "AbstractRange",
   is: (it) => thingOf(it, StaticRangeIs) !== undefined,
   construct: [
-    ['StaticRangeInit'],
+    ["StaticRangeInit"],
     (realm, target, [endContainer, endOffset, startContainer, startOffset]) => {
       const session = sessionOf(startContainer);
       const words = [numberOf(startContainer), startOffset, numberIn(session, endContainer), endOffset];
       check(native.hp_create_static_range(session.index, ...words));
-      return ranged(session, new StaticRangeIs(realm, session, out[0]), 'hp_release_static_range', target);
+      return ranged(session, new StaticRangeIs(realm, session, out[0]), "hp_release_static_range", target);
     },
   ],
 });
 
 export const Range = known({
-  name: 'Range',
-  parent: 'AbstractRange',
+  name: "Range",
+  parent: "AbstractRange",
   is: (it) => rangeOf(it) !== undefined,
   construct: [[], (realm, target) => createRange(realm.document, target)],
   constants: { START_TO_START: 0, START_TO_END: 1, END_TO_END: 2, END_TO_START: 3 },
   attributes: { commonAncestorContainer: commonAncestor },
   operations: {
-    setStart: [SET, setting('hp_set_start')],
-    setEnd: [SET, setting('hp_set_end')],
-    setStartBefore: [['Node'], setting('hp_set_start_before')],
-    setStartAfter: [['Node'], setting('hp_set_start_after')],
-    setEndBefore: [['Node'], setting('hp_set_end_before')],
-    setEndAfter: [['Node'], setting('hp_set_end_after')],
-    collapse: [['boolean = false'], collapse],
-    selectNode: [['Node'], setting('hp_select_node')],
-    selectNodeContents: [['Node'], setting('hp_select_node_contents')],
+    setStart: [SET, setting("hp_set_start")],
+    setEnd: [SET, setting("hp_set_end")],
+    setStartBefore: [["Node"], setting("hp_set_start_before")],
+    setStartAfter: [["Node"], setting("hp_set_start_after")],
+    setEndBefore: [["Node"], setting("hp_set_end_before")],
+    setEndAfter: [["Node"], setting("hp_set_end_after")],
+    collapse: [["boolean = false"], collapse],
+    selectNode: [["Node"], setting("hp_select_node")],
+    selectNodeContents: [["Node"], setting("hp_select_node_contents")],
     compareBoundaryPoints: [
-      ['unsigned short', 'Range'],
+      ["unsigned short", "Range"],
       (range, how, source) => {
         const { session, number } = rangeOf(source);
         if (session !== rangeOf(range).session && how <= 3) check(native.HP_WRONG_DOCUMENT_ERROR);
-        return ordered(asked(range, 'hp_compare_boundary_points', how, number));
+        return ordered(asked(range, "hp_compare_boundary_points", how, number));
       },
     ],
     deleteContents: [[], deleteContents],
     extractContents: [[], extractContents],
     cloneContents: [[], cloneContents],
-    insertNode: [['Node'], insertNode],
-    surroundContents: [['Node'], surroundContents],
+    insertNode: [["Node"], insertNode],
+    surroundContents: [["Node"], surroundContents],
     cloneRange: [[], cloneRange],
     detach: [[], () => undefined],
-    isPointInRange: [SET, (range, node, at) => isBeside(range, node) && asked(range, 'hp_is_point_in_range', numberOf(node), at) === 1],
+    isPointInRange: [SET, (range, node, at) => isBeside(range, node) && asked(range, "hp_is_point_in_range", numberOf(node), at) === 1],
     comparePoint: [
       SET,
       (range, node, at) => {
         if (!isBeside(range, node)) check(native.HP_WRONG_DOCUMENT_ERROR);
-        return ordered(asked(range, 'hp_compare_point', numberOf(node), at));
+        return ordered(asked(range, "hp_compare_point", numberOf(node), at));
       },
     ],
-    intersectsNode: [['Node'], (range, node) => isBeside(range, node) && asked(range, 'hp_intersects_node', numberOf(node)) === 1],
+    intersectsNode: [["Node"], (range, node) => isBeside(range, node) && asked(range, "hp_intersects_node", numberOf(node)) === 1],
     toString: [[], text],
   },
 });

@@ -1,16 +1,16 @@
 /** A realm: interfaces of its own, the exceptions that they throw, and the Document that constructors belong to. */
-import { Refusal, Session } from './core.js';
-import { CharacterData, Comment, ProcessingInstruction, Text } from './data.js';
-import { Document, DocumentFragment, DocumentType, DOMImplementation, xmlIs } from './documents.js';
-import { Element } from './elements.js';
-import { DOMException, exceptionFor } from './exceptions.js';
-import { HTMLCollection, NodeList } from './lists.js';
-import { Node } from './nodes.js';
-import { MutationObserver, MutationRecord } from './observers.js';
-import { AbstractRange, Range, StaticRange } from './ranges.js';
-import { FILTER_CONSTANTS, NodeIterator, TreeWalker } from './traversal.js';
-import { makeInterface } from './webidl.js';
-import { wrapDocument } from './wrappers.js';
+import { Refusal, Session } from "./core.js";
+import { CharacterData, Comment, ProcessingInstruction, Text } from "./data.js";
+import { Document, DocumentFragment, DocumentType, DOMImplementation, xmlIs } from "./documents.js";
+import { Element } from "./elements.js";
+import { DOMException, exceptionFor } from "./exceptions.js";
+import { HTMLCollection, NodeList } from "./lists.js";
+import { Node } from "./nodes.js";
+import { MutationObserver, MutationRecord } from "./observers.js";
+import { AbstractRange, Range, StaticRange } from "./ranges.js";
+import { FILTER_CONSTANTS, NodeIterator, TreeWalker } from "./traversal.js";
+import { makeInterface } from "./webidl.js";
+import { wrapDocument } from "./wrappers.js";
 
 /** The interfaces, each behind the one that it inherits from. */
 const TABLES = [
@@ -68,11 +68,11 @@ export class Realm {
   }
 
   wrongThis() {
-    return new this.global.TypeError('Illegal invocation');
+    return new this.global.TypeError("Illegal invocation");
   }
 
   tooFew(required) {
-    return new this.global.TypeError(`${required} argument${required === 1 ? ' is' : 's are'} required`);
+    return new this.global.TypeError(`${required} argument${required === 1 ? " is" : "s are"} required`);
   }
 
   /** A list as an array of the realm. */

@@ -5,10 +5,10 @@
  * the core can't do: a walker then goes over the core's tree by the standard's steps, and an iterator is moved on in the core to the node that
  * the filter took, so that it still gives way before removals.
  */
-import { check, MOVES, native, NONE, out, Refusal } from './core.js';
-import { firstChildOf, lastChildOf, nextOf, parentOf, previousOf } from './nodes.js';
-import { known, refuseType } from './webidl.js';
-import { kindOf, makeThing, numberIn, numberOf, realmOf, sessionOf, thingOf, wrap, wrapOrNull } from './wrappers.js';
+import { check, MOVES, native, NONE, out, Refusal } from "./core.js";
+import { firstChildOf, lastChildOf, nextOf, parentOf, previousOf } from "./nodes.js";
+import { known, refuseType } from "./webidl.js";
+import { kindOf, makeThing, numberIn, numberOf, realmOf, sessionOf, thingOf, wrap, wrapOrNull } from "./wrappers.js";
 
 const NO_BYTES = new Uint8Array(0);
 const NO_NUMBERS = new Uint32Array(0);
@@ -36,7 +36,7 @@ class Traversal {
 
   /** What the filter says of a node. */
   verdict(node) {
-    if (this.isAsking) throw new Refusal(native.HP_INVALID_STATE_ERROR, 'the filter is being asked');
+    if (this.isAsking) throw new Refusal(native.HP_INVALID_STATE_ERROR, "the filter is being asked");
     if (!((this.show >>> (kindOf(node) - 1)) & 1)) return SKIP;
     if (this.filter === null) return ACCEPT;
     this.isAsking = true;
@@ -49,9 +49,9 @@ class Traversal {
 
   asked(node) {
     const { filter } = this;
-    if (typeof filter === 'function') return Number(filter.call(undefined, node)) & 0xffff;
+    if (typeof filter === "function") return Number(filter.call(undefined, node)) & 0xffff;
     const accept = filter.acceptNode;
-    if (typeof accept !== 'function') refuseType('acceptNode is no function');
+    if (typeof accept !== "function") refuseType("acceptNode is no function");
     return Number(accept.call(filter, node)) & 0xffff;
   }
 }
@@ -61,8 +61,8 @@ class Traversal {
 class IteratorIs extends Traversal {
   constructor(root, show, filter) {
     super(root, show, filter);
-    this.number = createdBy('hp_create_iterator', root, filter === null ? show : ALL);
-    this.probe = filter === null ? NONE : createdBy('hp_create_walker', root, show);
+    this.number = createdBy("hp_create_iterator", root, filter === null ? show : ALL);
+    this.probe = filter === null ? NONE : createdBy("hp_create_walker", root, show);
   }
 
   ask() {
@@ -104,12 +104,12 @@ function shown(its, node, move) {
 }
 
 /** The course of an iterator: its call, the walker's move, and whether the reference itself comes first. */
-const FORTH = { call: 'hp_next_node', move: 'nextNode', isFirst: (its) => its.isBefore };
-const BACK = { call: 'hp_previous_node', move: 'previousNode', isFirst: (its) => !its.isBefore };
+const FORTH = { call: "hp_next_node", move: "nextNode", isFirst: (its) => its.isBefore };
+const BACK = { call: "hp_previous_node", move: "previousNode", isFirst: (its) => !its.isBefore };
 
 function traverse(iterator, course) {
   const its = iteratorOf(iterator);
-  if (its.isAsking) throw new Refusal(native.HP_INVALID_STATE_ERROR, 'the filter is being asked');
+  if (its.isAsking) throw new Refusal(native.HP_INVALID_STATE_ERROR, "the filter is being asked");
   if (its.filter === null) return wrapOrNull(its.session, its.move(course.call));
   const reference = its.reference;
   let node = course.isFirst(its) ? reference : shown(its, reference, course.move);
@@ -120,13 +120,13 @@ function traverse(iterator, course) {
 export function createNodeIterator(document, root, show, filter) {
   const its = new IteratorIs(root, show, filter);
   const made = makeThing(its, realmOf(document).interfaces.NodeIterator);
-  its.session.releaseWith('hp_release_iterator', made, its.number);
-  if (its.probe !== NONE) its.session.releaseWith('hp_release_walker', made, its.probe);
+  its.session.releaseWith("hp_release_iterator", made, its.number);
+  if (its.probe !== NONE) its.session.releaseWith("hp_release_walker", made, its.probe);
   return made;
 }
 
 export const NodeIterator = known({
-  name: 'NodeIterator',
+  name: "NodeIterator",
   is: (it) => iteratorOf(it) !== undefined,
   attributes: {
     root: (it) => iteratorOf(it).root,
@@ -148,7 +148,7 @@ class WalkerIs extends Traversal {
   constructor(root, show, filter) {
     super(root, show, filter);
     this.current = root;
-    this.number = filter === null ? createdBy('hp_create_walker', root, show) : NONE;
+    this.number = filter === null ? createdBy("hp_create_walker", root, show) : NONE;
   }
 
   set(node) {
@@ -312,18 +312,18 @@ function walked(move) {
 export function createTreeWalker(document, root, show, filter) {
   const its = new WalkerIs(root, show, filter);
   const made = makeThing(its, realmOf(document).interfaces.TreeWalker);
-  if (its.number !== NONE) its.session.releaseWith('hp_release_walker', made, its.number);
+  if (its.number !== NONE) its.session.releaseWith("hp_release_walker", made, its.number);
   return made;
 }
 
 export const TreeWalker = known({
-  name: 'TreeWalker',
+  name: "TreeWalker",
   is: (it) => walkerOf(it) !== undefined,
   attributes: {
     root: (it) => walkerOf(it).root,
     whatToShow: (it) => walkerOf(it).show,
     filter: (it) => walkerOf(it).filter,
-    currentNode: { type: 'Node', get: (it) => walkerOf(it).current, set: (it, node) => walkerOf(it).set(node) },
+    currentNode: { type: "Node", get: (it) => walkerOf(it).current, set: (it, node) => walkerOf(it).set(node) },
   },
   operations: Object.fromEntries(Object.keys(MOVES).map((move) => [move, walked(move)])),
 });

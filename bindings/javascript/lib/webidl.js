@@ -5,7 +5,7 @@
  * does not see). An attribute is a getter or `{ type, get, set }`; an operation is a list of its arguments' types and a function of the object and
  * what came in. The types are those of Web IDL in its words; `= value` gives what stands for an absent one, and `...` takes all that come.
  */
-import { native, Refusal } from './core.js';
+import { native, Refusal } from "./core.js";
 
 /** Refuses what is of the wrong type: the realm's own TypeError. */
 export function refuseType(message) {
@@ -13,35 +13,35 @@ export function refuseType(message) {
 }
 
 function string(value) {
-  if (typeof value === 'symbol') refuseType('a symbol is no string');
+  if (typeof value === "symbol") refuseType("a symbol is no string");
   return `${value}`;
 }
 
 function number(value) {
-  if (typeof value === 'symbol' || typeof value === 'bigint') refuseType(`a ${typeof value} is no number`);
+  if (typeof value === "symbol" || typeof value === "bigint") refuseType(`a ${typeof value} is no number`);
   return Number(value);
 }
 
-const isObject = (value) => (typeof value === 'object' && value !== null) || typeof value === 'function';
+const isObject = (value) => (typeof value === "object" && value !== null) || typeof value === "function";
 
 function list(value) {
-  if (!isObject(value) || typeof value[Symbol.iterator] !== 'function') refuseType('this is no sequence');
+  if (!isObject(value) || typeof value[Symbol.iterator] !== "function") refuseType("this is no sequence");
   return Array.from(value, string);
 }
 
 const PLAIN = {
   any: (value) => value,
   boolean: (value) => Boolean(value),
-  DOMString: (value) => (typeof value === 'string' ? value : string(value)),
-  'DOMString?': (value) => (value === null || value === undefined ? null : PLAIN.DOMString(value)),
+  DOMString: (value) => (typeof value === "string" ? value : string(value)),
+  "DOMString?": (value) => (value === null || value === undefined ? null : PLAIN.DOMString(value)),
   // (LegacyNullToEmptyString)
-  'DOMString or empty': (value) => (value === null ? '' : PLAIN.DOMString(value)),
-  'sequence<DOMString>': list,
-  'unsigned long': (value) => (typeof value === 'number' ? value : number(value)) >>> 0,
-  'unsigned short': (value) => (typeof value === 'number' ? value : number(value)) & 0xffff,
-  'NodeFilter?': (value) => (value === null || value === undefined ? null : isObject(value) ? value : refuseType('a filter is a function or an object')),
-  Function: (value) => (typeof value === 'function' ? value : refuseType('a callback is a function')),
-  dictionary: (value) => (value === null || value === undefined ? {} : isObject(value) ? value : refuseType('options are an object')),
+  "DOMString or empty": (value) => (value === null ? "" : PLAIN.DOMString(value)),
+  "sequence<DOMString>": list,
+  "unsigned long": (value) => (typeof value === "number" ? value : number(value)) >>> 0,
+  "unsigned short": (value) => (typeof value === "number" ? value : number(value)) & 0xffff,
+  "NodeFilter?": (value) => (value === null || value === undefined ? null : isObject(value) ? value : refuseType("a filter is a function or an object")),
+  Function: (value) => (typeof value === "function" ? value : refuseType("a callback is a function")),
+  dictionary: (value) => (value === null || value === undefined ? {} : isObject(value) ? value : refuseType("options are an object")),
 };
 
 const brands = new Map();
@@ -73,8 +73,8 @@ export function dictionary(members) {
 
 function converterOf(type) {
   if (type in PLAIN) return PLAIN[type];
-  if (type === '(Node or DOMString)') return (value) => (brands.get('Node')(value) ? value : PLAIN.DOMString(value));
-  const isNullable = type.endsWith('?');
+  if (type === "(Node or DOMString)") return (value) => (brands.get("Node")(value) ? value : PLAIN.DOMString(value));
+  const isNullable = type.endsWith("?");
   const name = isNullable ? type.slice(0, -1) : type;
   const is = brands.get(name);
   if (!is) throw new Error(`there is no type ${type}`);
@@ -82,16 +82,16 @@ function converterOf(type) {
   return isNullable ? (value) => (value === null || value === undefined ? null : must(value)) : must;
 }
 
-const DEFAULTS = { true: true, false: false, null: null, '""': '', undefined };
+const DEFAULTS = { true: true, false: false, null: null, '""': "", undefined };
 
 /** An argument of a table: how it is converted, and what it is where it is absent. */
 function argument(text) {
-  const [type, absent] = text.split(' = ');
-  if (type.startsWith('...')) return { convert: converterOf(type.slice(3)), isOptional: true, isVariadic: true };
+  const [type, absent] = text.split(" = ");
+  if (type.startsWith("...")) return { convert: converterOf(type.slice(3)), isOptional: true, isVariadic: true };
   const convert = converterOf(type);
   if (absent === undefined) return { convert, isOptional: false };
   // (a dictionary that is absent has no members)
-  if (absent === '{}') return { convert, isOptional: true };
+  if (absent === "{}") return { convert, isOptional: true };
   const value = absent in DEFAULTS ? DEFAULTS[absent] : Number(absent);
   return { convert: (given) => (given === undefined ? value : convert(given)), isOptional: true };
 }
@@ -110,8 +110,8 @@ function conversion(types) {
 const requiredOf = (types) => types.map(argument).filter((it) => !it.isOptional).length;
 
 function named(made, name, length) {
-  Object.defineProperty(made, 'name', { value: name, configurable: true });
-  Object.defineProperty(made, 'length', { value: length, configurable: true });
+  Object.defineProperty(made, "name", { value: name, configurable: true });
+  Object.defineProperty(made, "length", { value: length, configurable: true });
   return made;
 }
 
@@ -192,7 +192,7 @@ function addConstants(table, made) {
 
 function addAttributes(realm, table, prototype) {
   for (const [name, its] of Object.entries(table.attributes ?? {})) {
-    const { get, set, type } = typeof its === 'function' ? { get: its } : its;
+    const { get, set, type } = typeof its === "function" ? { get: its } : its;
     Object.defineProperty(prototype, name, {
       get: getter(realm, table.is, get, name),
       set: set && setter(realm, table.is, type, set, name),
@@ -223,7 +223,7 @@ function constructorOf(realm, table) {
   const convert = conversion(types);
   return class {
     constructor(...given) {
-      if (!construct) throw new realm.TypeError('Illegal constructor');
+      if (!construct) throw new realm.TypeError("Illegal constructor");
       if (given.length < required) throw realm.tooFew(required);
       try {
         return construct(realm, new.target, ...convert(given));

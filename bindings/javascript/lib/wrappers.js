@@ -4,7 +4,7 @@
  * A wrapper's parent has a wrapper too, and the two hold each other: so what a program keeps on a node lives as long as it holds any node of the
  * tree. A root holds its Document. The session holds wrappers weakly, and lets a tree go when its wrappers are gone.
  */
-import { check, DOCUMENT, FRAGMENT, native, NONE, out, Refusal } from './core.js';
+import { check, DOCUMENT, FRAGMENT, native, NONE, OK, out, Refusal } from "./core.js";
 
 export let isNode, sessionOf, numberOf, kindOf, realmOf, keptOf, hasWrappedChildren;
 let place, loosen, wrappedChildren;
@@ -48,7 +48,7 @@ class Wrapper {
   }
 
   static {
-    isNode = (it) => typeof it === 'object' && it !== null && #number in it;
+    isNode = (it) => typeof it === "object" && it !== null && #number in it;
     sessionOf = (node) => node.#session;
     numberOf = (node) => node.#number;
     kindOf = (node) => node.#kind;
@@ -72,13 +72,13 @@ class Wrapper {
 }
 
 const INTERFACES = {
-  1: 'Element',
-  3: 'Text',
-  7: 'ProcessingInstruction',
-  8: 'Comment',
-  9: 'Document',
-  10: 'DocumentType',
-  11: 'DocumentFragment',
+  1: "Element",
+  3: "Text",
+  7: "ProcessingInstruction",
+  8: "Comment",
+  9: "Document",
+  10: "DocumentType",
+  11: "DocumentFragment",
 };
 
 function make(session, number, kind, realm) {
@@ -95,12 +95,23 @@ export const wrap = (session, number) => found(session, number) ?? wrapAnew(sess
 /** The same, or null for none. */
 export const wrapOrNull = (session, number) => (number === NONE ? null : wrap(session, number));
 
+/** What the session knows of a Document. One that a line has made is as the first. */
+export function documentIs(session, number) {
+  const its = session.documents.get(number);
+  if (its) return its;
+  const made = { ...session.documents.get(0) };
+  session.documents.set(number, made);
+  return made;
+}
+
 function wrapAnew(session, number) {
   let first, child;
   for (let at = number; ; ) {
     check(native.hp_node(session.index, at));
-    const [document, kind, , parent] = out;
-    const made = make(session, at, kind, session.documents.get(document).realm);
+    const document = out[0];
+    const kind = out[1];
+    const parent = out[3];
+    const made = make(session, at, kind, documentIs(session, document).realm);
     first ??= made;
     if (child) place(child, made);
     if (parent === NONE) {
@@ -132,7 +143,7 @@ export function wrapDocument(session, number, its) {
 
 /** A node's number for a call of a session, which knows its own nodes alone. */
 export function numberIn(session, node) {
-  if (sessionOf(node) !== session) throw new Refusal(native.HP_NOT_SUPPORTED_ERROR, 'the node is of another session');
+  if (sessionOf(node) !== session) throw new Refusal(native.HP_NOT_SUPPORTED_ERROR, "the node is of another session");
   return numberOf(node);
 }
 
@@ -148,6 +159,15 @@ export function settle(node) {
   const parent = out[3];
   if (parent !== NONE) place(node, wrap(session, parent));
   else loosen(node, kindOf(node) === DOCUMENT ? null : wrap(session, document));
+}
+
+/** Puts all wrappers of a session where the core says that their nodes stand; what is no longer there has none. */
+export function settleAll(session) {
+  for (const number of [...session.nodes.keys()]) {
+    const wrapper = found(session, number);
+    if (native.hp_root(session.index, number) !== OK) session.nodes.delete(number);
+    else if (wrapper) settle(wrapper);
+  }
 }
 
 /** Those whose place a node's coming changes: a fragment's children, or the node. */
@@ -175,7 +195,7 @@ class Thing {
 
   static {
     thingOf = (it, kind) => {
-      if (typeof it !== 'object' || it === null || !(#its in it)) return undefined;
+      if (typeof it !== "object" || it === null || !(#its in it)) return undefined;
       return it.#its instanceof kind ? it.#its : undefined;
     };
   }
