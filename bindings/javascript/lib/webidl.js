@@ -223,7 +223,7 @@ function constructorOf(realm, table) {
   const convert = conversion(types);
   return class {
     constructor(...given) {
-      if (!construct) throw new realm.TypeError("Illegal constructor");
+      if (!construct) throw new realm.global.TypeError("Illegal constructor");
       if (given.length < required) throw realm.tooFew(required);
       try {
         return construct(realm, new.target, ...convert(given));
