@@ -15,8 +15,9 @@ sys.dont_write_bytecode = True
 sys.path.insert(0, HERE)
 from make import build, words_of
 
-# What a test file needs beside node, and the package of Debian that has it.
+# What tests need beside node. Debian's packages are found by NODE_PATH.
 PACKAGES = {"parse5": "parsing HTML", "saxes": "parsing XML"}
+SETTINGS = {**os.environ, "NODE_PATH": os.pathsep.join(filter(None, [os.environ.get("NODE_PATH"), "/usr/share/nodejs"]))}
 
 
 def missing(given):
@@ -33,8 +34,8 @@ def missing(given):
 
 
 def has_package(name):
-    words = ["node", "-e", f"require.resolve('{name}', {{ paths: [process.cwd(), '/usr/share/nodejs'] }})"]
-    return subprocess.run(words, cwd=HERE, stderr=subprocess.DEVNULL, check=False).returncode == 0
+    words = ["node", "-e", f"require('{name}')"]
+    return subprocess.run(words, cwd=HERE, env=SETTINGS, stderr=subprocess.DEVNULL, check=False).returncode == 0
 
 
 def run(what, words, **how):
@@ -60,7 +61,7 @@ def sanitized(given):
     asan = subprocess.run([given.compiler, "-print-file-name=libasan.so"], stdout=subprocess.PIPE, universal_newlines=True, check=True).stdout.strip()
     settings = {"HUCKLEPORT_ADDON": addon, "LD_PRELOAD": asan, "ASAN_OPTIONS": "detect_leaks=0:allocator_may_return_null=1"}
     words = ["node", "--expose-gc", "tests/random_calls.js", str(given.calls)]
-    return run(f"{given.calls} random calls under the address sanitizer", words, env={**os.environ, **settings})
+    return run(f"{given.calls} random calls under the address sanitizer", words, env={**SETTINGS, **settings})
 
 
 def main():
@@ -77,7 +78,7 @@ def main():
     for name, what in PACKAGES.items():
         if not has_package(name):
             print(f"left out: {what}, since {name} is not installed")
-    settings = {**os.environ, "HUCKLEPORT_ADDON": os.path.join(os.path.abspath(given.to), "huckleport.node")}
+    settings = {**SETTINGS, "HUCKLEPORT_ADDON": os.path.join(os.path.abspath(given.to), "huckleport.node")}
     tests = sorted(os.path.relpath(it, HERE) for it in glob.glob(os.path.join(HERE, "**/*.test.js"), recursive=True))
     faults = run("the tests", ["node", "--expose-gc", "--test", "--test-reporter=spec", *tests], env=settings)
     faults |= types()

@@ -25,16 +25,19 @@ import {
 } from "./nodes.js";
 import { documentIs, isNode, keptOf, kindOf, numberOf, sessionOf, wrap } from "./wrappers.js";
 
-const WHERE = [process.cwd(), import.meta.dirname ?? ".", "/usr/share/nodejs"];
-
-/** A package that is looked for beside the program, beside this one, and where Debian has its packages. */
+/** A package that is looked for beside this one and where the program runs. */
 function wanted(name, what) {
-  const require = createRequire(import.meta.url);
-  try {
-    return require(require.resolve(name, { paths: WHERE }));
-  } catch (cause) {
-    throw new Error(`${what} needs the package ${name}, which is not installed (npm install ${name}, or Debian's node-${name})`, { cause });
+  const places = [import.meta.url, `${process.cwd()}/`];
+  const faults = [];
+  for (const place of places) {
+    try {
+      return createRequire(place)(name);
+    } catch (fault) {
+      faults.push(fault);
+    }
   }
+  const where = `npm install ${name}, or Debian's node-${name} with NODE_PATH=/usr/share/nodejs`;
+  throw new Error(`${what} needs the package ${name}, which was not found (${where})`, { cause: faults[0] });
 }
 
 const isText = (node) => node !== null && kindOf(node) === TEXT;

@@ -8,9 +8,8 @@ import { createDocument, parse, parseFragment, parseXML, serialize } from "../li
 const XLINK = "http://www.w3.org/1999/xlink";
 
 function installed(name) {
-  const require = createRequire(import.meta.url);
   try {
-    return require(require.resolve(name, { paths: [process.cwd(), "/usr/share/nodejs"] }));
+    return createRequire(import.meta.url)(name);
   } catch {
     return null;
   }
