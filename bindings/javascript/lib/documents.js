@@ -1,7 +1,7 @@
 /** Document, DocumentType, DocumentFragment and DOMImplementation. */
 import { check, DOCTYPE, DOCUMENT, ELEMENT, FRAGMENT, lent, native, out, Refusal } from "./core.js";
 import { elementsBelow, isElement } from "./elements.js";
-import { extracted, HTML, markedElement, small, SVG } from "./names.js";
+import { extractedElement, HTML, markedElement, small, SVG } from "./names.js";
 import {
   adoptNode,
   appendChild,
@@ -43,12 +43,12 @@ const isOf = (document) => documentIs(sessionOf(document), numberOf(document));
 function createElement(document, name) {
   const { isHtml, contentType } = isOf(document);
   const namespace = isHtml || contentType === TYPES[HTML] ? HTML : null;
-  return createElementMarked(document, markedElement(sessionOf(document), namespace, isHtml ? small(name) : name));
+  return createElementMarked(document, markedElement(sessionOf(document), { namespace, local: isHtml ? small(name) : name }));
 }
 
 export function createElementNS(document, namespace, qualified) {
-  const its = extracted(namespace, qualified);
-  return createElementMarked(document, markedElement(sessionOf(document), its.namespace, qualified, its.isPrefixed));
+  const session = sessionOf(document);
+  return createElementMarked(document, markedElement(session, extractedElement(session, namespace, qualified)));
 }
 
 function createCDATASection() {
@@ -151,6 +151,7 @@ export const DOMImplementation = known({
   is: (it) => implementationOf(it) !== undefined,
   operations: {
     createDocumentType: [["DOMString", "DOMString", "DOMString"], (it, ...words) => createDoctype(implementationOf(it).document, ...words)],
+    createDocument: [["DOMString?", "DOMString or empty", "DocumentType? = null"], createDocument],
     createHTMLDocument: [["DOMString = undefined"], createHTMLDocument],
     hasFeature: [[], () => true],
   },
@@ -170,8 +171,6 @@ export const DocumentType = known({
   operations: childNode.operations,
   hidden: childNode.hidden,
 });
-
-DOMImplementation.operations.createDocument = [["DOMString?", "DOMString or empty", "DocumentType? = null"], createDocument];
 
 export const DocumentFragment = known({
   name: "DocumentFragment",

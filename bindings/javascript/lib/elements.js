@@ -1,7 +1,7 @@
 /** Element: its names, its attributes, and the elements below it. */
 import { check, ELEMENT, lent, native, out } from "./core.js";
 import { htmlCollection } from "./lists.js";
-import { attributeName, elementName, extracted, HTML, markedAttribute, small } from "./names.js";
+import { attributeName, elementName, extractedAttribute, HTML, markedAttribute, plainAttribute, small } from "./names.js";
 import { childNode, isOfDocument, nameOf, parentNode, siblings, tagName } from "./nodes.js";
 import { known } from "./webidl.js";
 import { isNode, kindOf, numberOf, realmOf, sessionOf } from "./wrappers.js";
@@ -26,8 +26,9 @@ function names(element) {
 /** The core's name of the first attribute with a qualified name. Only where a session has marked attributes can it differ. */
 function byQualified(element, name) {
   const session = sessionOf(element);
-  if (!session.hasMarkedAttributes) return markedAttribute(session, null, name);
-  return names(element).find((it) => it.qualified === name)?.core ?? markedAttribute(session, null, name);
+  const plain = plainAttribute(session, name);
+  if (!session.hasMarkedAttributes) return plain;
+  return names(element).find((it) => it.qualified === name)?.core ?? plain;
 }
 
 function byNamespace(element, namespace, local) {
@@ -58,9 +59,10 @@ function change(element, call, ...words) {
 export const setAttributeMarked = (element, core, value) => change(element, "hp_set_attribute", core, value);
 
 function setAttributeNS(element, namespace, qualified, value) {
-  const its = extracted(namespace, qualified);
-  const there = byNamespace(element, its.namespace, its.local);
-  setAttributeMarked(element, there?.core ?? markedAttribute(sessionOf(element), its.namespace, qualified, its.isPrefixed), value);
+  const session = sessionOf(element);
+  const name = extractedAttribute(session, namespace, qualified);
+  const there = byNamespace(element, name.namespace, name.local);
+  setAttributeMarked(element, there?.core ?? markedAttribute(session, name), value);
 }
 
 function removeAttribute(element, core) {

@@ -1,20 +1,19 @@
 /**
- * Namespaces, which the core does not know: a name that has one is handed to it with a mark behind it. The mark is a character that stands for
- * nothing in any text, the number of the namespace in the session, and a letter where the part before the colon is a prefix.
+ * Namespaces, which the core does not know: a name that has one is handed to it as its local part with a mark behind it. The mark is a character that
+ * stands for nothing in any text, the number of the namespace in the session, and the prefix behind a colon where there is one.
  *
  * Names without a mark are elements of HTML and attributes of no namespace.
  */
-import { native, Refusal } from "./core.js";
+import { check, native, OK, out, Refusal } from "./core.js";
 
 export const HTML = "http://www.w3.org/1999/xhtml";
 export const SVG = "http://www.w3.org/2000/svg";
-export const XML = "http://www.w3.org/XML/1998/namespace";
-export const XMLNS = "http://www.w3.org/2000/xmlns/";
+const XML = "http://www.w3.org/XML/1998/namespace";
+const XMLNS = "http://www.w3.org/2000/xmlns/";
 
 const MARK = "\uFDD0";
-const PREFIXED = "p";
+const MARKED = /^(.*)\uFDD0(\d+)(?::(.*))?$/su;
 const NAMESPACE_ERROR = 14;
-const MARKED = /^(.*)\uFDD0(\d+)(p?)$/su;
 
 const lowered = (text) => text.replace(/[A-Z]+/g, (letters) => letters.toLowerCase());
 const raised = (text) => text.replace(/[a-z]+/g, (letters) => letters.toUpperCase());
@@ -30,17 +29,12 @@ function numberOfNamespace(session, namespace) {
   return found < 0 ? session.namespaces.push(namespace) - 1 : found;
 }
 
-function cut(qualified, isPrefixed) {
-  const at = isPrefixed ? qualified.indexOf(":") : -1;
-  return { prefix: at < 0 ? null : qualified.slice(0, at), local: qualified.slice(at + 1) };
-}
-
-/** What a name of the core says. */
+/** What a name of the core says; without a mark its namespace is the plain one. */
 function read(session, core, plain) {
   const found = core.includes(MARK) ? MARKED.exec(core) : null;
-  const qualified = found ? found[1] : core;
-  const namespace = found ? session.namespaces[found[2]] : plain;
-  return { core, qualified, namespace, ...cut(qualified, Boolean(found?.[3])), capital: capital(qualified) };
+  const [, local = core, number, prefix = null] = found ?? [];
+  const qualified = prefix === null ? local : `${prefix}:${local}`;
+  return { core, namespace: found ? session.namespaces[number] : plain, prefix, local, qualified, capital: capital(qualified) };
 }
 
 function known(session, names, core, plain) {
@@ -55,35 +49,61 @@ function known(session, names, core, plain) {
 export const elementName = (session, core) => known(session, session.elementNames, core, HTML);
 export const attributeName = (session, core) => known(session, session.attributeNames, core, null);
 
-function marked(session, namespace, qualified, isPrefixed, plain) {
-  if (namespace === plain && !isPrefixed && !qualified.includes(MARK)) return qualified;
-  return `${qualified}${MARK}${numberOfNamespace(session, namespace)}${isPrefixed ? PREFIXED : ""}`;
+function marked(session, { namespace, prefix = null, local }, plain) {
+  if (namespace === plain && prefix === null && !local.includes(MARK)) return local;
+  return `${local}${MARK}${numberOfNamespace(session, namespace)}${prefix === null ? "" : `:${prefix}`}`;
 }
 
 /** The name that the core has of an element. */
-export const markedElement = (session, namespace, qualified, isPrefixed = false) => marked(session, namespace, qualified, isPrefixed, HTML);
+export const markedElement = (session, name) => marked(session, name, HTML);
 
 /** The name that the core has of an attribute. */
-export function markedAttribute(session, namespace, qualified, isPrefixed = false) {
-  const core = marked(session, namespace, qualified, isPrefixed, null);
-  session.hasMarkedAttributes ||= core !== qualified;
+export function markedAttribute(session, name) {
+  const core = marked(session, name, null);
+  session.hasMarkedAttributes ||= core !== name.local;
   return core;
 }
 
-function refuseUnless(holds, status) {
-  if (!holds) throw new Refusal(status);
+/** The name that the core has of an attribute of no namespace. */
+export const plainAttribute = (session, local) => (local.includes(MARK) ? markedAttribute(session, { namespace: null, local }) : local);
+
+// ---- Namespaces and qualified names that come together.
+
+const PREFIX = /^[^\t\n\f\r \0/>]+$/u;
+
+function parted(qualified) {
+  const at = qualified.indexOf(":");
+  return at < 0 ? { prefix: null, local: qualified } : { prefix: qualified.slice(0, at), local: qualified.slice(at + 1) };
 }
 
-const PREFIX = /^[^\t\n\f\r \0/>]+$/;
-
-/** A namespace and a qualified name, tested together as the standard does; what the core tests of a name is left to it. */
-export function extracted(namespace, qualified) {
-  const its = namespace === "" ? null : namespace;
-  const isPrefixed = qualified.includes(":");
-  const { prefix, local } = cut(qualified, isPrefixed);
-  refuseUnless(prefix === null || (PREFIX.test(prefix) && local !== ""), native.HP_INVALID_CHARACTER_ERROR);
-  refuseUnless(prefix === null || its !== null, NAMESPACE_ERROR);
-  refuseUnless(prefix !== "xml" || its === XML, NAMESPACE_ERROR);
-  refuseUnless((qualified === "xmlns" || prefix === "xmlns") === (its === XMLNS), NAMESPACE_ERROR);
-  return { namespace: its, isPrefixed, prefix, local };
+function fits(namespace, prefix, qualified) {
+  if (prefix !== null && namespace === null) return false;
+  if (prefix === "xml" && namespace !== XML) return false;
+  return (qualified === "xmlns" || prefix === "xmlns") === (namespace === XMLNS);
 }
+
+/** A namespace and a qualified name; the core is asked whether a name may be so only where it does not fit its namespace, which is refused after it. */
+function extracted(namespace, qualified, tryName) {
+  const { prefix, local } = parted(qualified);
+  const its = { namespace: namespace === "" ? null : namespace, prefix, local };
+  if (prefix !== null && !PREFIX.test(prefix)) throw new Refusal(native.HP_INVALID_CHARACTER_ERROR);
+  if (fits(its.namespace, prefix, qualified)) return its;
+  tryName(local);
+  throw new Refusal(NAMESPACE_ERROR, "the name does not fit its namespace");
+}
+
+/** Makes an element that is let go at once. */
+function trial(session, name, does) {
+  check(native.hp_create_element(session.index, 0, name));
+  const element = out[0];
+  const status = does(element);
+  native.hp_discard(session.index, element);
+  check(status);
+}
+
+/** The name of an element by its namespace and its qualified name. */
+export const extractedElement = (session, namespace, qualified) => extracted(namespace, qualified, (local) => trial(session, local, () => OK));
+
+/** The name of an attribute, likewise. */
+export const extractedAttribute = (session, namespace, qualified) =>
+  extracted(namespace, qualified, (local) => trial(session, "a", (element) => native.hp_set_attribute(session.index, element, local, "")));

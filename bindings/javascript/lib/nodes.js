@@ -1,6 +1,6 @@
 /** Node, and what Documents, fragments and elements have in common: children that are elements, and several nodes at once. */
 import { check, DOCTYPE, DOCUMENT, ELEMENT, FRAGMENT, INSTRUCTION, lent, listed, native, NONE, out, TEXT, COMMENT } from "./core.js";
-import { elementName } from "./names.js";
+import { elementName, HTML } from "./names.js";
 import { htmlCollection, liveNodeList } from "./lists.js";
 import { known } from "./webidl.js";
 import {
@@ -93,7 +93,6 @@ function nodeName(node) {
 }
 
 const NAMES = { [TEXT]: "#text", [COMMENT]: "#comment", [DOCUMENT]: "#document", [FRAGMENT]: "#document-fragment" };
-const HTML = "http://www.w3.org/1999/xhtml";
 
 /** An element's qualified name, in capitals for one of HTML in a Document of HTML. */
 export function tagName(element) {
@@ -270,14 +269,10 @@ export function adoptNode(document, node) {
 
 // ---- Making nodes in a Document.
 
-/** A Document's parts that making needs. */
-const maker = (document) => ({ session: sessionOf(document), realm: realmOf(document), wrapper: document });
-
 /** A new node of a kind, by a call that answers its number. */
 export function created(document, kind, call, ...words) {
-  const its = maker(document);
-  check(native[call](its.session.index, numberOf(document), ...words));
-  return wrapMade(its, out[0], kind);
+  check(native[call](sessionOf(document).index, numberOf(document), ...words));
+  return wrapMade(document, out[0], kind);
 }
 
 export const createElementMarked = (document, name) => created(document, ELEMENT, "hp_create_element", name);

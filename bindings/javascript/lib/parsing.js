@@ -49,14 +49,13 @@ function appendData(text, data) {
 }
 
 /** An attribute of the parser's on an element. A name that the core does not take is left out. */
-function addAttribute(element, { name, value, namespace = null, prefix = "" }) {
+function addAttribute(element, { name, value, namespace = null, prefix }) {
   const session = sessionOf(element);
-  const core = markedAttribute(session, namespace, prefix ? `${prefix}:${name}` : name, Boolean(prefix));
-  native.hp_set_attribute(session.index, numberOf(element), core, value);
+  native.hp_set_attribute(session.index, numberOf(element), markedAttribute(session, { namespace, prefix: prefix || null, local: name }), value);
 }
 
 function createElement(document, name, namespace, attributes) {
-  const element = createElementMarked(document, markedElement(sessionOf(document), namespace, name));
+  const element = createElementMarked(document, markedElement(sessionOf(document), { namespace, local: name }));
   for (const it of attributes) addAttribute(element, it);
   return element;
 }
@@ -149,8 +148,8 @@ function doctypeOf(document, text) {
   return createDoctype(document, name, publicId, systemId);
 }
 
-const xmlAttribute = ({ local, prefix, uri, value }) =>
-  prefix ? { name: local, value, prefix, namespace: uri } : { name: local, value, namespace: uri || null };
+// (saxes says an attribute of no prefix has the namespace of none, but for xmlns)
+const xmlAttribute = ({ local, prefix, uri, value }) => ({ name: local || prefix, value, prefix: local && prefix, namespace: uri || null });
 
 /** Builds a Document of what saxes tells. */
 class Builder {
@@ -159,8 +158,9 @@ class Builder {
     this.parent = document;
   }
 
-  opentag({ name, prefix, uri, attributes }) {
-    const element = createElementMarked(this.document, markedElement(sessionOf(this.document), uri || null, name, Boolean(prefix)));
+  opentag({ local, prefix, uri, attributes }) {
+    const name = { namespace: uri || null, prefix: prefix || null, local };
+    const element = createElementMarked(this.document, markedElement(sessionOf(this.document), name));
     for (const it of Object.values(attributes)) addAttribute(element, xmlAttribute(it));
     this.parent = appendChild(this.parent, element);
   }

@@ -31,8 +31,20 @@ const later = (fault) =>
     throw fault;
   });
 
+/** The interface of each kind of node, by the standard's number. */
+const KINDS = {
+  1: "Element",
+  3: "Text",
+  7: "ProcessingInstruction",
+  8: "Comment",
+  9: "Document",
+  10: "DocumentType",
+  11: "DocumentFragment",
+};
+
 export class Realm {
   interfaces = {};
+  kinds = [];
   #document = null;
 
   /** `global` has the constructors of the language (an own context's, or this one's); `report` takes what a callback throws. */
@@ -40,6 +52,7 @@ export class Realm {
     this.global = global;
     this.report = report;
     for (const table of TABLES) this.interfaces[table.name] = makeInterface(this, table);
+    for (const [kind, name] of Object.entries(KINDS)) this.kinds[kind] = this.interfaces[name];
     this.interfaces.NodeFilter = nodeFilter(this);
   }
 

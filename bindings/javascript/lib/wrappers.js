@@ -71,18 +71,8 @@ class Wrapper {
   }
 }
 
-const INTERFACES = {
-  1: "Element",
-  3: "Text",
-  7: "ProcessingInstruction",
-  8: "Comment",
-  9: "Document",
-  10: "DocumentType",
-  11: "DocumentFragment",
-};
-
 function make(session, number, kind, realm) {
-  const made = Reflect.construct(Wrapper, [session, number, kind, realm], realm.interfaces[INTERFACES[kind]]);
+  const made = Reflect.construct(Wrapper, [session, number, kind, realm], realm.kinds[kind]);
   session.keep(made, number);
   return made;
 }
@@ -130,8 +120,8 @@ function wrapAnew(session, number) {
 
 /** The object of a node that was just made for a Document, and has no parent. */
 export function wrapMade(document, number, kind) {
-  const made = make(document.session, number, kind, document.realm);
-  loosen(made, document.wrapper);
+  const made = make(sessionOf(document), number, kind, realmOf(document));
+  loosen(made, document);
   return made;
 }
 

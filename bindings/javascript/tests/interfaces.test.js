@@ -121,7 +121,7 @@ test("lists of children are live, and their indices are properties", () => {
   assert.deepEqual(Object.keys(list), ["0", "1"]);
   const third = paragraph.appendChild(document.createComment("c"));
   assert.deepEqual([...list], [first, second, third]);
-  list[0] = third;
+  assert.throws(() => (list[0] = third), TypeError);
   assert.equal(list[0], first);
   const seen = [];
   list.forEach((node, at) => seen.push(at, node));
