@@ -29,7 +29,7 @@ const XML_TYPE = "application/xml";
 const TYPES = { [HTML]: "application/xhtml+xml", [SVG]: "image/svg+xml" };
 
 /** What the facade knows of a Document of HTML, or of XML. */
-export const htmlIs = (realm, url = "about:blank") => ({ realm, isHtml: true, contentType: "text/html", url });
+export const htmlIs = (realm) => ({ realm, isHtml: true, contentType: "text/html", url: "about:blank" });
 export const xmlIs = (realm, contentType = XML_TYPE) => ({ realm, isHtml: false, contentType, url: "about:blank" });
 
 /** A further Document of a session. */

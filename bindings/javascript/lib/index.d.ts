@@ -384,8 +384,22 @@ export class Session {
 /** A new Document, in a session of its own or in that of another Document. */
 export function createDocument(options?: { beside?: Document; xml?: boolean }): Document;
 
-/** A window; `global` is the global object of the context whose exceptions and arrays it uses. */
-export function createWindow(global?: object, options?: { beside?: Window | Document; report?: (fault: unknown) => void; url?: string }): Window;
+export interface WindowOptions {
+  /** The global object of a context, on which all is put and whose exceptions and arrays are used. */
+  global?: object;
+  /** A window or a Document whose session is shared. */
+  beside?: Window | Document;
+  /** Takes what observers' callbacks throw. */
+  report?: (fault: unknown) => void;
+  /** Leaves the Document without an element. */
+  empty?: boolean;
+  /** Makes the Document one of XML, without an element. */
+  xml?: boolean;
+  url?: string;
+}
+
+/** A window: an object that has all interfaces, and a Document of HTML with a head and a body. */
+export function createWindow(options?: WindowOptions): Window;
 
 /** A Document of a page of HTML. Needs parse5. */
 export function parse(html: string, options?: { document?: Document }): Document;

@@ -1,6 +1,6 @@
 /** The package: the standard's interfaces over the core, Documents, windows, and Documents in and out. */
 import { has, Session as Core } from "./core.js";
-import { htmlIs, newDocument, xmlIs } from "./documents.js";
+import { furnish, htmlIs, newDocument, xmlIs } from "./documents.js";
 import { readFragment, readHTML, readXML, serialize, treeAdapter } from "./parsing.js";
 import { firstDocument, Realm } from "./realm.js";
 import { numberIn, sessionOf, settleAll, wrap } from "./wrappers.js";
@@ -83,19 +83,28 @@ export function createDocument({ beside, xml = false } = {}) {
   );
 }
 
+/** What a window's Document is, by the options of the window. */
+const documentOptions = (its, { xml = false, url }) => ({ ...isFor(its, xml), url: url ?? "about:blank" });
+
 /**
- * A window: an object that has all interfaces, of a realm of its own, and a `document`, one of HTML with nothing in it. What it throws and the arrays
- * that it makes are by the constructors of `global`, a context's global object. `beside` is a window or a Document whose session it shares, so
- * that nodes can move between the two; `report` takes what observers' callbacks throw.
+ * A window: an object that has all interfaces, of a realm of its own, and a `document`, of HTML with a head and a body. All is put on `global`, a
+ * context's global object, where one is given; what is thrown and the arrays that are made are then by its constructors. `beside` is a window
+ * or a Document whose session it shares, so that nodes can move between the two; `report` takes what observers' callbacks throw; `empty`
+ * leaves the Document without an element, and so does `xml`, which makes it one of XML.
  */
-export function createWindow(global = globalThis, { beside, report, url } = {}) {
+export function createWindow({ global, beside, report, empty = false, ...options } = {}) {
   const its = new Realm({ global, report });
   const neighbour = beside?.document ?? beside;
-  its.document = its.guarded(() =>
-    neighbour ? newDocument(sessionOf(neighbour), htmlIs(its, url)) : firstDocument(its, new Core(), htmlIs(its, url)),
-  );
-  const members = Object.entries({ ...its.interfaces, document: its.document });
-  return Object.defineProperties({}, Object.fromEntries(members.map(([name, value]) => [name, { value, writable: true, configurable: true }])));
+  its.document = its.guarded(() => {
+    const made = documentOptions(its, options);
+    const document = neighbour ? newDocument(sessionOf(neighbour), made) : firstDocument(its, new Core(), made);
+    return empty || options.xml ? document : furnish(document);
+  });
+  const window = global ?? {};
+  for (const [name, value] of Object.entries({ ...its.interfaces, document: its.document })) {
+    Object.defineProperty(window, name, { value, writable: true, configurable: true });
+  }
+  return window;
 }
 
 /** A Document of a page of HTML: a new one of a session of its own, or `document`, which has no child yet. Needs parse5. */

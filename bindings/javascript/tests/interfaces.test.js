@@ -264,7 +264,7 @@ test("a window's interfaces and exceptions are its own", () => {
   assert.ok(document instanceof window.Document && !(document instanceof huckleport.Document));
   assert.throws(() => document.createElement(""), (fault) => fault instanceof window.DOMException && !(fault instanceof DOMException));
   assert.equal(new window.Text("x").ownerDocument, document);
-  const beside = createWindow(globalThis, { beside: window });
+  const beside = createWindow({ beside: window });
   const moved = beside.document.adoptNode(document.createElement("p"));
   assert.equal(moved.ownerDocument, beside.document);
   assert.ok(moved instanceof window.Element);

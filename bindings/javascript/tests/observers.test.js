@@ -60,7 +60,7 @@ test("what a callback changes is told in a further microtask", async () => {
 
 test("what a callback throws is reported, and the others are called", async () => {
   const faults = [];
-  const { document, MutationObserver: Observer } = createWindow(globalThis, { report: (fault) => faults.push(fault) });
+  const { document, MutationObserver: Observer } = createWindow({ report: (fault) => faults.push(fault) });
   const seen = [];
   for (const name of ["first", "second"]) {
     new Observer(() => {

@@ -14,7 +14,7 @@ const iterator: NodeIterator = document.createNodeIterator(element, NodeFilter.S
 for (let node = iterator.nextNode(); node; node = iterator.nextNode()) node.textContent = null;
 new MutationObserver((records: MutationRecord[]) => records.map((it) => it.oldValue)).observe(document, { childList: true });
 const code: number = new DOMException("a", "NotFoundError").code + DOMException.NOT_FOUND_ERR;
-const window = createWindow(globalThis, { report: (fault) => void fault });
+const window = createWindow({ report: (fault) => void fault });
 const other: string = serialize(parse("<p>", { document: window.document }));
 const reply: string = new Session({ numbers: 5 }).line("[]");
 // @ts-expect-error
