@@ -204,27 +204,19 @@ export class Session {
 
   /** Discards each tree whose root has no wrapper any more. What is still in use waits for the next time. */
   sweep() {
-    let hasMore = true;
-    while (hasMore) {
-      hasMore = false;
-      for (const number of this.#leaving) hasMore = this.#discard(number) || hasMore;
+    for (let before = -1; this.#leaving.size > 0 && this.#leaving.size !== before; ) {
+      before = this.#leaving.size;
+      for (const number of [...this.#leaving]) this.#discard(number);
     }
   }
 
-  /** Discards the tree of a node whose wrapper is gone; answers whether a tree went, so that others may be free now. */
+  /** Discards the tree of a node whose wrapper is gone, where its root has none either. */
   #discard(number) {
-    if (native.hp_root(this.index, number) !== OK) return !this.#leaving.delete(number);
-    const root = out[0];
-    if (root === ROOT_DOCUMENT || this.nodes.get(root)?.deref() !== undefined) return !this.#leaving.delete(number);
-    const status = native.hp_discard(this.index, root);
-    if (status !== OK) {
-      // One number stands for all that are in the tree.
-      if (root !== number) this.#leaving.delete(number);
-      this.#leaving.add(root);
-      return false;
-    }
-    this.documents.delete(root);
+    const root = native.hp_root(this.index, number) === OK ? out[0] : NONE;
     this.#leaving.delete(number);
-    return this.#leaving.size > 0;
+    if (root === NONE || root === ROOT_DOCUMENT || this.nodes.get(root)?.deref() !== undefined) return;
+    if (native.hp_discard(this.index, root) === OK) this.documents.delete(root);
+    // One number stands for all of a tree that is in use.
+    else this.#leaving.add(root);
   }
 }

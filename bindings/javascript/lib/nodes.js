@@ -212,16 +212,14 @@ const CHILDREN_BELOW = Uint8Array.of(1, 2, 2, 1, 2, 2, 0);
 function leaving(session, number, change) {
   const probe = session.probe();
   check(native.hp_observe(session.index, probe, number, CHILDREN_BELOW, NO_NAMES, NO_FILTER));
-  let status, told;
   try {
     change();
+    check(native.hp_take_records(session.index, probe));
+    check(native.hp_count(session.index));
+    return removedIn(native.records(session.index, 0, out[0]));
   } finally {
-    status = native.hp_take_records(session.index, probe);
-    if (status === 0) check(native.hp_count(session.index));
-    told = status === 0 ? native.records(session.index, 0, out[0]) : [];
     native.hp_disconnect(session.index, probe);
   }
-  return removedIn(told);
 }
 
 function removedIn(told) {

@@ -16,6 +16,8 @@ const ALL = 0xffffffff;
 const ACCEPT = 1;
 const REJECT = 2;
 const SKIP = 3;
+// The bit of a position that says a node follows another.
+const FOLLOWING = 4;
 
 function createdBy(call, root, show) {
   const session = sessionOf(root);
@@ -85,12 +87,28 @@ class IteratorIs extends Traversal {
     return out[0];
   }
 
-  /** Moves on to a node that was found, as far as the core's iterator still comes to it. */
-  follow(call, node) {
+  /** Moves on to a node that the filter took, wherever the filter may have put it meanwhile. */
+  follow(course, node) {
     const wanted = numberOf(node);
-    let at = this.move(call);
-    while (at !== wanted && at !== NONE) at = this.move(call);
+    if (this.move(course.call) === wanted || !this.has(wanted)) return node;
+    const call = this.isAhead(wanted) ? FORTH.call : BACK.call;
+    while (this.move(call) !== wanted);
+    // (one step more where it came from the other side)
+    if (call !== course.call) this.move(course.call);
     return node;
+  }
+
+  /** Whether a node is within the root. */
+  has(number) {
+    check(native.hp_contains(this.session.index, numberOf(this.root), number));
+    return out[0] === 1;
+  }
+
+  /** Whether a node comes behind the reference. */
+  isAhead(number) {
+    this.ask();
+    check(native.hp_compare_position(this.session.index, out[1], number));
+    return (out[0] & FOLLOWING) !== 0;
   }
 }
 
@@ -114,7 +132,7 @@ function traverse(iterator, course) {
   const reference = its.reference;
   let node = course.isFirst(its) ? reference : shown(its, reference, course.move);
   while (node && its.verdict(node) !== ACCEPT) node = shown(its, node, course.move);
-  return node && its.follow(course.call, node);
+  return node && its.follow(course, node);
 }
 
 export function createNodeIterator(document, root, show, filter) {
