@@ -19,6 +19,13 @@ from make import build, words_of
 PACKAGES = {"parse5": "parsing HTML", "saxes": "parsing XML"}
 SETTINGS = {**os.environ, "NODE_PATH": os.pathsep.join(filter(None, [os.environ.get("NODE_PATH"), "/usr/share/nodejs"]))}
 
+# What is run by node: what it is, node's options, and the files.
+PARTS = (
+    ("the tests of the package", ["--expose-gc"], "tests/*.test.js"),
+    ("the tests of the runner", [], "wpt/test.js"),
+    ("the tests of the playground", ["--experimental-websocket"], "examples/playground/test.js"),
+)
+
 
 def missing(given):
     """Why nothing can be tested here, or None."""
@@ -79,10 +86,11 @@ def main():
         if not has_package(name):
             print(f"left out: {what}, since {name} is not installed")
     settings = {**SETTINGS, "HUCKLEPORT_ADDON": os.path.join(os.path.abspath(given.to), "huckleport.node")}
-    tests = sorted(os.path.relpath(it, HERE) for it in glob.glob(os.path.join(HERE, "**/*.test.js"), recursive=True))
-    faults = run("the tests", ["node", "--expose-gc", "--test", "--test-reporter=spec", *tests], env=settings)
-    faults |= types()
-    return int(faults)
+    faults = False
+    for what, words, files in PARTS:
+        found = sorted(os.path.relpath(it, HERE) for it in glob.glob(os.path.join(HERE, files)))
+        faults |= bool(found) and run(what, ["node", *words, "--test", "--test-reporter=spec", *found], env=settings)
+    return int(faults | types())
 
 
 if __name__ == "__main__":

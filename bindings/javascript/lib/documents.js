@@ -1,6 +1,6 @@
 /** Document, DocumentType, DocumentFragment and DOMImplementation. */
-import { check, DOCTYPE, DOCUMENT, ELEMENT, FRAGMENT, lent, native, out, Refusal } from "./core.js";
-import { elementsBelow, isElement } from "./elements.js";
+import { check, DOCTYPE, DOCUMENT, ELEMENT, FRAGMENT, native, out, Refusal } from "./core.js";
+import { elementsBelow, isElement, valueInRow } from "./elements.js";
 import { extractedElement, HTML, markedElement, small, SVG } from "./names.js";
 import {
   adoptNode,
@@ -90,18 +90,11 @@ function readIds(session, number) {
   const found = new Map();
   for (let at = 0; at < count; at++) {
     check(native.hp_row_at(session.index, at));
-    const [, its, , attributes] = out;
-    const id = attributes > 0 ? idOfRow(session, at, attributes) : null;
+    const its = out[1];
+    const id = valueInRow(session, at, out[3], "id");
     if (id && !found.has(id)) found.set(id, its);
   }
   return found;
-}
-
-function idOfRow(session, row, attributes) {
-  for (let at = 0; at < attributes; at++) {
-    if (native.hp_row_attribute_name(session.index, row, at) === "id") return lent(native.hp_row_attribute_value(session.index, row, at));
-  }
-  return null;
 }
 
 function getElementById(node, id) {
@@ -124,7 +117,7 @@ const implementation = (document) =>
 
 function createDocument(it, namespace, qualified, doctype) {
   const { document } = implementationOf(it);
-  const made = newDocument(sessionOf(document), xmlIs(realmOf(document), TYPES[namespace]));
+  const made = newDocument(sessionOf(document), { ...xmlIs(realmOf(document), TYPES[namespace]), isXMLDocument: true });
   const element = qualified === "" ? null : createElementNS(made, namespace, qualified);
   if (doctype) appendChild(made, doctype);
   if (element) appendChild(made, element);
@@ -223,4 +216,11 @@ export const Document = known({
     ...parentNode.operations,
   },
   hidden: parentNode.hidden,
+});
+
+/** What DOMImplementation makes of XML. */
+export const XMLDocument = known({
+  name: "XMLDocument",
+  parent: "Document",
+  is: (it) => Document.is(it) && isOf(it).isXMLDocument === true,
 });

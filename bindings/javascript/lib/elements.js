@@ -1,8 +1,21 @@
 /** Element: its names, its attributes, and the elements below it. */
-import { check, ELEMENT, lent, native, out } from "./core.js";
+import { check, ELEMENT, lent, native, out, Refusal } from "./core.js";
 import { htmlCollection } from "./lists.js";
 import { attributeName, elementName, extractedAttribute, HTML, markedAttribute, plainAttribute, small } from "./names.js";
-import { childNode, isOfDocument, nameOf, parentNode, siblings, tagName } from "./nodes.js";
+import {
+  childNode,
+  createText,
+  documentOf,
+  firstChildOf,
+  insertBefore,
+  isOfDocument,
+  nameOf,
+  nextOf,
+  parentNode,
+  parentOf,
+  siblings,
+  tagName,
+} from "./nodes.js";
 import { known } from "./webidl.js";
 import { isNode, kindOf, numberOf, realmOf, sessionOf } from "./wrappers.js";
 
@@ -87,7 +100,7 @@ export const attributesOf = (element) => names(element).map((name) => ({ ...name
 
 // ---- Elements below a node.
 
-/** The numbers of the elements below a node whose names fit, in tree order. */
+/** The numbers of the elements below a node that fit, in tree order; what fits is asked by the row of the core's answer. */
 function below(node, fits) {
   const session = sessionOf(node);
   check(native.hp_tree(session.index, numberOf(node)));
@@ -96,16 +109,27 @@ function below(node, fits) {
   const found = [];
   for (let at = 1; at < count; at++) {
     check(native.hp_row_at(session.index, at));
-    const [, number, kind] = out;
-    if (kind === ELEMENT && fits(elementName(session, lent(native.hp_row_name(session.index, at, 0))))) found.push(number);
+    const number = out[1];
+    if (out[2] === ELEMENT && fits(session, at, out[3])) found.push(number);
   }
   return found;
+}
+
+/** The elements whose names fit. */
+const byName = (fits) => (session, row) => fits(elementName(session, lent(native.hp_row_name(session.index, row, 0))));
+
+/** The value of an attribute by its name, of a row that has so many attributes, or null. */
+export function valueInRow(session, row, count, name) {
+  for (let at = 0; at < count; at++) {
+    if (native.hp_row_attribute_name(session.index, row, at) === name) return lent(native.hp_row_attribute_value(session.index, row, at));
+  }
+  return null;
 }
 
 function getElementsByTagName(node, qualified) {
   const read = () => {
     const ofHtml = isOfDocument(node).isHtml ? small(qualified) : qualified;
-    return below(node, (name) => qualified === "*" || name.qualified === (name.namespace === HTML ? ofHtml : qualified));
+    return below(node, byName((name) => qualified === "*" || name.qualified === (name.namespace === HTML ? ofHtml : qualified)));
   };
   return htmlCollection(realmOf(node), sessionOf(node), read);
 }
@@ -113,14 +137,49 @@ function getElementsByTagName(node, qualified) {
 function getElementsByTagNameNS(node, namespace, local) {
   const its = namespace === "" ? null : namespace;
   const fits = (name) => (its === "*" || name.namespace === its) && (local === "*" || name.local === local);
-  return htmlCollection(realmOf(node), sessionOf(node), () => below(node, fits));
+  return htmlCollection(realmOf(node), sessionOf(node), () => below(node, byName(fits)));
+}
+
+const words = (text) => text.split(/[\t\n\f\r ]+/).filter(Boolean);
+
+function getElementsByClassName(node, text) {
+  const read = () => {
+    const as = isOfDocument(node).isQuirky ? small : (name) => name;
+    const wanted = words(as(text));
+    if (wanted.length === 0) return [];
+    return below(node, (session, row, count) => {
+      const its = words(as(valueInRow(session, row, count, "class") ?? ""));
+      return wanted.every((name) => its.includes(name));
+    });
+  };
+  return htmlCollection(realmOf(node), sessionOf(node), read);
 }
 
 /** What Documents and elements have. */
 export const elementsBelow = {
   getElementsByTagName: [["DOMString"], getElementsByTagName],
   getElementsByTagNameNS: [["DOMString?", "DOMString"], getElementsByTagNameNS],
+  getElementsByClassName: [["DOMString"], getElementsByClassName],
 };
+
+// ---- Insertion beside an element.
+
+const SYNTAX_ERROR = 12;
+
+/** Parent and child between which a node comes in, by the word for the place. */
+const PLACES = {
+  beforebegin: (element) => [parentOf(element), element],
+  afterbegin: (element) => [element, firstChildOf(element)],
+  beforeend: (element) => [element, null],
+  afterend: (element) => [parentOf(element), nextOf(element)],
+};
+
+function insertAdjacent(element, where, node) {
+  const placed = PLACES[small(where)];
+  if (!placed) throw new Refusal(SYNTAX_ERROR, "there is no such place");
+  const [parent, child] = placed(element);
+  return parent && insertBefore(parent, node, child);
+}
 
 export const Element = known({
   name: "Element",
@@ -163,6 +222,8 @@ export const Element = known({
     toggleAttribute: [["DOMString", "any = undefined"], toggleAttribute],
     hasAttribute: [["DOMString"], (element, name) => hasOf(element, byQualified(element, sought(element, name)))],
     hasAttributeNS: [["DOMString?", "DOMString"], (element, namespace, local) => byNamespace(element, namespace, local) !== undefined],
+    insertAdjacentElement: [["DOMString", "Element"], insertAdjacent],
+    insertAdjacentText: [["DOMString", "DOMString"], (element, where, data) => void insertAdjacent(element, where, createText(documentOf(element), data))],
     ...elementsBelow,
     ...childNode.operations,
     ...parentNode.operations,

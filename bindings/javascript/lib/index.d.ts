@@ -2,7 +2,7 @@
 
 export interface DOMImplementation {
   createDocumentType(qualifiedName: string, publicId: string, systemId: string): DocumentType;
-  createDocument(namespace: string | null, qualifiedName: string | null, doctype?: DocumentType | null): Document;
+  createDocument(namespace: string | null, qualifiedName: string | null, doctype?: DocumentType | null): XMLDocument;
   createHTMLDocument(title?: string): Document;
   hasFeature(): true;
 }
@@ -87,6 +87,9 @@ export interface Node extends NodeConstants {
   hasChildNodes(): boolean;
   normalize(): void;
   cloneNode(deep?: boolean): this;
+  lookupPrefix(namespace: string | null): string | null;
+  lookupNamespaceURI(prefix: string | null): string | null;
+  isDefaultNamespace(namespace: string | null): boolean;
   isEqualNode(other: Node | null): boolean;
   isSameNode(other: Node | null): boolean;
   compareDocumentPosition(other: Node): number;
@@ -123,6 +126,7 @@ interface ParentNode {
 interface ElementsBelow {
   getElementsByTagName(qualifiedName: string): HTMLCollection;
   getElementsByTagNameNS(namespace: string | null, localName: string): HTMLCollection;
+  getElementsByClassName(classNames: string): HTMLCollection;
 }
 
 export interface Document extends Node, ParentNode, ElementsBelow {
@@ -153,6 +157,9 @@ export interface Document extends Node, ParentNode, ElementsBelow {
 }
 export const Document: { readonly prototype: Document; new (): Document };
 
+export interface XMLDocument extends Document {}
+export const XMLDocument: { readonly prototype: XMLDocument };
+
 export interface DocumentType extends Node, ChildNode {
   readonly name: string;
   readonly publicId: string;
@@ -164,6 +171,8 @@ export interface DocumentFragment extends Node, ParentNode {
   getElementById(id: string): Element | null;
 }
 export const DocumentFragment: { readonly prototype: DocumentFragment; new (): DocumentFragment };
+
+type InsertPosition = "beforebegin" | "afterbegin" | "beforeend" | "afterend";
 
 export interface Element extends Node, ChildNode, ParentNode, Siblings, ElementsBelow {
   readonly namespaceURI: string | null;
@@ -183,6 +192,8 @@ export interface Element extends Node, ChildNode, ParentNode, Siblings, Elements
   toggleAttribute(qualifiedName: string, force?: boolean): boolean;
   hasAttribute(qualifiedName: string): boolean;
   hasAttributeNS(namespace: string | null, localName: string): boolean;
+  insertAdjacentElement(where: InsertPosition, element: Element): Element | null;
+  insertAdjacentText(where: InsertPosition, data: string): void;
 }
 export const Element: { readonly prototype: Element };
 
@@ -363,6 +374,7 @@ export interface Window {
   readonly StaticRange: typeof StaticRange;
   readonly Text: typeof Text;
   readonly TreeWalker: typeof TreeWalker;
+  readonly XMLDocument: typeof XMLDocument;
   readonly document: Document;
 }
 

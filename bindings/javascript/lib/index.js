@@ -29,6 +29,7 @@ export const {
   StaticRange,
   Text,
   TreeWalker,
+  XMLDocument,
 } = realm.interfaces;
 
 export { has };
@@ -84,7 +85,7 @@ export function createDocument({ beside, xml = false } = {}) {
 }
 
 /** What a window's Document is, by the options of the window. */
-const documentOptions = (its, { xml = false, url }) => ({ ...isFor(its, xml), url: url ?? "about:blank" });
+const documentOptions = (its, { xml = false, url = "about:blank" }) => ({ ...(xml ? xmlIs(its, "application/xhtml+xml") : htmlIs(its)), url });
 
 /**
  * A window: an object that has all interfaces, of a realm of its own, and a `document`, of HTML with a head and a body. All is put on `global`, a

@@ -8,8 +8,8 @@ import { check, native, OK, out, Refusal } from "./core.js";
 
 export const HTML = "http://www.w3.org/1999/xhtml";
 export const SVG = "http://www.w3.org/2000/svg";
-const XML = "http://www.w3.org/XML/1998/namespace";
-const XMLNS = "http://www.w3.org/2000/xmlns/";
+export const XML = "http://www.w3.org/XML/1998/namespace";
+export const XMLNS = "http://www.w3.org/2000/xmlns/";
 
 const MARK = "\uFDD0";
 const MARKED = /^(.*)\uFDD0(\d+)(?::(.*))?$/su;

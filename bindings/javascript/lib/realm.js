@@ -1,10 +1,11 @@
 /** A realm: interfaces of its own, the exceptions that they throw, and the Document that constructors belong to. */
 import { Refusal, Session } from "./core.js";
 import { CharacterData, Comment, ProcessingInstruction, Text } from "./data.js";
-import { Document, DocumentFragment, DocumentType, DOMImplementation, xmlIs } from "./documents.js";
+import { Document, DocumentFragment, DocumentType, DOMImplementation, XMLDocument, xmlIs } from "./documents.js";
 import { Element } from "./elements.js";
 import { DOMException, exceptionFor } from "./exceptions.js";
 import { HTMLCollection, NodeList } from "./lists.js";
+import { lookups } from "./lookups.js";
 import { Node } from "./nodes.js";
 import { MutationObserver, MutationRecord } from "./observers.js";
 import { AbstractRange, Range, StaticRange } from "./ranges.js";
@@ -14,10 +15,12 @@ import { wrapDocument } from "./wrappers.js";
 
 /** The interfaces, each behind the one that it inherits from. */
 const TABLES = [
-  ...[DOMException, NodeList, HTMLCollection, Node, Document, DOMImplementation, DocumentType, DocumentFragment, Element],
+  ...[DOMException, NodeList, HTMLCollection, Node, Document, XMLDocument, DOMImplementation, DocumentType, DocumentFragment, Element],
   ...[CharacterData, Text, Comment, ProcessingInstruction, AbstractRange, Range, StaticRange],
   ...[NodeIterator, TreeWalker, MutationObserver, MutationRecord],
 ];
+
+Object.assign(Node.operations, lookups);
 
 /** NodeFilter has constants alone. */
 function nodeFilter(realm) {

@@ -92,7 +92,8 @@ class IteratorIs extends Traversal {
     const wanted = numberOf(node);
     if (this.move(course.call) === wanted || !this.has(wanted)) return node;
     const call = this.isAhead(wanted) ? FORTH.call : BACK.call;
-    while (this.move(call) !== wanted);
+    let at = this.move(call);
+    while (at !== wanted && at !== NONE) at = this.move(call);
     // (one step more where it came from the other side)
     if (call !== course.call) this.move(course.call);
     return node;

@@ -72,7 +72,8 @@ class Wrapper {
 }
 
 function make(session, number, kind, realm) {
-  const made = Reflect.construct(Wrapper, [session, number, kind, realm], realm.kinds[kind]);
+  const its = kind === DOCUMENT && documentIs(session, number).isXMLDocument ? realm.interfaces.XMLDocument : realm.kinds[kind];
+  const made = Reflect.construct(Wrapper, [session, number, kind, realm], its);
   session.keep(made, number);
   return made;
 }
