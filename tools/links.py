@@ -24,8 +24,8 @@ WRITTEN = f"{MODEL}/proofs/Dialogues/"
 PAGES = ("docs/*.md", "crates/*/*.md")
 # The pages on which plain words are names too.
 PAGES_OF_NAMES = (COMMANDS, INDEX, "docs/proved.md", "docs/rules.md")
-SOURCES = (".rt", ".antt", ".py", ".sh", ".edit", ".c", ".h", ".rs", ".toml")
-ENDINGS = r"\.(?:rt|antt|py|sh|md|svg|txt|edit|c|h|rs|toml|in|out|opts)"
+SOURCES = (".rt", ".antt", ".py", ".sh", ".edit", ".c", ".h", ".rs", ".toml", ".js", ".ts", ".json")
+ENDINGS = r"\.(?:rt|antt|py|sh|md|svg|txt|edit|c|h|rs|toml|in|out|opts|js|ts|json)"
 MADE = re.compile(r"(\A|/)(out|build)(/|\Z)")
 ANY_NAME = re.compile(r"(\b[A-Z]{2,}\b|\*)")
 

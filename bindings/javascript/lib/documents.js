@@ -1,0 +1,226 @@
+/** Document, DocumentType, DocumentFragment and DOMImplementation. */
+import { check, DOCTYPE, DOCUMENT, ELEMENT, FRAGMENT, native, out, Refusal } from "./core.js";
+import { elementsBelow, isElement, valueInRow } from "./elements.js";
+import { extractedElement, HTML, markedElement, small, SVG } from "./names.js";
+import {
+  adoptNode,
+  appendChild,
+  childNode,
+  createComment,
+  createDoctype,
+  createElementMarked,
+  createFragment,
+  createInstruction,
+  createText,
+  firstChildOf,
+  importNode,
+  namePart,
+  nextOf,
+  parentNode,
+} from "./nodes.js";
+import { createRange } from "./ranges.js";
+import { createNodeIterator, createTreeWalker } from "./traversal.js";
+import { known } from "./webidl.js";
+import { documentIs, isNode, keptOf, kindOf, makeThing, numberOf, realmOf, sessionOf, thingOf, wrap, wrapDocument } from "./wrappers.js";
+
+// ---- New Documents.
+
+const XML_TYPE = "application/xml";
+const TYPES = { [HTML]: "application/xhtml+xml", [SVG]: "image/svg+xml" };
+
+/** What the facade knows of a Document of HTML, or of XML. */
+export const htmlIs = (realm) => ({ realm, isHtml: true, contentType: "text/html", url: "about:blank" });
+export const xmlIs = (realm, contentType = XML_TYPE) => ({ realm, isHtml: false, contentType, url: "about:blank" });
+
+/** A further Document of a session. */
+export function newDocument(session, its) {
+  check(native.hp_new_document(session.index));
+  return wrapDocument(session, out[0], its);
+}
+
+const isOf = (document) => documentIs(sessionOf(document), numberOf(document));
+
+function createElement(document, name) {
+  const { isHtml, contentType } = isOf(document);
+  const namespace = isHtml || contentType === TYPES[HTML] ? HTML : null;
+  return createElementMarked(document, markedElement(sessionOf(document), { namespace, local: isHtml ? small(name) : name }));
+}
+
+export function createElementNS(document, namespace, qualified) {
+  const session = sessionOf(document);
+  return createElementMarked(document, markedElement(session, extractedElement(session, namespace, qualified)));
+}
+
+function createCDATASection() {
+  throw new Refusal(native.HP_NOT_SUPPORTED_ERROR, "there are no CDATA sections");
+}
+
+function childOfKind(node, kind) {
+  let found = firstChildOf(node);
+  while (found && kindOf(found) !== kind) found = nextOf(found);
+  return found;
+}
+
+/** The first child of the root element with one of some names. */
+function inRoot(document, ...wanted) {
+  const root = document.documentElement;
+  for (let it = root && firstChildOf(root); it; it = nextOf(it)) {
+    if (isElement(it) && it.namespaceURI === HTML && wanted.includes(it.localName)) return it;
+  }
+  return null;
+}
+
+// ---- Elements by their ids.
+
+/** The first element of each id below a node, read anew after each change. */
+function ids(node) {
+  const session = sessionOf(node);
+  const kept = keptOf(node);
+  if (kept.idsVersion !== session.version) {
+    kept.ids = readIds(session, numberOf(node));
+    kept.idsVersion = session.version;
+  }
+  return kept.ids;
+}
+
+function readIds(session, number) {
+  check(native.hp_tree(session.index, number));
+  check(native.hp_count(session.index));
+  const count = out[0];
+  const found = new Map();
+  for (let at = 0; at < count; at++) {
+    check(native.hp_row_at(session.index, at));
+    const its = out[1];
+    const id = valueInRow(session, at, out[3], "id");
+    if (id && !found.has(id)) found.set(id, its);
+  }
+  return found;
+}
+
+function getElementById(node, id) {
+  const number = ids(node).get(id);
+  return number === undefined ? null : wrap(sessionOf(node), number);
+}
+
+// ---- The implementation of a Document.
+
+class ImplementationIs {
+  constructor(document) {
+    this.document = document;
+  }
+}
+
+const implementationOf = (it) => thingOf(it, ImplementationIs);
+
+const implementation = (document) =>
+  (keptOf(document).implementation ??= makeThing(new ImplementationIs(document), realmOf(document).interfaces.DOMImplementation));
+
+function createDocument(it, namespace, qualified, doctype) {
+  const { document } = implementationOf(it);
+  const made = newDocument(sessionOf(document), { ...xmlIs(realmOf(document), TYPES[namespace]), isXMLDocument: true });
+  const element = qualified === "" ? null : createElementNS(made, namespace, qualified);
+  if (doctype) appendChild(made, doctype);
+  if (element) appendChild(made, element);
+  return made;
+}
+
+/** The elements that a Document of HTML begins with. */
+export function furnish(document, title) {
+  appendChild(document, createDoctype(document, "html", "", ""));
+  const html = appendChild(document, createElement(document, "html"));
+  const head = appendChild(html, createElement(document, "head"));
+  if (title !== undefined) appendChild(appendChild(head, createElement(document, "title")), createText(document, title));
+  appendChild(html, createElement(document, "body"));
+  return document;
+}
+
+function createHTMLDocument(it, title) {
+  const { document } = implementationOf(it);
+  return furnish(newDocument(sessionOf(document), htmlIs(realmOf(document))), title);
+}
+
+export const DOMImplementation = known({
+  name: "DOMImplementation",
+  is: (it) => implementationOf(it) !== undefined,
+  operations: {
+    createDocumentType: [["DOMString", "DOMString", "DOMString"], (it, ...words) => createDoctype(implementationOf(it).document, ...words)],
+    createDocument: [["DOMString?", "DOMString or empty", "DocumentType? = null"], createDocument],
+    createHTMLDocument: [["DOMString = undefined"], createHTMLDocument],
+    hasFeature: [[], () => true],
+  },
+});
+
+// ---- The interfaces.
+
+export const DocumentType = known({
+  name: "DocumentType",
+  parent: "Node",
+  is: (it) => isNode(it) && kindOf(it) === DOCTYPE,
+  attributes: {
+    name: (doctype) => namePart(doctype, 0),
+    publicId: (doctype) => namePart(doctype, 1),
+    systemId: (doctype) => namePart(doctype, 2),
+  },
+  operations: childNode.operations,
+  hidden: childNode.hidden,
+});
+
+export const DocumentFragment = known({
+  name: "DocumentFragment",
+  parent: "Node",
+  is: (it) => isNode(it) && kindOf(it) === FRAGMENT,
+  construct: [[], (realm, target) => realm.constructed(target, createFragment(realm.document))],
+  attributes: parentNode.attributes,
+  operations: { getElementById: [["DOMString"], getElementById], ...parentNode.operations },
+  hidden: parentNode.hidden,
+});
+
+const encoding = () => "UTF-8";
+const SHOW = ["Node", "unsigned long = 4294967295", "NodeFilter? = null"];
+
+export const Document = known({
+  name: "Document",
+  parent: "Node",
+  is: (it) => isNode(it) && kindOf(it) === DOCUMENT,
+  construct: [[], (realm, target) => realm.constructed(target, newDocument(sessionOf(realm.document), xmlIs(realm)))],
+  attributes: {
+    implementation,
+    URL: (document) => isOf(document).url,
+    documentURI: (document) => isOf(document).url,
+    compatMode: (document) => (isOf(document).isQuirky ? "BackCompat" : "CSS1Compat"),
+    characterSet: encoding,
+    charset: encoding,
+    inputEncoding: encoding,
+    contentType: (document) => isOf(document).contentType,
+    doctype: (document) => childOfKind(document, DOCTYPE),
+    documentElement: (document) => childOfKind(document, ELEMENT),
+    head: (document) => inRoot(document, "head"),
+    body: (document) => inRoot(document, "body", "frameset"),
+    ...parentNode.attributes,
+  },
+  operations: {
+    ...elementsBelow,
+    getElementById: [["DOMString"], getElementById],
+    createElement: [["DOMString", "any = undefined"], createElement],
+    createElementNS: [["DOMString?", "DOMString", "any = undefined"], createElementNS],
+    createDocumentFragment: [[], createFragment],
+    createTextNode: [["DOMString"], createText],
+    createCDATASection: [["DOMString"], createCDATASection],
+    createComment: [["DOMString"], createComment],
+    createProcessingInstruction: [["DOMString", "DOMString"], createInstruction],
+    importNode: [["Node", "boolean = false"], importNode],
+    adoptNode: [["Node"], adoptNode],
+    createRange: [[], createRange],
+    createNodeIterator: [SHOW, createNodeIterator],
+    createTreeWalker: [SHOW, createTreeWalker],
+    ...parentNode.operations,
+  },
+  hidden: parentNode.hidden,
+});
+
+/** What DOMImplementation makes of XML. */
+export const XMLDocument = known({
+  name: "XMLDocument",
+  parent: "Document",
+  is: (it) => Document.is(it) && isOf(it).isXMLDocument === true,
+});

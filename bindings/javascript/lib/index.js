@@ -1,0 +1,126 @@
+/** The package: the standard's interfaces over the core, Documents, windows, and Documents in and out. */
+import { has, Session as Core } from "./core.js";
+import { furnish, htmlIs, newDocument, xmlIs } from "./documents.js";
+import { readFragment, readHTML, readXML, serialize, treeAdapter } from "./parsing.js";
+import { firstDocument, Realm } from "./realm.js";
+import { numberIn, sessionOf, settleAll, wrap } from "./wrappers.js";
+
+const realm = new Realm();
+
+export const {
+  AbstractRange,
+  CharacterData,
+  Comment,
+  Document,
+  DocumentFragment,
+  DocumentType,
+  DOMException,
+  DOMImplementation,
+  Element,
+  HTMLCollection,
+  MutationObserver,
+  MutationRecord,
+  Node,
+  NodeFilter,
+  NodeIterator,
+  NodeList,
+  ProcessingInstruction,
+  Range,
+  StaticRange,
+  Text,
+  TreeWalker,
+  XMLDocument,
+} = realm.interfaces;
+
+export { has };
+
+/** A session with its first Document, for a program that speaks in lines too. */
+export class Session {
+  #core;
+  #document;
+
+  constructor(limits) {
+    this.#core = realm.guarded(() => new Core(limits));
+    this.#document = firstDocument(realm, this.#core, htmlIs(realm));
+  }
+
+  get document() {
+    return this.#document;
+  }
+
+  /** Answers a line of JSON, as a string or as bytes, with the line of its reply. Lines and objects may be mixed. */
+  line(line) {
+    return realm.guarded(() => {
+      const reply = this.#core.line(line);
+      settleAll(this.#core);
+      return reply;
+    });
+  }
+
+  /** The node of a number, as lines have it. */
+  node(number) {
+    return realm.guarded(() => wrap(this.#core, number));
+  }
+
+  /** The number of a node. */
+  number(node) {
+    return realm.guarded(() => numberIn(this.#core, node));
+  }
+
+  close() {
+    this.#core.close();
+  }
+}
+
+const isFor = (its, isXml) => (isXml ? xmlIs(its) : htmlIs(its));
+
+/**
+ * A new Document: in a session of its own, or in that of a Document that is given, whose nodes it may then adopt. It is one of HTML, or of XML where
+ * `xml` is true.
+ */
+export function createDocument({ beside, xml = false } = {}) {
+  return realm.guarded(() =>
+    beside ? newDocument(sessionOf(beside), isFor(realm, xml)) : firstDocument(realm, new Core(), isFor(realm, xml)),
+  );
+}
+
+/** What a window's Document is, by the options of the window. */
+const documentOptions = (its, { xml = false, url = "about:blank" }) => ({ ...(xml ? xmlIs(its, "application/xhtml+xml") : htmlIs(its)), url });
+
+/**
+ * A window: an object that has all interfaces, of a realm of its own, and a `document`, of HTML with a head and a body. All is put on `global`, a
+ * context's global object, where one is given; what is thrown and the arrays that are made are then by its constructors. `beside` is a window
+ * or a Document whose session it shares, so that nodes can move between the two; `report` takes what observers' callbacks throw; `empty`
+ * leaves the Document without an element, and so does `xml`, which makes it one of XML.
+ */
+export function createWindow({ global, beside, report, empty = false, ...options } = {}) {
+  const its = new Realm({ global, report });
+  const neighbour = beside?.document ?? beside;
+  its.document = its.guarded(() => {
+    const made = documentOptions(its, options);
+    const document = neighbour ? newDocument(sessionOf(neighbour), made) : firstDocument(its, new Core(), made);
+    return empty || options.xml ? document : furnish(document);
+  });
+  const window = global ?? {};
+  for (const [name, value] of Object.entries({ ...its.interfaces, document: its.document })) {
+    Object.defineProperty(window, name, { value, writable: true, configurable: true });
+  }
+  return window;
+}
+
+/** A Document of a page of HTML: a new one of a session of its own, or `document`, which has no child yet. Needs parse5. */
+export function parse(html, { document = createDocument() } = {}) {
+  return realm.guarded(() => readHTML(document, `${html}`));
+}
+
+/** A fragment of a piece of HTML, as the content of an element or of a Document. Needs parse5. */
+export function parseFragment(html, context = createDocument()) {
+  return realm.guarded(() => readFragment(context, `${html}`));
+}
+
+/** A Document of a text of XML, as `parse` makes it of HTML. Needs saxes. */
+export function parseXML(xml, { document = createDocument({ xml: true }) } = {}) {
+  return realm.guarded(() => readXML(document, `${xml}`));
+}
+
+export { serialize, treeAdapter };

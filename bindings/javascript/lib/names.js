@@ -1,0 +1,109 @@
+/**
+ * Namespaces, which the core does not know: a name that has one is handed to it as its local part with a mark behind it. The mark is a character that
+ * stands for nothing in any text, the number of the namespace in the session, and the prefix behind a colon where there is one.
+ *
+ * Names without a mark are elements of HTML and attributes of no namespace.
+ */
+import { check, native, OK, out, Refusal } from "./core.js";
+
+export const HTML = "http://www.w3.org/1999/xhtml";
+export const SVG = "http://www.w3.org/2000/svg";
+export const XML = "http://www.w3.org/XML/1998/namespace";
+export const XMLNS = "http://www.w3.org/2000/xmlns/";
+
+const MARK = "\uFDD0";
+const MARKED = /^(.*)\uFDD0(\d+)(?::(.*))?$/su;
+const NAMESPACE_ERROR = 14;
+
+const lowered = (text) => text.replace(/[A-Z]+/g, (letters) => letters.toLowerCase());
+const raised = (text) => text.replace(/[a-z]+/g, (letters) => letters.toUpperCase());
+
+/** A text whose letters of ASCII are small. */
+export const small = (text) => (/[A-Z]/.test(text) ? lowered(text) : text);
+
+/** A text whose letters of ASCII are capitals. */
+export const capital = (text) => (/[a-z]/.test(text) ? raised(text) : text);
+
+function numberOfNamespace(session, namespace) {
+  const found = session.namespaces.indexOf(namespace);
+  return found < 0 ? session.namespaces.push(namespace) - 1 : found;
+}
+
+/** What a name of the core says; without a mark its namespace is the plain one. */
+function read(session, core, plain) {
+  const found = core.includes(MARK) ? MARKED.exec(core) : null;
+  const [, local = core, number, prefix = null] = found ?? [];
+  const qualified = prefix === null ? local : `${prefix}:${local}`;
+  return { core, namespace: found ? session.namespaces[number] : plain, prefix, local, qualified, capital: capital(qualified) };
+}
+
+function known(session, names, core, plain) {
+  let found = names.get(core);
+  if (found === undefined) {
+    found = read(session, core, plain);
+    names.set(core, found);
+  }
+  return found;
+}
+
+export const elementName = (session, core) => known(session, session.elementNames, core, HTML);
+export const attributeName = (session, core) => known(session, session.attributeNames, core, null);
+
+function marked(session, { namespace, prefix = null, local }, plain) {
+  if (namespace === plain && prefix === null && !local.includes(MARK)) return local;
+  return `${local}${MARK}${numberOfNamespace(session, namespace)}${prefix === null ? "" : `:${prefix}`}`;
+}
+
+/** The name that the core has of an element. */
+export const markedElement = (session, name) => marked(session, name, HTML);
+
+/** The name that the core has of an attribute. */
+export function markedAttribute(session, name) {
+  const core = marked(session, name, null);
+  session.hasMarkedAttributes ||= core !== name.local;
+  return core;
+}
+
+/** The name that the core has of an attribute of no namespace. */
+export const plainAttribute = (session, local) => (local.includes(MARK) ? markedAttribute(session, { namespace: null, local }) : local);
+
+// ---- Namespaces and qualified names that come together.
+
+const PREFIX = /^[^\t\n\f\r \0/>]+$/u;
+
+function parted(qualified) {
+  const at = qualified.indexOf(":");
+  return at < 0 ? { prefix: null, local: qualified } : { prefix: qualified.slice(0, at), local: qualified.slice(at + 1) };
+}
+
+function fits(namespace, prefix, qualified) {
+  if (prefix !== null && namespace === null) return false;
+  if (prefix === "xml" && namespace !== XML) return false;
+  return (qualified === "xmlns" || prefix === "xmlns") === (namespace === XMLNS);
+}
+
+/** A namespace and a qualified name; the core is asked whether a name may be so only where it does not fit its namespace, which is refused after it. */
+function extracted(namespace, qualified, tryName) {
+  const { prefix, local } = parted(qualified);
+  const its = { namespace: namespace === "" ? null : namespace, prefix, local };
+  if (prefix !== null && !PREFIX.test(prefix)) throw new Refusal(native.HP_INVALID_CHARACTER_ERROR);
+  if (fits(its.namespace, prefix, qualified)) return its;
+  tryName(local);
+  throw new Refusal(NAMESPACE_ERROR, "the name does not fit its namespace");
+}
+
+/** Makes an element that is let go at once. */
+function trial(session, name, does) {
+  check(native.hp_create_element(session.index, 0, name));
+  const element = out[0];
+  const status = does(element);
+  native.hp_discard(session.index, element);
+  check(status);
+}
+
+/** The name of an element by its namespace and its qualified name. */
+export const extractedElement = (session, namespace, qualified) => extracted(namespace, qualified, (local) => trial(session, local, () => OK));
+
+/** The name of an attribute, likewise. */
+export const extractedAttribute = (session, namespace, qualified) =>
+  extracted(namespace, qualified, (local) => trial(session, "a", (element) => native.hp_set_attribute(session.index, element, local, "")));

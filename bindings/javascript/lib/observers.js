@@ -1,0 +1,182 @@
+/** MutationObserver and MutationRecord. The core queues records; here they become objects, and callbacks are called. */
+import { check, lent, native, OK, out } from "./core.js";
+import { stillNodeList } from "./lists.js";
+import { attributeName } from "./names.js";
+import { converted, convertible, known } from "./webidl.js";
+import { keptOf, makeThing, numberOf, sessionOf, thingOf, wrap, wrapOrNull } from "./wrappers.js";
+
+const TYPES = ["attributes", "characterData", "childList"];
+const ATTRIBUTES = TYPES.indexOf("attributes");
+const CHILD_LIST = TYPES.indexOf("childList");
+const HEAD = 6;
+
+// ---- Reading: first all that is told, by numbers, since the answer is lent only until the next call; then the objects.
+
+/** The records of a notice as plain objects of numbers and texts. */
+function read(session, notice, count) {
+  const told = native.records(session.index, notice, count);
+  if (typeof told === "number") check(told);
+  const found = [];
+  for (let at = 0; at < told.length; ) {
+    const [type, target, added, removed, previous, next] = told.subarray(at, at + HEAD);
+    at += HEAD;
+    const record = { type, target, previous, next, added: told.subarray(at, at + added), removed: told.subarray(at + added, at + added + removed) };
+    at += added + removed;
+    if (type !== CHILD_LIST) record.oldValue = lent(native.hp_record_old_value(session.index, notice, found.length));
+    if (type === ATTRIBUTES) record.name = lent(native.hp_record_name(session.index, notice, found.length));
+    found.push(record);
+  }
+  return found;
+}
+
+class RecordIs {
+  constructor(realm, session, told) {
+    const list = (numbers) => stillNodeList(realm, Array.from(numbers, (number) => wrap(session, number)));
+    const name = told.name === undefined ? null : attributeName(session, told.name);
+    this.type = TYPES[told.type];
+    this.target = wrap(session, told.target);
+    this.addedNodes = list(told.added);
+    this.removedNodes = list(told.removed);
+    this.previousSibling = wrapOrNull(session, told.previous);
+    this.nextSibling = wrapOrNull(session, told.next);
+    this.attributeName = name && name.local;
+    this.attributeNamespace = name && name.namespace;
+    this.oldValue = told.oldValue ?? null;
+  }
+}
+
+const recordOf = (it) => thingOf(it, RecordIs);
+
+const recordsOf = (realm, session, told) =>
+  realm.array(told.map((it) => makeThing(new RecordIs(realm, session, it), realm.interfaces.MutationRecord)));
+
+const MEMBERS = "type target addedNodes removedNodes previousSibling nextSibling attributeName attributeNamespace oldValue".split(" ");
+
+export const MutationRecord = known({
+  name: "MutationRecord",
+  is: (it) => recordOf(it) !== undefined,
+  attributes: Object.fromEntries(MEMBERS.map((name) => [name, (record) => recordOf(record)[name]])),
+});
+
+// ---- Observers: one number in each session in which a node is observed.
+
+class ObserverIs {
+  numbers = new Map();
+  // The observed nodes, which hold the observer; it holds them weakly.
+  nodes = [];
+
+  constructor(realm, callback) {
+    this.realm = realm;
+    this.callback = callback;
+  }
+}
+
+const observerOf = (it) => thingOf(it, ObserverIs);
+const lost = new FinalizationRegistry(({ session, number }) => session.loseObserver(number));
+
+/** The observer's number in a session. */
+function numberFor(observer, session) {
+  const { numbers } = observerOf(observer);
+  if (!numbers.has(session)) {
+    check(native.hp_create_observer(session.index));
+    const number = out[0];
+    numbers.set(session, number);
+    session.observers.set(number, new WeakRef(observer));
+    session.watch(notify);
+    lost.register(observer, { session, number });
+  }
+  return numbers.get(session);
+}
+
+const SWITCHES = ["childList", "attributes", "characterData", "subtree", "attributeOldValue", "characterDataOldValue"];
+const ABSENT = 2;
+const encoder = new TextEncoder();
+
+function observe(observer, target, options) {
+  const session = sessionOf(target);
+  const number = numberFor(observer, session);
+  const { switches, names } = options;
+  const bytes = names.map((name) => encoder.encode(name));
+  const lengths = Uint32Array.from(bytes, (it) => it.length);
+  check(native.hp_observe(session.index, number, numberOf(target), switches, Buffer.concat(bytes).subarray(), lengths));
+  (keptOf(target).observers ??= new Set()).add(observer);
+  observerOf(observer).nodes.push(new WeakRef(target));
+}
+
+/** The options of an observer as the core takes them; members are read in the order of their names. */
+function optionsOf(value) {
+  const from = converted("dictionary", value);
+  const given = {};
+  for (const name of ["attributeFilter", ...SWITCHES].sort()) {
+    const its = from[name];
+    if (its !== undefined) given[name] = converted(name === "attributeFilter" ? "sequence<DOMString>" : "boolean", its);
+  }
+  const switches = Uint8Array.of(...SWITCHES.map((name) => (name in given ? Number(given[name]) : ABSENT)), "attributeFilter" in given ? 1 : 0);
+  return { switches, names: given.attributeFilter ?? [] };
+}
+
+convertible("MutationObserverInit", optionsOf);
+
+function disconnect(observer) {
+  const its = observerOf(observer);
+  for (const node of its.nodes) {
+    const target = node.deref();
+    if (target) keptOf(target).observers.delete(observer);
+  }
+  its.nodes = [];
+  for (const [session, number] of its.numbers) check(native.hp_disconnect(session.index, number));
+}
+
+function takeRecords(observer) {
+  const { numbers, realm } = observerOf(observer);
+  const found = [];
+  for (const [session, number] of numbers) {
+    check(native.hp_take_records(session.index, number));
+    check(native.hp_count(session.index));
+    found.push(...recordsOf(realm, session, read(session, 0, out[0])));
+  }
+  return realm.array(found);
+}
+
+/** What each observer of a session is told now. */
+function notices(session) {
+  if (native.hp_notify(session.index) !== OK) return [];
+  check(native.hp_count(session.index));
+  const count = out[0];
+  const found = [];
+  for (let at = 0; at < count; at++) {
+    check(native.hp_notice_at(session.index, at));
+    const [number, records] = out;
+    found.push({ number, told: read(session, at, records) });
+  }
+  return found;
+}
+
+/** Tells the observers of a session what they wait for. */
+function notify(session) {
+  const all = notices(session).map(({ number, told }) => {
+    const observer = session.observers.get(number)?.deref();
+    return observer && { observer, records: recordsOf(observerOf(observer).realm, session, told) };
+  });
+  for (const it of all) if (it) call(it.observer, it.records);
+}
+
+function call(observer, records) {
+  const { callback, realm } = observerOf(observer);
+  try {
+    callback.call(observer, records, observer);
+  } catch (fault) {
+    realm.report(fault);
+  }
+}
+
+export const MutationObserver = known({
+  name: "MutationObserver",
+  is: (it) => observerOf(it) !== undefined,
+  construct: [["Function"], (realm, target, callback) => makeThing(new ObserverIs(realm, callback), target)],
+  operations: {
+    observe: [["Node", "MutationObserverInit = {}"], observe],
+    disconnect: [[], disconnect],
+    takeRecords: [[], takeRecords],
+  },
+});

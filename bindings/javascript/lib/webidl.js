@@ -1,0 +1,250 @@
+/**
+ * Interfaces from tables, as Web IDL binds them: conversions of what comes in, brands, argument counts, constants, constructors.
+ *
+ * An interface is an object with `name`, `parent`, `is` (its brand), and `constants`, `attributes`, `operations`, `construct`, `hidden` (names that a `with`
+ * does not see). An attribute is a getter or `{ type, get, set }`; an operation is a list of its arguments' types and a function of the object and
+ * what came in. The types are those of Web IDL in its words; `= value` gives what stands for an absent one, and `...` takes all that come.
+ */
+import { native, Refusal } from "./core.js";
+
+/** Refuses what is of the wrong type: the realm's own TypeError. */
+export function refuseType(message) {
+  throw new Refusal(native.HP_TYPE_ERROR, message);
+}
+
+function string(value) {
+  if (typeof value === "symbol") refuseType("a symbol is no string");
+  return `${value}`;
+}
+
+function number(value) {
+  if (typeof value === "symbol" || typeof value === "bigint") refuseType(`a ${typeof value} is no number`);
+  return Number(value);
+}
+
+const isObject = (value) => (typeof value === "object" && value !== null) || typeof value === "function";
+
+function list(value) {
+  if (!isObject(value) || typeof value[Symbol.iterator] !== "function") refuseType("this is no sequence");
+  return Array.from(value, string);
+}
+
+const PLAIN = {
+  any: (value) => value,
+  boolean: (value) => Boolean(value),
+  DOMString: (value) => (typeof value === "string" ? value : string(value)),
+  "DOMString?": (value) => (value === null || value === undefined ? null : PLAIN.DOMString(value)),
+  // (LegacyNullToEmptyString)
+  "DOMString or empty": (value) => (value === null ? "" : PLAIN.DOMString(value)),
+  "sequence<DOMString>": list,
+  "unsigned long": (value) => (typeof value === "number" ? value : number(value)) >>> 0,
+  "unsigned short": (value) => (typeof value === "number" ? value : number(value)) & 0xffff,
+  "NodeFilter?": (value) => (value === null || value === undefined ? null : isObject(value) ? value : refuseType("a filter is a function or an object")),
+  Function: (value) => (typeof value === "function" ? value : refuseType("a callback is a function")),
+  dictionary: (value) => (value === null || value === undefined ? {} : isObject(value) ? value : refuseType("options are an object")),
+};
+
+const brands = new Map();
+
+/** Makes an interface known, so that others may take its objects. */
+export function known(table) {
+  brands.set(table.name, table.is);
+  return table;
+}
+
+/** Makes a type known by how it is converted. */
+export function convertible(type, convert) {
+  PLAIN[type] = convert;
+}
+
+/** A value as a type has it. */
+export const converted = (type, value) => PLAIN[type](value);
+
+/** A dictionary whose members are all required: they come as a list, in the order in which they are named. */
+export function dictionary(members) {
+  return (value) => {
+    const from = PLAIN.dictionary(value);
+    return Object.entries(members).map(([name, type]) => {
+      const given = from[name];
+      return given === undefined ? refuseType(`there is no ${name}`) : converterOf(type)(given);
+    });
+  };
+}
+
+function converterOf(type) {
+  if (type in PLAIN) return PLAIN[type];
+  if (type === "(Node or DOMString)") return (value) => (brands.get("Node")(value) ? value : PLAIN.DOMString(value));
+  const isNullable = type.endsWith("?");
+  const name = isNullable ? type.slice(0, -1) : type;
+  const is = brands.get(name);
+  if (!is) throw new Error(`there is no type ${type}`);
+  const must = (value) => (is(value) ? value : refuseType(`this is no ${name}`));
+  return isNullable ? (value) => (value === null || value === undefined ? null : must(value)) : must;
+}
+
+const DEFAULTS = { true: true, false: false, null: null, '""': "", undefined };
+
+/** An argument of a table: how it is converted, and what it is where it is absent. */
+function argument(text) {
+  const [type, absent] = text.split(" = ");
+  if (type.startsWith("...")) return { convert: converterOf(type.slice(3)), isOptional: true, isVariadic: true };
+  const convert = converterOf(type);
+  if (absent === undefined) return { convert, isOptional: false };
+  // (a dictionary that is absent has no members)
+  if (absent === "{}") return { convert, isOptional: true };
+  const value = absent in DEFAULTS ? DEFAULTS[absent] : Number(absent);
+  return { convert: (given) => (given === undefined ? value : convert(given)), isOptional: true };
+}
+
+/** The arguments of a table as one conversion of all that came in. */
+function conversion(types) {
+  const all = types.map(argument);
+  const rest = all.at(-1)?.isVariadic ? all.pop() : null;
+  return (given) => {
+    const converted = all.map((it, at) => it.convert(given[at]));
+    for (let at = all.length; rest && at < given.length; at++) converted.push(rest.convert(given[at]));
+    return converted;
+  };
+}
+
+const requiredOf = (types) => types.map(argument).filter((it) => !it.isOptional).length;
+
+function named(made, name, length) {
+  Object.defineProperty(made, "name", { value: name, configurable: true });
+  Object.defineProperty(made, "length", { value: length, configurable: true });
+  return made;
+}
+
+/** An operation without arguments, with one, with two, or with any others: what comes in is converted in its order. */
+const FORMS = [
+  (realm, test, does) => ({
+    operation() {
+      if (!test(this)) throw realm.wrongThis();
+      try {
+        return does(this);
+      } catch (fault) {
+        throw realm.thrown(fault);
+      }
+    },
+  }),
+  (realm, test, does, required, [one]) => ({
+    operation(first) {
+      if (!test(this)) throw realm.wrongThis();
+      if (arguments.length < required) throw realm.tooFew(required);
+      try {
+        return does(this, one.convert(first));
+      } catch (fault) {
+        throw realm.thrown(fault);
+      }
+    },
+  }),
+  (realm, test, does, required, [one, two]) => ({
+    operation(first, second) {
+      if (!test(this)) throw realm.wrongThis();
+      if (arguments.length < required) throw realm.tooFew(required);
+      try {
+        return does(this, one.convert(first), two.convert(second));
+      } catch (fault) {
+        throw realm.thrown(fault);
+      }
+    },
+  }),
+];
+
+function general(realm, test, does, required, types) {
+  const convert = conversion(types);
+  return {
+    operation(...given) {
+      if (!test(this)) throw realm.wrongThis();
+      if (given.length < required) throw realm.tooFew(required);
+      try {
+        return does(this, ...convert(given));
+      } catch (fault) {
+        throw realm.thrown(fault);
+      }
+    },
+  };
+}
+
+function operation(realm, test, types, does) {
+  const all = types.map(argument);
+  const required = requiredOf(types);
+  const isPlain = all.length < FORMS.length && !all.some((it) => it.isVariadic);
+  const made = isPlain ? FORMS[all.length](realm, test, does, required, all) : general(realm, test, does, required, types);
+  return { operation: made.operation, required };
+}
+
+function getter(realm, test, get, name) {
+  return named(FORMS[0](realm, test, get).operation, `get ${name}`, 0);
+}
+
+function setter(realm, test, type, set, name) {
+  return named(FORMS[1](realm, test, set, 1, [argument(type)]).operation, `set ${name}`, 1);
+}
+
+function addConstants(table, made) {
+  for (const [name, value] of Object.entries(table.constants ?? {})) {
+    for (const to of made.prototype ? [made, made.prototype] : [made]) {
+      Object.defineProperty(to, name, { value, enumerable: true });
+    }
+  }
+}
+
+function addAttributes(realm, table, prototype) {
+  for (const [name, its] of Object.entries(table.attributes ?? {})) {
+    const { get, set, type } = typeof its === "function" ? { get: its } : its;
+    Object.defineProperty(prototype, name, {
+      get: getter(realm, table.is, get, name),
+      set: set && setter(realm, table.is, type, set, name),
+      enumerable: true,
+      configurable: true,
+    });
+  }
+}
+
+function addOperations(realm, table, prototype) {
+  for (const [name, [types, does]] of Object.entries(table.operations ?? {})) {
+    const made = operation(realm, table.is, types, does);
+    const value = named(made.operation, name, made.required);
+    Object.defineProperty(prototype, name, { value, enumerable: true, writable: true, configurable: true });
+  }
+}
+
+function addHidden(table, prototype) {
+  if (!table.hidden) return;
+  const value = Object.assign(Object.create(null), Object.fromEntries(table.hidden.map((name) => [name, true])));
+  Object.defineProperty(prototype, Symbol.unscopables, { value, configurable: true });
+}
+
+/** The interface object of a constructor, or of an interface that programs can't construct. */
+function constructorOf(realm, table) {
+  const [types, construct] = table.construct ?? [[], null];
+  const required = requiredOf(types);
+  const convert = conversion(types);
+  return class {
+    constructor(...given) {
+      if (!construct) throw new realm.global.TypeError("Illegal constructor");
+      if (given.length < required) throw realm.tooFew(required);
+      try {
+        return construct(realm, new.target, ...convert(given));
+      } catch (fault) {
+        throw realm.thrown(fault);
+      }
+    }
+  };
+}
+
+/** Makes an interface of a realm. */
+export function makeInterface(realm, table) {
+  const made = named(constructorOf(realm, table), table.name, table.construct ? requiredOf(table.construct[0]) : 0);
+  const parent = table.parent ? realm.interfaces[table.parent] : null;
+  Object.setPrototypeOf(made, parent ?? realm.global.Function.prototype);
+  Object.setPrototypeOf(made.prototype, parent ? parent.prototype : realm.global.Object.prototype);
+  addConstants(table, made);
+  addAttributes(realm, table, made.prototype);
+  addOperations(realm, table, made.prototype);
+  addHidden(table, made.prototype);
+  Object.defineProperty(made.prototype, Symbol.toStringTag, { value: table.name, configurable: true });
+  table.finish?.(realm, made);
+  return made;
+}

@@ -1,0 +1,148 @@
+// What a program can reach stays as it is over collections; what it can't is given back. Runs with node --expose-gc.
+import assert from "node:assert/strict";
+import test from "node:test";
+import { setImmediate as turn } from "node:timers/promises";
+
+import { native } from "../lib/core.js";
+import { createDocument, MutationObserver, Session } from "../lib/index.js";
+
+/** Collects what can't be reached, and lets the finalizers run. */
+async function collect(times = 4) {
+  for (let at = 0; at < times; at++) {
+    globalThis.gc();
+    await turn();
+    await turn();
+  }
+}
+
+/** Whether the core still has a node. */
+const isThere = (session, number) => session.line(`["root",${number}]`).startsWith('{"ok"');
+
+test("what a program keeps on a node survives, by whichever node of the tree it holds", async () => {
+  const document = createDocument();
+  const held = [];
+  for (let at = 0; at < 100; at++) {
+    const root = document.createElement("p");
+    const middle = root.appendChild(document.createElement("b"));
+    const leaf = middle.appendChild(document.createTextNode("t"));
+    for (const node of [root, middle, leaf]) node.mine = { at };
+    held.push([root, middle, leaf][at % 3]);
+  }
+  await collect();
+  for (const [at, node] of held.entries()) {
+    const root = node.getRootNode();
+    for (const it of [root, root.firstChild, root.firstChild.firstChild]) assert.deepEqual(it.mine, { at });
+  }
+});
+
+test("a Document stays with its nodes, and a range's containers with the range", async () => {
+  const node = (() => {
+    const document = createDocument();
+    document.mine = 1;
+    return document.createElement("p");
+  })();
+  const range = (() => {
+    const document = createDocument();
+    const text = document.createElement("p").appendChild(document.createTextNode("text"));
+    text.mine = 2;
+    const made = document.createRange();
+    made.selectNodeContents(text);
+    return made;
+  })();
+  await collect();
+  assert.equal(node.ownerDocument.mine, 1);
+  assert.equal(range.startContainer.mine, 2);
+  assert.equal(range.startContainer.parentNode.nodeName, "P");
+});
+
+test("what was moved by contents, normalizing and several nodes stays where it is held", async () => {
+  const document = createDocument();
+  const held = [];
+  for (let at = 0; at < 50; at++) {
+    const root = document.createElement("p");
+    root.append("a", document.createElement("b"), "c");
+    const [first, middle, last] = root.childNodes;
+    middle.mine = at;
+    const range = document.createRange();
+    range.setStart(first, 0);
+    range.setEnd(last, 1);
+    if (at % 2) range.deleteContents();
+    else held.push(range.extractContents().lastChild);
+    if (at % 2) held.push(middle);
+  }
+  await collect();
+  held.forEach((node, at) => {
+    if (at % 2) assert.equal(node.mine, at);
+    else assert.equal(node.previousSibling.mine, at);
+  });
+});
+
+test("trees that nothing holds are discarded, with their wrappers or without", async () => {
+  const session = new Session();
+  const { document } = session;
+  const numbers = [];
+  for (let at = 0; at < 200; at++) {
+    const root = document.createElement("p");
+    const leaf = root.appendChild(document.createTextNode("t"));
+    numbers.push(session.number(root), session.number(leaf));
+  }
+  const held = document.appendChild(document.createElement("p"));
+  await collect();
+  assert.deepEqual(numbers.filter((number) => isThere(session, number)), []);
+  assert.ok(isThere(session, session.number(held)));
+});
+
+test("a tree that is in use goes once it is in use no more", async () => {
+  const session = new Session();
+  const { document } = session;
+  let range = document.createRange();
+  const number = (() => {
+    const root = document.createElement("p");
+    range.selectNodeContents(root);
+    return session.number(root);
+  })();
+  await collect();
+  assert.ok(isThere(session, number));
+  assert.equal(range.startContainer.nodeName, "P");
+  range = null;
+  await collect(8);
+  assert.ok(!isThere(session, number));
+});
+
+test("an observer lives as long as what it observes", async () => {
+  const document = createDocument();
+  let calls = 0;
+  new MutationObserver(() => calls++).observe(document, { childList: true });
+  await collect();
+  document.appendChild(document.createComment("c"));
+  await Promise.resolve();
+  assert.equal(calls, 1);
+});
+
+test("600,000 nodes made and dropped leave memory level", async () => {
+  const document = createDocument();
+  const levels = [];
+  for (let round = 0; round < 12; round++) {
+    for (let part = 0; part < 10; part++) {
+      const root = document.createElement("ul");
+      for (let at = 0; at < 2500; at++) {
+        root.appendChild(document.createElement("li")).appendChild(document.createTextNode("some text"));
+      }
+      await turn();
+    }
+    await collect(2);
+    levels.push(native.held());
+  }
+  assert.ok(Math.max(...levels.slice(2)) < 2 * levels[1] + 1e6, `${levels}`);
+  assert.ok(levels.at(-1) < 4e6, `${levels}`);
+});
+
+test("sessions that nothing holds are closed", async () => {
+  const before = native.held();
+  for (let at = 0; at < 50; at++) {
+    const document = createDocument();
+    for (let each = 0; each < 100; each++) document.createElement("p");
+  }
+  await collect(6);
+  assert.ok(native.held() < before + 1e5, `${before} ${native.held()}`);
+});

@@ -1,0 +1,87 @@
+// Observers are told in a microtask, once for all that was done before it.
+import assert from "node:assert/strict";
+import test from "node:test";
+
+import { createDocument, createWindow, MutationObserver, NodeList } from "../lib/index.js";
+
+const microtask = () => Promise.resolve();
+
+test("records are told in a microtask, in order", async () => {
+  const document = createDocument();
+  const told = [];
+  const observer = new MutationObserver((records, its) => told.push({ records, its }));
+  observer.observe(document, { childList: true, subtree: true, attributes: true, attributeOldValue: true, characterData: true });
+  const element = document.appendChild(document.createElement("p"));
+  element.setAttribute("a", "1");
+  element.setAttribute("a", "2");
+  const text = element.appendChild(document.createTextNode("t"));
+  text.data = "u";
+  assert.equal(told.length, 0);
+  await microtask();
+  assert.equal(told.length, 1);
+  const [{ records, its }] = told;
+  assert.equal(its, observer);
+  assert.deepEqual(records.map((it) => it.type), ["childList", "attributes", "attributes", "childList", "characterData"]);
+  assert.ok(records[0].addedNodes instanceof NodeList);
+  assert.deepEqual([...records[0].addedNodes], [element]);
+  assert.equal(records[0].target, document);
+  assert.deepEqual(records.slice(1, 3).map((it) => [it.attributeName, it.oldValue]), [["a", null], ["a", "1"]]);
+  assert.equal(records[4].oldValue, null);
+  await microtask();
+  assert.equal(told.length, 1);
+});
+
+test("records can be taken, and a disconnected observer is told nothing", async () => {
+  const document = createDocument();
+  let calls = 0;
+  const observer = new MutationObserver(() => calls++);
+  observer.observe(document, { childList: true });
+  document.appendChild(document.createComment("c"));
+  assert.equal(observer.takeRecords().length, 1);
+  document.appendChild(document.createComment("d"));
+  observer.disconnect();
+  document.appendChild(document.createComment("e"));
+  await microtask();
+  assert.equal(calls, 0);
+});
+
+test("what a callback changes is told in a further microtask", async () => {
+  const document = createDocument();
+  const counts = [];
+  const observer = new MutationObserver((records) => {
+    counts.push(records.length);
+    if (counts.length < 3) document.appendChild(document.createComment("again"));
+  });
+  observer.observe(document, { childList: true });
+  document.appendChild(document.createComment("once"));
+  for (let turn = 0; turn < 5; turn++) await microtask();
+  assert.deepEqual(counts, [1, 1, 1]);
+});
+
+test("what a callback throws is reported, and the others are called", async () => {
+  const faults = [];
+  const { document, MutationObserver: Observer } = createWindow({ report: (fault) => faults.push(fault) });
+  const seen = [];
+  for (const name of ["first", "second"]) {
+    new Observer(() => {
+      seen.push(name);
+      throw name;
+    }).observe(document, { childList: true });
+  }
+  document.appendChild(document.createComment("c"));
+  await microtask();
+  assert.deepEqual(seen, ["first", "second"]);
+  assert.deepEqual(faults, ["first", "second"]);
+});
+
+test("the facade's own observer is never seen", async () => {
+  const document = createDocument();
+  const root = document.appendChild(document.createElement("p"));
+  root.append("a", "b");
+  let calls = 0;
+  const observer = new MutationObserver((records) => (calls += records.length));
+  observer.observe(root, { childList: true });
+  root.normalize();
+  await microtask();
+  assert.equal(calls, 1);
+});

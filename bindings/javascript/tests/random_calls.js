@@ -1,0 +1,172 @@
+// Random calls of all interfaces: `node --expose-gc tests/random_calls.js COUNT [SEED]`. A refusal has to be one of the standard's; nothing else may
+// be thrown, and what the tree says of a node has to fit from both sides. Meant for an addon with the address sanitizer.
+import assert from "node:assert/strict";
+import { setImmediate as turn } from "node:timers/promises";
+
+import { createDocument, DOMException, MutationObserver, NodeFilter, StaticRange } from "../lib/index.js";
+
+const [count = "300000", seed = "1"] = process.argv.slice(2);
+const MOST = 400;
+
+// A generator of numbers by a seed (the multiplier is of Lehmer's kind, modulo a prime).
+let state = Number(seed);
+const below = (limit) => {
+  state = (state * 48271) % 2147483647;
+  return state % limit;
+};
+const any = (list) => list[below(list.length)];
+
+const TEXTS = ["", "a", "some text", "\ud83d\ude00", "\ud800", "x".repeat(300), "\u0000", "]]>"];
+const NAMES = ["p", "B", "a:b", "", "1", "x y", "é", "a\uFDD01p", "longer-name"];
+const NAMESPACES = [null, "", "http://www.w3.org/1999/xhtml", "n"];
+const OFFSETS = [0, 1, 2, 5, 100, -1, 2 ** 32, 1.5];
+const MOVES = ["parentNode", "firstChild", "lastChild", "previousSibling", "nextSibling", "previousNode", "nextNode"];
+
+let document = createDocument();
+const nodes = [document];
+const ranges = [];
+const traversals = [];
+const observers = [];
+const node = () => any(nodes);
+const maybe = () => any([null, node(), node()]);
+const keep = (list, made) => {
+  if (made && list.length < MOST) list.push(made);
+  else if (made) list[below(list.length)] = made;
+};
+const filter = () => any([null, null, () => 1 + below(3), { acceptNode: () => 1 + below(3) }]);
+
+const MAKING = [
+  () => document.createElement(any(NAMES)),
+  () => document.createElementNS(any(NAMESPACES), any(NAMES)),
+  () => document.createTextNode(any(TEXTS)),
+  () => document.createComment(any(TEXTS)),
+  () => document.createProcessingInstruction(any(NAMES), any(TEXTS)),
+  () => document.implementation.createDocumentType(any(NAMES), any(TEXTS), any(TEXTS)),
+  () => document.createDocumentFragment(),
+  () => document.implementation.createHTMLDocument(any(TEXTS)),
+  () => node().cloneNode(below(2) === 1),
+  () => document.importNode(node(), below(2) === 1),
+];
+
+const CHANGING = [
+  () => node().appendChild(node()),
+  () => node().insertBefore(node(), maybe()),
+  () => node().replaceChild(node(), node()),
+  () => node().firstChild && node().removeChild(node().firstChild),
+  () => node().remove?.(),
+  () => node().append?.(node(), any(TEXTS), node()),
+  () => node().prepend?.(any(TEXTS), node()),
+  () => node().before?.(node(), any(TEXTS)),
+  () => node().after?.(node()),
+  () => node().replaceWith?.(node(), any(TEXTS)),
+  () => node().replaceChildren?.(...any([[], [node()], [node(), any(TEXTS)]])),
+  () => node().normalize(),
+  () => (node().textContent = any(TEXTS)),
+  () => (node().nodeValue = any(TEXTS)),
+  () => document.adoptNode(node()),
+  () => keep(nodes, node().splitText?.(any(OFFSETS))),
+  () => node().insertData?.(any(OFFSETS), any(TEXTS)),
+  () => node().replaceData?.(any(OFFSETS), any(OFFSETS), any(TEXTS)),
+  () => node().deleteData?.(any(OFFSETS), any(OFFSETS)),
+  () => node().setAttribute?.(any(NAMES), any(TEXTS)),
+  () => node().setAttributeNS?.(any(NAMESPACES), any(NAMES), any(TEXTS)),
+  () => node().toggleAttribute?.(any(NAMES)),
+  () => node().removeAttribute?.(any(NAMES)),
+];
+
+const RANGING = [
+  () => keep(ranges, document.createRange()),
+  () => any(ranges).setStart(node(), any(OFFSETS)),
+  () => any(ranges).setEnd(node(), any(OFFSETS)),
+  () => any(ranges).selectNode(node()),
+  () => any(ranges).selectNodeContents(node()),
+  () => any(ranges).collapse(below(2) === 1),
+  () => any(ranges).deleteContents(),
+  () => keep(nodes, any(ranges).extractContents()),
+  () => keep(nodes, any(ranges).cloneContents()),
+  () => any(ranges).insertNode(node()),
+  () => any(ranges).surroundContents(node()),
+  () => any(ranges).compareBoundaryPoints(below(5), any(ranges)),
+  () => any(ranges).comparePoint(node(), any(OFFSETS)),
+  () => any(ranges).isPointInRange(node(), any(OFFSETS)),
+  () => any(ranges).intersectsNode(node()),
+  () => keep(nodes, any(ranges).commonAncestorContainer),
+  () => keep(nodes, any(ranges).startContainer),
+  () => `${any(ranges)}`,
+  () => ranges.splice(below(ranges.length), 1),
+];
+
+const WATCHING = [
+  () => keep(traversals, document.createNodeIterator(node(), any([NodeFilter.SHOW_ALL, 1, 4, 0x85]), filter())),
+  () => keep(traversals, document.createTreeWalker(node(), any([NodeFilter.SHOW_ALL, 1, 4, 0x85]), filter())),
+  () => keep(nodes, any(traversals)[any(MOVES)]?.()),
+  () => keep(nodes, any(traversals)[any(["nextNode", "previousNode"])]()),
+  () => (any(traversals).currentNode = node()),
+  () => traversals.splice(below(traversals.length), 1),
+  () => observers.length < 20 && observers.push(new MutationObserver(() => {})),
+  () => any(observers).observe(node(), { childList: below(2) === 1, attributes: below(2) === 1, characterData: true, subtree: below(2) === 1 }),
+  () => any(observers).takeRecords(),
+  () => any(observers).disconnect(),
+  () => below(50) === 0 && new StaticRange({ startContainer: node(), startOffset: 0, endContainer: node(), endOffset: 1 }),
+];
+
+const ASKING = [
+  () => node().textContent,
+  () => node().isEqualNode(maybe()),
+  () => node().contains(maybe()),
+  () => node().compareDocumentPosition(node()),
+  () => keep(nodes, node().getRootNode()),
+  () => keep(nodes, node().childNodes[below(4)]),
+  () => node().children?.length,
+  () => node().getElementsByTagName?.("*").length,
+  () => node().getAttributeNames?.(),
+  () => node().getAttribute?.(any(NAMES)),
+  fits,
+];
+
+/** What a node's parent and siblings say of each other. */
+function fits() {
+  const it = node();
+  const { parentNode, nextSibling, previousSibling } = it;
+  if (nextSibling) assert.equal(nextSibling.previousSibling, it);
+  if (previousSibling) assert.equal(previousSibling.nextSibling, it);
+  else if (parentNode) assert.equal(parentNode.firstChild, it);
+  if (!nextSibling && parentNode) assert.equal(parentNode.lastChild, it);
+  if (parentNode) assert.equal(parentNode.ownerDocument ?? parentNode, it.ownerDocument);
+}
+
+const GROUPS = [MAKING, CHANGING, CHANGING, RANGING, WATCHING, ASKING];
+
+/** Makes a call; answers whether it was refused. */
+function call(group) {
+  try {
+    const made = any(group)();
+    if (group === MAKING) keep(nodes, made);
+    return false;
+  } catch (fault) {
+    if (!(fault instanceof DOMException || fault instanceof TypeError)) throw fault;
+    if (fault instanceof DOMException) assert.notEqual(fault.code, 0, fault.name);
+    return true;
+  }
+}
+
+/** Lets most of what is held go, and begins with another Document. */
+async function letGo() {
+  for (const list of [nodes, ranges, traversals]) list.splice(0, Math.ceil(list.length / 2));
+  document = below(3) ? document : createDocument();
+  nodes.push(document);
+  keep(ranges, document.createRange());
+  keep(traversals, document.createTreeWalker(document));
+  await turn();
+  globalThis.gc?.();
+  await turn();
+}
+
+let refused = 0;
+observers.push(new MutationObserver(() => {}));
+for (let at = 0; at < Number(count); at++) {
+  if (at % 2000 === 0) await letGo();
+  if (call(any(GROUPS))) refused++;
+}
+await letGo();
+process.stdout.write(`${count} calls, ${refused} of them refused\n`);
