@@ -1,0 +1,65 @@
+// Why subtests do not pass. Here stand the names of the standard that neither the core nor the page has, and what each belongs to: whoever uses one is
+// told so, and the subtest counts as not applicable, for that reason. A name that the player has is left as it is.
+
+const SIGN = "not in this profile: ";
+
+const ABSENT = {
+  Node: { namespaces: ["lookupNamespaceURI", "lookupPrefix", "isDefaultNamespace"], events: ["addEventListener", "dispatchEvent"] },
+  Document: {
+    "Attr nodes": ["createAttribute", "createAttributeNS"],
+    events: ["createEvent"],
+    "the page": ["forms", "images", "links", "scripts", "cookie", "write", "open", "styleSheets", "getElementsByName"],
+  },
+  Element: {
+    "Attr nodes": ["attributes", "getAttributeNode", "getAttributeNodeNS", "setAttributeNode", "setAttributeNodeNS", "removeAttributeNode"],
+    DOMTokenList: ["classList"],
+    "shadow trees": ["attachShadow", "shadowRoot", "assignedSlot", "slot"],
+    selectors: ["matches", "closest"],
+    parsing: ["outerHTML", "insertAdjacentHTML"],
+    "insertion beside an element": ["insertAdjacentElement", "insertAdjacentText"],
+  },
+  Text: { wholeText: ["wholeText"], "shadow trees": ["assignedSlot"] },
+};
+
+const ABSENT_OF_WINDOWS = {
+  "Attr nodes": ["Attr"],
+  CDATA: ["CDATASection"],
+  "custom elements": ["customElements"],
+  events: ["Event", "CustomEvent", "MouseEvent", "UIEvent"],
+  parsing: ["DOMParser", "XMLSerializer"],
+  "shadow trees": ["ShadowRoot"],
+  DOMTokenList: ["DOMTokenList"],
+};
+
+function absent(target, reasons) {
+  for (const [reason, names] of Object.entries(reasons)) {
+    for (const name of names.filter((it) => !(it in target))) {
+      const refuse = () => { throw new Error(SIGN + reason); };
+      Object.defineProperty(target, name, { configurable: true, get: refuse, set: refuse });
+    }
+  }
+}
+
+export function sayWhatIsAbsent(global) {
+  for (const [name, reasons] of Object.entries(ABSENT)) absent(global[name].prototype, reasons);
+}
+
+const names = new Map(Object.entries(ABSENT_OF_WINDOWS).flatMap(([reason, its]) => its.map((name) => [name, reason])));
+
+// What the core takes by the standard's newer rules of names, and an older test says is refused.
+const NOT_REFUSED = /assert_throws_dom:[^]*\b(createElement|createElementNS|createDocument|createDocumentType|createProcessingInstruction|setAttribute|setAttributeNS|toggleAttribute)\([^]*did not throw/;
+
+function absentName(message) {
+  const told = message.indexOf(SIGN);
+  if (told >= 0) return message.slice(told + SIGN.length).split(/["\n]/)[0];
+  return names.get(/(\w+) is not defined/.exec(message)?.[1]);
+}
+
+// Why a subtest with this message does not pass, as far as the message tells it: of a kind and a reason.
+export function reasonOf(message) {
+  const absent = absentName(message ?? "");
+  if (absent) return { kind: "notApplicable", reason: absent };
+  const call = NOT_REFUSED.exec(message ?? "")?.[1];
+  if (!call) return undefined;
+  return { kind: "differs", reason: call === "createProcessingInstruction" ? "targets of processing instructions" : "newer names" };
+}
