@@ -135,13 +135,15 @@ def of_words(words, seconds, name=None):
     return Spoken(words, seconds, name=name) if says_hello(words, seconds) else Program(words, seconds, name)
 
 
-def of_node(module):
+def of_node(module, name=None):
     def made(given):
         if not shutil.which("node"):
             raise NotThere("there is no node")
+        if os.path.isabs(module) and not os.path.exists(module):
+            raise NotThere(f"there is no {module}")
         paths = [it for it in (os.environ.get("NODE_PATH"), MODULES) if it]
         environment = {**os.environ, "NODE_PATH": os.pathsep.join(paths)}
-        return Spoken(["node", os.path.join(PLAYERS, "node.js"), module], given.seconds, environment, module)
+        return Spoken(["node", os.path.join(PLAYERS, "node.js"), module, name or module], given.seconds, environment)
 
     return made
 
@@ -199,6 +201,7 @@ BY_NAME = {
     "c-calls": of_python("by_c_calls.py"),
     "python": of_python("by_package.py"),
     "rust": of_rust,
+    "javascript": of_node(os.path.join(ROOT, "bindings/javascript/lib/index.js"), "javascript"),
 }
 
 

@@ -1,15 +1,18 @@
 """What the trees and ranges of a case are: before the command that it comes from, after it by the core, and after it by the player."""
+from judging.commands import DOCUMENT, FRAGMENT
 from judging.core import Turn
 from judging.judge import cause_of
 from judging.streams import play_commands
 
 
 def questions_of(core):
-    """Questions that show all trees but lone empty ones, and all ranges."""
+    """Questions that show all ranges, and all trees but empty Documents and fragments in which no range stands."""
+    ranges = [["range", it] for it in range(core.next["range"])]
+    ends = {node for it in ranges for node in (core.ask(*it) or [])[::2]}
     numbers = [it for it in range(core.next["node"]) if core.ask("node", it)]
     roots = dict.fromkeys(core.ask("root", it) for it in numbers)
-    trees = [["tree", it] for it in roots]
-    return trees[:8] + [["range", it] for it in range(core.next["range"])]
+    empty = [it for it in roots if core.ask("node", it)["type"] in (DOCUMENT, FRAGMENT) and not core.ask("length", it)]
+    return [["tree", it] for it in roots if it in ends or it not in empty][:8] + ranges
 
 
 def state_of(questions, replies):

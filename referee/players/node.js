@@ -1,19 +1,26 @@
-// Lines through a DOM of node: `node referee/players/node.js MODULE`, where MODULE is jsdom, happy-dom, linkedom, or any module that gives
-// a `window`, a `document`, or a function `window` that makes one. Lines are read one by one, so that nothing runs in between.
+// Lines through a DOM of node: `node referee/players/node.js MODULE NAME`, where MODULE gives JSDOM, parseHTML, Window, createWindow, a `window`, or a
+// `document`, as jsdom, linkedom, happy-dom and this project's own package do. Lines are read one by one, so that nothing runs in between.
 "use strict";
 
 const { readSync, writeSync } = require("fs");
+const { pathToFileURL } = require("url");
 const { answering } = require("./answers.js");
 
-const OPENERS = {
-  jsdom: (found) => () => new found.JSDOM("").window,
-  "happy-dom": (found) => () => new found.Window(),
-  linkedom: (found) => () => found.parseHTML("<html></html>"),
-};
+async function loaded(name) {
+  try {
+    return require(name);
+  } catch (fault) {
+    if (fault.code !== "ERR_REQUIRE_ESM") throw fault;
+    return import(pathToFileURL(require.resolve(name)));
+  }
+}
 
-function openerOf(name, found) {
-  if (OPENERS[name]) return OPENERS[name](found);
-  if (typeof found.window === "function") return found.window;
+// What makes windows, by what a module gives.
+function openerOf(found) {
+  if (found.JSDOM) return () => new found.JSDOM("").window;
+  if (found.createWindow) return () => found.createWindow();
+  if (found.parseHTML) return () => found.parseHTML("<html></html>");
+  if (found.Window) return () => new found.Window();
   const window = found.window ?? found.document?.defaultView ?? found;
   return () => window;
 }
@@ -38,8 +45,8 @@ function read() {
   }
 }
 
-async function main(name) {
-  const answer = answering(openerOf(name, require(name)), { name, version: versionOf(name) });
+async function main(module, name) {
+  const answer = answering(openerOf(await loaded(module)), { name, version: versionOf(module) });
   let kept = Buffer.alloc(0);
   for (let bytes = read(); bytes.length; bytes = read()) {
     const whole = Buffer.concat([kept, bytes]);
@@ -55,4 +62,4 @@ async function main(name) {
   }
 }
 
-main(process.argv[2]);
+main(process.argv[2], process.argv[3]);
