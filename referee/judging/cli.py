@@ -5,7 +5,7 @@ import os
 import sys
 
 from judging.commands import COMMANDS
-from judging.core import Core
+from judging.core import Cores
 from judging.drawing import GROUPS, drawn_stream
 from judging.found import cases_of
 from judging.judge import Judge, same
@@ -107,11 +107,13 @@ def exhausted(given, player):
 def run_of(given, streams):
     player = player_of(given)
     limits = Limits(given.time, given.lines, getattr(given, "streams", None), given.new)
-    run = Run([given.program], player, read_known(given.known), given.out, limits, given.quiet)
+    cores = Cores([given.program])
+    run = Run(cores, player, read_known(given.known), given.out, limits, given.quiet)
     try:
         told = run.play(streams(given, player))
     finally:
         player.end()
+        cores.end()
     cases = list(run.found.cases.values())
     if given.junit:
         with open(given.junit, "w", encoding="utf-8") as file:
@@ -132,7 +134,7 @@ def commands_of(path):
 
 def replay(given):
     player = player_of(given)
-    with Core([given.program]) as core:
+    with Cores([given.program]).open() as core:
         turns = play_commands(core, commands_of(given.file))
     told = dict(player.replies(turns))
     player.end()
@@ -147,7 +149,7 @@ def replay(given):
 
 def shrink(given):
     player = player_of(given)
-    judge = Judge([given.program], player)
+    judge = Judge(Cores([given.program]), player)
     try:
         with judge.core() as core:
             found = judge.difference(play_commands(core, commands_of(given.file)))

@@ -1,8 +1,9 @@
 """The core that judges: a process of the program for each world, and what its replies tell of the numbers that exist."""
+import json
 from collections import namedtuple
 
 from judging.commands import COMMANDS
-from judging.process import Lines, line_of, read_reply
+from judging.process import STARTS, Lines, line_of, read_reply
 
 # A command that was played: its line, its reply, the numbers of nodes that it made, and what a player that numbers by place is told.
 Turn = namedtuple("Turn", "command reply made places next")
@@ -10,11 +11,33 @@ Turn = namedtuple("Turn", "command reply made places next")
 KINDS = ("node", "range", "static", "iterator", "walker", "observer")
 
 
-class Core:
-    """One world."""
+class Cores:
+    """Where worlds come from: a process of the program for each, or, of a core that says hello as players do, one process for all."""
 
     def __init__(self, words):
-        self.lines = Lines(words)
+        self.words = words
+        self.kept = Lines(words)
+        told = json.loads(self.kept.ask(line_of({"hello": {}}), STARTS))
+        if "player" not in told:
+            self.kept.end()
+            self.kept = None
+
+    def open(self):
+        if self.kept is None:
+            return Core(Lines(self.words), Lines.end)
+        self.kept.ask(line_of({"world": {}}))
+        return Core(self.kept, lambda lines: None)
+
+    def end(self):
+        if self.kept:
+            self.kept.end()
+
+
+class Core:
+    """One world. `end` is what becomes of its process."""
+
+    def __init__(self, lines, end):
+        self.lines, self.done = lines, end
         self.next = dict.fromkeys(KINDS, 0)
         self.next["node"] = 1
 
@@ -51,7 +74,7 @@ class Core:
         return [[root, [row[1] for row in self.ask("tree", root)]] for root in roots]
 
     def end(self):
-        self.lines.end()
+        self.done(self.lines)
 
     def __enter__(self):
         return self

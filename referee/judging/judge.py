@@ -3,7 +3,6 @@ import json
 from collections import namedtuple
 
 from judging.commands import COMMANDS, TELLS_ITSELF
-from judging.core import Core
 
 # The turns up to the one that differs, and what the player replied to that one.
 Difference = namedtuple("Difference", "turns told")
@@ -44,13 +43,13 @@ def key_of(difference):
 class Judge:
     """A core and a player, and how many lines were compared and passed over."""
 
-    def __init__(self, words, player):
-        self.words, self.player = words, player
+    def __init__(self, cores, player):
+        self.cores, self.player = cores, player
         self.lines = self.compared = self.streams = 0
         self.left_out = {}
 
     def core(self):
-        return Core(self.words)
+        return self.cores.open()
 
     def difference(self, turns):
         """The first difference of a stream; None where all replies are the same."""

@@ -7,7 +7,7 @@ import subprocess
 import sys
 
 from judging.pages import Page
-from judging.process import Died, Fault, Lines, line_of, read_reply
+from judging.process import STARTS, Died, Fault, Lines, line_of, read_reply
 
 HERE = os.path.dirname(os.path.dirname(os.path.abspath(__file__)))
 ROOT = os.path.dirname(HERE)
@@ -67,7 +67,7 @@ class Spoken(Player):
     def open(self):
         try:
             self.process = Lines(self.words, self.seconds, self.environment)
-            self.introduce(read_reply(self.process.ask(line_of({"hello": {}})))["player"])
+            self.introduce(read_reply(self.process.ask(line_of({"hello": {}}), STARTS))["player"])
         except (OSError, Fault, KeyError) as fault:
             self.end()
             raise NotThere(f"{shlex.join(self.words)} does not say hello: {fault}") from None
@@ -122,7 +122,7 @@ def says_hello(words, seconds):
     except OSError as fault:
         raise NotThere(f"{words[0]}: {fault.strerror}") from None
     try:
-        return "player" in json.loads(process.ask(line_of({"hello": {}})))
+        return "player" in json.loads(process.ask(line_of({"hello": {}}), STARTS))
     except Died as fault:
         raise NotThere(f"{shlex.join(words)}: {fault}") from None
     except (Fault, ValueError, TypeError):

@@ -29,6 +29,10 @@ class Rubbish(Fault):
     kind = "rubbish"
 
 
+# How long a process may take to start.
+STARTS = 60.0
+
+
 class Lines:
     """A process of its own group, so that what it starts ends with it."""
 
@@ -76,9 +80,9 @@ class Lines:
             return "it closed its output"
         return f"it ended by signal {-status}" if status < 0 else f"it ended with status {status}"
 
-    def ask(self, line):
+    def ask(self, line, seconds=None):
         self.send(line + b"\n")
-        return self.receive()
+        return self.receive(seconds)
 
     def ask_all(self, lines):
         """The replies to all lines, handed over in pieces that no pipe is too small for. Yields them one by one."""

@@ -45,8 +45,8 @@ class Stop:
 
 
 class Run:
-    def __init__(self, words, player, known, folder, limits, quiet=False):
-        self.judge, self.player, self.known = Judge(words, player), player, known
+    def __init__(self, cores, player, known, folder, limits, quiet=False):
+        self.judge, self.player, self.known = Judge(cores, player), player, known
         self.found, self.limits, self.quiet = Found(folder), limits, quiet
         self.stop = Stop()
         self.begun = self.told = time.monotonic()
@@ -112,7 +112,7 @@ class Run:
         count = self.seen[key] = self.seen.get(key, 0) + 1
         if count > SHRUNK and count & (count - 1):
             return
-        apart = Judge(self.judge.words, self.player)
+        apart = Judge(self.judge.cores, self.player)
         least = shrunk(apart, difference).difference
         entry = entry_of(self.known, self.player.name, least)
         case = case_of(least, self.player, group, seed, entry)

@@ -7,7 +7,7 @@ from judging.judge import key_of
 from judging.streams import Made, Step, play_steps, steps_of
 
 # How long one stream may be worked on.
-SECONDS = 8.0
+SECONDS = 15.0
 
 MAKERS = {"createElement", "createText", "createComment", "createPI", "createDoctype", "createFragment", "createRange", "createObserver", "newDocument"}
 # A plainer command for one that is not needed as it is.
@@ -41,18 +41,25 @@ class Shrinker:
     def out_of_time(self):
         return time.monotonic() > self.limit
 
-    def shows(self, steps):
-        """Whether the steps still show the difference; those are kept then."""
+    def shows(self, steps, any_cause=False):
+        """Whether the steps still show the difference; those are kept then. With any cause, what it comes from may be another command."""
         if self.out_of_time():
             return False
         self.tries += 1
         with self.judge.core() as core:
             played, turns = play_steps(core, steps)
         found = self.judge.difference(turns) if turns else None
-        if found is None or key_of(found) != self.key:
+        if found is None or key_of(found)[any_cause:] != self.key[any_cause:]:
             return False
-        self.steps, self.best = played[: len(found.turns)], found
+        self.steps, self.best, self.key = played[: len(found.turns)], found, key_of(found)
         return True
+
+    def settle(self):
+        """Leaves out the command that the difference seems to come from, as long as it shows without it too."""
+        while self.key.cause != self.key.shows:
+            at = max((at for at, it in enumerate(self.steps) if it.name == self.key.cause), default=-1)
+            if at < 0 or not self.shows(self.steps[:at] + self.steps[at + 1 :], any_cause=True):
+                return
 
     def leave_out(self):
         """Leaves out runs of steps, long ones first; what names what they made goes with them."""
@@ -139,6 +146,7 @@ class Shrinker:
         size = None
         while size != self.steps and not self.out_of_time():
             size = list(self.steps)
+            self.settle()
             self.leave_out()
             self.try_each(self.plainer)
             self.try_each(self.simpler_values)
