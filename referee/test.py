@@ -4,7 +4,7 @@
 Every player is played for a short time, and nothing new may come up: what differs has to be among the known differences.
 """
 import argparse
-import glob
+import concurrent.futures
 import json
 import os
 import shlex
@@ -12,7 +12,6 @@ import signal
 import subprocess
 import sys
 import tempfile
-import time
 import unittest
 import xml.etree.ElementTree
 
@@ -21,6 +20,7 @@ sys.dont_write_bytecode = True
 sys.path[:0] = [HERE, os.path.join(HERE, "tests")]
 
 from judging import cli, players
+from judging.found import cases_of
 from wrong import FAULTS
 
 REFEREE = os.path.join(HERE, "referee")
@@ -40,6 +40,11 @@ def said(*words, limit=100):
 def lines(path, commands):
     with open(path, "w", encoding="utf-8") as file:
         file.writelines(json.dumps(it) + "\n" for it in commands)
+
+
+def wrong(fault):
+    """The words of a core with a wrong body."""
+    return shlex.join([sys.executable, WRONG, GIVEN.program, fault])
 
 
 class Words(unittest.TestCase):
@@ -71,14 +76,7 @@ class Run(unittest.TestCase):
         return said(part, *common, *words)
 
     def cases(self):
-        found = []
-        for path in sorted(glob.glob(os.path.join(self.folder, "case-*.json"))):
-            with open(path, encoding="utf-8") as file:
-                found.append(json.load(file))
-        return found
-
-    def wrong(self, fault):
-        return f"{shlex.quote(sys.executable)} {shlex.quote(WRONG)} {shlex.quote(GIVEN.program)} {fault}"
+        return cases_of(self.folder)[0]
 
 
 class Itself(Run):
@@ -88,19 +86,24 @@ class Itself(Run):
             self.assertEqual((status, self.cases()), (0, []), out + err)
 
 
-class Bodies(Run):
-    """Each wrong body is found, and what it changed is the core of what is kept."""
+class Bodies(unittest.TestCase):
+    """Each wrong body is found within a minute, by streams of all groups, and what is kept is short."""
+
+    def found(self, fault):
+        with tempfile.TemporaryDirectory() as folder:
+            words = ["--program", GIVEN.program, "--out", folder, "--quiet", "--command", wrong(fault), "--new", "1", "--for", "60", "--wait", "3"]
+            status, out, err = said("play", *words)
+            return status, out + err, cases_of(folder)[0]
 
     def test_wrong_bodies(self):
-        for fault in FAULTS:
+        with concurrent.futures.ThreadPoolExecutor(2) as pool:
+            runs = {fault: pool.submit(self.found, fault) for fault in FAULTS}
+        for fault, run in runs.items():
             with self.subTest(fault):
-                begun = time.monotonic()
-                status, out, err = self.run_of("play", "--command", self.wrong(fault), "--new", "1", "--for", "60", "--wait", "2")
-                self.assertEqual(status, 1, out + err)
-                self.assertLess(time.monotonic() - begun, 60)
-                case = self.cases()[0]
-                self.assertEqual(case["key"]["told"], FAILING.get(fault, case["key"]["told"]))
-                self.assertLessEqual(len(case["commands"]), 14, case["commands"])
+                status, told, cases = run.result()
+                self.assertEqual(status, 1, told)
+                self.assertEqual(cases[0].key["told"], FAILING.get(fault, cases[0].key["told"]))
+                self.assertLessEqual(len(cases[0].commands), 16, cases[0].commands)
 
 
 class Kept(Run):
@@ -109,10 +112,10 @@ class Kept(Run):
     def setUp(self):
         super().setUp()
         self.junit = os.path.join(self.folder, "junit.xml")
-        words = ["--command", self.wrong("split_off_by_one"), "--player", "wrong", "--new", "1", "--for", "60", "--junit", self.junit]
+        words = ["--command", wrong("split_off_by_one"), "--player", "wrong", "--new", "1", "--for", "60", "--junit", self.junit]
         self.assertEqual(self.run_of("play", *words)[0], 1)
         self.case = os.path.join(self.folder, "case-001.json")
-        self.player = ["--program", GIVEN.program, "--command", self.wrong("split_off_by_one")]
+        self.player = ["--program", GIVEN.program, "--command", wrong("split_off_by_one")]
 
     def test_junit(self):
         suite = xml.etree.ElementTree.parse(self.junit).getroot()[0]
@@ -145,12 +148,12 @@ class Kept(Run):
         known = os.path.join(self.folder, "known")
         with open(known, "w", encoding="utf-8") as file:
             json.dump([{"name": "split", "players": ["wrong"], "commands": ["splitText"], "why": "fault", "reason": "It is made so."}], file)
-        words = ["--command", self.wrong("split_off_by_one"), "--player", "wrong", "--group", "data", "--streams", "60", "--known", known]
+        words = ["--command", wrong("split_off_by_one"), "--player", "wrong", "--group", "data", "--streams", "60", "--known", known]
         self.assertEqual(self.run_of("play", *words)[0], 0)
-        self.assertEqual({it["known"] for it in self.cases()}, {"split"})
+        self.assertEqual({it.known for it in self.cases()}, {"split"})
 
     def test_stop(self):
-        words = ["play", "--program", GIVEN.program, "--command", self.wrong("split_off_by_one"), "--out", self.folder, "--group", "data"]
+        words = ["play", "--program", GIVEN.program, "--command", wrong("split_off_by_one"), "--out", self.folder, "--group", "data"]
         process = subprocess.Popen([sys.executable, REFEREE, *words], stdout=subprocess.PIPE, stderr=subprocess.PIPE, text=True)
         for line in process.stderr:
             if line.startswith("new"):
@@ -169,7 +172,7 @@ class Players(Run):
         if status == 3:
             print(f"left out: {name}: {err.strip()}")
             return
-        new = [it["commands"] for it in self.cases() if it["known"] is None]
+        new = [it.commands for it in self.cases() if it.known is None]
         self.assertEqual((status, new), (0, []), out + err)
 
     def test_libraries(self):

@@ -19,6 +19,7 @@ ATTRIBUTES = ("x", "y", "x", "k")
 SHOWS = (4294967295, 4294967295, 4294967295, 1, 4, 5, 128, 1024, 0)
 FILTERS = ([], [], [["b", "skip"]], [["b", "reject"]], [["#text", "reject"]], [["#text", "skip"]], [["a", "skip"], ["*", "accept"]], [["*", "skip"]])
 MAKERS = {ELEMENT: "createElement", TEXT: "createText", COMMENT: "createComment", PI: "createPI", DOCTYPE: "createDoctype", FRAGMENT: "createFragment"}
+MADE = {**{name: kind for kind, name in MAKERS.items()}, "newDocument": DOCUMENT}
 
 MAKING = {"createElement": 2, "createText": 3, "createComment": 1, "createPI": 1, "createFragment": 1, "createDoctype": 0.3, "newDocument": 0.2}
 EDITS = {"insertBefore": 5, "appendChild": 5, "removeChild": 3, "remove": 3, "replaceChild": 3, "replaceChildren": 2, "normalize": 2, "adoptNode": 1}
@@ -59,7 +60,7 @@ class Scene:
         self.kinds = {0: DOCUMENT} if player.documents else {}
         self.objects = {"range": [], "iterator": [], "walker": [], "observer": [], "static": []}
         self.turns = []
-        self.main = 0
+        self.main, self.rows = 0, None
 
     # saying commands
 
@@ -78,12 +79,14 @@ class Scene:
 
     def learn(self, name, values, turn):
         makes = COMMANDS[name].makes
+        if COMMANDS[name].changes:
+            self.rows = None
         if makes in self.objects:
             self.objects[makes].append(turn.reply["ok"])
         reached = {number for _, tree in turn.places for number in tree} if makes == "nodes" else turn.made
         for number in turn.made:
             if number in reached:
-                self.kinds[number] = self.core.ask("node", number)["type"]
+                self.kinds[number] = MADE.get(name) or self.core.ask("node", number)["type"]
         if name == "releaseRange":
             self.objects["range"].remove(values[0])
         if name == "discard":
@@ -102,9 +105,10 @@ class Scene:
     def inside(self):
         """A node of the tree that most of the stream is about."""
         if self.main not in self.kinds:
-            self.main = self.any_node()
-        rows = self.core.ask("tree", self.main)
-        return self.chance.choice(rows)[1]
+            self.main, self.rows = self.any_node(), None
+        if self.rows is None:
+            self.rows = self.core.ask("tree", self.main)
+        return self.chance.choice(self.rows)[1]
 
     def node(self, given):
         return self.inside() if self.chance.random() < 0.6 else self.any_node()

@@ -38,7 +38,7 @@ class World:
 
     def _child(self, parent, child):
         if self._n(child).getparent() is not self._n(parent):
-            raise Refused("NotFoundError")
+            raise Skip("the call asks no parent")
         return self._n(child)
 
     def createElement(self, document, name):
@@ -61,11 +61,17 @@ class World:
         return node
 
     def replaceChild(self, parent, node, child):
-        self._n(parent).replace(self._child(parent, child), self._n(node))
+        try:
+            self._n(parent).replace(self._n(child), self._n(node))
+        except ValueError:
+            raise Refused("NotFoundError") from None
         return child
 
     def removeChild(self, parent, child):
-        self._n(parent).remove(self._child(parent, child))
+        try:
+            self._n(parent).remove(self._n(child))
+        except ValueError:
+            raise Refused("NotFoundError") from None
         return child
 
     def cloneNode(self, node, deep):
@@ -113,7 +119,8 @@ class World:
 
 ITSELF = [
     "reads and writes JSON; has no Texts, no Documents with children, no fragments",
-    "refuses with NotFoundError where a child is not of that parent, ahead of the package's call",
+    "has no answer where a node is put before one that is no child of the parent: the package's call names no parent",
+    "tells the ValueError of remove and replace as NotFoundError",
     "numbers what a command makes; those made inside take the core's numbers, place by place",
     "answers tree by a walk over children, and tells a missing text as an empty one",
 ]
