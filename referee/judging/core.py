@@ -1,0 +1,83 @@
+"""The core that judges: a process of the program for each world, and what its replies tell of the numbers that exist."""
+import json
+from collections import namedtuple
+
+from judging.commands import COMMANDS
+from judging.process import STARTS, Lines, line_of, read_reply
+
+# A command that was played: its line, its reply, the numbers of nodes that it made, and what a player that numbers by place is told.
+Turn = namedtuple("Turn", "command reply made places next")
+
+KINDS = ("node", "range", "static", "iterator", "walker", "observer")
+
+
+class Cores:
+    """Where worlds come from: a process of the program for each, or, of a core that says hello as players do, one process for all."""
+
+    def __init__(self, words):
+        self.words = words
+        self.kept = Lines(words)
+        told = json.loads(self.kept.ask(line_of({"hello": {}}), STARTS))
+        if "player" not in told:
+            self.kept.end()
+            self.kept = None
+
+    def open(self):
+        if self.kept is None:
+            return Core(Lines(self.words), Lines.end)
+        self.kept.ask(line_of({"world": {}}))
+        return Core(self.kept, lambda lines: None)
+
+    def end(self):
+        if self.kept:
+            self.kept.end()
+
+
+class Core:
+    """One world. `end` is what becomes of its process."""
+
+    def __init__(self, lines, end):
+        self.lines, self.done = lines, end
+        self.next = dict.fromkeys(KINDS, 0)
+        self.next["node"] = 1
+
+    def ask(self, *command):
+        """The answer to a question; None also where it is refused."""
+        return self.reply(command).get("ok")
+
+    def reply(self, command):
+        return read_reply(self.lines.ask(line_of(command)))
+
+    def play(self, command):
+        """Plays a command, and finds out what it made."""
+        reply = self.reply(command)
+        known = COMMANDS.get(command[0])
+        if not known or not known.makes or "ok" not in reply:
+            return Turn(command, reply, [], [], self.next["node"])
+        if known.makes != "nodes":
+            self.next[known.makes] += 1
+            return Turn(command, reply, [reply["ok"]] if known.makes == "node" else [], [], self.next["node"])
+        made = self.made()
+        return Turn(command, reply, made, self.places(made), self.next["node"])
+
+    def made(self):
+        """The nodes that are there since the last command."""
+        found = []
+        while "ok" in self.reply(["node", self.next["node"]]):
+            found.append(self.next["node"])
+            self.next["node"] += 1
+        return found
+
+    def places(self, made):
+        """The trees in which the nodes stand that a command made, each by the numbers of its nodes in tree order."""
+        roots = dict.fromkeys(self.ask("root", it) for it in made)
+        return [[root, [row[1] for row in self.ask("tree", root)]] for root in roots]
+
+    def end(self):
+        self.done(self.lines)
+
+    def __enter__(self):
+        return self
+
+    def __exit__(self, *_):
+        self.end()

@@ -1,0 +1,274 @@
+"""Streams of commands drawn by chance: by a group and its weights, a length and a seed.
+
+What may stand in a command is asked of the core as the stream goes on: which nodes there are, what their children are, how long they are. A
+refused command changes nothing, so most of those that were refused are left out of the stream, and the rest of it stands.
+"""
+import random
+from collections import namedtuple
+
+from judging.commands import COMMANDS, COMMENT, DOCTYPE, DOCUMENT, ELEMENT, FLAGS, FRAGMENT, MOVES, PARENTS, PI, TEXT, WITH_DATA, kind_of
+
+# What is there ahead of the drawn commands, and how often each of these is drawn.
+Group = namedtuple("Group", "ranges iterators walkers observers weights")
+
+KEEPS_REFUSED = 0.15
+UNITS = ("", "a", "ab", "abc", "abcd", "\u00e9", "\U0001f600", "a\U0001f600b", [55357], [56832, 97], "]]>", " \n", "0")
+NAMES = ("a", "b", "p", "b")
+ODD_NAMES = ("", "1a", "a b", "\u00e9", ":a", "a=b", "a>b", "-a", "A", "a:b", "a\u00b7", "xmlns", "\U0001f600")
+ATTRIBUTES = ("x", "y", "x", "k")
+SHOWS = (4294967295, 4294967295, 4294967295, 1, 4, 5, 128, 1024, 0)
+FILTERS = ([], [], [["b", "skip"]], [["b", "reject"]], [["#text", "reject"]], [["#text", "skip"]], [["a", "skip"], ["*", "accept"]], [["*", "skip"]])
+MAKERS = {ELEMENT: "createElement", TEXT: "createText", COMMENT: "createComment", PI: "createPI", DOCTYPE: "createDoctype", FRAGMENT: "createFragment"}
+MADE = {**{name: kind for kind, name in MAKERS.items()}, "newDocument": DOCUMENT}
+
+MAKING = {"createElement": 2, "createText": 3, "createComment": 1, "createPI": 1, "createFragment": 1, "createDoctype": 0.3, "newDocument": 0.2}
+EDITS = {"insertBefore": 5, "appendChild": 5, "removeChild": 3, "remove": 3, "replaceChild": 3, "replaceChildren": 2, "normalize": 2, "adoptNode": 1}
+QUESTIONS = {"node": 1, "children": 1, "index": 1, "length": 1, "root": 1, "contains": 1, "isEqual": 2, "comparePosition": 2, "textContent": 1, "tree": 1}
+COPIES = {"cloneNode": 1, "importNode": 1}
+DATA = {"setData": 1, "appendData": 1, "insertData": 2, "deleteData": 2, "replaceData": 3, "splitText": 4, "setTextContent": 1}
+PARTS = {"data": 1, "substringData": 2}
+ATTRIBUTE = {"setAttribute": 5, "getAttribute": 2, "hasAttribute": 1, "removeAttribute": 2, "toggleAttribute": 3, "attributeNames": 1}
+ENDS = {"setStart": 4, "setEnd": 4, "setStartBefore": 1, "setStartAfter": 1, "setEndBefore": 1, "setEndAfter": 1, "collapse": 1, "selectNode": 1}
+MORE_ENDS = {"selectNodeContents": 1, "createRange": 0.3, "cloneRange": 0.5, "releaseRange": 0.1, "createStaticRange": 0.5, "staticRange": 0.5}
+ASKED = {"compareBoundaryPoints": 2, "comparePoint": 2, "isPointInRange": 2, "intersectsNode": 2, "commonAncestor": 1, "rangeText": 1}
+CONTENTS = {"deleteContents": 3, "extractContents": 3, "cloneContents": 3, "insertNode": 4, "surroundContents": 3, "rangeText": 1}
+STEPS = {"nextNode": 6, "previousNode": 5, "walk": 10, "setCurrent": 2, "createIterator": 0.5, "createWalker": 0.5}
+WATCHING = {"observe": 2, "disconnect": 0.3, "takeRecords": 1, "notify": 1, "pending": 0.5, "createObserver": 0.1}
+
+
+def weights(*parts, **few):
+    return {**{name: weight for part in parts for name, weight in part.items()}, **few}
+
+
+GROUPS = {
+    "trees": Group(0, 0, 0, 0, weights(MAKING, EDITS, QUESTIONS, COPIES, setTextContent=1, discard=0.2)),
+    "data": Group(2, 0, 0, 1, weights(DATA, PARTS, EDITS, createText=2, normalize=4)),
+    "attributes": Group(0, 0, 0, 1, weights(ATTRIBUTE, COPIES, isEqual=1, createElement=1, adoptNode=0.5)),
+    "ranges": Group(3, 0, 0, 0, weights(ENDS, MORE_ENDS, ASKED, EDITS, DATA, createText=1, createElement=1)),
+    "contents": Group(2, 0, 0, 1, weights(CONTENTS, ENDS, MAKING, appendChild=3, insertBefore=2)),
+    "traversal": Group(0, 2, 2, 0, weights(STEPS, EDITS, createElement=1, createText=1, splitText=0.5)),
+    "observers": Group(1, 0, 0, 2, weights(WATCHING, EDITS, DATA, ATTRIBUTE, MAKING, COPIES, insertNode=1, extractContents=0.5)),
+    "everything": Group(2, 1, 1, 1, {name: 1 for name in COMMANDS}),
+}
+
+
+class Scene:
+    """A world while a stream is drawn: what it has of each kind, and the turns so far."""
+
+    def __init__(self, core, chance, player):
+        self.core, self.chance, self.serves, self.documents = core, chance, player.serves, player.documents
+        self.kinds = {0: DOCUMENT} if player.documents else {}
+        self.objects = {"range": [], "iterator": [], "walker": [], "observer": [], "static": []}
+        self.turns = []
+        self.main, self.rows = 0, None
+
+    # saying commands
+
+    def may_say(self, name):
+        return self.serves is None or name in self.serves
+
+    def say(self, name, *values, keeps=1.0):
+        """Plays a command, and keeps it where it was not refused, or by chance. Returns the answer."""
+        turn = self.core.play([name, *values])
+        if "ok" not in turn.reply and self.chance.random() >= keeps:
+            return None
+        self.turns.append(turn)
+        if "ok" in turn.reply:
+            self.learn(name, values, turn)
+        return turn.reply.get("ok")
+
+    def learn(self, name, values, turn):
+        makes = COMMANDS[name].makes
+        if COMMANDS[name].changes:
+            self.rows = None
+        if makes in self.objects:
+            self.objects[makes].append(turn.reply["ok"])
+        reached = {number for _, tree in turn.places for number in tree} if makes == "nodes" else turn.made
+        for number in turn.made:
+            if number in reached:
+                self.kinds[number] = MADE.get(name) or self.core.ask("node", number)["type"]
+        if name == "releaseRange":
+            self.objects["range"].remove(values[0])
+        if name == "discard":
+            self.kinds = {number: kind for number, kind in self.kinds.items() if self.core.ask("node", number)}
+
+    # drawing what stands in a command; None where there is no such thing
+
+    def of_kinds(self, *kinds):
+        found = [it for it, kind in self.kinds.items() if kind in kinds]
+        near = [it for it in found if it < 12]
+        return self.chance.choice(near if near and self.chance.random() < 0.6 else found) if found else self.any_node()
+
+    def any_node(self):
+        return self.chance.choice(list(self.kinds))
+
+    def inside(self):
+        """A node of the tree that most of the stream is about."""
+        if self.main not in self.kinds:
+            self.main, self.rows = self.any_node(), None
+        if self.rows is None:
+            self.rows = self.core.ask("tree", self.main)
+        return self.chance.choice(self.rows)[1]
+
+    def node(self, given):
+        return self.inside() if self.chance.random() < 0.6 else self.any_node()
+
+    def document(self, given):
+        if not self.documents or 0 in self.kinds and self.chance.random() < 0.9:
+            return 0
+        return self.of_kinds(DOCUMENT)
+
+    def parent(self, given):
+        return self.of_kinds(*PARENTS) if self.chance.random() < 0.97 else self.any_node()
+
+    def child(self, given):
+        """A child of the parent that the command names, or of the one that the range starts in."""
+        children = self.core.ask("children", given[0]) if given else None
+        if children and self.chance.random() < 0.92:
+            return self.chance.choice(children)
+        return self.any_node()
+
+    def element(self, given):
+        return self.of_kinds(ELEMENT)
+
+    def data(self, given):
+        return self.of_kinds(*WITH_DATA)
+
+    def text(self, given):
+        return self.of_kinds(TEXT)
+
+    def offset(self, given):
+        """An offset of the node that was named last: mostly at an end or beside one."""
+        length = self.core.ask("length", given[-1]) or 0
+        return self.chance.choice((0, length, length, max(length - 1, 0), min(1, length), self.chance.randint(0, length), self.chance.randint(0, length + 1)))
+
+    def count(self, given):
+        return self.chance.choice((0, 1, 1, 2, 3, 4294967295))
+
+    def units(self, given):
+        return self.chance.choice(UNITS[:6] if self.chance.random() < 0.8 else UNITS)
+
+    def name(self, given):
+        return self.chance.choice(NAMES if self.chance.random() < 0.97 else ODD_NAMES)
+
+    target = doctype = name
+
+    def id(self, given):
+        return self.chance.choice(("", "i"))
+
+    def attribute(self, given):
+        return self.chance.choice(ATTRIBUTES if self.chance.random() < 0.97 else ODD_NAMES)
+
+    def flag(self, given):
+        return self.chance.random() < 0.6
+
+    def force(self, given):
+        return self.chance.choice((None, True, False))
+
+    def how(self, given):
+        return self.chance.choice((0, 1, 2, 3, 4))
+
+    def show(self, given):
+        return self.chance.choice(SHOWS)
+
+    def filter(self, given):
+        return self.chance.choice(FILTERS)
+
+    def move(self, given):
+        return self.chance.choice(MOVES)
+
+    def options(self, given):
+        found = {"childList": True} if self.chance.random() < 0.7 else {}
+        for flag in FLAGS:
+            if self.chance.random() < 0.35:
+                found[flag] = self.chance.random() < 0.9
+        if self.chance.random() < 0.15:
+            found["attributeFilter"] = self.chance.choice(([], ["x"], ["x", "y"]))
+        return found
+
+    def drawn(self, name):
+        """A command of that name; None where an object that it needs is not there."""
+        values = []
+        for form in COMMANDS[name].arguments:
+            bare = form.rstrip("?")
+            if form != bare and self.chance.random() < 0.2:
+                values.append(None)
+            elif kind_of(form) in self.objects:
+                if not self.objects[kind_of(form)]:
+                    return None
+                values.append(self.chance.choice(self.objects[kind_of(form)]))
+            else:
+                values.append(getattr(self, bare)(values))
+        return [name, *values]
+
+    # what stands ahead of the drawn commands, and what is asked behind each of them
+
+    def make(self, kind):
+        maker = MAKERS[kind]
+        values = self.drawn(maker)
+        return self.say(*values) if self.may_say(maker) else None
+
+    def plant(self):
+        """A small tree, in which Texts often stand side by side."""
+        self.main = self.say("createElement", 0, "a")
+        if self.documents and self.chance.random() < 0.6:
+            self.say("appendChild", 0, self.main)
+        for _ in range(self.chance.randint(2, 7)):
+            made = self.make(self.chance.choice((ELEMENT, ELEMENT, TEXT, TEXT, TEXT, TEXT, COMMENT, PI)))
+            if made is not None:
+                parents = [row[1] for row in self.core.ask("tree", self.main) if row[2] == ELEMENT]
+                self.say("appendChild", self.chance.choice(parents), made)
+
+    def watch(self, group):
+        for _ in range(group.ranges if self.may_say("createRange") else 0):
+            made = self.say("createRange", 0)
+            for name in ("setStart", "setEnd"):
+                node = self.inside()
+                self.say(name, made, node, self.offset([node]))
+        for name in ["createIterator"] * group.iterators + ["createWalker"] * group.walkers:
+            if self.may_say(name):
+                self.say(name, self.inside(), self.show([]), self.filter([]))
+        for _ in range(group.observers if self.may_say("createObserver") else 0):
+            self.say("observe", self.say("createObserver"), self.inside(), {**self.options([]), "childList": True, "subtree": True})
+
+    def probe(self):
+        """Questions that show what a change did."""
+        for number in self.objects["range"][:4]:
+            self.say("range", number)
+        for kind in ("iterator", "walker"):
+            for number in self.objects[kind][:3]:
+                self.say(kind, number)
+        if self.objects["observer"] and self.chance.random() < 0.6:
+            self.say("takeRecords", self.chance.choice(self.objects["observer"]))
+        if self.may_say("tree") and self.chance.random() < 0.3:
+            self.say("tree", self.inside())
+
+    def close(self):
+        """All trees, and what every observer is still to be told."""
+        roots = dict.fromkeys(self.core.ask("root", it) for it in self.kinds)
+        for root in list(roots)[:6]:
+            self.say("tree", root)
+        for number in self.objects["observer"]:
+            self.say("takeRecords", number)
+
+
+def drawn_stream(core, seed, group, length, player, given=None):
+    """The turns of a stream. `given` are weights that stand in for those of the group."""
+    chance = random.Random(seed)
+    scene, plan = Scene(core, chance, player), GROUPS[group]
+    found = {**plan.weights, **(given or {})}
+    names = [name for name, weight in found.items() if weight > 0 and scene.may_say(name)]
+    scene.plant()
+    scene.watch(plan)
+    tries = 4 * length
+    while len(scene.turns) < length and tries:
+        tries -= 1
+        command = scene.drawn(chance.choices(names, [found[it] for it in names])[0])
+        count = len(scene.turns)
+        if command:
+            scene.say(*command, keeps=KEEPS_REFUSED)
+        if len(scene.turns) > count and "ok" in scene.turns[-1].reply and COMMANDS[command[0]].changes:
+            scene.probe()
+    if scene.may_say("tree"):
+        scene.close()
+    return scene.turns

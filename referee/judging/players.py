@@ -1,0 +1,216 @@
+"""Players: what answers the lines, how it is started, and which lines it is given."""
+import json
+import os
+import shlex
+import shutil
+import subprocess
+import sys
+
+from judging.pages import Page
+from judging.process import STARTS, Died, Fault, Lines, line_of, read_reply
+
+HERE = os.path.dirname(os.path.dirname(os.path.abspath(__file__)))
+ROOT = os.path.dirname(HERE)
+PLAYERS = os.path.join(HERE, "players")
+MODULES = "/usr/share/nodejs"
+LIBRARY = os.path.join(ROOT, "bindings/c/out")
+
+# Refusals that an adapter to the standard's interfaces can't give: of a line's form, of numbers, and of this profile's own commands.
+NOT_OF_THE_STANDARD = {"line-too-long", "bad-json", "bad-command", "bad-arguments", "no-such-object", "limit", "in-use", "out-of-memory"}
+
+
+class NotThere(Exception):
+    """A player that this machine has not."""
+
+
+def is_for_adapters(turn):
+    """Whether a line can be given to an adapter: whatever it refuses for kinds alone has changed nothing, so it can be left out."""
+    refused = turn.reply.get("error")
+    return refused not in NOT_OF_THE_STANDARD and (refused != "TypeError" or turn.command[0] == "observe")
+
+
+class Player:
+    """What all players have. `serves` are the commands that it has, or None for all; `itself` is what its adapter does by itself."""
+
+    name, version, serves, itself = "player", "", None, []
+    # Whether it numbers by place what a command makes inside, and whether a Document of its has children.
+    numbers, documents = False, True
+
+    def introduce(self, told):
+        self.name, self.version = told.get("name", self.name), told.get("version", "")
+        self.serves = set(told["serves"]) if "serves" in told else None
+        self.itself, self.numbers = told.get("itself", []), told.get("numbers", False)
+        self.documents = told.get("documents", True)
+
+    def lines(self, turns):
+        """The lines for a world of its own, and of each the place of its turn, or None where its reply tells nothing."""
+        found = [(None, {"world": {}})]
+        for at, turn in enumerate(turns):
+            if self.numbers and not is_for_adapters(turn):
+                continue
+            found.append((at, turn.command))
+            if self.numbers and turn.places:
+                found.append((None, {"numbers": turn.places, "next": turn.next}))
+        return found
+
+
+class Spoken(Player):
+    """A process that says hello and begins a world where it is told to."""
+
+    def __init__(self, words, seconds, environment=None, name=None):
+        self.words, self.seconds, self.environment = words, seconds, environment
+        self.process = None
+        self.starts = 0
+        self.name = name or words[0]
+        self.open()
+
+    def open(self):
+        try:
+            self.process = Lines(self.words, self.seconds, self.environment)
+            self.introduce(read_reply(self.process.ask(line_of({"hello": {}}), STARTS))["player"])
+        except (OSError, Fault, KeyError) as fault:
+            self.end()
+            raise NotThere(f"{shlex.join(self.words)} does not say hello: {fault}") from None
+        self.starts += 1
+
+    def replies(self, turns):
+        if self.process is None:
+            self.open()
+        given = self.lines(turns)
+        found = []
+        try:
+            for (at, _), line in zip(given, self.process.ask_all(line_of(it) for _, it in given)):
+                found.append((at, read_reply(line)))
+        except Fault as fault:
+            self.end()
+            found.append((next((at for at, _ in given[len(found) :] if at is not None), len(turns) - 1), {"fault": fault.kind, "said": fault.said}))
+        return [it for it in found if it[0] is not None]
+
+    def end(self):
+        if self.process:
+            self.process.end()
+        self.process = None
+
+
+class Program(Player):
+    """A process that knows nothing but lines: it is started anew for each world."""
+
+    def __init__(self, words, seconds, name=None):
+        self.words, self.seconds = words, seconds
+        self.name = name or os.path.basename(words[0])
+
+    def replies(self, turns):
+        process = Lines(self.words, self.seconds)
+        found = []
+        try:
+            for line in process.ask_all(line_of(it.command) for it in turns):
+                found.append((len(found), read_reply(line)))
+        except Fault as fault:
+            found.append((len(found), {"fault": fault.kind, "said": fault.said}))
+        finally:
+            process.end()
+        return found
+
+    def end(self):
+        pass
+
+
+def says_hello(words, seconds):
+    """Whether a process answers hello by telling what it is."""
+    try:
+        process = Lines(words, seconds)
+    except OSError as fault:
+        raise NotThere(f"{words[0]}: {fault.strerror}") from None
+    try:
+        return "player" in json.loads(process.ask(line_of({"hello": {}}), STARTS))
+    except Died as fault:
+        raise NotThere(f"{shlex.join(words)}: {fault}") from None
+    except (Fault, ValueError, TypeError):
+        return False
+    finally:
+        process.end()
+
+
+def of_words(words, seconds, name=None):
+    return Spoken(words, seconds, name=name) if says_hello(words, seconds) else Program(words, seconds, name)
+
+
+def of_node(module, name=None):
+    def made(given):
+        if not shutil.which("node"):
+            raise NotThere("there is no node")
+        if os.path.isabs(module) and not os.path.exists(module):
+            raise NotThere(f"there is no {module}")
+        paths = [it for it in (os.environ.get("NODE_PATH"), MODULES) if it]
+        environment = {**os.environ, "NODE_PATH": os.pathsep.join(paths)}
+        return Spoken(["node", os.path.join(PLAYERS, "node.js"), module, name or module], given.seconds, environment)
+
+    return made
+
+
+def pythons():
+    """The interpreters that may have a module of Debian's."""
+    return dict.fromkeys(it for it in (sys.executable, "/usr/bin/python3") if it and os.access(it, os.X_OK))
+
+
+def of_python(script, *needs):
+    """A player in Python, by the first interpreter that has the modules."""
+
+    def made(given):
+        for python in pythons():
+            tried = subprocess.run([python, "-c", "import " + ",".join(("sys", *needs))], stderr=subprocess.DEVNULL, check=False)
+            if tried.returncode == 0:
+                environment = {**os.environ, "HUCKLEPORT_LIB_DIR": given.library}
+                return Spoken([python, os.path.join(PLAYERS, script)], given.seconds, environment, script)
+        raise NotThere(f"no Python here has {' and '.join(needs)}")
+
+    return made
+
+
+def of_rust(given):
+    if not shutil.which("cargo"):
+        raise NotThere("there is no cargo")
+    folder = os.path.join(PLAYERS, "rust")
+    environment = {**os.environ, "HUCKLEPORT_LIB_DIR": given.library, "LD_LIBRARY_PATH": given.library}
+    built = subprocess.run(["cargo", "build", "--quiet", "--offline", "--release"], cwd=folder, env=environment, check=False)
+    if built.returncode:
+        raise NotThere("the player in Rust can't be built")
+    return Spoken([os.path.join(folder, "target/release/player")], given.seconds, environment, "rust")
+
+
+def of_page(browser):
+    return lambda given: Page(browser, given.seconds)
+
+
+def of_program(given):
+    return Program([given.program], given.seconds, "program")
+
+
+BY_NAME = {
+    "jsdom": of_node("jsdom"),
+    "happy-dom": of_node("happy-dom"),
+    "linkedom": of_node("linkedom"),
+    "chromium": of_page("chromium"),
+    "firefox": of_page("firefox"),
+    "page": of_page(None),
+    "minidom": of_python("by_minidom.py"),
+    "lxml": of_python("by_lxml.py", "lxml.etree"),
+    "libxml2": of_python("by_libxml2.py"),
+    "program": of_program,
+    "c-lines": of_python("by_c_lines.py"),
+    "c-calls": of_python("by_c_calls.py"),
+    "python": of_python("by_package.py"),
+    "rust": of_rust,
+    "javascript": of_node(os.path.join(ROOT, "bindings/javascript/lib/index.js"), "javascript"),
+}
+
+
+def player_of(given):
+    """The player that the words name: one of the list, `node:MODULE`, or any command line."""
+    if given.command:
+        return of_words(shlex.split(given.command), given.seconds, given.player)
+    if given.player.startswith("node:"):
+        return of_node(given.player[len("node:") :])(given)
+    if given.player not in BY_NAME:
+        raise NotThere(f"no player has the name {given.player}; there are {', '.join(BY_NAME)}, node:MODULE, and --command")
+    return BY_NAME[given.player](given)

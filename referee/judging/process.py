@@ -1,0 +1,129 @@
+"""A process that is spoken to by lines: one reply a line, and a time by which a reply has to come."""
+import json
+import os
+import selectors
+import signal
+import subprocess
+import time
+
+
+class Fault(Exception):
+    """Why a reply is no reply: the process died, hung, or printed something else. `said` is what is known of it."""
+
+    kind = "fault"
+
+    def __init__(self, said):
+        super().__init__(said)
+        self.said = said
+
+
+class Died(Fault):
+    kind = "died"
+
+
+class Hung(Fault):
+    kind = "hung"
+
+
+class Rubbish(Fault):
+    kind = "rubbish"
+
+
+# How long a process may take to start.
+STARTS = 60.0
+
+
+class Lines:
+    """A process of its own group, so that what it starts ends with it."""
+
+    # What may wait in a pipe without being read.
+    PIECE = 32768
+
+    def __init__(self, words, seconds=10.0, environment=None, folder=None):
+        self.words, self.seconds = words, seconds
+        pipe = subprocess.PIPE
+        settings = {"stdin": pipe, "stdout": pipe, "stderr": subprocess.DEVNULL, "bufsize": 0, "cwd": folder}
+        self.process = subprocess.Popen(words, env=environment, start_new_session=True, **settings)
+        self.kept = b""
+        self.lines = []
+        self.ready = selectors.DefaultSelector()
+        self.ready.register(self.process.stdout, selectors.EVENT_READ)
+
+    def send(self, data):
+        try:
+            while data:
+                data = data[self.process.stdin.write(data) :]
+        except BrokenPipeError:
+            raise Died(self.ending()) from None
+
+    def receive(self, seconds=None):
+        """The next line."""
+        limit = time.monotonic() + (seconds or self.seconds)
+        while not self.lines:
+            self.read(limit)
+        return self.lines.pop(0)
+
+    def read(self, limit):
+        left = limit - time.monotonic()
+        if left <= 0 or not self.ready.select(left):
+            raise Hung(f"no reply within {self.seconds:g} seconds")
+        data = os.read(self.process.stdout.fileno(), 1 << 16)
+        if not data:
+            raise Died(self.ending())
+        *whole, self.kept = (self.kept + data).split(b"\n")
+        self.lines += whole
+
+    def ending(self):
+        try:
+            status = self.process.wait(1)
+        except subprocess.TimeoutExpired:
+            return "it closed its output"
+        return f"it ended by signal {-status}" if status < 0 else f"it ended with status {status}"
+
+    def ask(self, line, seconds=None):
+        self.send(line + b"\n")
+        return self.receive(seconds)
+
+    def ask_all(self, lines):
+        """The replies to all lines, handed over in pieces that no pipe is too small for. Yields them one by one."""
+        waiting, size = 0, 0
+        pending = []
+        for line in lines:
+            if pending and size + len(line) >= self.PIECE:
+                yield from self.answered(pending)
+                pending, size = [], 0
+            pending.append(line)
+            size += len(line) + 1
+        if pending:
+            yield from self.answered(pending)
+
+    def answered(self, pending):
+        self.send(b"\n".join(pending) + b"\n")
+        for _ in pending:
+            yield self.receive()
+
+    def end(self):
+        """Ends the process and what it started."""
+        self.ready.close()
+        try:
+            os.killpg(self.process.pid, signal.SIGKILL)
+        except ProcessLookupError:
+            pass
+        self.process.wait()
+        self.process.stdin.close()
+        self.process.stdout.close()
+
+
+def read_reply(line):
+    """A reply: an object with ok, error or skip."""
+    try:
+        reply = json.loads(line)
+    except ValueError:
+        reply = None
+    if not isinstance(reply, dict) or not reply.keys() & {"ok", "error", "skip", "player"}:
+        raise Rubbish(line[:300].decode(errors="backslashreplace"))
+    return reply
+
+
+def line_of(value):
+    return json.dumps(value, separators=(",", ":")).encode()

@@ -1,0 +1,148 @@
+"""A run: streams one after another, what differs shrunk and kept, progress told, and a stop that keeps what was found."""
+import signal
+import sys
+import time
+from dataclasses import dataclass
+
+from judging.found import Found, case_of
+from judging.judge import Judge, key_of
+from judging.known import entry_of
+from judging.process import Fault
+from judging.shrink import shrunk
+from judging.states import states_of
+
+TELLS_EACH = 2.0
+# Of differences whose first look is the same, so many are shrunk; of the rest each whose count is a power of two.
+SHRUNK = 4
+
+
+@dataclass
+class Limits:
+    """When a run ends: after so many seconds, lines, streams or new differences."""
+
+    seconds: float | None = None
+    lines: int | None = None
+    streams: int | None = None
+    new: int | None = None
+
+
+class CoreFailed(Exception):
+    """The core gave no reply."""
+
+
+class Stop:
+    """Ctrl-C and the signal to end set this; the run looks at it between streams."""
+
+    def __init__(self):
+        self.asked = False
+        for it in (signal.SIGINT, signal.SIGTERM):
+            signal.signal(it, self.ask)
+
+    def ask(self, *_):
+        if self.asked:
+            raise KeyboardInterrupt
+        self.asked = True
+
+
+class Run:
+    def __init__(self, cores, player, known, folder, limits, quiet=False):
+        self.judge, self.player, self.known = Judge(cores, player), player, known
+        self.found, self.limits, self.quiet = Found(folder), limits, quiet
+        self.stop = Stop()
+        self.begun = self.told = time.monotonic()
+        self.seen, self.differing = {}, 0
+        self.ended = "all streams were played"
+
+    # progress
+
+    def seconds(self):
+        return time.monotonic() - self.begun
+
+    def line(self):
+        seconds, judge = max(self.seconds(), 0.001), self.judge
+        new = len(self.found.new())
+        parts = [f"{judge.streams} streams", f"{judge.lines:,} lines", f"{judge.lines / seconds:,.0f} lines/s", f"{self.differing} differ"]
+        return ", ".join([*parts, f"{len(self.found.cases)} cases, {new} of them new"])
+
+    def tell(self, at_once=False):
+        if not self.quiet and (at_once or time.monotonic() - self.told > TELLS_EACH):
+            self.told = time.monotonic()
+            print(f"{self.seconds():7.1f} s: {self.line()}", file=sys.stderr, flush=True)
+
+    def over(self):
+        """Why the run ends; None where it goes on."""
+        limits, judge = self.limits, self.judge
+        if self.stop.asked:
+            return "it was stopped"
+        if limits.seconds and self.seconds() >= limits.seconds:
+            return "its time was over"
+        if limits.lines and judge.lines >= limits.lines:
+            return "its lines were played"
+        if limits.streams and judge.streams >= limits.streams:
+            return "its streams were played"
+        return "it found what it was asked for" if limits.new and len(self.found.new()) >= limits.new else None
+
+    # streams
+
+    def play(self, streams):
+        """Plays streams, each a group, a seed and a function that plays it to a core; ends at a limit or where they end."""
+        for group, seed, played in streams:
+            over = self.over()
+            if over:
+                self.ended = over
+                break
+            self.play_one(group, seed, played)
+            self.tell()
+        return self.end()
+
+    def play_one(self, group, seed, played):
+        try:
+            with self.judge.core() as core:
+                turns = played(core)
+        except Fault as fault:
+            raise CoreFailed(f"the core {fault.kind}: {fault.said} (group {group}, seed {seed})") from None
+        difference = self.judge.difference(turns)
+        if difference:
+            self.differing += 1
+            self.look_at(difference, group, seed)
+
+    def look_at(self, difference, group, seed):
+        """Shrinks a difference, unless many that look the same have been."""
+        key = key_of(difference)
+        count = self.seen[key] = self.seen.get(key, 0) + 1
+        if count > SHRUNK and count & (count - 1):
+            return
+        apart = Judge(self.judge.cores, self.player)
+        least = shrunk(apart, difference).difference
+        entry = entry_of(self.known, self.player.name, least)
+        case = case_of(least, self.player, group, seed, entry)
+        if not self.found.add(case):
+            return
+        case.states = states_of(apart, least)
+        self.found.keep(case)
+        if not self.quiet and not entry:
+            print(f"new: {case.key['cause']} shown by {case.key['shows']}, {len(case.commands)} commands", file=sys.stderr, flush=True)
+
+    def summary(self):
+        judge, player = self.judge, self.player
+        return {
+            "player": player.name,
+            "version": player.version,
+            "serves": sorted(player.serves) if player.serves is not None else None,
+            "itself": player.itself,
+            "streams": judge.streams,
+            "lines": judge.lines,
+            "compared": judge.compared,
+            "left out": judge.left_out,
+            "seconds": round(self.seconds(), 1),
+            "differing streams": self.differing,
+            "cases": len(self.found.cases),
+            "new": len(self.found.new()),
+            "ended": self.ended,
+        }
+
+    def end(self):
+        told = self.summary()
+        self.found.end(told)
+        self.tell(at_once=True)
+        return told

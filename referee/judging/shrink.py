@@ -1,0 +1,160 @@
+"""Makes a stream that shows a difference as short as it gets, with the fewest nodes and the plainest words."""
+import time
+from collections import namedtuple
+
+from judging.commands import COMMANDS
+from judging.judge import key_of
+from judging.streams import Made, Step, play_steps, steps_of
+
+# How long one stream may be worked on.
+SECONDS = 15.0
+
+MAKERS = {"createElement", "createText", "createComment", "createPI", "createDoctype", "createFragment", "createRange", "createObserver", "newDocument"}
+# A plainer command for one that is not needed as it is.
+PLAINER = {
+    "createPI": ("createComment", lambda values: (values[0], values[2])),
+    "createComment": ("createText", lambda values: values),
+    "insertBefore": ("appendChild", lambda values: values[:2]),
+    "replaceChildren": ("setTextContent", lambda values: (values[0], "")),
+    "removeChild": ("remove", lambda values: values[1:]),
+    "replaceData": ("deleteData", lambda values: values[:3]),
+    "insertData": ("appendData", lambda values: (values[0], values[2])),
+    "selectNodeContents": ("setEnd", lambda values: (*values, 1)),
+    "setStart": ("setEnd", lambda values: values),
+    "setStartBefore": ("setStart", lambda values: (*values, 0)),
+    "setStartAfter": ("setStart", lambda values: (*values, 1)),
+    "setEndBefore": ("setEnd", lambda values: (*values, 0)),
+    "setEndAfter": ("setEnd", lambda values: (*values, 1)),
+    "selectNode": ("selectNodeContents", lambda values: values),
+}
+
+Shrunk = namedtuple("Shrunk", "difference key tries")
+
+
+class Shrinker:
+    def __init__(self, judge, difference, seconds=SECONDS):
+        self.judge, self.limit = judge, time.monotonic() + seconds
+        self.key = key_of(difference)
+        self.best, self.steps = difference, steps_of(difference.turns)
+        self.tries = 0
+
+    def out_of_time(self):
+        return time.monotonic() > self.limit
+
+    def shows(self, steps, any_cause=False):
+        """Whether the steps still show the difference; those are kept then. With any cause, what it comes from may be another command."""
+        if self.out_of_time():
+            return False
+        self.tries += 1
+        with self.judge.core() as core:
+            played, turns = play_steps(core, steps)
+        found = self.judge.difference(turns) if turns else None
+        if found is None or key_of(found)[any_cause:] != self.key[any_cause:]:
+            return False
+        self.steps, self.best, self.key = played[: len(found.turns)], found, key_of(found)
+        return True
+
+    def settle(self):
+        """Leaves out the command that the difference seems to come from, as long as it shows without it too."""
+        while self.key.cause != self.key.shows:
+            at = max((at for at, it in enumerate(self.steps) if it.name == self.key.cause), default=-1)
+            if at < 0 or not self.shows(self.steps[:at] + self.steps[at + 1 :], any_cause=True):
+                return
+
+    def leave_out(self):
+        """Leaves out runs of steps, long ones first; what names what they made goes with them."""
+        size = max(len(self.steps) // 2, 1)
+        while size and not self.out_of_time():
+            at = len(self.steps) - size
+            while at >= 0:
+                self.shows(self.steps[:at] + self.steps[at + size :])
+                at = min(at, len(self.steps)) - size
+            size //= 2
+
+    def try_each(self, others):
+        """Puts other steps in the place of each, as long as one of them shows the same."""
+        at = len(self.steps) - 1
+        while at >= 0 and not self.out_of_time():
+            step = self.steps[at]
+            for other in others(step):
+                if other != step and self.shows(self.steps[:at] + [other] + self.steps[at + 1 :]):
+                    break
+            at = min(at, len(self.steps)) - 1
+
+    def plainer(self, step):
+        if step.name in PLAINER and step.key != self.steps[-1].key:
+            name, values = PLAINER[step.name]
+            yield step._replace(name=name, values=tuple(values(step.values)))
+
+    def simpler_values(self, step):
+        """The step with one value of it put simpler."""
+        forms = COMMANDS[step.name].arguments if step.name in COMMANDS else ()
+        for place, (form, value) in enumerate(zip(forms, step.values)):
+            for simpler in self.simpler(form.rstrip("?"), value, step.key):
+                yield step._replace(values=(*step.values[:place], simpler, *step.values[place + 1 :]))
+
+    def simpler(self, form, value, key):
+        if isinstance(value, Made) or form in ("node", "parent", "child", "document"):
+            yield from self.other_objects(value, key)
+        elif form == "units":
+            yield from (it for it in ("", "a", "ab") if it != value and (value is None or len(it) < len(value) or isinstance(value, list)))
+            yield from ("b" * len(value),) if isinstance(value, str) and value not in ("", "a", "ab") and not value.startswith("b") else ()
+        elif form in ("name", "target", "attribute", "doctype", "id"):
+            yield from (it for it in ("a",) if it != value and value not in ("", "a"))
+        elif form in ("offset", "count", "how") and value:
+            yield from (it for it in (0, 1, value - 1) if it < value)
+        elif form == "show" and value != 4294967295:
+            yield 4294967295
+        elif form == "filter" and value:
+            yield []
+        elif form == "flag" and not value:
+            yield True
+        elif form == "options":
+            yield from ({name: it for name, it in value.items() if name != left} for left in value)
+
+    def other_objects(self, value, key):
+        """Objects of the same kind that were made sooner."""
+        kind = value.kind if isinstance(value, Made) else "node"
+        if value is None:
+            return
+        if kind == "node" and isinstance(value, Made):
+            yield 0
+        for step in self.steps:
+            made = COMMANDS[step.name].makes if step.name in COMMANDS else None
+            if step.key == key or (isinstance(value, Made) and step.key == value.step):
+                return
+            if (made == "nodes" and kind == "node") or made == kind:
+                yield Made(kind, step.key, 0)
+
+    def makers_first(self):
+        """What makes single objects goes to the front, so that cases which are the same look the same."""
+        makers = [it for it in self.steps[:-1] if it.name in MAKERS and not any(isinstance(value, Made) for value in it.values)]
+        order = {it.key for it in makers}
+        makers.sort(key=lambda it: (it.name != "createElement", it.name != "createText", it.name))
+        moved = makers + [it for it in self.steps if it.key not in order]
+        if moved != self.steps:
+            self.shows(moved)
+
+    def swap(self):
+        """Neighbours that may change their places stand in the order of their names."""
+        for at in range(len(self.steps) - 2):
+            first, second = self.steps[at : at + 2]
+            if at + 2 < len(self.steps) and first.name not in MAKERS and (second.name, str(second.values)) < (first.name, str(first.values)):
+                self.shows(self.steps[:at] + [second, first] + self.steps[at + 2 :])
+
+    def work(self):
+        size = None
+        while size != self.steps and not self.out_of_time():
+            size = list(self.steps)
+            self.settle()
+            self.leave_out()
+            self.try_each(self.plainer)
+            self.try_each(self.simpler_values)
+        self.makers_first()
+        self.swap()
+        return Shrunk(self.best, self.key, self.tries)
+
+
+def shrunk(judge, difference, seconds=SECONDS):
+    """The shortest stream that was found to show the same kind of difference."""
+    return Shrinker(judge, difference, seconds).work()

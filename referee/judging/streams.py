@@ -1,0 +1,62 @@
+"""Streams as steps whose objects are told by the step that made them, so that a step can be left out and the rest still says what it said."""
+from collections import namedtuple
+
+from judging.commands import COMMANDS, kind_of
+
+# An object: which of those that a step made.
+Made = namedtuple("Made", "kind step place")
+
+# A command whose arguments name objects by what made them. A step keeps its key when others go.
+Step = namedtuple("Step", "key name values")
+
+
+class Owners:
+    """Which step made an object."""
+
+    def __init__(self):
+        self.found = {}
+
+    def add(self, key, name, turn):
+        makes = COMMANDS[name].makes if name in COMMANDS else None
+        if not makes or "ok" not in turn.reply:
+            return
+        made = turn.made if makes in ("node", "nodes") else [turn.reply["ok"]]
+        kind = "node" if makes == "nodes" else makes
+        for place, number in enumerate(made):
+            self.found[kind, number] = Made(kind, key, place)
+
+    def of(self, form, value):
+        kind = kind_of(form)
+        return self.found.get((kind, value), value) if kind and value is not None else value
+
+
+def steps_of(turns):
+    """The steps of a stream that was played."""
+    owners, steps = Owners(), []
+    for key, turn in enumerate(turns):
+        name, *values = turn.command
+        forms = COMMANDS[name].arguments if name in COMMANDS else ()
+        if len(forms) == len(values):
+            values = [owners.of(form, value) for form, value in zip(forms, values)]
+        steps.append(Step(key, name, tuple(values)))
+        owners.add(key, name, turn)
+    return steps
+
+
+def play_steps(core, steps):
+    """Plays steps to a core. Those that name what was not made are left out. Returns the steps that were played, and their turns."""
+    numbers, played, turns = {}, [], []
+    owners = Owners()
+    for step in steps:
+        if any(isinstance(it, Made) and it not in numbers for it in step.values):
+            continue
+        turn = core.play([step.name, *(numbers[it] if isinstance(it, Made) else it for it in step.values)])
+        owners.add(step.key, step.name, turn)
+        numbers.update((made, number) for (_, number), made in owners.found.items())
+        played.append(step)
+        turns.append(turn)
+    return played, turns
+
+
+def play_commands(core, commands):
+    return [core.play(list(it)) for it in commands]

@@ -1,0 +1,253 @@
+// Answers the commands of docs/commands.md by the standard's interfaces of a window, for node and for pages.
+// What is done here and not by the window stands in `itself`, and what it says is never evidence.
+"use strict";
+
+const itself = [
+  "reads and writes JSON, and tells a text that is not well-formed by its units",
+  "numbers what a command makes: the node that a call answers takes the next number, and those made with it take the core's, place by place",
+  "answers root by getRootNode, index and length by counting childNodes, and tree by a walk over firstChild and nextSibling",
+  "makes a function of a filter's list, which asks nodeName alone",
+  "answers notify by letting the callbacks run, and has nothing for pending, discard, releaseRange and staticRange",
+  "has no answer where comparePosition is asked of two trees, since the standard leaves the order open",
+];
+
+// The interface and the member that a command needs.
+const needs = {
+  createDoctype: ["DOMImplementation", "createDocumentType"], replaceChildren: ["Element", "replaceChildren"], normalize: ["Node", "normalize"],
+  adoptNode: ["Document", "adoptNode"], importNode: ["Document", "importNode"], isEqual: ["Node", "isEqualNode"], root: ["Node", "getRootNode"],
+  comparePosition: ["Node", "compareDocumentPosition"], substringData: ["CharacterData", "substringData"], splitText: ["Text", "splitText"],
+  toggleAttribute: ["Element", "toggleAttribute"], createRange: ["Document", "createRange"], surroundContents: ["Range", "surroundContents"],
+  createStaticRange: ["StaticRange", "constructor"], createIterator: ["Document", "createNodeIterator"], createWalker: ["Document", "createTreeWalker"],
+  createObserver: ["MutationObserver", "takeRecords"], comparePoint: ["Range", "comparePoint"], isPointInRange: ["Range", "isPointInRange"],
+  intersectsNode: ["Range", "intersectsNode"], createPI: ["Document", "createProcessingInstruction"], createFragment: ["Document", "createDocumentFragment"],
+};
+
+class Skipped extends Error {}
+
+// Returns what answers commands by the interfaces of the windows that `open` gives. A window serves some hundreds of worlds.
+function answering(open, named) {
+  let window = open();
+  let worlds = 0;
+  let nodes, numbers, ranges, iterators, walkers, observers, told, statics;
+
+  function made(node) {
+    numbers.set(node, nodes.length);
+    return nodes.push(node) - 1;
+  }
+
+  function N(number) {
+    if (nodes[number] === undefined) throw new Skipped("a node that stands nowhere here");
+    return nodes[number];
+  }
+
+  const maybe = (number) => (number === null ? null : N(number));
+  const numberOf = (node) => (node ? numbers.get(node) ?? "a node without a number" : null);
+  const numbersOf = (list) => Array.from(list, numberOf);
+
+  function textIn(value) {
+    return Array.isArray(value) ? String.fromCharCode(...value) : value;
+  }
+
+  function textOut(text) {
+    if (typeof text !== "string" || !/[\ud800-\udfff]/.test(text)) return text ?? null;
+    return /^(?:[^\ud800-\udfff]|[\ud800-\udbff][\udc00-\udfff])*$/.test(text) ? text : Array.from({ length: text.length }, (_, at) => text.charCodeAt(at));
+  }
+
+  function record(it) {
+    const around = [numberOf(it.previousSibling), numberOf(it.nextSibling)];
+    return [it.type, numberOf(it.target), numbersOf(it.addedNodes), numbersOf(it.removedNodes), ...around, it.attributeName, textOut(it.oldValue)];
+  }
+
+  function row(depth, node) {
+    const found = [depth, numberOf(node), node.nodeType, node.nodeName];
+    if (node.nodeType === 1) found.push(Array.from(node.attributes, (it) => [it.name, textOut(it.value)]));
+    if (node.nodeType === 10) found.push(node.publicId, node.systemId);
+    if ([3, 7, 8].includes(node.nodeType)) found.push(textOut(node.data));
+    return found;
+  }
+
+  function rows(top) {
+    const found = [];
+    const waiting = [[0, top]];
+    while (waiting.length) {
+      const [depth, node] = waiting.pop();
+      found.push(row(depth, node));
+      const below = [];
+      for (let child = node.firstChild; child; child = child.nextSibling) below.push([depth + 1, child]);
+      waiting.push(...below.reverse());
+    }
+    return found;
+  }
+
+  function description(it) {
+    const found = { document: numberOf(it.ownerDocument ?? it), name: it.nodeName, type: it.nodeType };
+    if (it.nodeType === 10) Object.assign(found, { public: it.publicId, system: it.systemId });
+    return Object.assign(found, { next: numberOf(it.nextSibling), parent: numberOf(it.parentNode), previous: numberOf(it.previousSibling) });
+  }
+
+  function position(node, other) {
+    const found = N(node).compareDocumentPosition(N(other));
+    if (found & 1) throw new Skipped("the standard leaves the order of trees open");
+    return found;
+  }
+
+  function filter(rules) {
+    const verdicts = { accept: 1, reject: 2, skip: 3 };
+    const decide = (node) => verdicts[(rules.find(([name]) => name === "*" || name === node.nodeName) ?? ["", "accept"])[1]];
+    return rules.length ? decide : null;
+  }
+
+  const lengthOf = (it) => (it.nodeType === 10 ? 0 : (it.data ?? it.childNodes).length);
+  const indexOf = (it) => (it.parentNode ? Array.prototype.indexOf.call(it.parentNode.childNodes, it) : 0);
+  const endsOf = (it) => [numberOf(it.startContainer), it.startOffset, numberOf(it.endContainer), it.endOffset];
+  const point = (a, i, b, j) => ({ startContainer: N(a), startOffset: i, endContainer: N(b), endOffset: j });
+  const observer = () => new window.MutationObserver((records, self) => told.push([observers.indexOf(self), records.map(record)]));
+
+  async function notify() {
+    told = [];
+    await new Promise((resolve) => setTimeout(resolve, 0));
+    return told;
+  }
+
+  const answers = {
+    newDocument: () => made(window.document.implementation.createDocument(null, null)),
+    createElement: (document, name) => made(N(document).createElement(name)),
+    createText: (document, text) => made(N(document).createTextNode(textIn(text))),
+    createComment: (document, text) => made(N(document).createComment(textIn(text))),
+    createPI: (document, target, text) => made(N(document).createProcessingInstruction(target, textIn(text))),
+    createDoctype: (document, name, publicId, systemId) => made(N(document).implementation.createDocumentType(name, publicId, systemId)),
+    createFragment: (document) => made(N(document).createDocumentFragment()),
+    insertBefore: (parent, node, child) => numberOf(N(parent).insertBefore(N(node), maybe(child))),
+    appendChild: (parent, node) => numberOf(N(parent).appendChild(N(node))),
+    adoptNode: (document, node) => numberOf(N(document).adoptNode(N(node))),
+    replaceChild: (parent, node, child) => numberOf(N(parent).replaceChild(N(node), N(child))),
+    removeChild: (parent, child) => numberOf(N(parent).removeChild(N(child))),
+    remove: (node) => void N(node).remove(),
+    replaceChildren: (parent, node) => void N(parent).replaceChildren(...(node === null ? [] : [N(node)])),
+    importNode: (document, node, deep) => made(N(document).importNode(N(node), deep)),
+    cloneNode: (node, deep) => made(N(node).cloneNode(deep)),
+    normalize: (node) => void N(node).normalize(),
+    node: (node) => description(N(node)),
+    children: (node) => numbersOf(N(node).childNodes),
+    index: (node) => indexOf(N(node)),
+    length: (node) => lengthOf(N(node)),
+    root: (node) => numberOf(N(node).getRootNode()),
+    contains: (node, other) => N(node).contains(maybe(other)),
+    isEqual: (node, other) => N(node).isEqualNode(maybe(other)),
+    comparePosition: position,
+    textContent: (node) => textOut(N(node).textContent),
+    setTextContent: (node, text) => void (N(node).textContent = textIn(text)),
+    tree: (node) => rows(N(node)),
+    data: (node) => textOut(N(node).data),
+    setData: (node, text) => void (N(node).data = textIn(text)),
+    appendData: (node, text) => void N(node).appendData(textIn(text)),
+    insertData: (node, offset, text) => void N(node).insertData(offset, textIn(text)),
+    deleteData: (node, offset, count) => void N(node).deleteData(offset, count),
+    replaceData: (node, offset, count, text) => void N(node).replaceData(offset, count, textIn(text)),
+    substringData: (node, offset, count) => textOut(N(node).substringData(offset, count)),
+    splitText: (node, offset) => made(N(node).splitText(offset)),
+    setAttribute: (element, name, value) => void N(element).setAttribute(name, textIn(value)),
+    getAttribute: (element, name) => textOut(N(element).getAttribute(name)),
+    hasAttribute: (element, name) => N(element).hasAttribute(name),
+    removeAttribute: (element, name) => void N(element).removeAttribute(name),
+    toggleAttribute: (element, name, force) => N(element).toggleAttribute(name, ...(force === null ? [] : [force])),
+    attributeNames: (element) => N(element).getAttributeNames(),
+    createRange: (document) => ranges.push(N(document).createRange()) - 1,
+    cloneRange: (range) => ranges.push(ranges[range].cloneRange()) - 1,
+    range: (range) => endsOf(ranges[range]),
+    setStart: (range, node, offset) => void ranges[range].setStart(N(node), offset),
+    setEnd: (range, node, offset) => void ranges[range].setEnd(N(node), offset),
+    setStartBefore: (range, node) => void ranges[range].setStartBefore(N(node)),
+    setStartAfter: (range, node) => void ranges[range].setStartAfter(N(node)),
+    setEndBefore: (range, node) => void ranges[range].setEndBefore(N(node)),
+    setEndAfter: (range, node) => void ranges[range].setEndAfter(N(node)),
+    collapse: (range, toStart) => void ranges[range].collapse(toStart),
+    selectNode: (range, node) => void ranges[range].selectNode(N(node)),
+    selectNodeContents: (range, node) => void ranges[range].selectNodeContents(N(node)),
+    compareBoundaryPoints: (range, how, other) => ranges[range].compareBoundaryPoints(how, ranges[other]),
+    comparePoint: (range, node, offset) => ranges[range].comparePoint(N(node), offset),
+    isPointInRange: (range, node, offset) => ranges[range].isPointInRange(N(node), offset),
+    intersectsNode: (range, node) => ranges[range].intersectsNode(N(node)),
+    commonAncestor: (range) => numberOf(ranges[range].commonAncestorContainer),
+    createStaticRange: (a, i, b, j) => (new window.StaticRange(point(a, i, b, j)), statics++),
+    rangeText: (range) => textOut(ranges[range].toString()),
+    deleteContents: (range) => void ranges[range].deleteContents(),
+    extractContents: (range) => made(ranges[range].extractContents()),
+    cloneContents: (range) => made(ranges[range].cloneContents()),
+    insertNode: (range, node) => void ranges[range].insertNode(N(node)),
+    surroundContents: (range, node) => void ranges[range].surroundContents(N(node)),
+    createIterator: (root, show, rules) => iterators.push(N(0).createNodeIterator(N(root), show, filter(rules))) - 1,
+    createWalker: (root, show, rules) => walkers.push(N(0).createTreeWalker(N(root), show, filter(rules))) - 1,
+    iterator: (it) => [numberOf(iterators[it].root), numberOf(iterators[it].referenceNode), iterators[it].pointerBeforeReferenceNode],
+    nextNode: (it) => numberOf(iterators[it].nextNode()),
+    previousNode: (it) => numberOf(iterators[it].previousNode()),
+    walker: (it) => [numberOf(walkers[it].root), numberOf(walkers[it].currentNode)],
+    setCurrent: (it, node) => void (walkers[it].currentNode = N(node)),
+    walk: (it, move) => numberOf(walkers[it][move]()),
+    createObserver: () => observers.push(observer()) - 1,
+    observe: (it, node, options) => void observers[it].observe(N(node), options),
+    disconnect: (it) => void observers[it].disconnect(),
+    takeRecords: (it) => observers[it].takeRecords().map(record),
+    notify,
+  };
+
+  // Numbers of nodes that the last command made inside: of trees the numbers of all their nodes, in tree order.
+  function numbered(trees, next) {
+    for (const [top, known] of trees) {
+      if (!nodes[top]) continue;
+      Array.from(walked(nodes[top])).slice(0, known.length).forEach((node, at) => {
+        if (numbers.has(node)) return;
+        nodes[known[at]] = node;
+        numbers.set(node, known[at]);
+      });
+    }
+    nodes.length = next;
+  }
+
+  function* walked(node) {
+    yield node;
+    for (let child = node.firstChild; child; child = child.nextSibling) yield* walked(child);
+  }
+
+  function world() {
+    for (const it of observers ?? []) it.disconnect();
+    if (++worlds % 200 === 0) window = open();
+    [nodes, numbers, ranges, iterators, walkers, observers, told, statics] = [[], new Map(), [], [], [], [], [], 0];
+    answers.newDocument();
+  }
+
+  function serves() {
+    const lacks = (name) => needs[name] && !(needs[name][1] in (window[needs[name][0]]?.prototype ?? {}));
+    return Object.keys(answers).filter((name) => !lacks(name));
+  }
+
+  const others = {
+    hello: () => ({ player: { ...named, serves: serves(), itself, numbers: true } }),
+    world: () => (world(), { ok: null }),
+    numbers: (line) => (numbered(line.numbers, line.next), { ok: null }),
+  };
+
+  // What a refusal is told as; the message is for readers alone.
+  function refusal(thrown) {
+    if (thrown instanceof Skipped) return { skip: thrown.message };
+    return { error: thrown?.name ?? String(thrown), message: String(thrown?.message ?? thrown) };
+  }
+
+  // Answers a line; only notify has to be waited for, so that no callback of an observer runs in between.
+  function answer(line) {
+    const given = JSON.parse(line);
+    if (!Array.isArray(given)) return others[Object.keys(given)[0]](given);
+    if (!Object.hasOwn(answers, given[0])) return { skip: "has no such command" };
+    try {
+      const found = answers[given[0]](...given.slice(1));
+      return found instanceof Promise ? found.then((ok) => ({ ok })) : { ok: found === undefined ? null : found };
+    } catch (thrown) {
+      return refusal(thrown);
+    }
+  }
+
+  world();
+  return answer;
+}
+
+if (typeof module !== "undefined") module.exports = { answering };

@@ -1,0 +1,128 @@
+"""Debian's lxml.etree: elements, Comments and processing instructions. Its texts are no nodes, and a Document is none that has children."""
+import copy
+
+from lxml import etree
+from speaking import Refused, Skip, commands_of, serve
+
+KINDS = {etree.Comment: (8, "#comment"), etree.ProcessingInstruction: (7, None)}
+
+
+class World:
+    def __init__(self):
+        self.nodes, self.number = [None], {}
+
+    def _made(self, node):
+        self.number[node] = len(self.nodes)
+        self.nodes.append(node)
+        return len(self.nodes) - 1
+
+    def _n(self, number):
+        if self.nodes[number] is None:
+            raise Skip("no node here")
+        return self.nodes[number]
+
+    def _of(self, node):
+        return None if node is None else self.number.get(node, "a node without a number")
+
+    def _walk(self, node, depth=0):
+        yield depth, node
+        for child in node:
+            yield from self._walk(child, depth + 1)
+
+    def numbered(self, trees, last):
+        self.nodes += [None] * (last - len(self.nodes))
+        for top, numbers in trees:
+            for number, (_, node) in zip(numbers, self._walk(self.nodes[top]) if self.nodes[top] is not None else ()):
+                if node not in self.number:
+                    self.nodes[number], self.number[node] = node, number
+
+    def _child(self, parent, child):
+        if self._n(child).getparent() is not self._n(parent):
+            raise Skip("the call asks no parent")
+        return self._n(child)
+
+    def createElement(self, document, name):
+        return self._made(etree.Element(name))
+
+    def createComment(self, document, text):
+        return self._made(etree.Comment(text))
+
+    def createPI(self, document, target, text):
+        return self._made(etree.ProcessingInstruction(target, text))
+
+    def appendChild(self, parent, node):
+        self._n(parent).append(self._n(node))
+        return node
+
+    def insertBefore(self, parent, node, child):
+        if child is None:
+            return self.appendChild(parent, node)
+        self._child(parent, child).addprevious(self._n(node))
+        return node
+
+    def replaceChild(self, parent, node, child):
+        try:
+            self._n(parent).replace(self._n(child), self._n(node))
+        except ValueError:
+            raise Refused("NotFoundError") from None
+        return child
+
+    def removeChild(self, parent, child):
+        try:
+            self._n(parent).remove(self._n(child))
+        except ValueError:
+            raise Refused("NotFoundError") from None
+        return child
+
+    def cloneNode(self, node, deep):
+        if not deep:
+            raise Skip("copies are deep")
+        return self._made(copy.deepcopy(self._n(node)))
+
+    def children(self, node):
+        return [self._of(it) for it in self._n(node)]
+
+    def index(self, node):
+        parent = self._n(node).getparent()
+        return 0 if parent is None else parent.index(self._n(node))
+
+    def tree(self, node):
+        return [self._row(depth, it) for depth, it in self._walk(self._n(node))]
+
+    def _row(self, depth, it):
+        if it.tag in KINDS:
+            kind, name = KINDS[it.tag]
+            return [depth, self._of(it), kind, name or it.target, it.text or ""]
+        return [depth, self._of(it), 1, it.tag, [list(pair) for pair in it.attrib.items()]]
+
+    def data(self, node):
+        return self._n(node).text or ""
+
+    def setData(self, node, text):
+        self._n(node).text = text
+
+    def setAttribute(self, element, name, value):
+        self._n(element).set(name, value)
+
+    def getAttribute(self, element, name):
+        return self._n(element).get(name)
+
+    def hasAttribute(self, element, name):
+        return name in self._n(element).attrib
+
+    def removeAttribute(self, element, name):
+        self._n(element).attrib.pop(name, None)
+
+    def attributeNames(self, element):
+        return list(self._n(element).keys())
+
+
+ITSELF = [
+    "reads and writes JSON; has no Texts, no Documents with children, no fragments",
+    "has no answer where a node is put before one that is no child of the parent: the package's call names no parent",
+    "tells the ValueError of remove and replace as NotFoundError",
+    "numbers what a command makes; those made inside take the core's numbers, place by place",
+    "answers tree by a walk over children, and tells a missing text as an empty one",
+]
+TOLD = {"name": "lxml", "version": etree.__version__, "serves": commands_of(World), "itself": ITSELF, "numbers": True, "documents": False}
+serve(World, TOLD)

@@ -1,0 +1,33 @@
+"""The package for Python, by its objects: bindings/python/tests/by_objects.py says them."""
+import os
+import sys
+
+ROOT = os.path.dirname(os.path.dirname(os.path.dirname(os.path.abspath(__file__))))
+sys.path.insert(0, os.path.join(ROOT, "bindings/python"))
+os.environ.setdefault("HUCKLEPORT_LIBRARY", os.path.join(os.environ["HUCKLEPORT_LIB_DIR"], "libhuckleport.so"))
+
+import huckleport
+from speaking import serve
+from tests.by_objects import Speaker
+
+
+def reply(speaker, name, values):
+    try:
+        return {"ok": getattr(speaker, name)(*values)}
+    except huckleport.Error as fault:
+        return {"error": fault.name}
+
+
+class World(Speaker):
+    """A session of its own, which is closed when the next one begins."""
+
+    open = None
+
+    def __init__(self):
+        if World.open:
+            World.open.close()
+        World.open = huckleport.Session()
+        super().__init__(World.open)
+
+
+serve(World, {"name": "python"}, reply)
