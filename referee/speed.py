@@ -10,9 +10,9 @@ observer of the root and all below it, whose records are taken after each 1,000 
 tree. What makes the scene is not counted: its time alone is taken off, of the quickest of --times runs each. A scene of commands that are not served is said to be so.
 The program reads the stream from a file and writes its replies to a file. Python's json reads each line and prints a
 value of the reply's shape, with no tree at all.
-Where they are there, jsdom (by node; Debian's node-jsdom) and Chromium (Debian's chromium-headless-shell) answer the same lines by their own DOM
-(bench/answers.js), jsdom from a file to a file, Chromium within a page. Their replies must be the program's, byte for byte. Each ratio is the program's
-commands per second over theirs; "-" where one gives up.
+Where they are there, jsdom (by node; Debian's node-jsdom) and Chromium (Debian's chromium-headless-shell, or chromium) answer the same lines by their
+own DOM, as the referee's players do (players/answers.js), jsdom from a file to a file, Chromium within a page. Their replies must be the program's, byte
+for byte. Each ratio is the program's commands per second over theirs; "-" where one gives up.
 """
 
 import html
@@ -20,6 +20,7 @@ import json
 import os
 import random
 import re
+import shutil
 import subprocess
 import sys
 import tempfile
@@ -28,9 +29,15 @@ import time
 sys.path.insert(0, os.path.join(os.path.dirname(os.path.dirname(os.path.abspath(__file__))), "tools"))
 from running import ROOT, content, words_of
 
-ANSWERS = os.path.join(ROOT, "bench/answers.js")
-JSDOM = os.path.join(ROOT, "bench/jsdom.js")
-PAGE = os.path.join(ROOT, "bench/chromium.html")
+PLAYERS = os.path.join(ROOT, "referee/players")
+# Answers all lines at once within a page, which then shows how long that took, and the replies.
+PAGE = """<!doctype html><meta charset="utf-8"><body><script type="text/plain" id="lines">LINES</script><script>ANSWERS</script><script>
+const lines = document.getElementById("lines").textContent.trimEnd().split("\\n").filter(Boolean);
+const answer = answering(() => window, {});
+const start = performance.now();
+const replies = lines.map((line) => JSON.stringify(answer(line)) + "\\n").join("");
+document.body.textContent = JSON.stringify({ seconds: (performance.now() - start) / 1000, replies });
+</script></body>"""
 # Where Debian's node-jsdom stands.
 MODULES = "/usr/share/nodejs"
 
@@ -198,7 +205,7 @@ def by_jsdom(path):
     environment = {**os.environ, "NODE_PATH": os.pathsep.join(it for it in (os.environ.get("NODE_PATH"), MODULES) if it)}
     with open(path, "rb") as lines, tempfile.TemporaryFile() as replies:
         start = time.perf_counter()
-        done = subprocess.run(["node", JSDOM], stdin=lines, stdout=replies, stderr=subprocess.DEVNULL, env=environment, check=False)
+        done = subprocess.run(["node", f"{PLAYERS}/node.js", "jsdom", "jsdom"], stdin=lines, stdout=replies, stderr=subprocess.DEVNULL, env=environment, check=False)
         seconds = time.perf_counter() - start
         replies.seek(0)
         return seconds, replies.read().splitlines() if done.returncode == 0 else None
@@ -207,10 +214,9 @@ def by_jsdom(path):
 def by_chromium(path):
     """The seconds of Chromium's own DOM for a file of commands, within a page and without its start, and its replies."""
     with tempfile.NamedTemporaryFile("w", suffix=".html", encoding="utf-8") as page, open(path, encoding="utf-8") as lines:
-        text = content(PAGE).decode().replace("ANSWERS", content(ANSWERS).decode())
-        page.write(text.replace("LINES", lines.read()))
+        page.write(PAGE.replace("ANSWERS", content(f"{PLAYERS}/answers.js").decode()).replace("LINES", lines.read()))
         page.flush()
-        words = ["chromium-headless-shell", "--no-sandbox", "--disable-gpu", "--timeout=600000", "--dump-dom", f"file://{page.name}"]
+        words = [shutil.which("chromium-headless-shell") or "chromium", "--headless", "--no-sandbox", "--disable-gpu", "--timeout=600000", "--dump-dom", f"file://{page.name}"]
         done = subprocess.run(words, stdout=subprocess.PIPE, stderr=subprocess.DEVNULL, check=False)
     found = re.search(rb"<body>(\{.*\})</body>|<body>(\{.*\})\s", done.stdout, re.S)
     if not found:
