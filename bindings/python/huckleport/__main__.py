@@ -11,7 +11,7 @@ import os
 import sys
 from typing import IO, Callable, Iterator, List, Optional, Set, TypeVar
 
-from . import LibraryMissing, Session
+from . import LibraryMissing, Session, __version__
 from ._commands import COMMANDS
 from .errors import Error, NoSuchObject
 from .objects import SessionObject
@@ -156,6 +156,7 @@ def main(arguments: Optional[List[str]] = None) -> int:
     parser.add_argument("--numbers", type=int, default=4294967295, metavar="N", help="how many numbers each kind of object has")
     parser.add_argument("--line", type=int, default=1048576, metavar="BYTES", help="the longest line")
     parser.add_argument("--replies", action="store_true", help="show replies alone")
+    parser.add_argument("--version", action="version", version=f"huckleport {__version__}")
     given = parser.parse_args(arguments)
     for stream in (sys.stdout, sys.stderr):
         if hasattr(stream, "reconfigure"):

@@ -10,7 +10,7 @@
 from __future__ import annotations
 
 from contextlib import contextmanager
-from typing import Dict, Iterable, Iterator, List, NamedTuple, Optional, Tuple, cast
+from typing import Dict, Iterable, Iterator, List, NamedTuple, Optional, Set, Tuple, cast
 
 from .errors import NoSuchObject
 from .nodes import CharacterData, Element, Node
@@ -32,7 +32,13 @@ class State:
         self.pairs: Optional[Pairs] = None
 
     def read(self, node: Node, kind: str) -> None:
-        """Reads what a record's type names, as it is now."""
+        """Reads what a record's type names, as it is now. A node that was discarded has nothing."""
+        try:
+            self._read(node, kind)
+        except NoSuchObject:
+            pass
+
+    def _read(self, node: Node, kind: str) -> None:
         if kind == "childList" and self.children is None:
             self.children = node.child_nodes
         elif kind == "characterData" and self.data is None:
@@ -49,7 +55,7 @@ class State:
     def take_back(self, record: MutationRecord) -> None:
         """What it had before a record's change."""
         if record.type == "characterData":
-            self.data = record.old_value
+            self.data = None if self.data is None else record.old_value
         elif record.type == "attributes" and self.pairs is not None:
             self.pairs = without(self.pairs, cast(str, record.attribute_name), record.old_value)
         elif self.children is not None:
@@ -59,9 +65,9 @@ class State:
 
 def place_of(children: List[Node], record: MutationRecord) -> int:
     """Where a record's nodes came in or went."""
-    if record.previous_sibling is not None:
+    if record.previous_sibling in children:
         return children.index(record.previous_sibling) + 1
-    if record.next_sibling is not None:
+    if record.next_sibling in children:
         return children.index(record.next_sibling) - len(record.added_nodes)
     return 0
 
@@ -82,6 +88,27 @@ class Group(NamedTuple):
     after: Dict[Node, State]
     places_before: Dict[Range, Place]
     places_after: Dict[Range, Place]
+
+
+def parent_of(node: Node) -> Optional[Node]:
+    """The node above, where the node was not discarded."""
+    try:
+        return node.parent_node
+    except NoSuchObject:
+        return None
+
+
+def lend(before: Dict[Node, State], after: Dict[Node, State]) -> None:
+    """Adds what no record tells: the nodes that hold now what has to go back, since they were given it while they stood outside."""
+    back: Set[Node] = set()
+    for node, state in before.items():
+        back.update(set(state.children or ()).difference(after[node].children or ()))
+    for parent in {parent_of(child) for child in back}:
+        if parent is None or parent in after and after[parent].children is not None:
+            continue
+        now, was = after.setdefault(parent, State()), before.setdefault(parent, State())
+        now.children = parent.child_nodes
+        was.children = [it for it in now.children if it not in back]
 
 
 def narrow(one: State, other: State) -> None:
@@ -241,9 +268,11 @@ class History:
 
     def _learn(self, node: Node) -> None:
         """Learns the orders of attributes of a node and what stands below it."""
-        for row in node.tree():
-            if row.attributes:
-                self._orders[row.node] = [name for name, _ in row.attributes]
+        try:
+            rows = node.tree()
+        except NoSuchObject:
+            return
+        self._orders.update((row.node, [name for name, _ in row.attributes]) for row in rows if row.attributes)
 
     def _states(self, records: List[MutationRecord]) -> Tuple[Dict[Node, State], Dict[Node, State]]:
         """What the nodes of records had before these, and what they have now."""
@@ -253,6 +282,7 @@ class History:
         before = {node: state.copy() for node, state in after.items()}
         for it in reversed(records):
             before[it.target].take_back(it)
+        lend(before, after)
         for node, state in before.items():
             if state.pairs is not None:
                 order = self._orders.get(node, [])

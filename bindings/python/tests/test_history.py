@@ -59,6 +59,14 @@ class Editor:
             parent.parent_node.insert_before(child, parent)
             child.append_child(parent)
 
+    def wrap(self):
+        """A node goes into another that is put in its place then."""
+        node = self.pick(h.Node)
+        if node is not self.root:
+            parent, behind, wrapper = node.parent_node, node.next_sibling, self.document.create_element("w")
+            wrapper.append_child(node)
+            parent.insert_before(wrapper, behind)
+
     def empty(self):
         found = self.pick(h.Element)
         if found is not self.root:
@@ -97,7 +105,7 @@ class Editor:
         self.edit()
 
 
-EDITS = "put put put_several remove move swap empty text text split join attribute attribute cut mark mark both".split()
+EDITS = "put put put_several remove move swap wrap empty text text split join attribute attribute cut mark mark both".split()
 
 
 class Histories(unittest.TestCase):
@@ -149,6 +157,7 @@ class Histories(unittest.TestCase):
             self.assertTrue(history.undo())
             self.assertEqual(seen(self.document, ranges), states[at], at)
         self.assertFalse(history.undo())
+        self.assertFalse(history.can_undo)
         for at in range(1, len(states)):
             self.assertTrue(history.redo())
             self.assertEqual(seen(self.document, ranges), states[at], at)

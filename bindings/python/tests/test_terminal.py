@@ -4,6 +4,7 @@ import subprocess
 import sys
 import unittest
 
+import huckleport
 from huckleport.__main__ import coloured, words
 
 HERE = os.path.dirname(os.path.dirname(os.path.abspath(__file__)))
@@ -40,6 +41,9 @@ class Terminal(unittest.TestCase):
     def test_help(self):
         said = run(b"help\n").stdout.decode()
         self.assertIn("insertBefore parent node child?", said)
+
+    def test_version(self):
+        self.assertEqual(run(b"", "--version").stdout.decode(), f"huckleport {huckleport.__version__}\n")
 
     def test_words(self):
         self.assertEqual(words('a 0 "b c" true null [1,2] d"e 1x'), ["a", 0, "b c", True, None, [1, 2], 'd"e', "1x"])
