@@ -138,7 +138,7 @@ function traverse(iterator, course) {
 
 export function createNodeIterator(document, root, show, filter) {
   const its = new IteratorIs(root, show, filter);
-  const made = makeThing(its, realmOf(document).interfaces.NodeIterator);
+  const made = makeThing(realmOf(document), "NodeIterator", its);
   its.session.releaseWith("hp_release_iterator", made, its.number);
   if (its.probe !== NONE) its.session.releaseWith("hp_release_walker", made, its.probe);
   return made;
@@ -330,7 +330,7 @@ function walked(move) {
 
 export function createTreeWalker(document, root, show, filter) {
   const its = new WalkerIs(root, show, filter);
-  const made = makeThing(its, realmOf(document).interfaces.TreeWalker);
+  const made = makeThing(realmOf(document), "TreeWalker", its);
   if (its.number !== NONE) its.session.releaseWith("hp_release_walker", made, its.number);
   return made;
 }
