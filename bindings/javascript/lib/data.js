@@ -66,7 +66,7 @@ function wholeText(text) {
 }
 
 /** `new Text()` and `new Comment()` make a node of the window's Document. */
-const constructed = (make) => [['DOMString = ""'], (realm, target, data) => realm.constructed(target, make(realm.document, data))];
+const constructed = (make) => [['DOMString = ""'], (realm, data) => make(realm.document, data)];
 
 export const Text = known({
   name: "Text",

@@ -113,7 +113,7 @@ class ImplementationIs {
 const implementationOf = (it) => thingOf(it, ImplementationIs);
 
 const implementation = (document) =>
-  (keptOf(document).implementation ??= makeThing(new ImplementationIs(document), realmOf(document).interfaces.DOMImplementation));
+  (keptOf(document).implementation ??= makeThing(realmOf(document), "DOMImplementation", new ImplementationIs(document)));
 
 function createDocument(it, namespace, qualified, doctype) {
   const { document } = implementationOf(it);
@@ -169,7 +169,7 @@ export const DocumentFragment = known({
   name: "DocumentFragment",
   parent: "Node",
   is: (it) => isNode(it) && kindOf(it) === FRAGMENT,
-  construct: [[], (realm, target) => realm.constructed(target, createFragment(realm.document))],
+  construct: [[], (realm) => createFragment(realm.document)],
   attributes: parentNode.attributes,
   operations: { getElementById: [["DOMString"], getElementById], ...parentNode.operations },
   hidden: parentNode.hidden,
@@ -182,7 +182,7 @@ export const Document = known({
   name: "Document",
   parent: "Node",
   is: (it) => isNode(it) && kindOf(it) === DOCUMENT,
-  construct: [[], (realm, target) => realm.constructed(target, newDocument(sessionOf(realm.document), xmlIs(realm)))],
+  construct: [[], (realm) => newDocument(sessionOf(realm.document), xmlIs(realm))],
   attributes: {
     implementation,
     URL: (document) => isOf(document).url,

@@ -69,9 +69,9 @@ export const DOMException = known({
   is: (it) => exceptionOf(it) !== undefined,
   construct: [
     ['DOMString = ""', "DOMString = undefined"],
-    (realm, target, message, name = "Error") => {
-      const made = makeThing(new ExceptionIs(message, name), target);
-      Error.captureStackTrace(made, target);
+    (realm, message, name = "Error") => {
+      const made = makeThing(realm, "DOMException", new ExceptionIs(message, name));
+      Error.captureStackTrace(made, made.constructor);
       return made;
     },
   ],

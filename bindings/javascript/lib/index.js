@@ -1,7 +1,7 @@
 /** The package: the standard's interfaces over the core, Documents, windows, and Documents in and out. */
 import { has, Session as Core } from "./core.js";
 import { furnish, htmlIs, newDocument, xmlIs } from "./documents.js";
-import { readFragment, readHTML, readXML, serialize, treeAdapter } from "./parsing.js";
+import { readFragment, readHTML, readXML, serialize, treeAdapter as adapterOf } from "./parsing.js";
 import { firstDocument, Realm } from "./realm.js";
 import { numberIn, sessionOf, settleAll, wrap } from "./wrappers.js";
 
@@ -123,4 +123,10 @@ export function parseXML(xml, { document = createDocument({ xml: true }) } = {})
   return realm.guarded(() => readXML(document, `${xml}`));
 }
 
-export { serialize, treeAdapter };
+/** A tree adapter for parse5, for a program that drives the parser itself: how a Document's tree is built and read. */
+export function treeAdapter(document) {
+  const guarded = ([name, does]) => [name, (...given) => realm.guarded(() => does(...given))];
+  return Object.fromEntries(Object.entries(adapterOf(document)).map(guarded));
+}
+
+export { serialize };

@@ -48,7 +48,7 @@ class RecordIs {
 const recordOf = (it) => thingOf(it, RecordIs);
 
 const recordsOf = (realm, session, told) =>
-  realm.array(told.map((it) => makeThing(new RecordIs(realm, session, it), realm.interfaces.MutationRecord)));
+  realm.array(told.map((it) => makeThing(realm, "MutationRecord", new RecordIs(realm, session, it))));
 
 const MEMBERS = "type target addedNodes removedNodes previousSibling nextSibling attributeName attributeNamespace oldValue".split(" ");
 
@@ -173,7 +173,7 @@ function call(observer, records) {
 export const MutationObserver = known({
   name: "MutationObserver",
   is: (it) => observerOf(it) !== undefined,
-  construct: [["Function"], (realm, target, callback) => makeThing(new ObserverIs(realm, callback), target)],
+  construct: [["Function"], (realm, callback) => makeThing(realm, "MutationObserver", new ObserverIs(realm, callback))],
   operations: {
     observe: [["Node", "MutationObserverInit = {}"], observe],
     disconnect: [[], disconnect],

@@ -56,25 +56,26 @@ function hold(its) {
   its.end = end === start ? its.start : wrap(its.session, end);
 }
 
-function ranged(session, its, call, target) {
-  const made = makeThing(its, target);
+function ranged(name, its, call) {
+  const { realm, session } = its;
+  const made = makeThing(realm, name, its);
   hold(its);
   session.releaseWith(call, made, its.number);
   return made;
 }
 
-const made = (realm, session, target) => ranged(session, new RangeIs(realm, session, out[0]), "hp_release_range", target);
+const made = (realm, session) => ranged("Range", new RangeIs(realm, session, out[0]), "hp_release_range");
 
-export function createRange(document, target = realmOf(document).interfaces.Range) {
+export function createRange(document) {
   const session = sessionOf(document);
   check(native.hp_create_range(session.index, numberOf(document)));
-  return made(realmOf(document), session, target);
+  return made(realmOf(document), session);
 }
 
 function cloneRange(range) {
   const { realm, session, number } = rangeOf(range);
   check(native.hp_clone_range(session.index, number));
-  return made(realm, session, realm.interfaces.Range);
+  return made(realm, session);
 }
 
 /** A call that sets ends. */
@@ -181,11 +182,11 @@ export const StaticRange = known({
   is: (it) => thingOf(it, StaticRangeIs) !== undefined,
   construct: [
     ["StaticRangeInit"],
-    (realm, target, [endContainer, endOffset, startContainer, startOffset]) => {
+    (realm, [endContainer, endOffset, startContainer, startOffset]) => {
       const session = sessionOf(startContainer);
       const words = [numberOf(startContainer), startOffset, numberIn(session, endContainer), endOffset];
       check(native.hp_create_static_range(session.index, ...words));
-      return ranged(session, new StaticRangeIs(realm, session, out[0]), "hp_release_static_range", target);
+      return ranged("StaticRange", new StaticRangeIs(realm, session, out[0]), "hp_release_static_range");
     },
   ],
 });
@@ -194,7 +195,7 @@ export const Range = known({
   name: "Range",
   parent: "AbstractRange",
   is: (it) => rangeOf(it) !== undefined,
-  construct: [[], (realm, target) => createRange(realm.document, target)],
+  construct: [[], (realm) => createRange(realm.document)],
   constants: { START_TO_START: 0, START_TO_END: 1, END_TO_END: 2, END_TO_START: 3 },
   attributes: { commonAncestorContainer: commonAncestor },
   operations: {

@@ -11,7 +11,7 @@ import { MutationObserver, MutationRecord } from "./observers.js";
 import { AbstractRange, Range, StaticRange } from "./ranges.js";
 import { FILTER_CONSTANTS, NodeIterator, TreeWalker } from "./traversal.js";
 import { makeInterface } from "./webidl.js";
-import { wrapDocument } from "./wrappers.js";
+import { Thing, wrapDocument, Wrapper } from "./wrappers.js";
 
 /** The interfaces, each behind the one that it inherits from. */
 const TABLES = [
@@ -21,6 +21,9 @@ const TABLES = [
 ];
 
 Object.assign(Node.operations, lookups);
+
+/** Whether an interface is Node or inherits from it. */
+const isOfNodes = (table) => table !== undefined && (table === Node || isOfNodes(TABLES.find((it) => it.name === table.parent)));
 
 /** NodeFilter has constants alone. */
 function nodeFilter(realm) {
@@ -47,6 +50,8 @@ const KINDS = {
 
 export class Realm {
   interfaces = {};
+  /** The classes that make objects: of each interface by its name, and of nodes by their kinds. */
+  makers = {};
   kinds = [];
   #document = null;
 
@@ -54,8 +59,8 @@ export class Realm {
   constructor({ global = globalThis, report = later } = {}) {
     this.global = global;
     this.report = report;
-    for (const table of TABLES) this.interfaces[table.name] = makeInterface(this, table);
-    for (const [kind, name] of Object.entries(KINDS)) this.kinds[kind] = this.interfaces[name];
+    for (const table of TABLES) this.interfaces[table.name] = makeInterface(this, table, isOfNodes(table) ? Wrapper : Thing);
+    for (const [kind, name] of Object.entries(KINDS)) this.kinds[kind] = this.makers[name];
     this.interfaces.NodeFilter = nodeFilter(this);
   }
 

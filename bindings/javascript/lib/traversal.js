@@ -138,7 +138,7 @@ function traverse(iterator, course) {
 
 export function createNodeIterator(document, root, show, filter) {
   const its = new IteratorIs(root, show, filter);
-  const made = makeThing(its, realmOf(document).interfaces.NodeIterator);
+  const made = makeThing(realmOf(document), "NodeIterator", its);
   its.session.releaseWith("hp_release_iterator", made, its.number);
   if (its.probe !== NONE) its.session.releaseWith("hp_release_walker", made, its.probe);
   return made;
@@ -268,19 +268,20 @@ function lastBelow(its, start) {
   return { node, verdict };
 }
 
+/** The nodes ahead of a node among its siblings and what is in them, backwards: where that ends, and whether with one that is accepted. */
+function backwards(its, start) {
+  let last = { node: start, verdict: SKIP };
+  for (let sibling = previousOf(start); sibling && last.verdict !== ACCEPT; sibling = previousOf(last.node)) last = lastBelow(its, sibling);
+  return last;
+}
+
 function toPrevious(its) {
   let node = its.current;
-  while (node !== its.root) {
-    let sibling = previousOf(node);
-    while (sibling) {
-      const last = lastBelow(its, sibling);
-      node = last.node;
-      if (last.verdict === ACCEPT) return its.set(node);
-      sibling = previousOf(node);
-    }
-    node = node === its.root ? null : parentOf(node);
-    if (!node) return null;
-    if (its.verdict(node) === ACCEPT) return its.set(node);
+  while (node && node !== its.root) {
+    const last = backwards(its, node);
+    if (last.verdict === ACCEPT) return its.set(last.node);
+    node = last.node === its.root ? null : parentOf(last.node);
+    if (node && its.verdict(node) === ACCEPT) return its.set(node);
   }
   return null;
 }
@@ -330,7 +331,7 @@ function walked(move) {
 
 export function createTreeWalker(document, root, show, filter) {
   const its = new WalkerIs(root, show, filter);
-  const made = makeThing(its, realmOf(document).interfaces.TreeWalker);
+  const made = makeThing(realmOf(document), "TreeWalker", its);
   if (its.number !== NONE) its.session.releaseWith("hp_release_walker", made, its.number);
   return made;
 }

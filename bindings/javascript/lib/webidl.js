@@ -221,22 +221,28 @@ function constructorOf(realm, table) {
   const [types, construct] = table.construct ?? [[], null];
   const required = requiredOf(types);
   const convert = conversion(types);
-  return class {
-    constructor(...given) {
-      if (!construct) throw new realm.global.TypeError("Illegal constructor");
-      if (given.length < required) throw realm.tooFew(required);
-      try {
-        return construct(realm, new.target, ...convert(given));
-      } catch (fault) {
-        throw realm.thrown(fault);
-      }
+  const made = function (...given) {
+    if (!construct || new.target === undefined) throw new realm.global.TypeError("Illegal constructor");
+    if (given.length < required) throw realm.tooFew(required);
+    try {
+      return realm.constructed(new.target, construct(realm, ...convert(given)));
+    } catch (fault) {
+      throw realm.thrown(fault);
     }
   };
+  return named(made, table.name, required);
 }
 
-/** Makes an interface of a realm. */
-export function makeInterface(realm, table) {
-  const made = named(constructorOf(realm, table), table.name, table.construct ? requiredOf(table.construct[0]) : 0);
+/**
+ * Makes an interface of a realm. Its objects are made by a class of the realm's own, with the fields of a base; the interface object has the same
+ * prototype, so that programs see it alone.
+ */
+export function makeInterface(realm, table, Base) {
+  const made = constructorOf(realm, table);
+  const Maker = class extends Base {};
+  realm.makers[table.name] = Maker;
+  Object.defineProperty(made, "prototype", { value: Maker.prototype, writable: false });
+  Object.defineProperty(Maker.prototype, "constructor", { value: made, writable: true, configurable: true });
   const parent = table.parent ? realm.interfaces[table.parent] : null;
   Object.setPrototypeOf(made, parent ?? realm.global.Function.prototype);
   Object.setPrototypeOf(made.prototype, parent ? parent.prototype : realm.global.Object.prototype);

@@ -9,7 +9,7 @@ import { check, DOCUMENT, FRAGMENT, native, NONE, OK, out, Refusal } from "./cor
 export let isNode, sessionOf, numberOf, kindOf, realmOf, keptOf, hasWrappedChildren;
 let place, loosen, wrappedChildren;
 
-class Wrapper {
+export class Wrapper {
   #session;
   #number;
   #kind;
@@ -72,8 +72,8 @@ class Wrapper {
 }
 
 function make(session, number, kind, realm) {
-  const its = kind === DOCUMENT && documentIs(session, number).isXMLDocument ? realm.interfaces.XMLDocument : realm.kinds[kind];
-  const made = Reflect.construct(Wrapper, [session, number, kind, realm], its);
+  const Maker = kind === DOCUMENT && documentIs(session, number).isXMLDocument ? realm.makers.XMLDocument : realm.kinds[kind];
+  const made = new Maker(session, number, kind, realm);
   session.keep(made, number);
   return made;
 }
@@ -177,7 +177,7 @@ export function arrive(nodes, parent) {
 export let thingOf;
 
 /** An object of an interface that is no node, with what it knows. */
-class Thing {
+export class Thing {
   #its;
 
   constructor(its) {
@@ -193,4 +193,4 @@ class Thing {
 }
 
 /** Makes such an object; what it knows is an instance of a class, by which its brand is told. */
-export const makeThing = (its, newTarget) => Reflect.construct(Thing, [its], newTarget);
+export const makeThing = (realm, name, its) => new realm.makers[name](its);

@@ -338,6 +338,16 @@ static uint8_t size_of_records(hp_session *session, size_t notice, size_t count,
     return status;
 }
 
+/* A call that tells a node of a record by its place. */
+typedef uint8_t node_at(hp_session *session, size_t notice, size_t index, size_t at, uint32_t *node);
+
+static uint32_t *write_nodes(hp_session *session, size_t notice, size_t index, node_at *told, size_t count, uint32_t *to)
+{
+    for (size_t at = 0; at < count; at++)
+        told(session, notice, index, at, to++);
+    return to;
+}
+
 /* Writes a record, and answers where the next begins. */
 static uint32_t *write_record(hp_session *session, size_t notice, size_t at, uint32_t *to)
 {
@@ -349,11 +359,8 @@ static uint32_t *write_record(hp_session *session, size_t notice, size_t at, uin
     *to++ = (uint32_t)record.removed;
     *to++ = record.previous;
     *to++ = record.next;
-    for (size_t node = 0; node < record.added; node++)
-        hp_record_added_at(session, notice, at, node, to++);
-    for (size_t node = 0; node < record.removed; node++)
-        hp_record_removed_at(session, notice, at, node, to++);
-    return to;
+    to = write_nodes(session, notice, at, hp_record_added_at, record.added, to);
+    return write_nodes(session, notice, at, hp_record_removed_at, record.removed, to);
 }
 
 /* records(session, notice, count): the records of a notice in a new Uint32Array, or a status. */
@@ -411,16 +418,21 @@ static const entry OWN[] = {
     { "held", call_held },
 };
 
-static void take_down(napi_env env, void *data, void *hint)
+static void close_all(addon *its)
 {
-    addon *its = data;
-    (void)env;
-    (void)hint;
     for (uint32_t at = 0; at < its->count; at++)
         if (its->sessions[at]) {
             hp_close(its->sessions[at]);
             free(its->sessions[at]);
         }
+}
+
+static void take_down(napi_env env, void *data, void *hint)
+{
+    addon *its = data;
+    (void)env;
+    (void)hint;
+    close_all(its);
     for (size_t at = 0; at < TEXTS; at++)
         free(its->texts[at]);
     free(its->sessions);

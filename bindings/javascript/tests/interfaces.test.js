@@ -192,6 +192,49 @@ test("names have namespaces and prefixes", () => {
   assert.deepEqual([xml.tagName, xml.namespaceURI], ["Ab", null]);
 });
 
+test("namespaces are looked up from a node upwards", () => {
+  const { document } = scene();
+  const outer = document.documentElement.appendChild(document.createElementNS("one", "a:b"));
+  const inner = outer.appendChild(document.createElementNS("two", "c"));
+  const text = inner.appendChild(document.createTextNode("t"));
+  outer.setAttributeNS("http://www.w3.org/2000/xmlns/", "xmlns:d", "three");
+  assert.equal(text.lookupNamespaceURI("a"), "one");
+  assert.equal(text.lookupNamespaceURI("d"), "three");
+  assert.equal(text.lookupNamespaceURI(null), "two");
+  assert.equal(text.lookupPrefix("three"), "d");
+  assert.equal(text.lookupPrefix("two"), null);
+  assert.ok(inner.isDefaultNamespace("two") && !inner.isDefaultNamespace(""));
+  assert.ok(document.isDefaultNamespace(HTML));
+  assert.equal(document.createDocumentFragment().lookupNamespaceURI("xml"), null);
+});
+
+test("elements by class names, and insertion beside an element", () => {
+  const { document, paragraph, first } = scene();
+  const made = document.createElement("b");
+  assert.equal(paragraph.insertAdjacentElement("AfterBegin", made), made);
+  assert.equal(paragraph.firstChild, made);
+  made.insertAdjacentText("afterend", "x");
+  assert.equal(made.nextSibling.data, "x");
+  assert.equal(document.createElement("i").insertAdjacentElement("beforebegin", document.createElement("u")), null);
+  refused("SyntaxError", 12, () => made.insertAdjacentText("inside", "x"));
+  made.className = " one\ttwo ";
+  assert.deepEqual([...document.getElementsByClassName("two one")], [made]);
+  assert.deepEqual([...document.getElementsByClassName("one three")], []);
+  assert.equal(document.getElementsByClassName(" ").length, 0);
+  assert.equal(first.parentNode, paragraph);
+});
+
+test("a constructor makes objects of the class that is called", () => {
+  class Named extends huckleport.Text {
+    name = "mine";
+  }
+  const made = new Named("t");
+  assert.deepEqual([made.data, made.name, made.nodeType], ["t", "mine", 3]);
+  assert.ok(made instanceof Named && made instanceof huckleport.CharacterData);
+  assert.ok(huckleport.createDocument() instanceof huckleport.Document);
+  assert.ok(createDocument().implementation.createDocument(null, "a") instanceof huckleport.XMLDocument);
+});
+
 test("live ranges follow edits, and wrappers follow contents", () => {
   const { document, paragraph, first, second } = scene();
   const mark = paragraph.insertBefore(document.createElement("b"), second);
