@@ -12,12 +12,26 @@ use dom_tree::NodeId;
 use std::alloc::{AllocError, Global};
 
 impl World {
+    // Makes the index of a node known where an end stands in its parent. The ends asked for it, and will ask for those of its siblings.
+    fn find_index(&mut self, node: NodeId)
+        requires { HasNode self.old.tree.forest node }
+        ensures { self.new ≡ self.old }
+    {
+        let Some(parent) = self.tree.parent(node) else {
+            return;
+        };
+        if self.ranges.stands_in(parent) {
+            let _ = self.tree.found_index(node);
+        }
+    }
+
     // Iterators give way, and then the node becomes a root.
     fn cut_out(&mut self, node: NodeId)
         requires held { HasNode self.old.tree.forest node }
         requires child { IsSome (parent_of self.old.tree.forest node) }
         ensures { self.new ≡ record self.old { tree = record self.old.tree { forest = cut node self.old.tree.forest }; iterators = pre_removed_all self.old.tree.forest node self.old.iterators } }
     {
+        self.find_index(node);
         self.iterators.removing(&self.tree, node);
         self.tree.cut(node);
     }
