@@ -16,7 +16,7 @@ use Rattle.dom_observe.proofs.Keeping.{found-ended, stand-ended}
 
 module _ (u : ℕ → Option Registration) (o node : ℕ) where
   -- the first key with the observer's registration has it
-  find_own : (keys : List ℕ) (key : ℕ) → find (own_at u o node) keys ≡ Some key → own_at u o node key ≡ true
+  pub find_own : (keys : List ℕ) (key : ℕ) → find (own_at u o node) keys ≡ Some key → own_at u o node key ≡ true
   find_own [] key h = cc h
   find_own (k ∷ keys) key h = go (own_at u o node k) refl h (find_own keys key)
     where

@@ -211,10 +211,10 @@ module _ (p : ℕ → Bool) where
       go None e h = rw e (or_from (p node) (p r.node || false) here (let k = rw e at h in k))
       go (Some n) e h = rw e (or_from (p node) (p n || false) here (let k = rw e at h in (or_parts (p r.node) (p n || false) k).1))
 
-  pub none-made : (u0 u : ℕ → Option Registration) (node : ℕ) (standing : List ℕ) (i d : ℕ) → i < length standing → AllByRecursion (λ k. u k ≡ u0 k) standing → (r : Registration)
-      → transient_under u node (slice_index_or standing i d) ≡ Some r → p node ≡ false → AllByRecursion (λ k. names_one p (u0 k) ≡ false) standing → list_any p (nodes_of_registration r) ≡ false
-  none-made u0 u node standing i d lt alike r some here none =
-      let s = transient_shape node (u (slice_index_or standing i d)) r some in
+  pub none-made : (u0 u : ℕ → Option Registration) (own : List ℕ) (node : ℕ) (standing : List ℕ) (i d : ℕ) → i < length standing → AllByRecursion (λ k. u k ≡ u0 k) standing → (r : Registration)
+      → transient_under u own node (slice_index_or standing i d) ≡ Some r → p node ≡ false → AllByRecursion (λ k. names_one p (u0 k) ≡ false) standing → list_any p (nodes_of_registration r) ≡ false
+  none-made u0 u own node standing i d lt alike r some here none =
+      let s = transient_shape u own node (u (slice_index_or standing i d)) r some in
       let source : names_one p (Some s.0) ≡ false = ap (names_one p) (sym s.1 ∙ all_at (λ k. u k ≡ u0 k) standing i d alike lt) ∙ all_at (λ k. names_one p (u0 k) ≡ false) standing i d none lt in
       ap (λ t. list_any p (nodes_of_registration t)) (sym s.2) ∙ none-transient node s.0 here source
 

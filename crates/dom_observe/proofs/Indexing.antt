@@ -109,9 +109,9 @@ module _ (u v : ℕ → Option Registration) (lists lists' : List (ℕ × List �
   }
 
 -- whom a transient registration that is made belongs to, and that it has a source
-pub made-transient : (u0 u : ℕ → Option Registration) (node : ℕ) (standing : List ℕ) (i d : ℕ) → i < length standing → AllByRecursion (λ k. u k ≡ u0 k) standing → (r : Registration) → transient_under u node (slice_index_or standing i d) ≡ Some r
+pub made-transient : (u0 u : ℕ → Option Registration) (own : List ℕ) (node : ℕ) (standing : List ℕ) (i d : ℕ) → i < length standing → AllByRecursion (λ k. u k ≡ u0 k) standing → (r : Registration) → transient_under u own node (slice_index_or standing i d) ≡ Some r
     → ((made : ℕ) → AllByRecursion (Stands u0 made) standing → r.observer < made) × (is_some r.source ≡ true)
-made-transient u0 u node standing i d lt alike r some = (
+made-transient u0 u own node standing i d lt alike r some = (
   (λ made bounded.
       let at_key = all_at (Stands u0 made) standing i d bounded lt in
       let same_one : Some s.0 ≡ Some at_key.registration = sym s.1 ∙ all_at (λ k. u k ≡ u0 k) standing i d alike lt ∙ at_key.is in
@@ -121,7 +121,7 @@ made-transient u0 u node standing i d lt alike r some = (
 )
   where
     s : (s : Registration) × (u (slice_index_or standing i d) ≡ Some s) × (transient_of node s ≡ r)
-    s = transient_shape node (u (slice_index_or standing i d)) r some
+    s = transient_shape u own node (u (slice_index_or standing i d)) r some
 
 -- An observer is disconnected: what lasts ends, and then what does not.
 module _ (u v w : ℕ → Option Registration) (lists lists1 lists2 : List (ℕ × List ℕ)) (ls ls' ps ps' : List (List ℕ)) (some : List ℕ) (made o : ℕ) (ix : IsIndexed u lists ls ps some made) (lt : o < made)

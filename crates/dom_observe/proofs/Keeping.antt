@@ -10,14 +10,16 @@ use Rattle.std.proofs.lemmas.Bool.{cases_lt, true≢false}
 use Rattle.slab.specs.Slab.{Slab}
 use Rattle.dom_model.specs.PlainLists.Lists.{among}
 use Rattle.dom_model.specs.Worlds.World.{Registration}
-use Rattle.dom_model.specs.MutationObservers.Observing.{registered_on, standing_on, transient_of}
+use Rattle.dom_model.specs.MutationObservers.Observing.{registered_on}
 use Rattle.dom_model.specs.MutationObservers.Record.{Record}
 use Rattle.dom_model.proofs.PlainLists.Numbers.{Same, same_or, same, apart}
 use Rattle.dom_observe.specs.declared.registration.Registration as held
 use Rattle.dom_observe.specs.declared.registration.Ended.{Ended}
+use Rattle.dom_observe.specs.Once.{once}
 use Rattle.dom_observe.specs.Watchers.{on}
-use Rattle.dom_observe.specs.Registrations.{at, found, listed, spares, left_by, is_live, Stands, StandsOn, AllStand, HaveKeys, deep_at, with_added_transients}
+use Rattle.dom_observe.specs.Registrations.{at, found, listed, spares, left_by, is_live, Stands, StandsOn, AllStand, HaveKeys, deep_at}
 use Rattle.dom_observe.specs.Kept.{nodes_of, keys_by, IsKept}
+use Rattle.dom_observe.proofs.Once.{once-none}
 use Rattle.dom_observe.proofs.Tables.{all_imply, all_append, all_filter}
 
 -- what a function makes of each list, and of no list nothing
@@ -154,20 +156,23 @@ pub stands_of : (u : ℕ → Option Registration) (made : ℕ) (n : ℕ) (keys :
 stands_of u made n keys h = all_imply (StandsOn u made n) (Stands u made) (λ k s. record { registration = s.registration; is = s.is; observer = s.observer }) keys h
 
 -- the registrations that stand on several nodes
-pub found_standing : (u : ℕ → Option Registration) (lists : List (ℕ × List ℕ)) (rs : List Registration) → ((n : ℕ) → filter_map u (on n lists) ≡ registered_on n rs) → (ns : List ℕ)
-    → filter_map u (flat_map (λ n. on n lists) ns) ≡ standing_on ns rs
+pub found_standing : (u : ℕ → Option Registration) (lists : List (ℕ × List ℕ)) (rs : List Registration) → ((n : ℕ) → filter_map u (on n lists) ≡ once (registered_on n rs)) → (ns : List ℕ)
+    → filter_map u (flat_map (λ n. on n lists) ns) ≡ flat_map (λ n. once (registered_on n rs)) ns
 found_standing u lists rs has [] = refl
 found_standing u lists rs has (n ∷ ns) =
     filter_map-append u (on n lists) (flat_map (λ m. on m lists) ns) ∙ (λ i. has n i ++ found_standing u lists rs has ns i)
 
 -- where no node has a registration there is none
-pub nobody : (rs : List Registration) → ((n : ℕ) → registered_on n rs ≡ []) → rs ≡ []
-nobody [] h = refl
-nobody (r ∷ rs) h =
-    elim (same_or r.node r.node) [
-      | same e t ↦ let k = rw t at (h r.node) in cc k
-      | apart ne t ↦ absurd (ne refl)
-    ]
+pub nobody : (rs : List Registration) → ((n : ℕ) → once (registered_on n rs) ≡ []) → rs ≡ []
+nobody rs h = go rs (λ n. once-none (registered_on n rs) (h n))
+  where
+    go : (ss : List Registration) → ((n : ℕ) → registered_on n ss ≡ []) → ss ≡ []
+    go [] h = refl
+    go (r ∷ ss) h =
+        elim (same_or r.node r.node) [
+          | same e t ↦ let k = rw t at (h r.node) in cc k
+          | apart ne t ↦ absurd (ne refl)
+        ]
 
 -- where no node has a registration, none is listed
 pub none_listed : {A : Type 0} (table : Slab held.Registration) (entries : List (ℕ × Vec ℕ A)) (made : ℕ) → AllStand (at table) made (listed entries) → HaveKeys (listed entries)
@@ -190,13 +195,13 @@ none_listed table (e ∷ es) made stand full none = absurd (go e.1.items refl)
         cc some
 
 -- those with subtree
-pub found_deep : (u : ℕ → Option Registration) (lists : List (ℕ × List ℕ)) (rs : List Registration) → ((n : ℕ) → filter_map u (on n lists) ≡ registered_on n rs) → (ns : List ℕ)
-    → filter_map u (flat_map (λ n. filter (deep_at u) (on n lists)) ns) ≡ filter (λ (r : Registration). r.options.subtree) (standing_on ns rs)
+pub found_deep : (u : ℕ → Option Registration) (lists : List (ℕ × List ℕ)) (rs : List Registration) → ((n : ℕ) → filter_map u (on n lists) ≡ once (registered_on n rs)) → (ns : List ℕ)
+    → filter_map u (flat_map (λ n. filter (deep_at u) (on n lists)) ns) ≡ filter (λ (r : Registration). r.options.subtree) (flat_map (λ n. once (registered_on n rs)) ns)
 found_deep u lists rs has [] = refl
 found_deep u lists rs has (n ∷ ns) =
     filter_map-append u (filter (deep_at u) (on n lists)) (flat_map (λ m. filter (deep_at u) (on m lists)) ns)
     ∙ (λ i. (deep (on n lists) ∙ ap (filter (λ (r : Registration). r.options.subtree)) (has n)) i ++ found_deep u lists rs has ns i)
-    ∙ sym (filter-append (λ (r : Registration). r.options.subtree) (registered_on n rs) (standing_on ns rs))
+    ∙ sym (filter-append (λ (r : Registration). r.options.subtree) (once (registered_on n rs)) (flat_map (λ m. once (registered_on m rs)) ns))
   where
     deep : (keys : List ℕ) → filter_map u (filter (deep_at u) keys) ≡ filter (λ (r : Registration). r.options.subtree) (filter_map u keys)
     deep [] = refl
@@ -210,21 +215,6 @@ found_deep u lists rs has (n ∷ ns) =
             by : (b : Bool) → filter_map u (cond b (k ∷ filter (deep_at u) keys) (filter (deep_at u) keys)) ≡ cond b (r ∷ filter (λ (s : Registration). s.options.subtree) (filter_map u keys)) (filter (λ (s : Registration). s.options.subtree) (filter_map u keys))
             by true = ap (λ o. cons_option o (filter_map u (filter (deep_at u) keys))) e ∙ ap (λ rs. r ∷ rs) i
             by false = i
-
--- their transient registrations are those of all
-pub deep-enough : (node n : ℕ) (ss rs : List Registration) → with_added_transients node (filter (λ (r : Registration). r.options.subtree) ss) n rs ≡ with_added_transients node ss n rs
-deep-enough node n ss rs = ap (λ ds. rs ++ (if node == n then map (transient_of node) ds else [])) (twice ss)
-  where
-    twice : (xs : List Registration) → filter (λ (r : Registration). r.options.subtree) (filter (λ (r : Registration). r.options.subtree) xs) ≡ filter (λ (r : Registration). r.options.subtree) xs
-    twice [] = refl
-    twice (x ∷ xs) = go x.options.subtree refl (twice xs)
-      where
-        go : (b : Bool) → x.options.subtree ≡ b → filter (λ (r : Registration). r.options.subtree) (filter (λ (r : Registration). r.options.subtree) xs) ≡ filter (λ (r : Registration). r.options.subtree) xs
-            → filter (λ (r : Registration). r.options.subtree) (cond b (x ∷ filter (λ (r : Registration). r.options.subtree) xs) (filter (λ (r : Registration). r.options.subtree) xs)) ≡ cond b (x ∷ filter (λ (r : Registration). r.options.subtree) xs) (filter (λ (r : Registration). r.options.subtree) xs)
-        go true e i =
-            ap (λ b. cond b (x ∷ filter (λ (r : Registration). r.options.subtree) (filter (λ (r : Registration). r.options.subtree) xs)) (filter (λ (r : Registration). r.options.subtree) (filter (λ (r : Registration). r.options.subtree) xs))) e
-            ∙ ap (λ ys. x ∷ ys) i
-        go false e i = i
 
 pub set_same : {A : Type 0} (xs : List A) (i : ℕ) (d : A) → slice_set xs i (slice_index_or xs i d) ≡ xs
 set_same [] zero d = refl

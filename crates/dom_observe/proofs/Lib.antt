@@ -1,4 +1,5 @@
 pub mod Again
+pub mod Agreeing
 pub mod Asked
 pub mod Counting
 pub mod EndedOnes
@@ -13,10 +14,12 @@ pub mod Keyed
 pub mod Keys
 pub mod Named
 pub mod NamedRecords
+pub mod Once
 pub mod Outcomes
 pub mod Owning
 pub mod Queued
 pub mod Sources
 pub mod Tables
+pub mod Transients
 pub mod Waiting
 pub mod Watching

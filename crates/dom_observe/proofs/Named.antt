@@ -14,8 +14,10 @@ use Rattle.dom_model.specs.MutationAlgorithms.Discarding.{nodes_of_registration,
 use Rattle.dom_model.proofs.PlainLists.Numbers.{Same, same_or, same, apart}
 use Rattle.dom_model.proofs.PlainLists.Searches.{alike}
 use Rattle.dom_observe.specs.declared.registration.Registration as held
+use Rattle.dom_observe.specs.Once.{once}
 use Rattle.dom_observe.specs.Watchers.{on}
 use Rattle.dom_observe.specs.Kept.{nodes_of}
+use Rattle.dom_observe.proofs.Once.{any-once}
 
 -- a search in the lists that a function makes
 pub any-flat : {A B : Type 0} (p : B → Bool) (f : A → List B) (xs : List A) → list_any p (flat_map f xs) ≡ list_any (λ x. list_any p (f x)) xs
@@ -51,7 +53,7 @@ module _ {A : Type 0} (p : A → Bool) where
           go (same d t) i = ap (λ k. list_any p (on k es)) d ∙ ap (list_any p) (absent e.0 es u.0)
           go (apart ne t) i = rw t at i
 
-  fewer : (q : A → Bool) (xs : List A) → list_any p xs ≡ false → list_any p (filter q xs) ≡ false
+  pub fewer : (q : A → Bool) (xs : List A) → list_any p xs ≡ false → list_any p (filter q xs) ≡ false
   fewer q [] h = refl
   fewer q (x ∷ xs) h = go (q x) (fewer q xs (or_parts (p x) (list_any p xs) h).1)
     where
@@ -75,12 +77,12 @@ module _ (p : Registration → Bool) where
           go false i = i
 
   -- what is registered by node passes where what is registered does
-  pub any-registered : (es : List (ℕ × List Registration)) (rs : List Registration) → IsDistinct nat_eq (keys_of es) → ((n : ℕ) → on n es ≡ registered_on n rs)
+  pub any-registered : (es : List (ℕ × List Registration)) (rs : List Registration) → IsDistinct nat_eq (keys_of es) → ((n : ℕ) → on n es ≡ once (registered_on n rs))
       → list_any (λ e. list_any p e.1) es ≡ list_any p rs
   any-registered es rs u has =
       alike (list_any (λ e. list_any p e.1) es) (list_any p rs)
-      (λ none. none_on rs (λ n. ap (list_any p) (sym (has n)) ∙ some_under p n es none))
-      (λ none. none_under p es u (λ n. ap (list_any p) (has n) ∙ fewer p (λ (r : Registration). r.node == n) rs none))
+      (λ none. none_on rs (λ n. sym (any-once p (registered_on n rs)) ∙ ap (list_any p) (sym (has n)) ∙ some_under p n es none))
+      (λ none. none_under p es u (λ n. ap (list_any p) (has n) ∙ any-once p (registered_on n rs) ∙ fewer p (λ (r : Registration). r.node == n) rs none))
 
 -- the records that wait are those of the queues
 pub queues-waiting : (x : Observing) (places : List ℕ) (qs : List (List Record)) (o : ℕ) → length places ≡ length qs

@@ -1,7 +1,7 @@
 -- What is told of a mutation that is queued, by the registrations that stand on the ancestors of its target.
-use Rattle.std.proofs.Common.{◌≡◌, ℕ, ◌<◌, Bool, true, false, List, [], ◌∷◌, length, map, filter, Option, None, refl, ap, sym, ◌∙◌, subst, arith}
+use Rattle.std.proofs.Common.{◌≡◌, ℕ, ◌<◌, ◌==◌, Bool, true, false, ◌&&◌, ◌||◌, if◌then◌else◌, cond, List, [], ◌∷◌, ◌++◌, length, map, filter, Option, None, Some, refl, ap, sym, ◌∙◌, subst, arith}
 use Rattle.std.specs.Prelude.{filter_map, flat_map, option_to_list, slice_index_or, Vec}
-use Rattle.std.specs.List.{AllByRecursion}
+use Rattle.std.specs.List.{AllByRecursion, list_any}
 use Rattle.std.specs.Map.{keys_of}
 use Rattle.std.proofs.lemmas.Bool.{true≢false}
 use Rattle.slab.specs.Slab.{Slab}
@@ -10,14 +10,16 @@ use Rattle.dom_model.specs.Worlds.World.{Registration, Mutation}
 use Rattle.dom_model.specs.MutationObservers.Observing.{registered_on, standing_on}
 use Rattle.dom_model.specs.MutationObservers.Record.{Record}
 use Rattle.dom_model.specs.MutationObservers.Records.{interests, interested, observers_of, asks_old_value, record_for}
-use Rattle.dom_model.specs.PlainLists.LastOnce.{with_all_last}
+use Rattle.dom_model.specs.PlainLists.LastOnce.{with_last, with_all_last}
 use Rattle.dom_observe.specs.declared.registration.Registration as held
+use Rattle.dom_observe.specs.Once.{once}
 use Rattle.dom_observe.specs.Watchers.{on}
 use Rattle.dom_observe.specs.Registrations.{at, listed, Stands, AllStand}
 use Rattle.dom_observe.specs.Kept.{IsKept}
-use Rattle.dom_observe.specs.Telling.{listeners, flag_of, delivered}
+use Rattle.dom_observe.specs.Telling.{listeners, asked_by, flag_of, delivered}
 use Rattle.dom_observe.proofs.Keeping.{stand_grown, all_flat, stands_of, found_standing}
-use Rattle.dom_observe.proofs.Hearing.{listeners-interested, told-flag, keys-pairs, delivered-standing, all_last-there, flag-none}
+use Rattle.dom_observe.proofs.Hearing.{listeners-interested, told-flag, keys-pairs, delivered-standing, all_last-there, flag-none, last-there, stay-last}
+use Rattle.dom_observe.proofs.Once.{walk, walk-standing, any-standing}
 
 pub standing_on-none : (ns : List ℕ) → standing_on ns [] ≡ []
 standing_on-none [] = refl
@@ -57,10 +59,99 @@ module _ {A : Type 0} (table : Slab held.Registration) (entries : List (ℕ × V
     waiting = λ p off. others p off ∙ kept.waiting p (not_before p pending pending' (stay p) off);
   }
 
+-- What listeners come to, registration by registration.
+module _ (m : Mutation) where
+  abbrev pub pair : Registration → ℕ × Bool
+  pair r = (r.observer, asks_old_value m.type r.options)
+
+  -- whether an observer is interested, and whether it asks, are two questions to the registrations
+  abbrev verdict : Bool → Bool → Option Bool
+  verdict any asks = if any then Some asks else None
+
+  flag-verdict : (p : ℕ) (rs : List Registration) → flag_of p (map pair (filter (interests m) rs))
+      ≡ verdict (list_any (λ r. interests m r && (r.observer == p)) rs) (list_any (λ r. interests m r && ((r.observer == p) && asks_old_value m.type r.options)) rs)
+  flag-verdict p rs = asked (filter (λ (l : ℕ × Bool). l.0 == p) (map pair (filter (interests m) rs))) ∙ (λ i. verdict (some_one rs i) (some_asks rs i))
+    where
+      asked : (ls : List (ℕ × Bool)) → asked_by ls ≡ verdict (list_any (λ (l : ℕ × Bool). true) ls) (list_any (λ (l : ℕ × Bool). l.1) ls)
+      asked [] = refl
+      asked (l ∷ ls) = refl
+
+      some_of : (q : ℕ × Bool → Bool) (ss : List Registration) → list_any q (filter (λ (l : ℕ × Bool). l.0 == p) (map pair (filter (interests m) ss))) ≡ list_any (λ r. interests m r && ((r.observer == p) && q (pair r))) ss
+      some_of q [] = refl
+      some_of q (r ∷ ss) = go (interests m r) (r.observer == p) refl (some_of q ss)
+        where
+          go : (b c : Bool) → (r.observer == p) ≡ c → list_any q (filter (λ (l : ℕ × Bool). l.0 == p) (map pair (filter (interests m) ss))) ≡ list_any (λ s. interests m s && ((s.observer == p) && q (pair s))) ss
+              → list_any q (filter (λ (l : ℕ × Bool). l.0 == p) (map pair (cond b (r ∷ filter (interests m) ss) (filter (interests m) ss)))) ≡ ((b && (c && q (pair r))) || list_any (λ s. interests m s && ((s.observer == p) && q (pair s))) ss)
+          go true true e i = rw e (ap (λ b. q (pair r) || b) i)
+          go true false e i = rw e i
+          go false c e i = i
+
+      drop_true : (b : Bool) → (b && true) ≡ b
+      drop_true true = refl
+      drop_true false = refl
+
+      some_one : (ss : List Registration) → list_any (λ (l : ℕ × Bool). true) (filter (λ (l : ℕ × Bool). l.0 == p) (map pair (filter (interests m) ss))) ≡ list_any (λ r. interests m r && (r.observer == p)) ss
+      some_one ss = some_of (λ l. true) ss ∙ (λ i. list_any (λ r. interests m r && drop_true (r.observer == p) i) ss)
+
+      some_asks : (ss : List Registration) → list_any (λ (l : ℕ × Bool). l.1) (filter (λ (l : ℕ × Bool). l.0 == p) (map pair (filter (interests m) ss))) ≡ list_any (λ r. interests m r && ((r.observer == p) && asks_old_value m.type r.options)) ss
+      some_asks ss = some_of (λ l. l.1) ss
+
+  flag-once : (p : ℕ) (ns : List ℕ) (rs : List Registration) → flag_of p (map pair (filter (interests m) (flat_map (λ n. once (registered_on n rs)) ns))) ≡ flag_of p (map pair (filter (interests m) (standing_on ns rs)))
+  flag-once p ns rs =
+      flag-verdict p (flat_map (λ n. once (registered_on n rs)) ns)
+      ∙ (λ i. verdict (any-standing (λ r. interests m r && (r.observer == p)) ns rs i) (any-standing (λ r. interests m r && ((r.observer == p) && asks_old_value m.type r.options)) ns rs i))
+      ∙ sym (flag-verdict p (standing_on ns rs))
+
+  -- who is pending, one after another
+  abbrev pending_by : List ℕ → Registration → List ℕ
+  pending_by ps r = if interests m r then with_last ps r.observer else ps
+
+  pending-walk : (ps : List ℕ) (rs : List Registration) → with_all_last ps (map (λ (r : Registration). r.observer) (filter (interests m) rs)) ≡ walk pending_by ps rs
+  pending-walk ps [] = refl
+  pending-walk ps (r ∷ rs) = go (interests m r) (pending-walk (with_last ps r.observer) rs) (pending-walk ps rs)
+    where
+      rest : List Registration
+      rest = filter (interests m) rs
+
+      go : (b : Bool) → with_all_last (with_last ps r.observer) (map (λ (s : Registration). s.observer) rest) ≡ walk pending_by (with_last ps r.observer) rs → with_all_last ps (map (λ (s : Registration). s.observer) rest) ≡ walk pending_by ps rs
+          → with_all_last ps (map (λ (s : Registration). s.observer) (cond b (r ∷ rest) rest)) ≡ walk pending_by (if b then with_last ps r.observer else ps) rs
+      go true i j = i
+      go false i j = j
+
+  abbrev Has : List ℕ → Registration → Type 0
+  Has ps r = interests m r ≡ true → among r.observer ps ≡ true
+
+  gets : (ps : List ℕ) (r : Registration) → Has (pending_by ps r) r
+  gets ps r h = ap (λ b. among r.observer (if b then with_last ps r.observer else ps)) h ∙ last-there r.observer ps
+
+  keeps : (ps : List ℕ) (r s : Registration) → Has ps r → Has (pending_by ps s) r
+  keeps ps r s known h = go (interests m s)
+    where
+      go : (b : Bool) → among r.observer (if b then with_last ps s.observer else ps) ≡ true
+      go true = stay-last r.observer s.observer ps (known h)
+      go false = known h
+
+  again : (ps : List ℕ) (r : Registration) → Has ps r → pending_by ps r ≡ ps
+  again ps r known = go (interests m r) refl
+    where
+      go : (b : Bool) → interests m r ≡ b → (if b then with_last ps r.observer else ps) ≡ ps
+      go true h = ap (λ b. if b then ps else ps ++ r.observer ∷ []) (known h)
+      go false h = refl
+
+  pending-once : (ps ns : List ℕ) (rs : List Registration) → with_all_last ps (map (λ (r : Registration). r.observer) (filter (interests m) (flat_map (λ n. once (registered_on n rs)) ns)))
+      ≡ with_all_last ps (map (λ (r : Registration). r.observer) (filter (interests m) (standing_on ns rs)))
+  pending-once ps ns rs =
+      pending-walk ps (flat_map (λ n. once (registered_on n rs)) ns)
+      ∙ walk-standing pending_by Has gets keeps again ps ns rs
+      ∙ sym (pending-walk ps (standing_on ns rs))
+
 -- the listeners are those whom the mutation interests
-module _ (u : ℕ → Option Registration) (lists : List (ℕ × List ℕ)) (rs : List Registration) (has : (n : ℕ) → filter_map u (on n lists) ≡ registered_on n rs)
+module _ (u : ℕ → Option Registration) (lists : List (ℕ × List ℕ)) (rs : List Registration) (has : (n : ℕ) → filter_map u (on n lists) ≡ once (registered_on n rs))
     (m : Mutation) (ns keys : List ℕ) (is : keys ≡ flat_map (λ n. on n lists) ns) (ls : List (ℕ × Bool)) (heard : ls ≡ listeners u m.type m.target m.name keys) where
-  pairs : ls ≡ map (λ (r : Registration). (r.observer, asks_old_value m.type r.options)) (interested (record m { standing = standing_on ns rs }))
+  abbrev stood : Mutation
+  stood = record m { standing = standing_on ns rs }
+
+  pairs : ls ≡ map (λ (r : Registration). (r.observer, asks_old_value m.type r.options)) (filter (interests (record m { standing = standing_on ns rs })) (flat_map (λ n. once (registered_on n rs)) ns))
   pairs =
       heard
       ∙ listeners-interested u (record m { standing = standing_on ns rs }) keys (λ r. refl)
@@ -69,8 +160,12 @@ module _ (u : ℕ → Option Registration) (lists : List (ℕ × List ℕ)) (rs 
   pub told-queued : (p : ℕ) → delivered m (flag_of p ls) ≡ option_to_list (record_for p (record m { standing = standing_on ns rs }))
   told-queued p =
       delivered-standing m (standing_on ns rs) (flag_of p ls)
-      ∙ ap (λ ks. delivered (record m { standing = standing_on ns rs }) (flag_of p ks)) pairs
+      ∙ ap (λ ks. delivered stood (flag_of p ks)) pairs
+      ∙ ap (delivered stood) (flag-once stood p ns rs)
       ∙ told-flag p (record m { standing = standing_on ns rs })
 
-  pub pended-queued : keys_of ls ≡ observers_of (record m { standing = standing_on ns rs })
-  pended-queued = ap keys_of pairs ∙ keys-pairs m.type (interested (record m { standing = standing_on ns rs }))
+  pub pended-queued : (ps : List ℕ) → with_all_last ps (keys_of ls) ≡ with_all_last ps (observers_of (record m { standing = standing_on ns rs }))
+  pended-queued ps =
+      ap (λ ks. with_all_last ps (keys_of ks)) pairs
+      ∙ ap (with_all_last ps) (keys-pairs m.type (filter (interests stood) (flat_map (λ n. once (registered_on n rs)) ns)))
+      ∙ pending-once stood ps ns rs

@@ -26,7 +26,7 @@ own-shape o n (Some r) h = go (same_or r.observer o) (same_or r.node n) r.source
     go (apart ne t) z s f g = let k : false ≡ true = rw t at g in absurd (true≢false (sym k))
 
 -- what a step leaves was there, and is spared
-left-some : (ended : Ended) (p : Option Registration) (r : Registration) → left_by ended p ≡ Some r → (p ≡ Some r) × (spares ended r ≡ true)
+pub left-some : (ended : Ended) (p : Option Registration) (r : Registration) → left_by ended p ≡ Some r → (p ≡ Some r) × (spares ended r ≡ true)
 left-some ended None r h = cc h
 left-some ended (Some s) r h = go (spares ended s) refl h
   where
@@ -97,12 +97,12 @@ module _ (u v : ℕ → Option Registration) where
           record { key = w.key; own = ap (λ p. option_map_or (is_registered o n) p false) (a.others w.key other) ∙ w.own }
 
 -- the source of a transient registration that a node gets
-pub source-made : (u : ℕ → Option Registration) (node key : ℕ) (r : Registration) → transient_under u node key ≡ Some r → HaveSources u → (n : ℕ) → r.source ≡ Some n → Observes u r.observer n
-source-made u node key r some have n source =
+pub source-made : (u : ℕ → Option Registration) (own : List ℕ) (node key : ℕ) (r : Registration) → transient_under u own node key ≡ Some r → HaveSources u → (n : ℕ) → r.source ≡ Some n → Observes u r.observer n
+source-made u own node key r some have n source =
     subst (λ o. Observes u o n) (ap (λ (t : Registration). t.observer) made.2) (go made.0.source refl)
   where
     made : (s : Registration) × (u key ≡ Some s) × (transient_of node s ≡ r)
-    made = transient_shape node (u key) r some
+    made = transient_shape u own node (u key) r some
 
     first : Some (unwrap_or made.0.source made.0.node) ≡ Some n
     first = ap (λ (t : Registration). t.source) made.2 ∙ source

@@ -1,14 +1,16 @@
 -- What stands under keys, as registrations are added.
-use Rattle.std.proofs.Common.{◌≡◌, ℕ, zero, suc, ◌+◌, ◌<◌, ◌==◌, Bool, true, false, if◌then◌else◌, List, [], ◌∷◌, ◌++◌, length, map, filter, take, Option, Some, None, refl, ap, sym, ◌∙◌, subst, append_assoc, append-nil, arith}
+use Rattle.std.proofs.Common.{◌≡◌, ℕ, zero, suc, ◌+◌, ◌<◌, ◌==◌, Bool, true, false, not, ◌&&◌, if◌then◌else◌, List, [], ◌∷◌, ◌++◌, length, map, filter, take, Option, Some, None, refl, ap, sym, ◌∙◌, subst, append_assoc, append-nil, arith}
 use Rattle.std.specs.Prelude.{filter_map, flat_map, option_to_list, slice_index_or, cond, is_some}
 use Rattle.std.specs.List.{AllByRecursion, cons_option}
 use Rattle.std.proofs.lemmas.List.{take_more, map-append}
 use Rattle.std.proofs.lemmas.List.Elements.{filter_map-append, filter-append}
 use Rattle.dom_model.specs.Worlds.World.{Registration}
 use Rattle.dom_model.specs.MutationObservers.Observing.{transient_of}
+use Rattle.dom_model.specs.MutationObservers.Records.{is_transient_from}
 use Rattle.dom_model.proofs.PlainLists.Numbers.{same_or, same, apart}
 use Rattle.dom_observe.specs.Watchers.{on}
-use Rattle.dom_observe.specs.Registrations.{is_live, AllLive, Stands, StandsOn, AllStand, Added, transient_of_any, transient_under, with_added_transients}
+use Rattle.dom_observe.specs.Registrations.{is_live, AllLive, Stands, StandsOn, AllStand, Added, origin, gives, transient_of_any, transient_under, with_transient, with_transients_of, with_added_transients}
+use Rattle.dom_observe.proofs.Asked.{any-found}
 
 module _ {A : Type 0} where
   pub all_imply : (P Q : A → Type 0) → ((x : A) → P x → Q x) → (xs : List A) → AllByRecursion P xs → AllByRecursion Q xs
@@ -46,32 +48,28 @@ module _ (u v : ℕ → Option Registration) where
   found_alike (k ∷ keys) h = (λ i. cons_option (h.0 i) (found_alike keys h.1 i))
 
 -- the transient registrations of one more registration
+transients-append : (node : ℕ) (rs ss ts : List Registration) → with_transients_of node rs (ss ++ ts) ≡ with_transients_of node (with_transients_of node rs ss) ts
+transients-append node rs [] ts = refl
+transients-append node rs (s ∷ ss) ts = transients-append node (with_transient node rs s) ss ts
+
 pub transients_more : (node n : ℕ) (o : Option Registration) (ss rs : List Registration)
-    → with_added_transients node (ss ++ option_to_list o) n rs ≡ with_added_transients node ss n rs ++ (if node == n then option_to_list (transient_of_any node o) else [])
+    → with_added_transients node (ss ++ option_to_list o) n rs ≡ with_added_transients node (option_to_list o) n (with_added_transients node ss n rs)
 transients_more node n o ss rs = go (node == n)
   where
-    subtree : List Registration → List Registration
-    subtree xs = filter (λ (r : Registration). r.options.subtree) xs
+    go : (b : Bool) → (if b then with_transients_of node rs (ss ++ option_to_list o) else rs) ≡ (if b then with_transients_of node (if b then with_transients_of node rs ss else rs) (option_to_list o) else (if b then with_transients_of node rs ss else rs))
+    go true = transients-append node rs ss (option_to_list o)
+    go false = refl
 
-    last : (p : Option Registration) → map (transient_of node) (filter (λ (r : Registration). r.options.subtree) (option_to_list p)) ≡ option_to_list (transient_of_any node p)
-    last None = refl
-    last (Some r) = by r.options.subtree
-      where
-        by : (b : Bool) → map (transient_of node) (cond b (r ∷ []) []) ≡ option_to_list (if b then Some (transient_of node r) else None)
-        by true = refl
-        by false = refl
-
-    more : map (transient_of node) (filter (λ (r : Registration). r.options.subtree) (ss ++ option_to_list o))
-        ≡ map (transient_of node) (filter (λ (r : Registration). r.options.subtree) ss) ++ option_to_list (transient_of_any node o)
-    more =
-        ap (map (transient_of node)) (filter-append (λ (r : Registration). r.options.subtree) ss (option_to_list o))
-        ∙ map-append (transient_of node) (filter (λ (r : Registration). r.options.subtree) ss) (filter (λ (r : Registration). r.options.subtree) (option_to_list o))
-        ∙ ap (λ ts. map (transient_of node) (filter (λ (r : Registration). r.options.subtree) ss) ++ ts) (last o)
-
-    go : (b : Bool) → rs ++ (if b then map (transient_of node) (filter (λ (r : Registration). r.options.subtree) (ss ++ option_to_list o)) else [])
-        ≡ (rs ++ (if b then map (transient_of node) (filter (λ (r : Registration). r.options.subtree) ss) else [])) ++ (if b then option_to_list (transient_of_any node o) else [])
-    go true = ap (λ ts. rs ++ ts) more ∙ sym (append_assoc rs (map (transient_of node) (filter (λ (r : Registration). r.options.subtree) ss)) (option_to_list (transient_of_any node o)))
-    go false = sym (append-nil (rs ++ []))
+-- what a node with these keys gets of one
+transients_one : (u : ℕ → Option Registration) (own : List ℕ) (node : ℕ) (o : Option Registration) → with_transients_of node (filter_map u own) (option_to_list o) ≡ filter_map u own ++ option_to_list (transient_of_any u own node o)
+transients_one u own node None = sym (append-nil (filter_map u own))
+transients_one u own node (Some s) =
+    ap (λ b. if s.options.subtree && not b then filter_map u own ++ transient_of node s ∷ [] else filter_map u own) (sym (any-found (is_transient_from s.observer (origin s)) u own))
+    ∙ go (gives u own s)
+  where
+    go : (b : Bool) → (if b then filter_map u own ++ transient_of node s ∷ [] else filter_map u own) ≡ filter_map u own ++ option_to_list (if b then Some (transient_of node s) else None)
+    go true = refl
+    go false = sym (append-nil (filter_map u own))
 
 -- what stands under the first keys, and one more
 pub found_more : {B : Type 0} (u : ℕ → Option B) (keys : List ℕ) (i d : ℕ) → i < length keys → filter_map u (take (i + 1) keys) ≡ filter_map u (take i keys) ++ option_to_list (u (slice_index_or keys i d))
@@ -130,9 +128,9 @@ module _ (u : ℕ → Option Registration) (lists : List (ℕ × List ℕ)) (r :
       ]))
 
 -- a transient registration, and what it is made of
-pub transient_shape : (node : ℕ) (o : Option Registration) (r : Registration) → transient_of_any node o ≡ Some r → (s : Registration) × (o ≡ Some s) × (transient_of node s ≡ r)
-transient_shape node None r h = cc
-transient_shape node (Some s) r h = go s.options.subtree h
+pub transient_shape : (u : ℕ → Option Registration) (own : List ℕ) (node : ℕ) (o : Option Registration) (r : Registration) → transient_of_any u own node o ≡ Some r → (s : Registration) × (o ≡ Some s) × (transient_of node s ≡ r)
+transient_shape u own node None r h = cc
+transient_shape u own node (Some s) r h = go (gives u own s) h
   where
     go : (b : Bool) → (if b then Some (transient_of node s) else None) ≡ Some r → (t : Registration) × (Some s ≡ Some t) × (transient_of node t ≡ r)
     go true e = (s, refl, cc e)
@@ -142,15 +140,22 @@ transient_shape node (Some s) r h = go s.options.subtree h
 module _ (u0 u : ℕ → Option Registration) (lists0 lists : List (ℕ × List ℕ)) (node : ℕ) (standing : List ℕ) (i d : ℕ) (lt : i < length standing)
     (live : (n : ℕ) → AllLive u (on n lists)) (alike : AllByRecursion (λ k. u k ≡ u0 k) standing)
     (has : (n : ℕ) → filter_map u (on n lists) ≡ with_added_transients node (filter_map u0 (take i standing)) n (filter_map u0 (on n lists0))) where
+  by_node : (n : ℕ) (o : Option Registration) → with_added_transients node (option_to_list o) n (filter_map u (on n lists)) ≡ filter_map u (on n lists) ++ (if node == n then option_to_list (transient_of_any u (on node lists) node o) else [])
+  by_node n o = elim (same_or node n) [
+    | same e t ↦ rw t (subst (λ m. with_transients_of node (filter_map u (on m lists)) (option_to_list o) ≡ filter_map u (on m lists) ++ option_to_list (transient_of_any u (on node lists) node o)) e (transients_one u (on node lists) node o))
+    | apart ne t ↦ rw t (sym (append-nil (filter_map u (on n lists))))
+  ]
+
   has_more : (n : ℕ) → with_added_transients node (filter_map u0 (take (i + 1) standing)) n (filter_map u0 (on n lists0))
-      ≡ filter_map u (on n lists) ++ (if node == n then option_to_list (transient_under u node (slice_index_or standing i d)) else [])
+      ≡ filter_map u (on n lists) ++ (if node == n then option_to_list (transient_under u (on node lists) node (slice_index_or standing i d)) else [])
   has_more n =
       ap (λ ss. with_added_transients node ss n (filter_map u0 (on n lists0))) (found_more u0 standing i d lt)
       ∙ transients_more node n (u0 (slice_index_or standing i d)) (filter_map u0 (take i standing)) (filter_map u0 (on n lists0))
-      ∙ (λ j. sym (has n) j ++ (if node == n then option_to_list (transient_of_any node (sym (all_at (λ k. u k ≡ u0 k) standing i d alike lt) j)) else []))
+      ∙ (λ j. with_added_transients node (option_to_list (sym (all_at (λ k. u k ≡ u0 k) standing i d alike lt) j)) n (sym (has n) j))
+      ∙ by_node n (u (slice_index_or standing i d))
 
   -- nothing is made
-  pub turn-none : transient_under u node (slice_index_or standing i d) ≡ None → (n : ℕ) → filter_map u (on n lists) ≡ with_added_transients node (filter_map u0 (take (i + 1) standing)) n (filter_map u0 (on n lists0))
+  pub turn-none : transient_under u (on node lists) node (slice_index_or standing i d) ≡ None → (n : ℕ) → filter_map u (on n lists) ≡ with_added_transients node (filter_map u0 (take (i + 1) standing)) n (filter_map u0 (on n lists0))
   turn-none none n = sym (has_more n ∙ ap (λ o. filter_map u (on n lists) ++ (if node == n then option_to_list o else [])) none ∙ nothing (node == n))
     where
       nothing : (b : Bool) → filter_map u (on n lists) ++ (if b then [] else []) ≡ filter_map u (on n lists)
@@ -158,9 +163,9 @@ module _ (u0 u : ℕ → Option Registration) (lists0 lists : List (ℕ × List 
       nothing false = append-nil (filter_map u (on n lists))
 
   -- a transient registration is made and added
-  module _ (r : Registration) (some : transient_under u node (slice_index_or standing i d) ≡ Some r) (v : ℕ → Option Registration) (lists' : List (ℕ × List ℕ)) (a : Added u lists r v lists') where
+  module _ (r : Registration) (some : transient_under u (on node lists) node (slice_index_or standing i d) ≡ Some r) (v : ℕ → Option Registration) (lists' : List (ℕ × List ℕ)) (a : Added u lists r v lists') where
     on_node : r.node ≡ node
-    on_node = let s = transient_shape node (u (slice_index_or standing i d)) r some in sym (ap (λ (t : Registration). t.node) s.2)
+    on_node = let s = transient_shape u (on node lists) node (u (slice_index_or standing i d)) r some in sym (ap (λ (t : Registration). t.node) s.2)
 
     pub turn-added : (n : ℕ) → filter_map v (on n lists') ≡ with_added_transients node (filter_map u0 (take (i + 1) standing)) n (filter_map u0 (on n lists0))
     turn-added n =
@@ -179,7 +184,7 @@ module _ (u0 u : ℕ → Option Registration) (lists0 lists : List (ℕ × List 
     pub turn-stands : (made : ℕ) → AllByRecursion (Stands u0 made) standing → AllStand u made lists → AllStand v made lists'
     turn-stands made bounded all =
         let at_key = all_at (Stands u0 made) standing i d bounded lt in
-        let s = transient_shape node (u (slice_index_or standing i d)) r some in
+        let s = transient_shape u (on node lists) node (u (slice_index_or standing i d)) r some in
         let same : Some s.0 ≡ Some at_key.registration = sym s.1 ∙ all_at (λ k. u k ≡ u0 k) standing i d alike lt ∙ at_key.is in
         let origin : s.0 ≡ at_key.registration = cc same in
         let lt_made : r.observer < made = subst (λ o. o < made) (ap (λ (t : Registration). t.observer) (sym origin) ∙ ap (λ (t : Registration). t.observer) s.2) at_key.observer in

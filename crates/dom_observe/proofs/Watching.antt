@@ -1,10 +1,10 @@
 -- The observing part that observers stand for goes with them, step by step.
-use Rattle.std.proofs.Common.{◌≡◌, ℕ, zero, suc, ◌-◌, ◌<◌, ◌≤◌, ◌==◌, Bool, true, false, not, ◌&&◌, if◌then◌else◌, List, [], ◌∷◌, ◌++◌, length, map, filter, refl, ap, sym, ◌∙◌, subst, arith, length-append, append-nil, ◌⊎◌, inl, inr}
+use Rattle.std.proofs.Common.{◌≡◌, ℕ, zero, suc, ◌-◌, ◌<◌, ◌≤◌, ◌==◌, Bool, true, false, not, ◌&&◌, if◌then◌else◌, cond, List, [], ◌∷◌, ◌++◌, length, map, filter, refl, ap, sym, ◌∙◌, subst, arith, length-append, append-nil, ◌⊎◌, inl, inr}
 use Rattle.std.specs.Prelude.{slice_index_or, slice_set, is_none, option_to_list}
-use Rattle.std.specs.List.{list_any}
+use Rattle.std.specs.List.{list_any, AllByRecursion}
 use Rattle.std.proofs.lemmas.List.{get_or_append_left, get_or-append_right, get_or_past, get_or-set_same, get_or-set_other, get_or-map, length-set, length-map}
 use Rattle.std.proofs.Math.Seq.{get_or-append_seam}
-use Rattle.std.proofs.lemmas.Bool.{cases_lt}
+use Rattle.std.proofs.lemmas.Bool.{true≢false, or_parts, cases_lt}
 use Rattle.dom_model.specs.Worlds.World.{Options, Registration, Mutation, Observing}
 use Rattle.dom_model.specs.MutationObservers.Record.{Record}
 use Rattle.dom_model.specs.MutationObservers.Observing.{registered_on, standing_on, transient_of, with_transients, noted}
@@ -13,9 +13,11 @@ use Rattle.dom_model.specs.PlainLists.LastOnce.{with_all_last}
 use Rattle.dom_model.proofs.PlainLists.Numbers.{Same, same_or, same, apart}
 use Rattle.dom_model.proofs.MutationObservers.Queues.{IsTimely, queue-with_observer, queue-made, queue-taken, queue-kept, timely-taken, timely-noted, queue-noted, pending-noted, queue-notified, pending-notified}
 use Rattle.dom_model.proofs.MutationObservers.NodeRegistrations.{registered_on-filter, registered-there, registrations-observed, registrations-observed_again, registrations-transients}
+use Rattle.dom_observe.specs.Once.{same_registration, once}
 use Rattle.dom_observe.specs.Watchers.{Watchers, Watches, on}
-use Rattle.dom_observe.specs.Registrations.{with_added_transients}
-use Rattle.dom_observe.proofs.Counting.{tally, count-append, count-filter, count-map, count-none, count-fails}
+use Rattle.dom_observe.proofs.Counting.{tally, count-append, count-filter, count-map, count-none, count-fails, any-from_count}
+use Rattle.dom_observe.proofs.Named.{fewer}
+use Rattle.dom_observe.proofs.Once.{not-same, apart_from, filter-once, any-once, once-new, apart-map}
 
 -- options put in place leave a registration the observer's or not
 own-with_options : (o n i m : ℕ) (options : Options) (r : Registration) → is_registered i m (with_options o n options r) ≡ is_registered i m r
@@ -24,6 +26,48 @@ own-with_options o n i m options r = go (is_registered o n r)
     go : (v : Bool) → is_registered i m (if v then record r { options = options } else r) ≡ is_registered i m r
     go true = refl
     go false = refl
+
+-- options put in place of one make it equal to none other
+map-with_options : (o n : ℕ) (options : Options) (rs : List Registration) → tally (is_registered o n) rs ≤ 1 → map (with_options o n options) (once rs) ≡ once (map (with_options o n options) rs)
+map-with_options o n options [] h = refl
+map-with_options o n options (r ∷ rs) h =
+    ap (λ ys. with_options o n options r ∷ ys)
+    (sym (apart-map (with_options o n options) r (once rs) (each (is_registered o n r) refl h))
+    ∙ ap (apart_from (with_options o n options r)) (map-with_options o n options rs (fewer_behind (is_registered o n r) h)))
+  where
+    fewer_behind : (b : Bool) → length (cond b (r ∷ filter (is_registered o n) rs) (filter (is_registered o n) rs)) ≤ 1 → tally (is_registered o n) rs ≤ 1
+    fewer_behind true l = omega (arith, l)
+    fewer_behind false l = l
+
+    kept : (s : Registration) → is_registered o n s ≡ false → with_options o n options s ≡ s
+    kept s e = ap (λ b. if b then record s { options = options } else s) e
+
+    -- one of two is the observer's
+    told : (s t : Registration) → is_registered o n s ≡ true → is_registered o n t ≡ false → same_registration s t ≡ false
+    told s t e f = not-same (λ q. not (is_registered o n q)) s t (ap not e) (ap not f)
+
+    pair : (s : Registration) → (b c : Bool) → is_registered o n r ≡ b → is_registered o n s ≡ c → (b && c) ≡ false → same_registration (with_options o n options r) (with_options o n options s) ≡ same_registration r s
+    pair s true true e f z = absurd (true≢false z)
+    pair s true false e f z = told (with_options o n options r) (with_options o n options s) (own-with_options o n o n options r ∙ e) (own-with_options o n o n options s ∙ f) ∙ sym (told r s e f)
+    pair s false true e f z =
+        not-same (is_registered o n) (with_options o n options r) (with_options o n options s) (own-with_options o n o n options r ∙ e) (own-with_options o n o n options s ∙ f)
+        ∙ sym (not-same (is_registered o n) r s e f)
+    pair s false false e f z = (λ i. same_registration (kept r e i) (kept s f i))
+
+    without : (ss : List Registration) → list_any (is_registered o n) ss ≡ false → is_registered o n r ≡ true → AllByRecursion (λ s. same_registration (with_options o n options r) (with_options o n options s) ≡ same_registration r s) ss
+    without [] none e = tt
+    without (s ∷ ss) none e =
+        let f = or_parts (is_registered o n s) (list_any (is_registered o n) ss) none in
+        (pair s true false e f.0 refl, without ss f.1 e)
+
+    any_of : (ss : List Registration) → is_registered o n r ≡ false → AllByRecursion (λ s. same_registration (with_options o n options r) (with_options o n options s) ≡ same_registration r s) ss
+    any_of [] e = tt
+    any_of (s ∷ ss) e = (pair s false (is_registered o n s) e refl refl, any_of ss e)
+
+    each : (b : Bool) → is_registered o n r ≡ b → length (cond b (r ∷ filter (is_registered o n) rs) (filter (is_registered o n) rs)) ≤ 1
+        → AllByRecursion (λ s. same_registration (with_options o n options r) (with_options o n options s) ≡ same_registration r s) (once rs)
+    each true e l = without (once rs) (any-once (is_registered o n) rs ∙ any-from_count (is_registered o n) rs (omega (arith, l))) e
+    each false e l = any_of (once rs) e
 
 at_most : (l k : ℕ) → slice_index_or (l ∷ []) k 0 ≤ l
 at_most l zero = omega arith
@@ -79,7 +123,7 @@ module _ (o : Watchers) (x : Observing) (w : Watches o x) where
           ∙ sym (queue-kept i j x ne)
 
   -- nodes and registrations change, and nothing else
-  pub watches-registered : (nodes : List (ℕ × List Registration)) (rs : List Registration) → ((n : ℕ) → on n nodes ≡ registered_on n rs)
+  pub watches-registered : (nodes : List (ℕ × List Registration)) (rs : List Registration) → ((n : ℕ) → on n nodes ≡ once (registered_on n rs))
       → ((i n : ℕ) → tally (is_registered i n) rs ≤ 1) → Watches (record o { nodes = nodes }) (record x { registrations = rs })
   watches-registered nodes rs by_node once = record {
     registrations = by_node;
@@ -94,7 +138,7 @@ module _ (o : Watchers) (x : Observing) (w : Watches o x) where
   pub watches-filtered : (keep : Registration → Bool) (nodes : List (ℕ × List Registration)) → ((n : ℕ) → on n nodes ≡ filter keep (on n o.nodes))
       → Watches (record o { nodes = nodes }) (record x { registrations = filter keep x.registrations })
   watches-filtered keep nodes kept = watches-registered nodes (filter keep x.registrations)
-      (λ n. kept n ∙ ap (filter keep) (w.registrations n) ∙ sym (registered_on-filter n keep x.registrations))
+      (λ n. kept n ∙ ap (filter keep) (w.registrations n) ∙ filter-once keep (registered_on n x.registrations) ∙ ap once (sym (registered_on-filter n keep x.registrations)))
       (λ i n. let c = count-filter (is_registered i n) keep x.registrations in let k = w.once i n in omega arith)
 
   -- where the observer has no registration on the node
@@ -102,11 +146,18 @@ module _ (o : Watchers) (x : Observing) (w : Watches o x) where
       → ((m : ℕ) → on m nodes ≡ on m o.nodes ++ (if n == m then new_registration i n options ∷ [] else []))
       → Watches (record o { nodes = nodes }) (observed i n options x)
   watches-observed i n options nodes none added = watches-registered nodes (registered i n options x.registrations)
-      (λ m. added m ∙ ap (λ rs. rs ++ (if n == m then new_registration i n options ∷ [] else [])) (w.registrations m) ∙ sym (registrations-observed i n m options x.registrations absent))
-      once
+      (λ m. added m ∙ ap (λ rs. rs ++ (if n == m then new_registration i n options ∷ [] else [])) (w.registrations m) ∙ new (n == m) (registered_on m x.registrations) (fewer (is_registered i n) (λ (r : Registration). r.node == m) x.registrations absent) ∙ ap once (sym (registrations-observed i n m options x.registrations absent)))
+      seldom
     where
       absent : list_any (is_registered i n) x.registrations ≡ false
-      absent = sym (registered-there i n x.registrations) ∙ ap (list_any (is_registered i n)) (sym (w.registrations n)) ∙ none
+      absent = sym (registered-there i n x.registrations) ∙ sym (any-once (is_registered i n) (registered_on n x.registrations)) ∙ ap (list_any (is_registered i n)) (sym (w.registrations n)) ∙ none
+
+      is_its : is_registered i n (new_registration i n options) ≡ true
+      is_its = elim (same_or i i) [ same _ t ↦ elim (same_or n n) [ same _ u ↦ rw (t, u) refl | apart ne _ ↦ absurd (ne refl) ] | apart ne _ ↦ absurd (ne refl) ]
+
+      new : (b : Bool) (rs : List Registration) → list_any (is_registered i n) rs ≡ false → once rs ++ (if b then new_registration i n options ∷ [] else []) ≡ once (rs ++ (if b then new_registration i n options ∷ [] else []))
+      new true rs gone = sym (once-new (is_registered i n) (new_registration i n options) is_its rs gone)
+      new false rs gone = append-nil (once rs) ∙ ap once (sym (append-nil rs))
 
       last : (j m : ℕ) → Same i j → Same n m → tally (is_registered j m) (x.registrations ++ new_registration i n options ∷ []) ≤ 1
       last j m (same d t) (same e u) =
@@ -116,8 +167,8 @@ module _ (o : Watchers) (x : Observing) (w : Watches o x) where
       last j m (same d t) (apart ne u) = rw (count-append (is_registered j m) x.registrations (new_registration i n options ∷ []), t, u) (let k = w.once j m in omega arith)
       last j m (apart ne t) u = rw (count-append (is_registered j m) x.registrations (new_registration i n options ∷ []), t) (let k = w.once j m in omega arith)
 
-      once : (j m : ℕ) → tally (is_registered j m) (registered i n options x.registrations) ≤ 1
-      once j m = rw absent (last j m (same_or i j) (same_or n m))
+      seldom : (j m : ℕ) → tally (is_registered j m) (registered i n options x.registrations) ≤ 1
+      seldom j m = rw absent (last j m (same_or i j) (same_or n m))
 
   -- where it has one
   pub watches-observed_again : (i n : ℕ) (options : Options) (nodes : List (ℕ × List Registration)) → list_any (is_registered i n) (on n o.nodes) ≡ true
@@ -126,23 +177,30 @@ module _ (o : Watchers) (x : Observing) (w : Watches o x) where
   watches-observed_again i n options nodes one changed = watches-registered nodes (registered i n options x.registrations)
       (λ m. changed m
       ∙ ap (λ rs. map (with_options i n options) (filter (λ (r : Registration). not (is_transient_from i n r)) rs)) (w.registrations m)
-      ∙ sym (registrations-observed_again i n m options x.registrations there))
+      ∙ ap (map (with_options i n options)) (filter-once (λ (r : Registration). not (is_transient_from i n r)) (registered_on m x.registrations))
+      ∙ map-with_options i n options (filter (λ (r : Registration). not (is_transient_from i n r)) (registered_on m x.registrations)) (few m)
+      ∙ ap once (sym (registrations-observed_again i n m options x.registrations there)))
       (λ j m. rw there (
       let c = count-map (is_registered j m) (with_options i n options) (own-with_options i n j m options) (filter (λ (r : Registration). not (is_transient_from i n r)) x.registrations) in
       let d = count-filter (is_registered j m) (λ (r : Registration). not (is_transient_from i n r)) x.registrations in
       let k = w.once j m in
       omega arith))
     where
+      few : (m : ℕ) → tally (is_registered i n) (filter (λ (r : Registration). not (is_transient_from i n r)) (registered_on m x.registrations)) ≤ 1
+      few m =
+          let c = count-filter (is_registered i n) (λ (r : Registration). not (is_transient_from i n r)) (registered_on m x.registrations) in
+          let d = count-filter (is_registered i n) (λ (r : Registration). r.node == m) x.registrations in
+          let k = w.once i n in
+          omega arith
+
       there : list_any (is_registered i n) x.registrations ≡ true
-      there = sym (registered-there i n x.registrations) ∙ ap (list_any (is_registered i n)) (sym (w.registrations n)) ∙ one
+      there = sym (registered-there i n x.registrations) ∙ sym (any-once (is_registered i n) (registered_on n x.registrations)) ∙ ap (list_any (is_registered i n)) (sym (w.registrations n)) ∙ one
 
   pub watches-transients : (node : ℕ) (above : List ℕ) (nodes : List (ℕ × List Registration))
-      → ((n : ℕ) → on n nodes ≡ with_added_transients node (standing_on above x.registrations) n (on n o.nodes))
+      → ((n : ℕ) → on n nodes ≡ once (registered_on n x.registrations ++ (if node == n then map (transient_of node) (filter (λ (r : Registration). r.options.subtree) (standing_on above x.registrations)) else [])))
       → Watches (record o { nodes = nodes }) (with_transients node above x)
   watches-transients node above nodes added = watches-registered nodes _
-      (λ n. added n
-      ∙ ap (λ rs. rs ++ (if node == n then map (transient_of node) subtree else [])) (w.registrations n)
-      ∙ sym (registrations-transients node n x.registrations subtree))
+      (λ n. added n ∙ ap once (sym (registrations-transients node n x.registrations subtree)))
       (λ j m.
       let c = count-append (is_registered j m) x.registrations (map (transient_of node) subtree) in
       let d = count-fails2 j m subtree in
@@ -198,7 +256,7 @@ module _ (o : Watchers) (x : Observing) (w : Watches o x) where
       → length queues ≡ length o.queues → ((i : ℕ) → slice_index_or queues i [] ≡ []) → pending ≡ []
       → Watches (record { nodes = nodes; queues = queues; pending = pending }) (after_notify x)
   watches-notified nodes queues pending kept same_length empty none = record {
-    registrations = λ n. kept n ∙ ap (filter (λ (r : Registration). is_none r.source)) (w.registrations n) ∙ sym (registered_on-filter n (λ (r : Registration). is_none r.source) x.registrations);
+    registrations = λ n. kept n ∙ ap (filter (λ (r : Registration). is_none r.source)) (w.registrations n) ∙ filter-once (λ (r : Registration). is_none r.source) (registered_on n x.registrations) ∙ ap once (sym (registered_on-filter n (λ (r : Registration). is_none r.source) x.registrations));
     made = length-map x.places (λ _. length x.mutations) ∙ w.made ∙ sym same_length;
     queues = λ i lt. empty i ∙ sym (queue-notified i x (omega (arith, w.made, same_length)));
     pending = none ∙ sym (pending-notified x);

@@ -3,6 +3,7 @@ pub mod Kept
 pub mod Names
 pub mod Naming
 pub mod Notifying
+pub mod Once
 pub mod Registrations
 pub mod Telling
 pub mod Watchers

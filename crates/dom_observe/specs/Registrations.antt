@@ -1,7 +1,7 @@
 -- The registrations in the code's table, as those of the definitions.
-use Rattle.std.specs.Prelude.{◌≡◌, ◌≢◌, ◌<◌, [], ◌∷◌, ◌++◌, filter, ℕ, ◌==◌, Bool, not, ◌&&◌, ◌||◌, List, map, filter_map, Option, option_map, None, Some, is_none, is_some, slice_index_or, nat_eq, Vec, if◌then◌else◌, false, true}
+use Rattle.std.specs.Prelude.{◌≡◌, ◌≢◌, ◌<◌, [], ◌∷◌, ◌++◌, filter, ℕ, ◌==◌, Bool, not, ◌&&◌, ◌||◌, List, map, filter_map, Option, option_map, None, Some, is_none, is_some, slice_index_or, unwrap_or, nat_eq, Vec, if◌then◌else◌, false, true}
 use Rattle.std.specs.Option.{option_map_or}
-use Rattle.std.specs.List.{AllByRecursion}
+use Rattle.std.specs.List.{AllByRecursion, list_any}
 use Rattle.std.specs.Map.{lookup}
 use Rattle.slab.specs.Slab.{Slab, get}
 use Rattle.dom_model.specs.declared.RecordType.{RecordType}
@@ -133,14 +133,39 @@ pub record NewKey (under : ℕ → Option model.Registration) (r : model.Registr
   pub others : (other : ℕ) → other ≢ key → under' other ≡ under other
   pub last : keys' ≡ keys ++ key ∷ []
 
--- what stands under the key gives the node a transient registration, where it has subtree
-abbrev pub transient_of_any : ℕ → Option model.Registration → Option model.Registration
-transient_of_any node None = None
-transient_of_any node (Some r) = if r.options.subtree then Some (transient_of node r) else None
+-- where a registration comes from: a transient one from its source, a lasting one from its node
+abbrev pub origin : model.Registration → ℕ
+origin r = unwrap_or r.source r.node
 
-abbrev pub transient_under : (ℕ → Option model.Registration) → ℕ → ℕ → Option model.Registration
-transient_under under node key = transient_of_any node (under key)
+-- a transient registration of the observer, which comes from the node, stands under the key
+abbrev pub from_at : (ℕ → Option model.Registration) → ℕ → ℕ → ℕ → Bool
+from_at under o n key = option_map_or (is_transient_from o n) (under key) false
 
--- the registrations of a node n, with transient ones of those with subtree where it is the node that leaves
+-- a node with these keys gets a transient registration from another: that has subtree, and none of its observer and origin is there yet
+abbrev pub gives : (ℕ → Option model.Registration) → List ℕ → model.Registration → Bool
+gives under own r = r.options.subtree && not (list_any (from_at under r.observer (origin r)) own)
+
+abbrev pub transient_of_any : (ℕ → Option model.Registration) → List ℕ → ℕ → Option model.Registration → Option model.Registration
+transient_of_any under own node None = None
+transient_of_any under own node (Some r) = if gives under own r then Some (transient_of node r) else None
+
+abbrev pub transient_under : (ℕ → Option model.Registration) → List ℕ → ℕ → ℕ → Option model.Registration
+transient_under under own node key = transient_of_any under own node (under key)
+
+-- the registrations of a node, with a transient one of another where that has subtree, once for each observer and origin
+abbrev pub with_transient : ℕ → List model.Registration → model.Registration → List model.Registration
+with_transient node rs s = if s.options.subtree && not (list_any (is_transient_from s.observer (origin s)) rs) then rs ++ transient_of node s ∷ [] else rs
+
+abbrev pub with_transients_of : ℕ → List model.Registration → List model.Registration → List model.Registration
+with_transients_of node rs [] = rs
+with_transients_of node rs (s ∷ ss) = with_transients_of node (with_transient node rs s) ss
+
+-- the registrations of a node n, with transient ones of others where it is the node that leaves
 abbrev pub with_added_transients : ℕ → List model.Registration → ℕ → List model.Registration → List model.Registration
-with_added_transients node standing n rs = rs ++ (if node == n then map (transient_of node) (filter (λ (r : model.Registration). r.options.subtree) standing) else [])
+with_added_transients node standing n rs = if node == n then with_transients_of node rs standing else rs
+
+-- An observer is registered on a node under one key at most, and what stands of an observer from one origin has the same options.
+pub record Agree (under : ℕ → Option model.Registration) : Type 0 where
+  pub options : ℕ → ℕ → model.Options
+  pub alike : (key : ℕ) (r : model.Registration) → under key ≡ Some r → r.options ≡ options r.observer (origin r)
+  pub one : (o n key other : ℕ) → own_at under o n key ≡ true → own_at under o n other ≡ true → other ≡ key

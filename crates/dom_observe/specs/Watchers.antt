@@ -4,8 +4,9 @@ use Rattle.dom_model.specs.Worlds.World.{Registration, Observing}
 use Rattle.dom_model.specs.MutationObservers.Observing.{registered_on}
 use Rattle.dom_model.specs.MutationObservers.Record.{Record}
 use Rattle.dom_model.specs.MutationObservers.Records.{is_registered, taken_up_to, queue_of, pending_of}
+use Rattle.dom_observe.specs.Once.{once}
 
--- nodes with the registrations on them, in their order; a queue for each observer; the pending list
+-- nodes with the registrations on them, in their order, without later equal ones; a queue for each observer; the pending list
 pub record Watchers : Type 0 where
   pub nodes : List (ℕ × List Registration)
   pub queues : List (List Record)
@@ -19,7 +20,7 @@ on n (e ∷ es) = if n == e.0 then e.1 else on n es
 -- the observing part that the observers stand for, as commands leave it: no place is past the end of its mutations, and an observer is
 -- registered on a node at most once
 pub record Watches (o : Watchers) (x : Observing) : Type 0 where
-  pub registrations : (n : ℕ) → on n o.nodes ≡ registered_on n x.registrations
+  pub registrations : (n : ℕ) → on n o.nodes ≡ once (registered_on n x.registrations)
   pub made : length x.places ≡ length o.queues
   pub queues : (i : ℕ) → i < length o.queues → slice_index_or o.queues i [] ≡ queue_of i x
   pub pending : o.pending ≡ pending_of x

@@ -1,17 +1,17 @@
 //! Registrations that are added, and those that stand on the ancestors of a node.
 
 ghost use Rattle.std.specs.Prelude.{◌≡◌, ◌++◌, ℕ, Bool, List, length, OnOk, OnErr, IfOk, nat_eq, filter, flat_map, option_map, true, false};
-ghost use Rattle.std.specs.List.{AllByRecursion};
+ghost use Rattle.std.specs.List.{AllByRecursion, list_any};
 ghost use Rattle.indexmap.specs.IndexMap.{IsUnique};
 ghost use Rattle.dom_model.specs.Forests.Forest.{HasNode, ancestors};
 ghost use Rattle.dom_observe.specs.Watchers.{on};
 ghost use Rattle.dom_observe.specs.Kept.{keys_by, IsIndexed};
-ghost use Rattle.dom_observe.specs.Registrations.{plain, at, found, listed, Added, NewKey, AllLive, Stands, AllStand, HaveKeys, HaveSources, deep_at, transient_under, with_added_transients};
+ghost use Rattle.dom_observe.specs.Registrations.{plain, at, found, listed, Added, NewKey, AllLive, Stands, AllStand, HaveKeys, HaveSources, Agree, deep_at, from_at, gives, transient_under, with_added_transients};
 ghost use Rattle.dom_observe.specs.Naming.{names_one, NamesNone};
 
 use crate::observer_id::ObserverId;
 use crate::registration::Registration;
-use crate::table::{keys_on, put_key};
+use crate::table::{is_from, keys_on, put_key};
 use crate::telling::pend;
 use dom_tree::{NodeId, Tree};
 use indexmap::{IndexMap, IndexSet};
@@ -46,24 +46,40 @@ pub fn add(
     Ok(())
 }
 
-// The transient registration that a node gets from what stands under a key, where that has subtree.
+// Whether a transient registration of an observer that comes from a node is under one of the keys.
+fn has_from(table: &Slab<Registration>, keys: &[usize], observer: ObserverId, node: NodeId) -> bool
+    ensures { result ≡ list_any (from_at (at table.now) observer node) keys.now }
+{
+    keys.iter().any(|key| is_from(table, *key, observer, node))
+}
+
+// Whether a node with these keys gets a transient registration from another: that has subtree, and none of its observer and origin is there yet.
+fn gives(table: &Slab<Registration>, own: &[usize], registration: &Registration) -> bool
+    ensures { result ≡ gives (at table.now) own.now (plain registration.now) }
+{
+    let origin = registration.origin();
+    registration.options.subtree && !has_from(table, own, registration.observer, origin)
+}
+
+// The transient registration that a node with these keys gets from what stands under a key.
 fn transient_of(
     table: &Slab<Registration>,
+    own: &[usize],
     key: usize,
     node: NodeId,
     alloc: Global,
 ) -> Result<Option<Registration>, AllocError>
-    ensures { IfOk result (λ made. option_map plain made ≡ transient_under (at table.now) node key) }
+    ensures { IfOk result (λ made. option_map plain made ≡ transient_under (at table.now) own.now node key) }
 {
     match table.get(key) {
-        Some(registration) if registration.options.subtree => {
+        Some(registration) if gives(table, own, registration) => {
             Ok(Some(registration.transient(alloc, node)?))
         }
         _ => Ok(None),
     }
 }
 
-// Puts a transient registration on a node for each registration with subtree among those under the keys.
+// Puts a transient registration on a node for each registration with subtree among those under the keys, once for each observer and origin.
 pub fn add_transients(
     table: &mut Slab<Registration>,
     nodes: &mut IndexMap<u32, Vec<usize>>,
@@ -83,11 +99,12 @@ pub fn add_transients(
     ensures full { HaveKeys (listed nodes.old.entries) → HaveKeys (listed nodes.new.entries) }
     ensures indexed { (lasts : List (List ℕ)) (made : ℕ) → AllByRecursion (Stands (at table.old) made) standing.now → IsIndexed (at table.old) (listed nodes.old.entries) lasts (keys_by passing.old.items) fleeting.old.keys made → IsIndexed (at table.new) (listed nodes.new.entries) lasts (keys_by passing.new.items) fleeting.new.keys made }
     ensures sources { HaveSources (at table.old) → HaveSources (at table.new) }
+    ensures agree { Agree (at table.old) → Agree (at table.new) }
     ensures len { length passing.new.items ≡ length passing.old.items }
     ensures unique { IsUnique nat_eq nodes.new }
 {
     for key in standing {
-        if let Some(made) = transient_of(table, *key, node, alloc)? {
+        if let Some(made) = transient_of(table, keys_on(nodes, node), *key, node, alloc)? {
             let observer = made.observer;
             pend(fleeting, observer)?;
             let keys = &mut passing[observer.number() as usize];

@@ -54,7 +54,7 @@ impl Model for Observers {
     ghost Value = { Watchers };
 
     ghost use Rattle.std.specs.Prelude.{length};
-    ghost use Rattle.dom_observe.specs.Registrations.{at, listed, HaveSources};
+    ghost use Rattle.dom_observe.specs.Registrations.{at, listed, HaveSources, Agree};
     ghost use Rattle.dom_observe.specs.Kept.{nodes_of, keys_by, IsKept, IsIndexed};
 
     ghost view = { λ o. record {
@@ -63,7 +63,7 @@ impl Model for Observers {
       pending = o.pending.keys;
     } };
 
-    ghost invariant = { λ o. IsKept o.table o.nodes.entries o.queues.items o.pending.keys × IsIndexed (at o.table) (listed o.nodes.entries) (keys_by o.lasting.items) (keys_by o.passing.items) o.fleeting.keys (length o.queues.items) × HaveSources (at o.table) };
+    ghost invariant = { λ o. IsKept o.table o.nodes.entries o.queues.items o.pending.keys × IsIndexed (at o.table) (listed o.nodes.entries) (keys_by o.lasting.items) (keys_by o.passing.items) o.fleeting.keys (length o.queues.items) × HaveSources (at o.table) × Agree (at o.table) };
 }
 
 impl Observers {
@@ -211,7 +211,7 @@ impl Observers {
     /// Leaves transient registrations on a node that is taken from its parent, of those with subtree on the parent's inclusive
     /// ancestors ("remove").
     ///
-    /// Where none of those has subtree nothing is noted. After an error some of them may be missing.
+    /// One that would be equal to another on the node is not made. Where none of those has subtree nothing is noted. After an error some of them may be missing.
     pub fn transients<X>(
         &mut self,
         tree: &Tree<X>,

@@ -40,15 +40,29 @@ pub struct Question<'a> {
 }
 
 impl Registration {
-    ghost use Rattle.dom_model.specs.MutationObservers.Records.{is_registered};
+    ghost use Rattle.dom_model.specs.MutationObservers.Records.{is_registered, is_transient_from};
     ghost use Rattle.dom_model.specs.MutationObservers.Observing.{transient_of};
-    ghost use Rattle.dom_observe.specs.Registrations.{plain, concerns};
+    ghost use Rattle.dom_observe.specs.Registrations.{plain, concerns, origin};
 
     // Whether it is the observer's on the node, and not a transient one.
     pub fn is_own(&self, observer: ObserverId, node: NodeId) -> bool
         ensures { result ≡ is_registered observer node (plain self.now) }
     {
         self.observer == observer && (self.node == node && self.source.is_none())
+    }
+
+    // Whether it is a transient one of the observer that comes from the node.
+    pub fn is_from(&self, observer: ObserverId, node: NodeId) -> bool
+        ensures { result ≡ is_transient_from observer node (plain self.now) }
+    {
+        self.observer == observer && self.source == Some(node)
+    }
+
+    // The node that it comes from: its source, or its own.
+    pub fn origin(&self) -> NodeId
+        ensures { result ≡ origin (plain self.now) }
+    {
+        self.source.unwrap_or(self.node)
     }
 
     // Whether a mutation interests its observer by it.
@@ -68,7 +82,7 @@ impl Registration {
             node,
             observer: self.observer,
             options,
-            source: Some(self.source.unwrap_or(self.node)),
+            source: Some(self.origin()),
         })
     }
 }
@@ -83,9 +97,7 @@ impl Ended {
         match *self {
             Ended::Transient => registration.source.is_none(),
             Ended::Of(observer) => registration.observer != observer,
-            Ended::From(observer, node) => {
-                !(registration.observer == observer && registration.source == Some(node))
-            }
+            Ended::From(observer, node) => !registration.is_from(observer, node),
         }
     }
 }

@@ -4,7 +4,7 @@ ghost use Rattle.std.specs.Prelude.{◌≡◌, ◌≢◌, ◌≤◌, ◌<◌, �
 ghost use Rattle.indexmap.specs.IndexMap.{IsUnique};
 ghost use Rattle.slab.specs.Slab.{get};
 ghost use Rattle.dom_observe.specs.Watchers.{on};
-ghost use Rattle.dom_observe.specs.Registrations.{plain, spares, at, found, listed, AllStand, HaveKeys, is_live, left_by, own_at, with_new_options};
+ghost use Rattle.dom_observe.specs.Registrations.{plain, spares, at, found, listed, AllStand, HaveKeys, is_live, left_by, own_at, from_at, with_new_options};
 ghost use Rattle.dom_observe.specs.Kept.{keys_by};
 
 use crate::observer_id::ObserverId;
@@ -72,6 +72,16 @@ fn is_own(table: &Slab<Registration>, key: usize, observer: ObserverId, node: No
 {
     match table.get(key) {
         Some(registration) => registration.is_own(observer, node),
+        None => false,
+    }
+}
+
+// Whether a transient registration of the observer that comes from the node is under the key.
+pub fn is_from(table: &Slab<Registration>, key: usize, observer: ObserverId, node: NodeId) -> bool
+    ensures { result ≡ from_at (at table.now) observer node key }
+{
+    match table.get(key) {
+        Some(registration) => registration.is_from(observer, node),
         None => false,
     }
 }

@@ -1,7 +1,9 @@
 -- Each key gives the node one more transient registration, or none.
 use Rattle.std.proofs.Common.{◌≡◌, ◌<◌, ℕ, Vec, Global, length, arith, refl, List, [], ◌++◌, if◌then◌else◌, ◌==◌, Bool, true, false, Some, None, option_map, ap, sym, ◌∙◌, subst, append-nil}
 use Rattle.std.specs.Prelude.{slice_index_or, slice_set}
-use Rattle.dom_observe.specs.Registrations.{plain, at, listed, AllStand, HaveSources, transient_under}
+use Rattle.dom_observe.specs.Watchers.{on}
+use Rattle.dom_observe.specs.Registrations.{plain, at, listed, AllStand, HaveSources, Agree, transient_under}
+use Rattle.dom_observe.proofs.Agreeing.{agree-made, agree-transient}
 use Rattle.dom_observe.specs.Naming.{NamesNone}
 use Rattle.dom_observe.proofs.Holding.{none-added, none-made}
 use Rattle.dom_observe.specs.Kept.{keys_by, IsIndexed}
@@ -15,9 +17,9 @@ use Rattle.dom_observe.proofs.Tables.{alike_self, turn-none, turn-added, turn-al
 use Rattle.dom_observe.proofs.adding.add_transients.Goals as goal
 use Rattle.dom_observe.proofs.adding.add_transients.Goals.{in-Some+in_ok-pend+in_ok-add, in_default}
 
-nothing_yet : {A : Type 0} (b : Bool) (rs : List A) → rs ≡ rs ++ (if b then [] else [])
-nothing_yet true rs = sym (append-nil rs)
-nothing_yet false rs = sym (append-nil rs)
+nothing_yet : {A : Type 0} (b : Bool) (rs : List A) → rs ≡ (if b then rs else rs)
+nothing_yet true rs = refl
+nothing_yet false rs = refl
 
 pub loop-key-init : goal.loop-key-init
 loop-key-init c = record {
@@ -29,6 +31,7 @@ loop-key-init c = record {
   names = λ p here keys none. none;
   indexed = λ lasts made bounded ix. ix;
   sources = λ have. have;
+  agree = λ have. have;
   len = refl;
   full = λ full. full;
 }
@@ -53,6 +56,10 @@ pub returns-in_err-add-clause-sources : goal.returns-in_err-add-clause-sources
 returns-in_err-add-clause-sources c = λ have.
     subst (λ slots. HaveSources (λ k. option_map plain (slice_index_or slots k None))) (sym c.in_err-add.ensures.err_table) (c.loop-key.invariant.sources have)
 
+pub returns-in_err-add-clause-agree : goal.returns-in_err-add-clause-agree
+returns-in_err-add-clause-agree c = λ have.
+    subst (λ slots. Agree (λ k. option_map plain (slice_index_or slots k None))) (sym c.in_err-add.ensures.err_table) (c.loop-key.invariant.agree have)
+
 pub returns-in_err-add-clause-full : goal.returns-in_err-add-clause-full
 returns-in_err-add-clause-full c = λ full. c.add.ensures.full (c.loop-key.invariant.full full)
 
@@ -66,8 +73,9 @@ returns-in_err-add-clause-indexed c = λ lasts made bounded ix.
     let u = at c.loop-key.table in
     let inv = c.loop-key.invariant in
     let i = c.loop-key.key-index in
-    let some : transient_under u c.args.node (slice_index_or c.args.standing.now i 0) ≡ Some (plain c.in-Some.made) = sym c.in_ok-made.ensures ∙ ap (option_map plain) c.in-Some.is in
-    let shape = made-transient u0 u c.args.node c.args.standing.now i 0 c.loop-key-test.true inv.standing (plain c.in-Some.made) some in
+    let own = on c.args.node (listed c.loop-key.nodes.entries) in
+    let some : transient_under u own c.args.node (slice_index_or c.args.standing.now i 0) ≡ Some (plain c.in-Some.made) = ap (λ ks. transient_under u ks c.args.node (slice_index_or c.args.standing.now i 0)) (sym c.keys_on.ensures) ∙ sym c.in_ok-made.ensures ∙ ap (option_map plain) c.in-Some.is in
+    let shape = made-transient u0 u own c.args.node c.args.standing.now i 0 c.loop-key-test.true inv.standing (plain c.in-Some.made) some in
     let o = c.in-Some.made.observer in
     let ps = c.loop-key.passing.items in
     let lt : o < length ps = subst (λ l. o < l) (sym inv.len) (shape.0 (length c.args.passing.now.items) c.requires.made) in
@@ -89,9 +97,10 @@ loop-key-preserved c =
     let lists = listed c.loop-key.nodes.entries in
     let keys = c.args.standing.now in
     let i = c.loop-key.key-index in
+    let own = on c.args.node lists in
     elim c.match-branch-2.branch [
       | in-Some+in_ok-pend+in_ok-add w ↦
-          let some : transient_under u c.args.node (slice_index_or keys i 0) ≡ Some (plain w.in-Some.made) = sym c.in_ok-made.ensures ∙ ap (option_map plain) w.in-Some.is in
+          let some : transient_under u own c.args.node (slice_index_or keys i 0) ≡ Some (plain w.in-Some.made) = ap (λ ks. transient_under u ks c.args.node (slice_index_or keys i 0)) (sym c.keys_on.ensures) ∙ sym c.in_ok-made.ensures ∙ ap (option_map plain) w.in-Some.is in
           let a = w.in_ok-add.ensures.ok in
           let v = at w.add.new.table in
           let lists' = listed w.add.new.nodes.entries in
@@ -103,9 +112,9 @@ loop-key-preserved c =
             stands = λ made bounded all. turn-stands u0 u lists0 lists c.args.node keys i 0 c.loop-key-test.true inv.live inv.standing inv.has (plain w.in-Some.made) some v lists' a made bounded (inv.stands made bounded all);
             names = λ p here named none.
                 none-added p u lists (plain w.in-Some.made) v lists' a inv.live
-                (none-made p u0 u c.args.node keys i 0 c.loop-key-test.true inv.standing (plain w.in-Some.made) some here named) (inv.names p here named none);
+                (none-made p u0 u own c.args.node keys i 0 c.loop-key-test.true inv.standing (plain w.in-Some.made) some here named) (inv.names p here named none);
             indexed = λ lasts made bounded ix.
-                let shape = made-transient u0 u c.args.node keys i 0 c.loop-key-test.true inv.standing (plain w.in-Some.made) some in
+                let shape = made-transient u0 u own c.args.node keys i 0 c.loop-key-test.true inv.standing (plain w.in-Some.made) some in
                 let o = w.in-Some.made.observer in
                 let ps = c.loop-key.passing.items in
                 let lt : o < length ps = subst (λ l. o < l) (sym inv.len) (shape.0 (length c.args.passing.now.items) c.requires.made) in
@@ -114,12 +123,16 @@ loop-key-preserved c =
                 (indexed-transient u lists (plain w.in-Some.made) v lists' a w.index_mut-keys.result.now.items w.add.new.keys.items w.in_ok-add.ensures.own lasts (keys_by ps) (with_last c.loop-key.fleeting.keys o) made
                 (indexed-pended u lists lasts (keys_by ps) c.loop-key.fleeting.keys made o (shape.0 made bounded) (inv.indexed lasts made bounded ix)) shape.1 (keys_by (slice_set ps o w.add.new.keys))
                 (omega (arith, lt, keys_by-length ps)) (ap (λ (l : Vec ℕ Global). l.items) w.index_mut-keys.ensures.value ∙ ap (λ i. (slice_index_or ps i w.index_mut-keys.result.now).items) w.number.ensures ∙ sym (keys_by-at ps o w.index_mut-keys.result.now lt)) (keys_by-set ps o w.add.new.keys w.add.new.keys.items refl) (last-there o c.loop-key.fleeting.keys)));
-            sources = λ have. sources-added u v lists (plain w.in-Some.made) lists' a (source-made u c.args.node (slice_index_or keys i 0) (plain w.in-Some.made) some (inv.sources have)) (inv.sources have);
+            sources = λ have. sources-added u v lists (plain w.in-Some.made) lists' a (source-made u own c.args.node (slice_index_or keys i 0) (plain w.in-Some.made) some (inv.sources have)) (inv.sources have);
+            agree = λ have.
+                let before = inv.agree have in
+                agree-transient u v lists (plain w.in-Some.made) lists' a before (agree-made u own c.args.node (slice_index_or keys i 0) (plain w.in-Some.made) some before)
+                (made-transient u0 u own c.args.node keys i 0 c.loop-key-test.true inv.standing (plain w.in-Some.made) some).1;
             len = length-set c.loop-key.passing.items w.number.result w.add.new.keys ∙ inv.len;
             full = λ full. w.add.ensures.full (inv.full full);
           })
       | in_default w ↦
-          let none : transient_under u c.args.node (slice_index_or keys i 0) ≡ None = sym c.in_ok-made.ensures ∙ ap (option_map plain) w.in_default.is in
+          let none : transient_under u own c.args.node (slice_index_or keys i 0) ≡ None = ap (λ ks. transient_under u ks c.args.node (slice_index_or keys i 0)) (sym c.keys_on.ensures) ∙ sym c.in_ok-made.ensures ∙ ap (option_map plain) w.in_default.is in
           rw (w.table-is, w.nodes-is, w.passing-is, w.fleeting-is) (record {
             unique = inv.unique;
             live = inv.live;
@@ -129,6 +142,7 @@ loop-key-preserved c =
             names = inv.names;
             indexed = inv.indexed;
             sources = inv.sources;
+            agree = inv.agree;
             len = inv.len;
             full = inv.full;
           })

@@ -5,7 +5,7 @@ use Rattle.indexmap.specs.IndexMap.{IsUnique}
 use Rattle.dom_observe.specs.Watchers.{on}
 use Rattle.dom_observe.specs.Kept.{keys_by, IsIndexed}
 use Rattle.dom_observe.specs.Naming.{names_one, NamesNone}
-use Rattle.dom_observe.specs.Registrations.{at, found, listed, AllLive, Stands, AllStand, HaveKeys, HaveSources, with_added_transients}
+use Rattle.dom_observe.specs.Registrations.{at, found, listed, AllLive, Stands, AllStand, HaveKeys, HaveSources, Agree, with_added_transients}
 use Rattle.dom_observe.proofs.adding.add_transients.Given as goal
 
 abbrev pub invariant-loop-key : goal.invariant-loop-key
@@ -20,6 +20,7 @@ invariant-loop-key l = record {
   indexed : (lasts : List (List ℕ)) (made : ℕ) → AllByRecursion (Stands (at l.initial.table) made) l.standing → IsIndexed (at l.initial.table) (listed l.initial.nodes.entries) lasts (keys_by l.initial.passing.items) l.initial.fleeting.keys made
       → IsIndexed (at l.table) (listed l.nodes.entries) lasts (keys_by l.passing.items) l.fleeting.keys made;
   sources : HaveSources (at l.initial.table) → HaveSources (at l.table);
+  agree : Agree (at l.initial.table) → Agree (at l.table);
   len : length l.passing.items ≡ length l.initial.passing.items;
   full : HaveKeys (listed l.initial.nodes.entries) → HaveKeys (listed l.nodes.entries);
 }

@@ -11,6 +11,7 @@ use Rattle.dom_observe.proofs.Indexing.{disconnected-left, disconnected-swept, d
 use Rattle.dom_observe.specs.Naming.{TellsNone}
 use Rattle.dom_observe.proofs.Holding.{names-only, none-ended, tells-emptied}
 use Rattle.dom_observe.proofs.Keeping.{on-nodes_of, kept-emptied, kept_table, found-ended, stand-ended}
+use Rattle.dom_observe.proofs.Agreeing.{agree-ended}
 use Rattle.dom_observe.proofs.Sources.{sources-ended}
 use Rattle.dom_observe.proofs.Watching.{watches-filtered, watches-taken}
 use Rattle.dom_observe.proofs.observers.Observers.disconnect.Goals as goal
@@ -49,6 +50,7 @@ invariant_of-self c =
           (disconnected-indexed u u1 v lists lists1 lists' ls ls1 ps ps1 a.fleeting.keys made c.args.observer ix within
           c.end_own.ensures.placed c.end_own.ensures.left c.end_own.ensures.keys c.end_own-2.ensures.placed c.end_own-2.ensures.left c.end_own-2.ensures.keys),
       sources-ended u v (Of c.args.observer) left_all c.self.invariant.2,
+      agree-ended u v (Of c.args.observer) left_all c.self.invariant.3,
     )
 
 pub returns-clause-ended : goal.returns-clause-ended

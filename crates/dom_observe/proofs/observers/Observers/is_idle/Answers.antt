@@ -1,5 +1,6 @@
 -- Where no node has keys, no node has registrations.
 use Rattle.std.proofs.Common.{◌≡◌, List, [], ◌∷◌, length, refl, ap, sym, ◌∙◌, subst, arith}
+use Rattle.dom_observe.specs.Once.{once}
 use Rattle.dom_observe.specs.Watchers.{Watchers, Watches, on}
 use Rattle.dom_model.specs.MutationObservers.Observing.{registered_on}
 use Rattle.dom_observe.specs.Kept.{nodes_of}
@@ -21,4 +22,4 @@ pub returns-clause-observing : goal.returns-clause-observing
 returns-clause-observing c = λ x w gone.
     let a = c.self.inside in
     let shown = subst (λ (o : Watchers). Watches o x) (sym c.self.view_is) w in
-    c.is_empty.ensures.1 (none_listed a.table a.nodes.entries (length a.queues.items) c.self.invariant.0.stand c.self.invariant.0.full (λ n. shown.registrations n ∙ ap (registered_on n) gone))
+    c.is_empty.ensures.1 (none_listed a.table a.nodes.entries (length a.queues.items) c.self.invariant.0.stand c.self.invariant.0.full (λ n. shown.registrations n ∙ ap (λ rs. once (registered_on n rs)) gone))

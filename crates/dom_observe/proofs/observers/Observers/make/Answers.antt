@@ -28,6 +28,7 @@ invariant_of-self-2 c =
       indexed-seated (at a.table) (listed a.nodes.entries) (keys_by a.lasting.items) (keys_by c.seat.new.lists.items) (keys_by a.passing.items) (keys_by c.seat-2.new.lists.items) a.fleeting.keys (length qs) (length c.push.new.self.items) c.seat.ensures.same c.seat-2.ensures.same
           (omega (arith, more)) (omega (arith, more, room1, c.len-made.ensures, a.queues.ok, keys_by-length c.seat.new.lists.items)) (omega (arith, more, room2, c.len-made.ensures, a.queues.ok, keys_by-length c.seat-2.new.lists.items)) ix,
       c.self.invariant.2,
+      c.self.invariant.3,
     )
 
 pub returns-clause-ok : goal.returns-clause-ok
@@ -86,4 +87,5 @@ invariant_of-self-in_err-push c =
       indexed-seated (at a.table) (listed a.nodes.entries) (keys_by a.lasting.items) (keys_by c.seat.new.lists.items) (keys_by a.passing.items) (keys_by c.seat-2.new.lists.items) a.fleeting.keys (length qs) (length c.push.new.self.items) c.seat.ensures.same c.seat-2.ensures.same
           (omega (arith, same)) (omega (arith, same, room1, c.len-made.ensures, a.queues.ok, keys_by-length c.seat.new.lists.items)) (omega (arith, same, room2, c.len-made.ensures, a.queues.ok, keys_by-length c.seat-2.new.lists.items)) c.self.invariant.1,
       c.self.invariant.2,
+      c.self.invariant.3,
     )

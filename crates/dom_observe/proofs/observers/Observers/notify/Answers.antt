@@ -15,6 +15,7 @@ use Rattle.dom_observe.proofs.Indexing.{indexed-notified}
 use Rattle.dom_observe.proofs.Keeping.{on-nodes_of, keys_by-length, stand_grown, stand-ended, found-ended, kept_queues}
 use Rattle.dom_observe.proofs.Tables.{all_imply}
 use Rattle.dom_observe.proofs.Gathered.{waiting-told}
+use Rattle.dom_observe.proofs.Agreeing.{agree-ended}
 use Rattle.dom_observe.proofs.Sources.{sources-ended}
 use Rattle.dom_observe.proofs.Watching.{watches-notified}
 use Rattle.dom_observe.proofs.observers.Observers.notify.Goals as goal
@@ -51,6 +52,7 @@ invariant_of-self-2 c =
           (indexed-notified (at a.table) (at c.end_transients.new.table) (listed a.nodes.entries) (listed c.end_transients.new.nodes.entries) (keys_by a.lasting.items) (keys_by a.passing.items) (keys_by c.end_transients.new.passing.items) a.fleeting.keys c.clear-2.new.self.keys (length qs) c.self.invariant.1
           c.end_transients.ensures.placed c.end_transients.ensures.left c.end_transients.ensures.owned c.end_transients.ensures.none (keys_by-length c.end_transients.new.passing.items ∙ c.end_transients.ensures.len ∙ sym (keys_by-length a.passing.items)) c.clear-2.ensures.empty),
       sources-ended (at a.table) (at c.end_transients.new.table) Transient c.end_transients.ensures.left c.self.invariant.2,
+      agree-ended (at a.table) (at c.end_transients.new.table) Transient c.end_transients.ensures.left c.self.invariant.3,
     )
 
 pub returns-clause-told : goal.returns-clause-told
@@ -124,4 +126,5 @@ invariant_of-self c =
       kept_queues a.table a.nodes.entries qs a.pending.keys c.self.invariant.0 qs' (omega (arith, lengths)) (λ o free. c.gather.ensures.empty o (c.self.invariant.0.waiting o free)),
       subst (IsIndexed (at a.table) (listed a.nodes.entries) (keys_by a.lasting.items) (keys_by a.passing.items) a.fleeting.keys) (sym lengths) c.self.invariant.1,
       c.self.invariant.2,
+      c.self.invariant.3,
     )

@@ -6,9 +6,12 @@ use Rattle.dom_model.specs.Worlds.World.{Registration}
 use Rattle.dom_model.specs.MutationObservers.Observing.{registered_on}
 use Rattle.dom_model.specs.MutationObservers.Records.{is_registered, is_transient_from, with_options, new_registration}
 use Rattle.dom_observe.specs.Watchers.{Watchers, Watches, on}
-use Rattle.dom_observe.specs.Registrations.{plain, at, listed, own_at, AllStand, HaveSources}
+use Rattle.dom_observe.specs.Once.{once}
+use Rattle.dom_observe.specs.Registrations.{plain, at, listed, own_at, AllStand, HaveSources, Agree}
 use Rattle.dom_observe.specs.Kept.{nodes_of, keys_by, IsIndexed}
 use Rattle.dom_observe.proofs.Indexing.{from-left, indexed-changed, indexed-passing_ended, indexed-lasting}
+use Rattle.dom_observe.proofs.Agreeing.{agree-again, agree-lasting, nothing-comes}
+use Rattle.dom_observe.proofs.Once.{count-once}
 use Rattle.dom_observe.proofs.Outcomes.{on_ok, by_one, by_outcome, by_two}
 use Rattle.dom_observe.proofs.Sources.{sources-ended, sources-changed, sources-added}
 use Rattle.dom_observe.proofs.Counting.{tally, count-filter}
@@ -36,6 +39,8 @@ invariant_of-self c =
       sources-changed (at c.end_own.new.table) (at c.set_options.new.table) c.in-Some.key c.args.options c.set_options.ensures.changed c.set_options.ensures.others
           (sources-ended (at a.table) (at c.end_own.new.table) (From c.args.observer c.args.node)
           (from-left (at a.table) (at c.end_own.new.table) (listed a.nodes.entries) (keys_by a.lasting.items) (keys_by a.passing.items) a.fleeting.keys (length a.queues.items) c.args.observer c.args.node c.self.invariant.1 c.end_own.ensures.left) c.self.invariant.2),
+      agree-again (at a.table) (at c.end_own.new.table) (at c.set_options.new.table) (listed a.nodes.entries) c.args.observer c.args.node c.in-Some.key c.args.options
+          (from-left (at a.table) (at c.end_own.new.table) (listed a.nodes.entries) (keys_by a.lasting.items) (keys_by a.passing.items) a.fleeting.keys (length a.queues.items) c.args.observer c.args.node c.self.invariant.1 c.end_own.ensures.left) found_key c.set_options.ensures.changed c.set_options.ensures.others c.self.invariant.3,
     )
 
 pub returns-in-Some-clause-ok : goal.returns-in-Some-clause-ok
@@ -48,10 +53,11 @@ returns-in-Some-clause-ok c = λ x w.
     let o : Watchers = record { nodes = nodes_of a.table a.nodes.entries; queues = a.queues.items; pending = a.pending.keys } in
     let shown = subst (λ (o : Watchers). Watches o x) (sym c.self.view_is) w in
     let found_key : find (own_at u i n) (on n lists) ≡ Some c.in-Some.key = ap (find (own_at u i n)) (sym c.keys_on.ensures) ∙ sym c.own_key-own.ensures ∙ c.in-Some.is in
-    let here : filter_map u (on n lists) ≡ registered_on n x.registrations = sym (on-nodes_of a.table n a.nodes.entries) ∙ shown.registrations n in
+    let here : filter_map u (on n lists) ≡ once (registered_on n x.registrations) = sym (on-nodes_of a.table n a.nodes.entries) ∙ shown.registrations n in
     let most = count-filter (is_registered i n) (λ (r : Registration). r.node == n) x.registrations in
     let all = shown.once i n in
-    let few : tally (is_registered i n) (registered_on n x.registrations) ≤ 1 = omega arith in
+    let less = count-once (is_registered i n) (registered_on n x.registrations) in
+    let few : tally (is_registered i n) (once (registered_on n x.registrations)) ≤ 1 = omega arith in
     let once = subst (λ (rs : List Registration). tally (is_registered i n) rs ≤ 1) (sym here) few in
     let again = found-again u (at c.end_own.new.table) (at c.set_options.new.table) lists (listed c.end_own.new.nodes.entries) i n c.in-Some.key c.args.options
     (from-left (at a.table) (at c.end_own.new.table) (listed a.nodes.entries) (keys_by a.lasting.items) (keys_by a.passing.items) a.fleeting.keys (length a.queues.items) c.args.observer c.args.node c.self.invariant.1 c.end_own.ensures.left) c.end_own.ensures.swept found_key c.set_options.ensures.changed c.set_options.ensures.others (length a.queues.items) c.self.invariant.0.stand once in
@@ -66,6 +72,7 @@ invariant_of-self-in-None c =
     let made = length a.queues.items in
     let lt = subst (λ (o : Watchers). c.args.observer < length o.queues) (sym c.self.view_is) c.requires.held in
     let lists' = listed c.add.new.nodes.entries in
+    let no_key : find (own_at (at a.table) c.args.observer c.args.node) (on c.args.node (listed a.nodes.entries)) ≡ None = ap (find (own_at (at a.table) c.args.observer c.args.node)) (sym c.keys_on.ensures) ∙ sym c.own_key-own.ensures ∙ c.in-None.is in
     let stand : AllStand (at c.add.new.table) made lists' =
     by_outcome c.add.result c.add.ensures.ok c.add.ensures.err_table c.add.ensures.err_nodes
     (λ added. stands-added (at a.table) (listed a.nodes.entries) _ (at c.add.new.table) lists' added made c.self.invariant.0.stand lt)
@@ -89,6 +96,10 @@ invariant_of-self-in-None c =
       by_one c.add.result c.add.ensures.ok c.add.ensures.err_table
           (λ added. sources-added (at a.table) (at c.add.new.table) (listed a.nodes.entries) _ lists' added (λ n source. let none : None ≡ Some n = source in cc none) c.self.invariant.2)
           (λ slots. subst (λ ss. HaveSources (λ k. option_map plain (slice_index_or ss k None))) (sym slots) c.self.invariant.2),
+      by_one c.add.result c.add.ensures.ok c.add.ensures.err_table
+          (λ added. agree-lasting (at a.table) (at c.add.new.table) (listed a.nodes.entries) _ lists' added c.self.invariant.3 refl
+          (nothing-comes (at a.table) c.args.observer c.args.node (listed a.nodes.entries) c.self.invariant.1.placed c.self.invariant.2 no_key))
+          (λ slots. subst (λ ss. Agree (λ k. option_map plain (slice_index_or ss k None))) (sym slots) c.self.invariant.3),
     )
 
 pub returns-in-None-clause-ok : goal.returns-in-None-clause-ok

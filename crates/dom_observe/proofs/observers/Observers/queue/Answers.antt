@@ -7,6 +7,7 @@ use Rattle.dom_model.specs.MutationObservers.Observing.{standing_on, registered_
 use Rattle.dom_model.specs.MutationObservers.Records.{interests}
 use Rattle.dom_model.specs.PlainLists.LastOnce.{with_all_last}
 use Rattle.dom_observe.specs.Names.{text_of}
+use Rattle.dom_observe.specs.Once.{once}
 use Rattle.dom_observe.specs.Watchers.{Watchers, Watches, on}
 use Rattle.dom_observe.specs.Registrations.{at, listed}
 use Rattle.dom_observe.specs.Kept.{nodes_of, keys_by, IsIndexed}
@@ -38,7 +39,7 @@ invariant_of-self g c =
     let a = c.self.inside in
     let qs = a.queues.items in
     let bounded = standing_stands (at a.table) (length qs) (listed a.nodes.entries) _ c.as_slice.result.now c.self.invariant.0.stand (c.as_slice.ensures.value ∙ c.in_ok-standing.ensures) in
-    (kept-queued a.table a.nodes.entries qs a.pending.keys c.self.invariant.0 qs c.listen.new.pending.keys refl c.listen.ensures.stay (c.listen.ensures.made (length qs) bounded c.self.invariant.0.made) (λ p off. refl), c.self.invariant.1, c.self.invariant.2)
+    (kept-queued a.table a.nodes.entries qs a.pending.keys c.self.invariant.0 qs c.listen.new.pending.keys refl c.listen.ensures.stay (c.listen.ensures.made (length qs) bounded c.self.invariant.0.made) (λ p off. refl), c.self.invariant.1, c.self.invariant.2, c.self.invariant.3)
 
 pub tell-requires-clause-made : goal.tell-requires-clause-made
 tell-requires-clause-made g c =
@@ -62,6 +63,7 @@ invariant_of-self-2 g c =
           (λ p off. c.tell.ensures.others p (c.in_ok-heard.ensures.heard p ∙ unheard p ls a.pending.keys c.listen.new.pending.keys c.in_ok-heard.ensures.pending off)),
       subst (IsIndexed (at a.table) (listed a.nodes.entries) (keys_by a.lasting.items) (keys_by a.passing.items) a.fleeting.keys) (sym same_length) c.self.invariant.1,
       c.self.invariant.2,
+      c.self.invariant.3,
     )
 
 pub returns-clause-queued : goal.returns-clause-queued
@@ -78,7 +80,7 @@ returns-clause-queued g c =
     let qs' = c.tell.new.queues.items in
     let o : Watchers = record { nodes = nodes_of a.table a.nodes.entries; queues = qs; pending = a.pending.keys } in
     let shown = subst (λ (o : Watchers). Watches o x) (sym c.self.view_is) w in
-    let has : (n : ℕ) → filter_map u (on n lists) ≡ registered_on n x.registrations = λ n. sym (on-nodes_of a.table n a.nodes.entries) ∙ shown.registrations n in
+    let has : (n : ℕ) → filter_map u (on n lists) ≡ once (registered_on n x.registrations) = λ n. sym (on-nodes_of a.table n a.nodes.entries) ∙ shown.registrations n in
     let ls = listeners u q.what q.target (text_of q.name) keys in
     let heard : ls ≡ listeners u m.type m.target m.name keys = (λ i. listeners u (c.question-question.ensures.what i) (c.question-question.ensures.target i) (c.question-question.ensures.name i) keys) in
     let target = ap (λ (k : Mutation). k.target) c.mutation.view_is in
@@ -88,7 +90,7 @@ returns-clause-queued g c =
     (λ p. given p
     ∙ ap (λ v. slice_index_or qs p [] ++ delivered m v) (c.in_ok-heard.ensures.heard p)
     ∙ ap (λ rs. slice_index_or qs p [] ++ rs) (told-queued u lists x.registrations has m ns keys is ls heard p))
-    (c.in_ok-heard.ensures.pending ∙ ap (with_all_last a.pending.keys) (pended-queued u lists x.registrations has m ns keys is ls heard)))
+    (c.in_ok-heard.ensures.pending ∙ pended-queued u lists x.registrations has m ns keys is ls heard a.pending.keys))
 
 pub returns-then-is_empty-clause-names : goal.returns-then-is_empty-clause-names
 returns-then-is_empty-clause-names g c =

@@ -25,6 +25,7 @@ invariant_of-self c =
           (kept-emptied a.table a.nodes.entries a.queues.items a.pending.keys c.self.invariant.0 c.args.observer),
       subst (IsIndexed (at a.table) (listed a.nodes.entries) (keys_by a.lasting.items) (keys_by a.passing.items) a.fleeting.keys) (sym same_length) c.self.invariant.1,
       c.self.invariant.2,
+      c.self.invariant.3,
     )
 
 pub returns-clause-records : goal.returns-clause-records

@@ -5,7 +5,8 @@ use Rattle.std.proofs.lemmas.Bool.{true≢false, or_parts}
 use Rattle.dom_model.proofs.PlainLists.Numbers.{same_or, same, apart}
 use Rattle.dom_model.specs.Forests.Forest.{ancestors}
 use Rattle.dom_model.specs.Worlds.World.{Registration}
-use Rattle.dom_model.specs.MutationObservers.Observing.{standing_on}
+use Rattle.dom_model.specs.MutationObservers.Observing.{registered_on}
+use Rattle.dom_observe.specs.Once.{once}
 use Rattle.dom_observe.specs.Watchers.{Watchers, Watches, on}
 use Rattle.dom_observe.specs.Registrations.{at, found, listed, is_live, AllLive, Stands, with_added_transients}
 use Rattle.dom_observe.specs.Kept.{nodes_of, keys_by}
@@ -13,20 +14,14 @@ use Rattle.dom_observe.specs.Naming.{names_one}
 use Rattle.dom_observe.proofs.Holding.{names-only, names-same}
 use Rattle.dom_observe.proofs.Outcomes.{on_ok}
 use Rattle.dom_observe.proofs.Tables.{all_imply, live_of_stands}
-use Rattle.dom_observe.proofs.Keeping.{on-nodes_of, kept_table, keys_by-length, all_deep, stands_of, found_deep, deep-enough}
+use Rattle.dom_observe.proofs.Keeping.{on-nodes_of, kept_table, keys_by-length, all_deep, stands_of}
+use Rattle.dom_observe.proofs.Transients.{transients-once, none-added-there}
 use Rattle.dom_observe.proofs.Watching.{watches-transients}
 use Rattle.dom_observe.proofs.observers.Observers.transients.Goals as goal
 
 none : {A : Type 0} (xs : List A) → length xs ≡ 0 → xs ≡ []
 none [] h = refl
 none (x ∷ xs) h = absurd (omega arith)
-
-same_as_before : (node n : ℕ) (ss rs : List Registration) → ss ≡ [] → rs ≡ with_added_transients node ss n rs
-same_as_before node n ss rs e = rw e (go (node == n))
-  where
-    go : (b : Bool) → rs ≡ rs ++ (if b then [] else [])
-    go true = sym (append-nil rs)
-    go false = sym (append-nil rs)
 
 pub returns-then-is_empty-clause-left : goal.returns-then-is_empty-clause-left
 returns-then-is_empty-clause-left g c = λ x w.
@@ -39,9 +34,10 @@ returns-then-is_empty-clause-left g c = λ x w.
     let k = c.in_ok-standing.standing.ok in
     let t : (c.in_ok-standing.standing.len == 0) ≡ true = sym c.is_empty.ensures ∙ c.if-is_empty.true in
     elim (same_or c.in_ok-standing.standing.len 0) [ same e _ ↦ omega arith | apart _ f ↦ absurd (true≢false (sym t ∙ f)) ]) in
-    let stood = found_deep (at a.table) (listed a.nodes.entries) x.registrations (λ n. sym (on-nodes_of a.table n a.nodes.entries) ∙ shown.registrations n) ns in
-    let nobody : filter (λ (r : Registration). r.options.subtree) (standing_on ns x.registrations) ≡ [] = sym stood ∙ ap (found a.table) (sym c.in_ok-standing.ensures ∙ nothing) in
-    watches-transients o x w c.args.node ns o.nodes (λ n. same_as_before c.args.node n (filter (λ (r : Registration). r.options.subtree) (standing_on ns x.registrations)) (on n o.nodes) nobody ∙ deep-enough c.args.node n (standing_on ns x.registrations) (on n o.nodes))
+    let has : (n : ℕ) → found a.table (on n (listed a.nodes.entries)) ≡ once (registered_on n x.registrations) = λ n. sym (on-nodes_of a.table n a.nodes.entries) ∙ shown.registrations n in
+    let kept = transients-once (at a.table) (listed a.nodes.entries) (length a.queues.items) c.self.invariant.3 c.self.invariant.0.stand x.registrations has c.args.node ns [] (sym nothing ∙ c.in_ok-standing.ensures) in
+    watches-transients o x w c.args.node ns o.nodes
+    (λ n. ap (λ (p : Watchers). on n p.nodes) (sym c.self.view_is) ∙ on-nodes_of a.table n a.nodes.entries ∙ sym (none-added-there c.args.node n (found a.table (on n (listed a.nodes.entries)))) ∙ kept n)
 
 pub add_transients-requires-clause-live : goal.add_transients-requires-clause-live
 add_transients-requires-clause-live g c = λ n.
@@ -62,7 +58,7 @@ invariant_of-self g c =
     let bounded = subst (AllByRecursion (Stands (at a.table) made)) (sym (c.as_slice.ensures.value ∙ c.in_ok-standing.ensures))
     (all_deep (at a.table) (Stands (at a.table) made) (listed a.nodes.entries) (λ n. stands_of (at a.table) made n (on n (listed a.nodes.entries)) (c.self.invariant.0.stand n)) (ancestors c.args.parent c.args.tree.now.forest)) in
     let stand = c.add_transients.ensures.all_stand made bounded c.self.invariant.0.stand in
-    (kept_table a.table a.nodes.entries a.queues.items a.pending.keys c.self.invariant.0 c.add_transients.new.table c.add_transients.new.nodes.entries c.add_transients.ensures.unique stand (c.add_transients.ensures.full c.self.invariant.0.full), c.add_transients.ensures.indexed (keys_by a.lasting.items) made bounded c.self.invariant.1, c.add_transients.ensures.sources c.self.invariant.2)
+    (kept_table a.table a.nodes.entries a.queues.items a.pending.keys c.self.invariant.0 c.add_transients.new.table c.add_transients.new.nodes.entries c.add_transients.ensures.unique stand (c.add_transients.ensures.full c.self.invariant.0.full), c.add_transients.ensures.indexed (keys_by a.lasting.items) made bounded c.self.invariant.1, c.add_transients.ensures.sources c.self.invariant.2, c.add_transients.ensures.agree c.self.invariant.3)
 
 pub returns-clause-left : goal.returns-clause-left
 returns-clause-left g c =
@@ -71,12 +67,10 @@ returns-clause-left g c =
     let ns = ancestors c.args.parent c.args.tree.now.forest in
     let o : Watchers = record { nodes = nodes_of a.table a.nodes.entries; queues = a.queues.items; pending = a.pending.keys } in
     let shown = subst (λ (o : Watchers). Watches o x) (sym c.self.view_is) w in
-    let stood = found_deep (at a.table) (listed a.nodes.entries) x.registrations (λ n. sym (on-nodes_of a.table n a.nodes.entries) ∙ shown.registrations n) ns in
-    let seen : found a.table c.as_slice.result.now ≡ filter (λ (r : Registration). r.options.subtree) (standing_on ns x.registrations) = ap (found a.table) (c.as_slice.ensures.value ∙ c.in_ok-standing.ensures) ∙ stood in
+    let has : (n : ℕ) → found a.table (on n (listed a.nodes.entries)) ≡ once (registered_on n x.registrations) = λ n. sym (on-nodes_of a.table n a.nodes.entries) ∙ shown.registrations n in
     watches-transients o x shown c.args.node ns (nodes_of c.add_transients.new.table c.add_transients.new.nodes.entries)
     (λ n. on-nodes_of c.add_transients.new.table n c.add_transients.new.nodes.entries ∙ added n
-    ∙ (λ i. with_added_transients c.args.node (seen i) n (sym (on-nodes_of a.table n a.nodes.entries) i))
-    ∙ deep-enough c.args.node n (standing_on ns x.registrations) (on n o.nodes)))
+    ∙ transients-once (at a.table) (listed a.nodes.entries) (length a.queues.items) c.self.invariant.3 c.self.invariant.0.stand x.registrations has c.args.node ns c.as_slice.result.now (c.as_slice.ensures.value ∙ c.in_ok-standing.ensures) n))
 
 pub returns-clause-names : goal.returns-clause-names
 returns-clause-names g c =
