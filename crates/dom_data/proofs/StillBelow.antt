@@ -1,7 +1,6 @@
 -- As long as Texts leave, what is below a node is told by its having a parent.
 use Rattle.std.proofs.Common.{◌≡◌, ℕ, ◌<◌, ◌≤◌, ◌==◌, Bool, true, false, if◌then◌else◌, List, [], ◌∷◌, ◌++◌, drop, length, Option, Some, None, is_some, refl, ap, sym, ◌∙◌, subst, arith, ⊎_elim}
 use Rattle.std.proofs.lemmas.Bool.{cases_lt, false≢true}
-use Rattle.dom_model.specs.declared.Kind.{Kind}
 use Rattle.dom_model.specs.declared.Kind.TheVariants.{Text}
 use Rattle.dom_model.specs.PlainLists.Lists.{hits, among, head_of}
 use Rattle.dom_model.specs.Forests.Kinds.{is_kind}
@@ -26,7 +25,7 @@ use Rattle.dom_model.proofs.Worlds.SameShape.{IsAlike, inside-alike, parent-alik
 use Rattle.dom_model.proofs.Worlds.Measured.{kind-cut}
 use Rattle.dom_model.proofs.Soundness.SoundForests.{IsWood, data-childless, IsWood-alike, IsWood-cut}
 use Rattle.dom_model.proofs.Soundness.SoundSplitting.{text_has_data}
-use Rattle.dom_model.proofs.Soundness.SoundNormalizing.{SameKinds, removed_kinds, joinable, below_parent}
+use Rattle.dom_model.proofs.Soundness.SoundNormalizing.{SameKinds, joinable, below_parent}
 use Rattle.dom_model.specs.DataAndCopies.Joinable.{AreJoinable}
 use Rattle.dom_traverse.proofs.Descendants.{among-inside}
 use Rattle.dom_data.specs.Joining.{is_told_by_parent}
