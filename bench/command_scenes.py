@@ -304,6 +304,59 @@ def cloned_out_of_a_chain(depth):
     return making, [["cloneContents", 0]], count
 
 
+def beside_an_end(children, make):
+    """An element with children, each made by that command, front to back, and a live range around all of them."""
+    making = [["createElement", 0, "p"]]
+    for number in range(2, children + 2):
+        making += [make, ["appendChild", 1, number]]
+    return making + [["createRange", 0], ["selectNodeContents", 0, 1]]
+
+
+def removed_beside_an_end(children):
+    """Every second child goes, front to back."""
+    return beside_an_end(children, ["createElement", 0, "e"]), [["remove", number] for number in range(2, children + 2, 2)], children // 2
+
+
+def removed_from_behind(children):
+    """Every second child goes, back to front."""
+    making, commands, count = removed_beside_an_end(children)
+    return making, commands[::-1], count
+
+
+def inserted_beside_an_end(children):
+    """A node comes in before every second child, front to back."""
+    making = beside_an_end(children, ["createElement", 0, "e"]) + [["createElement", 0, "n"] for _ in range(children // 2)]
+    return making, [["insertBefore", 1, children + 2 + k, 2 + 2 * k] for k in range(children // 2)], children // 2
+
+
+def split_beside_an_end(children):
+    """Every Text is split, front to back."""
+    return beside_an_end(children, ["createText", 0, "some text"]), [["splitText", 2 + k, 4] for k in range(children)], children
+
+
+def normalized_beside_an_end(groups):
+    """Two Texts and an element, so many times, are normalized beside an end in their parent; counted for each three."""
+    making = [["createElement", 0, "p"]]
+    for number in range(2, 3 * groups + 2):
+        making += [["createText", 0, "t"] if number % 3 else ["createElement", 0, "e"], ["appendChild", 1, number]]
+    return making + [["createRange", 0], ["selectNodeContents", 0, 1]], [["normalize", 1]], groups
+
+
+def deleted_after_the_first(children):
+    """Half of the children are deleted, from a fourth on, once the first went; counted for each."""
+    ends = [["remove", 2], ["setStart", 0, 1, children // 4], ["setEnd", 0, 1, 3 * children // 4]]
+    return beside_an_end(children, ["createElement", 0, "e"]) + ends, [["deleteContents", 0]], children // 2
+
+
+def normalized_chain(depth):
+    """A chain of elements with a Text in each is normalized; counted for each level."""
+    making = [["createElement", 0, "e"]]
+    for level in range(1, depth):
+        above, element, text = max(1, 2 * level - 2), 2 * level, 2 * level + 1
+        making += [["createElement", 0, "e"], ["createText", 0, "t"], ["appendChild", above, text], ["appendChild", above, element]]
+    return making, [["normalize", 1]], depth
+
+
 SIZES = ("among 1,000 nodes", "among 100,000")
 LEVELS = ("300 deep", "3,000 deep")
 RANGES = ("with no range elsewhere", "with 10,000 ends")
@@ -342,6 +395,13 @@ PAIRS = (
     ("selectNode in the midst", ("of 100 children", "of 50,000"), selected_in_the_midst, (100, 50000)),
     ("comparePoint in the midst", ("of 100 children", "of 50,000"), compared_in_the_midst, (100, 50000)),
     ("setStart far from the end", ("among 100 children", "among 50,000"), set_far_from_the_end, (100, 50000)),
+    ("remove of every second child, front to back, beside a range", ("of 200 children", "of 20,000"), removed_beside_an_end, (200, 20000)),
+    ("remove of every second child, back to front, beside a range", ("of 200 children", "of 20,000"), removed_from_behind, (200, 20000)),
+    ("insert before every second child beside a range", ("of 200 children", "of 20,000"), inserted_beside_an_end, (200, 20000)),
+    ("splitText of each child beside a range", ("of 100 children", "of 10,000"), split_beside_an_end, (100, 10000)),
+    ("normalize of (Text, Text, element) beside a range, for each", ("100 times", "10,000 times"), normalized_beside_an_end, (100, 10000)),
+    ("deleteContents after the first child went, for each node", ("of 200 children", "of 20,000"), deleted_after_the_first, (200, 20000)),
+    ("normalize of a chain with a Text in each, for each level", ("100 deep", "10,000 deep"), normalized_chain, (100, 10000)),
     ("a group that moves", ("with no released range", "beside 10,000"), moved_beside_released, (0, 10000)),
     ("extractContents out of a chain, for each level", ("40 deep", "4,000 deep"), taken_out_of_a_chain, (40, 4000)),
     ("cloneContents out of a chain, for each level", ("40 deep", "4,000 deep"), cloned_out_of_a_chain, (40, 4000)),

@@ -75,7 +75,7 @@ at_once-watched into base ts a b w =
 
 -- Wherever ends stand: the other parts go as they would go without ranges.
 
-abbrev without_ranges : World → World
+abbrev pub without_ranges : World → World
 without_ranges w = record w { ranges = [] }
 
 removed-bare : (n : ℕ) (w : World) → without_ranges (remove false n w) ≡ without_ranges (remove false n (without_ranges w))
@@ -92,7 +92,7 @@ merged-bare t into base w = go (parent_of w.forest t)
     go None = refl
     go (Some p) = refl
 
-merges-bare : (into base : ℕ) (ts : List ℕ) (w : World) → without_ranges (merge_ends into base ts w) ≡ without_ranges w
+pub merges-bare : (into base : ℕ) (ts : List ℕ) (w : World) → without_ranges (merge_ends into base ts w) ≡ without_ranges w
 merges-bare into base [] w = refl
 merges-bare into base (t ∷ ts) w =
     merges-bare into (base + length (data_of w t)) ts (merged_ends t into base (parent_of w.forest t) w)

@@ -10,6 +10,7 @@ pub mod StaysWhole
 pub mod SoundParting
 pub mod Behind
 pub mod TextsBelow
+pub mod StillBelow
 pub mod TextsInTurn
 pub mod JoinedInTurn
 pub mod FollowingTexts

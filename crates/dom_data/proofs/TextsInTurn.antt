@@ -1,71 +1,22 @@
 -- One Text after another is normalized.
-use Rattle.std.proofs.Common.{◌≡◌, ℕ, ◌+◌, ◌<◌, ◌≤◌, ◌==◌, true, false, if◌then◌else◌, List, [], ◌∷◌, ◌++◌, drop, length, slice_index_or, refl, ap, sym, ◌∙◌, subst, arith, length-drop, ⊎_elim, Some}
-use Rattle.std.proofs.lemmas.Bool.{cases_lt}
+use Rattle.std.proofs.Common.{◌≡◌, ℕ, ◌+◌, ◌<◌, ◌≤◌, ◌==◌, true, false, if◌then◌else◌, List, [], ◌∷◌, drop, length, slice_index_or, is_some, refl, ap, sym, ◌∙◌, subst, arith, length-drop}
 use Rattle.std.proofs.lemmas.List.{drop_more}
 use Rattle.dom_model.specs.declared.Kind.TheVariants.{Text}
-use Rattle.dom_model.specs.PlainLists.Lists.{hits, among, head_of}
+use Rattle.dom_model.specs.PlainLists.Lists.{hits, among}
 use Rattle.dom_model.specs.Forests.Kinds.{is_kind}
-use Rattle.dom_model.specs.Forests.Forest.{Forest, empty, node, occurs, one_at, tops, numbers, tree_at, ancestors, entry_in, inclusive_descendants}
+use Rattle.dom_model.specs.Forests.Forest.{Forest, parent_of, entry_in, inclusive_descendants}
 use Rattle.dom_model.specs.Worlds.World as model
 use Rattle.dom_model.specs.Worlds.World.{Content}
 use Rattle.dom_model.specs.Forests.Nodes.{is_of_kind}
 use Rattle.dom_model.specs.MutationAlgorithms.Editing.{remove}
 use Rattle.dom_model.specs.DataAndCopies.Data.{content_in, following_texts, join_following, is_descendant, normalize_text, normalize_each, normalize, text_descendants}
-use Rattle.dom_model.proofs.PlainLists.Numbers.{same_or, same, apart}
-use Rattle.dom_model.proofs.Forests.Totals.{total-tree_at, tree_at-absent}
-use Rattle.dom_model.proofs.Forests.Tops.{tops-tree_at}
-use Rattle.dom_model.proofs.Forests.Climbing.{hits-append, hits-first, hits-not_among}
-use Rattle.dom_model.proofs.Forests.TreeOrder.Flattened.{hits-numbers}
-use Rattle.dom_model.proofs.Forests.Listed.{hits-itself}
-use Rattle.dom_model.proofs.Soundness.SoundNormalizing.{kept-one}
-use Rattle.dom_traverse.proofs.Descendants.{among-inside}
+use Rattle.dom_model.proofs.Forests.Climbing.{hits-append, hits-first}
 use Rattle.dom_edit.specs.declared.world.World.{World}
 use Rattle.dom_edit.specs.Whole.{IsWhole, Keeps, Follows, unwatched}
 use Rattle.dom_edit.proofs.Following.{follows-none, follows-then, keeps-unwatched}
+use Rattle.dom_data.specs.Joining.{is_told_by_parent}
 use Rattle.dom_data.proofs.StaysWhole.{sound-unwatched, follows-alike}
-
--- A node below another.
-
-numbers-first : (n : ℕ) (g : Forest Content) → tops g ≡ n ∷ [] → numbers g ≡ n ∷ drop 1 (numbers g)
-numbers-first n empty e = absurd (cc e)
-numbers-first n (node x kids rest) e = ap (λ m. m ∷ (numbers kids ++ numbers rest)) (same_top e)
-  where
-    same_top : x.number ∷ tops rest ≡ n ∷ [] → x.number ≡ n
-    same_top e = let k : Some x.number ≡ Some n = ap head_of e in cc k
-
-module _ (f : Forest Content) (o : (m : ℕ) → occurs m f ≤ 1) (n above : ℕ) where
-  abbrev all : List ℕ
-  all = inclusive_descendants f above
-
-  first : 0 < occurs above f → all ≡ above ∷ drop 1 all
-  first h = numbers-first above (tree_at above f) (tops-tree_at above f (let k = o above in omega arith))
-
-  none : occurs above f ≤ 0 → all ≡ []
-  none h = ap (λ (g : Forest Content). numbers g) (tree_at-absent above f (omega arith))
-
-  pub below-apart : (n ≡ above → ⊥) → among above (ancestors n f) ≡ among n (drop 1 all)
-  below-apart ne = sym (among-inside f o n above) ∙ ⊎_elim there absent (cases_lt 0 (occurs above f))
-    where
-      there : 0 < occurs above f → among n all ≡ among n (drop 1 all)
-      there h = ap (among n) (first h) ∙ (elim (same_or above n) [ same e t ↦ absurd (ne (sym e)) | apart _ t ↦ rw t refl ])
-
-      absent : occurs above f ≤ 0 → among n all ≡ among n (drop 1 all)
-      absent h = let e = none h in ap (among n) e ∙ sym (ap (λ ns. among n (drop 1 ns)) e)
-
-  pub below-itself : false ≡ among above (drop 1 all)
-  below-itself = sym (hits-not_among above (drop 1 all) (⊎_elim there absent (cases_lt 0 (occurs above f))))
-    where
-      there : 0 < occurs above f → hits above (drop 1 all) ≡ 0
-      there h =
-          let a = ap (hits above) (first h) in
-          let b = hits-itself above (drop 1 all) in
-          let c = hits-numbers above (tree_at above f) in
-          let d = total-tree_at (one_at above) above f in
-          let e = o above in
-          omega arith
-
-      absent : occurs above f ≤ 0 → hits above (drop 1 all) ≡ 0
-      absent h = ap (λ ns. hits above (drop 1 ns)) (none h)
+use Rattle.dom_data.proofs.StillBelow.{left-one}
 
 -- Steps that a test picks.
 
@@ -83,13 +34,15 @@ follows-full old new t e f =
 abbrev pub one_text : ℕ → ℕ → model.World → model.World
 one_text top t w = if is_descendant w top t then normalize_text t w else w
 
-pub follows-there : (old new : World) (top t : ℕ) → among t (drop 1 (inclusive_descendants old.tree.forest top)) ≡ true → Follows old new (normalize_text t) → Follows old new (one_text top t)
-follows-there old new top t e f =
+pub follows-there : (old new : World) (top t : ℕ) → is_told_by_parent old.tree.forest top t → is_some (parent_of old.tree.forest t) ≡ true → Follows old new (normalize_text t) → Follows old new (one_text top t)
+follows-there old new top t told h f =
+    let e = told ∙ h in
     follows-alike old new (normalize_text t) (one_text top t)
     (λ w k. sym (ap (λ b. if b then normalize_text t w else w) (ap (λ g. among t (drop 1 (inclusive_descendants g top))) k.forest ∙ e))) f
 
-pub follows-gone : (v : World) (top t : ℕ) → among t (drop 1 (inclusive_descendants v.tree.forest top)) ≡ false → Follows v v (one_text top t)
-follows-gone v top t e =
+pub follows-gone : (v : World) (top t : ℕ) → is_told_by_parent v.tree.forest top t → is_some (parent_of v.tree.forest t) ≡ false → Follows v v (one_text top t)
+follows-gone v top t told h =
+    let e = told ∙ h in
     follows-alike v v (λ w. w) (one_text top t)
     (λ w k. sym (ap (λ b. if b then normalize_text t w else w) (ap (λ g. among t (drop 1 (inclusive_descendants g top))) k.forest ∙ e))) (follows-none v)
 
@@ -99,10 +52,11 @@ follows-gone v top t e =
 pub record IsInTurn (initial here : World) (top : ℕ) (texts : List ℕ) (i : ℕ) : Type 0 where
   pub whole : IsWhole here
   pub kinds : (m : ℕ) → 0 < hits m (drop i texts) → is_of_kind Text here.tree.forest m ≡ true
+  pub told : (m : ℕ) → 0 < hits m (drop i texts) → is_told_by_parent here.tree.forest top m
   pub rest : (final : World) → Follows here final (normalize_each top (drop i texts)) → Follows initial final (normalize_each top texts)
 
-pub turn-first : (v : World) (top : ℕ) (texts : List ℕ) → IsWhole v → ((m : ℕ) → 0 < hits m texts → is_of_kind Text v.tree.forest m ≡ true) → IsInTurn v v top texts 0
-turn-first v top texts h k = record { whole = h; kinds = k; rest = λ final f. f }
+pub turn-first : (v : World) (top : ℕ) (texts : List ℕ) → IsWhole v → ((m : ℕ) → 0 < hits m texts → is_of_kind Text v.tree.forest m ≡ true) → ((m : ℕ) → 0 < hits m texts → is_told_by_parent v.tree.forest top m) → IsInTurn v v top texts 0
+turn-first v top texts h k b = record { whole = h; kinds = k; told = b; rest = λ final f. f }
 
 module _ (initial here : World) (top : ℕ) (texts : List ℕ) (i : ℕ) (t : IsInTurn initial here top texts i) where
   turn-listed : (x : ℕ) → x ≡ slice_index_or texts i x → i < length texts → drop i texts ≡ x ∷ drop (i + 1) texts
@@ -111,10 +65,13 @@ module _ (initial here : World) (top : ℕ) (texts : List ℕ) (i : ℕ) (t : Is
   pub turn-text : (x : ℕ) → x ≡ slice_index_or texts i x → i < length texts → is_of_kind Text here.tree.forest x ≡ true
   turn-text x is lt = t.kinds x (subst (λ ns. 0 < hits x ns) (sym (turn-listed x is lt)) (hits-first x (drop (i + 1) texts)))
 
+  pub turn-told : (x : ℕ) → x ≡ slice_index_or texts i x → i < length texts → is_told_by_parent here.tree.forest top x
+  turn-told x is lt = t.told x (subst (λ ns. 0 < hits x ns) (sym (turn-listed x is lt)) (hits-first x (drop (i + 1) texts)))
+
   pub turn-next : (next : World) (x : ℕ) → x ≡ slice_index_or texts i x → i < length texts → Follows here next (one_text top x) → IsWhole next → IsInTurn initial next top texts (i + 1)
   turn-next next x is lt f h =
       let e = turn-listed x is lt in
-      let k = kept-one top x (unwatched here) (sound-unwatched here t.whole) (turn-text x is lt) in
+      let k = left-one top x (unwatched here) (sound-unwatched here t.whole) (turn-text x is lt) in
       record {
         whole = h;
         kinds = λ m l.
@@ -122,6 +79,10 @@ module _ (initial here : World) (top : ℕ) (texts : List ℕ) (i : ℕ) (t : Is
             let b = hits-append m (x ∷ []) (drop (i + 1) texts) in
             ap (λ g. is_of_kind Text g m) (sym (f.keeps (unwatched here) (keeps-unwatched here)).forest)
             ∙ k.kinds (is_kind Text) m ∙ t.kinds m (omega arith);
+        told = λ m l.
+            let a = ap (hits m) e in
+            let b = hits-append m (x ∷ []) (drop (i + 1) texts) in
+            subst (λ g. is_told_by_parent g top m) (f.keeps (unwatched here) (keeps-unwatched here)).forest (k.tells top m (t.told m (omega arith)));
         rest = λ final g.
             t.rest final (subst (λ ns. Follows here final (normalize_each top ns)) (sym e) (follows-then here next final (one_text top x) (normalize_each top (drop (i + 1) texts)) f g));
       }

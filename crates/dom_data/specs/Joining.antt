@@ -1,10 +1,10 @@
 -- The Texts that follow a Text, found by a walk, and joined to it one after another.
-use Rattle.std.specs.Prelude.{ℕ, ◌+◌, false, List, [], ◌∷◌, flat_map, take_while, if◌then◌else◌, length, Option, Some, None}
+use Rattle.std.specs.Prelude.{◌≡◌, ℕ, ◌+◌, false, List, [], ◌∷◌, drop, flat_map, take_while, if◌then◌else◌, length, Option, Some, None, is_some}
 use Rattle.dom_model.specs.declared.Kind.TheVariants.{Text}
 use Rattle.dom_model.specs.Forests.Arena.{siblings_in}
-use Rattle.dom_model.specs.Forests.Forest.{Forest, entry_in, parent_of, next_of}
+use Rattle.dom_model.specs.Forests.Forest.{Forest, entry_in, parent_of, next_of, inclusive_descendants}
 use Rattle.dom_model.specs.Worlds.World.{Content, World}
-use Rattle.dom_model.specs.PlainLists.Lists.{past}
+use Rattle.dom_model.specs.PlainLists.Lists.{among, past}
 use Rattle.dom_model.specs.Forests.Nodes.{is_of_kind}
 use Rattle.dom_model.specs.MutationAlgorithms.Editing.{remove}
 use Rattle.dom_model.specs.DataAndCopies.Data.{content_in, data_of, merged_ends}
@@ -28,6 +28,10 @@ texts_behind f n = take_while (is_of_kind Text f) (past n (siblings_in (entry_in
 -- the data of nodes, one after another
 abbrev pub data_among : Forest Content → List ℕ → List ℕ
 data_among f ns = flat_map (λ n. (content_in (entry_in f n)).text) ns
+
+-- whether a node is below another is told by whether it has a parent
+abbrev pub is_told_by_parent : Forest Content → ℕ → ℕ → Type 0
+is_told_by_parent f top n = among n (drop 1 (inclusive_descendants f top)) ≡ is_some (parent_of f n)
 
 -- the ends in a Text, and those at it, move into the one before it, and it leaves
 abbrev pub taken_in : ℕ → ℕ → ℕ → World → World

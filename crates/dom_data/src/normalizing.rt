@@ -12,7 +12,7 @@ ghost use Rattle.dom_model.specs.DataAndCopies.Joinable.{AreJoinable};
 ghost use Rattle.dom_edit.specs.Whole.{IsWhole, Follows, unwatched};
 ghost use Rattle.dom_edit.specs.Markers.{StandByEdits};
 ghost use Rattle.dom_data.specs.TextsAlone.{alone, texts_among};
-ghost use Rattle.dom_data.specs.Joining.{next_text, texts_behind, data_among, IsNextTaken, taken_in, each_taken_in};
+ghost use Rattle.dom_data.specs.Joining.{is_told_by_parent, next_text, texts_behind, data_among, IsNextTaken, taken_in, each_taken_in};
 
 use crate::bodies::kind_in;
 use crate::replacing::replace_units;
@@ -51,15 +51,6 @@ fn texts_below(tree: &Tree<Content>, alloc: Global, top: NodeId) -> Result<Vec<N
         here = next;
     }
     Ok(texts)
-}
-
-// Whether a node is a descendant of another.
-fn is_below(tree: &Tree<Content>, node: NodeId, above: NodeId) -> bool
-    requires held { HasNode tree.now.forest node }
-    ensures { result ≡ among node (drop 1 (inclusive_descendants tree.now.forest above)) }
-{
-    tree.sound();
-    node != above && tree.is_ancestor(above, node)
 }
 
 // The next sibling, where it is a Text.
@@ -227,7 +218,7 @@ fn normalize_text(world: &mut World, alloc: Global, node: NodeId) -> Result<(), 
     }
 }
 
-// The same of a Text that still is below a node.
+// The same of a Text that still is below a node: as long as it has a parent, which alone is looked at.
 fn normalize_below(
     world: &mut World,
     alloc: Global,
@@ -236,10 +227,11 @@ fn normalize_below(
 ) -> Result<(), AllocError>
     requires whole { IsWhole world.old }
     requires kind { is_of_kind Text world.old.tree.forest node ≡ true }
+    requires told { is_told_by_parent world.old.tree.forest top node }
     ensures normalized { OnOk result (Follows world.old world.new (λ w. if is_descendant w top node then normalize_text node w else w)) }
     ensures whole { IsWhole world.new }
 {
-    if is_below(&world.tree, node, top) {
+    if world.tree.parent(node).is_some() {
         normalize_text(world, alloc, node)
     } else {
         Ok(())
@@ -255,6 +247,7 @@ fn normalize_each(
 ) -> Result<(), AllocError>
     requires whole { IsWhole world.old }
     requires kinds { (n : ℕ) → 0 < hits n texts.now → is_of_kind Text world.old.tree.forest n ≡ true }
+    requires told { (n : ℕ) → 0 < hits n texts.now → is_told_by_parent world.old.tree.forest top n }
     ensures normalized { OnOk result (Follows world.old world.new (normalize_each top texts.now)) }
     ensures whole { IsWhole world.new }
 {

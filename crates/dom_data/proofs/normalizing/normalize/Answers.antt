@@ -6,7 +6,9 @@ use Rattle.dom_model.specs.PlainLists.Lists.{hits}
 use Rattle.dom_model.specs.Forests.Forest.{inclusive_descendants}
 use Rattle.dom_model.specs.Forests.Nodes.{is_of_kind}
 use Rattle.dom_model.proofs.Soundness.SoundNormalizing.{filter-passed}
+use Rattle.dom_model.proofs.Forests.Climbing.{hits-among}
 use Rattle.dom_data.proofs.Marking.{stand-by_normalize}
+use Rattle.dom_data.proofs.StillBelow.{below-tells}
 use Rattle.dom_data.proofs.TextsBelow.{texts-filtered}
 use Rattle.dom_data.proofs.TextsInTurn.{follows-all}
 use Rattle.dom_data.proofs.normalizing.normalize.Goals as goal
@@ -17,6 +19,14 @@ normalize_each-requires-clause-kinds c = λ n h.
     let below = drop 1 (inclusive_descendants f c.args.node) in
     let e = c.deref.ensures.value ∙ c.in_ok-texts.ensures ∙ texts-filtered f below in
     (filter-passed (is_of_kind Text f) below n (subst (λ ns. 0 < hits n ns) e h)).0
+
+pub normalize_each-requires-clause-told : goal.normalize_each-requires-clause-told
+normalize_each-requires-clause-told c = λ n h.
+    let f = c.args.world.now.tree.forest in
+    let below = drop 1 (inclusive_descendants f c.args.node) in
+    let e = c.deref.ensures.value ∙ c.in_ok-texts.ensures ∙ texts-filtered f below in
+    let listed = (filter-passed (is_of_kind Text f) below n (subst (λ ns. 0 < hits n ns) e h)).1 in
+    below-tells f c.requires.whole.forest.once c.args.node n (hits-among n below listed)
 
 pub returns-clause-normalized : goal.returns-clause-normalized
 returns-clause-normalized c =
