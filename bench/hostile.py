@@ -9,6 +9,7 @@ import sys
 import tempfile
 
 from command_cost import LINES, instructions, takes_words
+from command_scenes import deleted_after_the_first, inserted_beside_an_end, normalized_beside_an_end, normalized_chain, removed_beside_an_end, split_beside_an_end
 from running import words_of
 
 MOST = 2.3
@@ -25,47 +26,10 @@ def chain(count):
     return made + [["appendChild", it - 1, it] for it in reversed(numbers) if it > 1]
 
 
-def flat(count):
-    """Elements 2 to count + 1 under element 1."""
-    made, _ = elements(1, count + 1)
-    return made + [["appendChild", 1, it] for it in range(2, count + 2)]
-
-
-def ends_in(node):
-    return [["createRange", 0], ["selectNodeContents", 0, node]]
-
-
 def moves_in_a_chain(count):
     """Nodes of an observed chain are removed and put back, with no notify."""
     making = chain(count) + [["createObserver"], ["observe", 0, 1, SUBTREE]]
     return making, [line for _ in range(2) for it in range(count - 20, count) for line in (["remove", it], ["appendChild", it - 1, it], ["takeRecords", 0])]
-
-
-def removals_beside_an_end(count):
-    return flat(count) + ends_in(1), [["remove", it] for it in range(2, count + 2, 2)]
-
-
-def insertions_beside_an_end(count):
-    making = flat(count) + ends_in(1) + elements(0, count // 2)[0]
-    return making, [["insertBefore", 1, count + 2 + at, 2 * at + 2] for at in range(count // 2)]
-
-
-def normalize_beside_an_end(count):
-    making = [["createElement", 0, "e"]]
-    for at in range(count):
-        making += [["createText", 0, "a"], ["createText", 0, "b"], ["createElement", 0, "e"]]
-        making += [["appendChild", 1, 3 * at + number] for number in (2, 3, 4)]
-    return making + ends_in(1), [["normalize", 1]]
-
-
-def contents_of_half(count):
-    making = flat(count) + [["remove", 2], *ends_in(1), ["setStart", 0, 1, 1], ["setEnd", 0, 1, count // 2]]
-    return making, [["extractContents", 0]]
-
-
-def normalize_a_chain(count):
-    making = chain(count) + [["createText", 0, "a"]] * count
-    return making + [["appendChild", it, count + it] for it in range(1, count + 1)], [["normalize", 1]]
 
 
 def watchers_at_depth(made):
@@ -104,8 +68,9 @@ def rules_of_a_filter(count):
 
 
 def removals_under_a_long_filter(count):
+    leaves = [["createElement", 0, "e"]] * 101 + [["appendChild", 1, it] for it in range(2, 102)]
     options = {"attributeFilter": [f"a{at}" for at in range(count)], "subtree": True}
-    return flat(100) + [["createObserver"], ["observe", 0, 1, options]], [["remove", it] for it in range(2, 102)]
+    return leaves + [["createObserver"], ["observe", 0, 1, options]], [["remove", it] for it in range(2, 102)]
 
 
 def contents_of_an_observed_chain(count):
@@ -116,11 +81,12 @@ def contents_of_an_observed_chain(count):
 RANGE = watchers_at_depth(lambda at, node: [["createRange", 0], ["setStart", at, node, 0], ["setEnd", at, node, 0]])
 SCENES = (
     ("moves in a chain, observed from its top, without notify", moves_in_a_chain, 50),
-    ("removals beside an end in the parent, every second child", removals_beside_an_end, 1000),
-    ("insertions beside an end in the parent, before every second child", insertions_beside_an_end, 1000),
-    ("normalize beside an end in the parent", normalize_beside_an_end, 300),
-    ("extractContents of half of the children, the first of which went", contents_of_half, 1000),
-    ("normalize of a chain with a Text in each element", normalize_a_chain, 500),
+    ("removals beside an end in the parent, every second child", removed_beside_an_end, 1000),
+    ("insertions beside an end in the parent, before every second child", inserted_beside_an_end, 1000),
+    ("splitText beside an end in the parent", split_beside_an_end, 500),
+    ("normalize beside an end in the parent", normalized_beside_an_end, 300),
+    ("deleteContents of half of the children, the first of which went", deleted_after_the_first, 1000),
+    ("normalize of a chain with a Text in each element", normalized_chain, 500),
     ("removal and discard beside live ranges at depth", RANGE, 300),
     ("the same beside iterators", watchers_at_depth(lambda at, node: [["createIterator", node, 1, []]]), 300),
     ("the same beside walkers", watchers_at_depth(lambda at, node: [["createWalker", node, 1, []]]), 300),
@@ -148,7 +114,7 @@ def main():
             if not all(word in name for word in given.words):
                 continue
             sizes = [given.size * least * times for times in (1, 2, 4)]
-            counts = [instructions(given.program, making, lines, work) - len(lines) * empty for making, lines in map(scene, sizes)]
+            counts = [instructions(given.program, making, lines, work) - len(lines) * empty for making, lines, *_ in map(scene, sizes)]
             ratios = [late / max(early, 1) for early, late in zip(counts, counts[1:])]
             is_over = max(ratios) > MOST
             told = ", ".join(f"{size:,}: {count:,.0f}" for size, count in zip(sizes, counts))

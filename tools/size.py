@@ -1,10 +1,10 @@
 #!/usr/bin/env python3
 """Runs the built program on large inputs with a stack of 1 MiB, checks each reply by rule, and tells how long each part took.
 
-COUNT is how many elements the chain has, how many children the parent and how many live ranges there are: 100,000 where it is not given. Observers are
-a tenth of it, and commands whose memory is measured are ten times as many. The parts: a chain of elements that is made, printed, walked, copied,
-compared, normalized, discarded, and dropped at the end of the input; a parent with many children; many live ranges; many observers of which one is
-told; memory while nodes, ranges and records come and go, which stays level; a line of 1 GiB in a small memory.
+COUNT is how many elements the chain has, how many children the parent and how many live ranges there are: 100,000 where it is not given. Commands
+whose memory is measured are some ten times as many. The parts: a chain of elements that is made, printed, walked, copied, compared, normalized,
+discarded, and dropped at the end of the input; a parent with many children; many live ranges; memory while nodes, ranges and records come and go,
+which stays level; a line of 1 GiB in a small memory.
 """
 import json
 import resource
@@ -237,36 +237,6 @@ def ranges(count):
     session.end()
 
 
-def observers_made(count):
-    yield pair(1, "createElement", 0, "e")
-    for number in range(count):
-        yield pair(number, "createObserver")
-        yield pair(None, "observe", number, 1, {"attributeFilter": [f"a{number}"]})
-
-
-def observers_told(count):
-    for step in range(1000):
-        number = step * 7919 % count
-        record = ["attributes", 1, [], [], None, None, f"a{number}", None]
-        yield pair(None, "setAttribute", 1, f"a{number}", "v")
-        yield pair([number], "pending")
-        yield pair([[number, [record]]], "notify")
-        yield pair(None, "removeAttribute", 1, f"a{number}")
-        yield pair([record], "takeRecords", number)
-        yield pair([], "notify")
-    for number in range(count):
-        yield pair(None, "disconnect", number)
-    yield pair(None, "setAttribute", 1, "a0", "v")
-    yield pair([], "pending")
-
-
-def observers(count):
-    session = Session("observers")
-    session.ask("made", observers_made(count))
-    session.ask("told", observers_told(count))
-    session.end()
-
-
 def round_of_nodes(at):
     """A tree of nodes that comes and goes; their numbers go on."""
     one = 3 * at + 1
@@ -338,8 +308,8 @@ def takes_count(parser):
 def main():
     given = words_of(__doc__, takes_count)
     Session.program = given.program
-    for part, size in ((chain, 1), (children, 1), (ranges, 1), (observers, 0.1)):
-        part(int(given.count * size))
+    for part in (chain, children, ranges):
+        part(given.count)
     stays_level("nodes that come and go", [], round_of_nodes, given.count)
     stays_level("ranges that come and go", [], round_of_ranges, 2 * given.count)
     stays_level("copies and records that come and go", OBSERVED, round_of_copies, 2 * given.count)
