@@ -56,6 +56,11 @@ def instructions(built, making, commands, work):
     sys.exit("no count")
 
 
+def empty_line(built, work):
+    """The instructions of a line with nothing in it; the program has answered one ahead of them."""
+    return instructions(built, [None], [None] * LINES, work) / LINES
+
+
 def takes_words(parser):
     parser.add_argument("words", nargs="*", metavar="WORD", help="only the pairs whose name has each of these words")
 
@@ -74,7 +79,7 @@ def main():
     if not pairs:
         sys.exit(f"command_cost.py: no pair's name has {' and '.join(given.words)}")
     with tempfile.TemporaryDirectory() as work:
-        empty = instructions(given.program, [], [None] * LINES, work) / LINES
+        empty = empty_line(given.program, work)
         print(f"an empty line: {empty:.0f}, which the others are told without", flush=True)
         for name, sides, scene, sizes in pairs:
             scenes = [scene(size) for size in sizes]

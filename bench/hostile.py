@@ -8,7 +8,7 @@ below are those of the gate, which are small.
 import sys
 import tempfile
 
-from command_cost import LINES, instructions, takes_words
+from command_cost import empty_line, instructions, takes_words
 from command_scenes import deleted_after_the_first, inserted_beside_an_end, normalized_beside_an_end, normalized_chain, removed_beside_an_end, split_beside_an_end
 from running import words_of
 
@@ -109,7 +109,7 @@ def takes_size(parser):
 def main():
     given, over = words_of(__doc__, takes_size), 0
     with tempfile.TemporaryDirectory() as work:
-        empty = instructions(given.program, [], [None] * LINES, work) / LINES
+        empty = empty_line(given.program, work)
         for name, scene, least in SCENES:
             if not all(word in name for word in given.words):
                 continue

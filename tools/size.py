@@ -100,7 +100,7 @@ def there_and_back(count, first, ahead, back):
     """A walk from the first element to the last, and back."""
     for number in [*range(first, count + 1), None]:
         yield pair(number, *ahead)
-    for number in [*range(count - 2 + first, 0, -1), None]:
+    for number in [*range(count - 1, 0, -1), None]:
         yield pair(number, *back)
 
 
