@@ -22,8 +22,8 @@ SETTINGS = {**os.environ, "NODE_PATH": os.pathsep.join(filter(None, [os.environ.
 # What is run by node: what it is, node's options, and the files.
 PARTS = (
     ("the tests of the package", ["--expose-gc"], "tests/*.test.js"),
-    ("the tests of the runner", [], "wpt/test.js"),
-    ("the tests of the playground", ["--experimental-websocket"], "examples/playground/test.js"),
+    ("the tests of the runner", [], "wpt/*.test.js"),
+    ("the tests of the examples", ["--experimental-websocket"], "examples/*/*.test.js"),
 )
 
 

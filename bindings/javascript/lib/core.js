@@ -108,7 +108,8 @@ export class Session {
 
   /** Answers a line of JSON, as bytes or as a string, with the line of its reply. */
   line(line) {
-    check(native.hp_line(this.index, typeof line === "string" ? Buffer.from(line) : line));
+    // (what the line refuses stands in the reply)
+    native.hp_line(this.index, typeof line === "string" ? Buffer.from(line) : line);
     this.changed();
     return lent(native.hp_reply_line(this.index));
   }

@@ -64,6 +64,10 @@ class ExceptionIs {
 
 const exceptionOf = (it) => thingOf(it, ExceptionIs);
 
+function inspected() {
+  return exceptionOf(this) ? this.stack : Object.prototype.toString.call(this);
+}
+
 export const DOMException = known({
   name: "DOMException",
   is: (it) => exceptionOf(it) !== undefined,
@@ -83,6 +87,9 @@ export const DOMException = known({
   },
   finish(realm, made) {
     Object.setPrototypeOf(made.prototype, realm.global.Error.prototype);
+    // (so that node shows it as it shows an Error)
+    const shown = { value: inspected, writable: true, configurable: true };
+    Object.defineProperty(made.prototype, Symbol.for("nodejs.util.inspect.custom"), shown);
   },
 });
 

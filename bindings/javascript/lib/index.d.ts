@@ -407,6 +407,8 @@ export interface WindowOptions {
   empty?: boolean;
   /** Makes the Document one of XML, without an element. */
   xml?: boolean;
+  /** The content type of a Document of XML (application/xhtml+xml). */
+  contentType?: string;
   url?: string;
 }
 

@@ -85,13 +85,15 @@ export function createDocument({ beside, xml = false } = {}) {
 }
 
 /** What a window's Document is, by the options of the window. */
-const documentOptions = (its, { xml = false, url = "about:blank" }) => ({ ...(xml ? xmlIs(its, "application/xhtml+xml") : htmlIs(its)), url });
+function documentOptions(its, { xml = false, url = "about:blank", contentType = "application/xhtml+xml" }) {
+  return { ...(xml ? xmlIs(its, contentType) : htmlIs(its)), url };
+}
 
 /**
  * A window: an object that has all interfaces, of a realm of its own, and a `document`, of HTML with a head and a body. All is put on `global`, a
  * context's global object, where one is given; what is thrown and the arrays that are made are then by its constructors. `beside` is a window
  * or a Document whose session it shares, so that nodes can move between the two; `report` takes what observers' callbacks throw; `empty`
- * leaves the Document without an element, and so does `xml`, which makes it one of XML.
+ * leaves the Document without an element, and so does `xml`, which makes it one of XML, whose `contentType` may be given.
  */
 export function createWindow({ global, beside, report, empty = false, ...options } = {}) {
   const its = new Realm({ global, report });

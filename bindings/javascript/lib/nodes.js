@@ -267,18 +267,23 @@ export function adoptNode(document, node) {
 
 // ---- Making nodes in a Document.
 
-/** A new node of a kind, by a call that answers its number. */
-export function created(document, kind, call, ...words) {
-  check(native[call](sessionOf(document).index, numberOf(document), ...words));
+/** The object of a node of a kind, which a call has just made. */
+function created(document, kind, status) {
+  check(status);
   return wrapMade(document, out[0], kind);
 }
 
-export const createElementMarked = (document, name) => created(document, ELEMENT, "hp_create_element", name);
-export const createText = (document, data) => created(document, TEXT, "hp_create_text", data);
-export const createComment = (document, data) => created(document, COMMENT, "hp_create_comment", data);
-export const createInstruction = (document, target, data) => created(document, INSTRUCTION, "hp_create_pi", target, data);
-export const createDoctype = (document, ...words) => created(document, DOCTYPE, "hp_create_doctype", ...words);
-export const createFragment = (document) => created(document, FRAGMENT, "hp_create_fragment");
+const indexOf = (document) => sessionOf(document).index;
+
+export const createElementMarked = (document, name) =>
+  created(document, ELEMENT, native.hp_create_element(indexOf(document), numberOf(document), name));
+export const createText = (document, data) => created(document, TEXT, native.hp_create_text(indexOf(document), numberOf(document), data));
+export const createComment = (document, data) => created(document, COMMENT, native.hp_create_comment(indexOf(document), numberOf(document), data));
+export const createInstruction = (document, target, data) =>
+  created(document, INSTRUCTION, native.hp_create_pi(indexOf(document), numberOf(document), target, data));
+export const createDoctype = (document, name, publicId, systemId) =>
+  created(document, DOCTYPE, native.hp_create_doctype(indexOf(document), numberOf(document), name, publicId, systemId));
+export const createFragment = (document) => created(document, FRAGMENT, native.hp_create_fragment(indexOf(document), numberOf(document)));
 
 // ---- Several nodes at once, as the standard composes them of single steps.
 

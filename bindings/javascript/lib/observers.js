@@ -29,19 +29,45 @@ function read(session, notice, count) {
   return found;
 }
 
+/** Nodes that are held from now on, and made a list of when that is asked for. */
+class Held {
+  #realm;
+  #nodes;
+  #list;
+
+  constructor(realm, session, numbers) {
+    this.#realm = realm;
+    this.#nodes = Array.from(numbers, (number) => wrap(session, number));
+  }
+
+  get list() {
+    return (this.#list ??= stillNodeList(this.#realm, this.#nodes));
+  }
+}
+
 class RecordIs {
+  #added;
+  #removed;
+
   constructor(realm, session, told) {
-    const list = (numbers) => stillNodeList(realm, Array.from(numbers, (number) => wrap(session, number)));
     const name = told.name === undefined ? null : attributeName(session, told.name);
     this.type = TYPES[told.type];
     this.target = wrap(session, told.target);
-    this.addedNodes = list(told.added);
-    this.removedNodes = list(told.removed);
+    this.#added = new Held(realm, session, told.added);
+    this.#removed = new Held(realm, session, told.removed);
     this.previousSibling = wrapOrNull(session, told.previous);
     this.nextSibling = wrapOrNull(session, told.next);
     this.attributeName = name && name.local;
     this.attributeNamespace = name && name.namespace;
     this.oldValue = told.oldValue ?? null;
+  }
+
+  get addedNodes() {
+    return this.#added.list;
+  }
+
+  get removedNodes() {
+    return this.#removed.list;
   }
 }
 

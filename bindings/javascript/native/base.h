@@ -303,23 +303,20 @@ static napi_value call_listed(napi_env env, napi_callback_info info)
     return plain(env, status);
 }
 
-/* step(session, walker, node, move): where a walker comes from a node, which it leaves at once: no node is in use by it. */
+/* step(session, walker, node, move): where a walker comes from a node. It stands on node 0 else, so that no other node is in use by it. */
 static napi_value call_step(napi_env env, napi_callback_info info)
 {
     call it;
     uint32_t walker, node, move, found = HP_NONE;
-    hp_walker_at place;
     uint8_t status = begin(env, info, &it, 3);
     if (status == HP_OK && !(number_of(&it, 1, &walker) && number_of(&it, 2, &node) && number_of(&it, 3, &move)))
         status = HP_BAD_ARGUMENTS;
-    if (status == HP_OK)
-        status = hp_walker(it.session, walker, &place);
     if (status == HP_OK)
         status = hp_set_current(it.session, walker, node);
     if (status != HP_OK)
         return plain(env, status);
     status = hp_walk(it.session, walker, (uint8_t)move, &found);
-    hp_set_current(it.session, walker, place.root);
+    hp_set_current(it.session, walker, 0);
     it.numbers[0] = found;
     return plain(env, status);
 }

@@ -81,11 +81,12 @@ test("trees that nothing holds are discarded, with their wrappers or without", a
   const session = new Session();
   const { document } = session;
   const numbers = [];
-  for (let at = 0; at < 200; at++) {
+  const make = () => {
     const root = document.createElement("p");
     const leaf = root.appendChild(document.createTextNode("t"));
     numbers.push(session.number(root), session.number(leaf));
-  }
+  };
+  for (let at = 0; at < 200; at++) make();
   const held = document.appendChild(document.createElement("p"));
   await collect();
   assert.deepEqual(numbers.filter((number) => isThere(session, number)), []);
