@@ -95,6 +95,7 @@ static const char *const KIND_WORDS[KINDS] = {
     [KIND_TREE_WALKER] = "TreeWalker",
     [KIND_ROW] = "Row",
     [KIND_MUTATION_RECORD] = "MutationRecord",
+    [KIND_MUTATION_OBSERVER] = "MutationObserver",
 };
 
 static bool take_hook(PyObject *classes, const char *name, PyObject **to)

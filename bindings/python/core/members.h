@@ -165,21 +165,33 @@ static PyObject *calls_read_records(PyObject *self, PyObject *words)
     return found;
 }
 
-/* Tells all observers. The list is given: what it has is told again, and it takes what is told now. Returns what a callback raised, or None. */
+/* Makes the call that empties all queues, and raises where it is refused. */
+static bool is_notified(PyObject *self)
+{
+    uint8_t status = hp_notify(session_at(self));
+    PyObject *words = status ? PyTuple_New(0) : NULL;
+    if (words)
+        refused(status, "notify", self, words);
+    Py_XDECREF(words);
+    return status == HP_OK;
+}
+
+/* Tells all observers of a session. A list takes what is told, another has what was left by an earlier call. Returns what was raised, or None. */
 static PyObject *calls_tell(PyObject *self, PyObject *words)
 {
-    if (!is_counted(words, 2, "tell"))
+    if (!is_counted(words, 3, "tell"))
         return NULL;
-    uint8_t status = hp_notify(session_at(self));
-    PyObject *asked = status ? PyTuple_New(0) : NULL;
-    if (asked) {
-        refused(status, "notify", self, asked);
-        Py_DECREF(asked);
+    PyObject *told = word(words, 1), *left = word(words, 2), *kept = PyList_New(0);
+    if (!kept || !is_notified(self) || !notices_answer(told, word(words, 0), (Calls *)self)) {
+        Py_XDECREF(kept);
+        return NULL;
     }
-    if (status || !notices_answer(word(words, 1), word(words, 0), (Calls *)self))
-        return NULL;
-    PyObject *fault = tell_all(word(words, 1));
-    return fault ? fault : none();
+    PyObject *fault = tell_all(told, kept);
+    bool is_left = leave(told, left, kept, fault != NULL);
+    Py_DECREF(kept);
+    if (!is_left)
+        Py_CLEAR(fault);
+    return fault || !is_left ? fault : none();
 }
 
 static PyObject *calls_is_open(PyObject *self, void *closure)

@@ -306,18 +306,28 @@ class Handle:
         told = [self._part(made.hp_notice(), "hp_notice_at", at) for at in range(self._part_count())]
         return [(it.observer, self._answer_records(at, it.records)) for at, it in enumerate(told)]
 
-    def tell(self, session: Session, told: List[Any]) -> Optional[BaseException]:
-        """Tells all observers. The list takes what is told now; what it has already is told again. Returns what was raised first."""
+    def tell(self, session: Session, told: List[Any], left: List[Any]) -> Optional[BaseException]:
+        """Tells all observers. A list takes what is told, another has what was left by an earlier call. Returns what was raised first."""
         for number, records in self._whole(self._answer_notices, "hp_notify"):
             told.append((session._observer(number), [self._record(session, *it) for it in records]))
-        first = None
-        for observer, its in told:
-            try:
-                if observer.callback is not None:
-                    observer.callback(its, observer)
-            except BaseException as fault:
-                first = first or fault
-        return first
+        faults: List[BaseException] = []
+        kept = [it for it in told if not self._is_told(it[0], it[1], faults)]
+        if faults:
+            left += kept
+            return faults[0]
+        told[:0], left[:] = left, []
+        return None
+
+    def _is_told(self, observer: Any, records: List[Any], faults: List[BaseException]) -> bool:
+        """Calls the callback of an observer. It is not told where it has none, or was interrupted."""
+        if observer.callback is None:
+            return False
+        try:
+            observer.callback(records, observer)
+        except BaseException as fault:
+            faults.append(fault)
+            return isinstance(fault, Exception)
+        return True
 
     # objects
 
