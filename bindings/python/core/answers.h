@@ -195,6 +195,17 @@ static bool row_attributes(Rows *to, hp_session *session, size_t at, size_t coun
     return true;
 }
 
+/* How many parts the name of a kind has, and whether it has data: what else is not asked for. */
+static uint8_t parts_of(uint16_t kind)
+{
+    return kind == KIND_ELEMENT || kind == KIND_PROCESSING_INSTRUCTION ? 1 : kind == KIND_DOCUMENT_TYPE ? 3 : 0;
+}
+
+static bool has_data(uint16_t kind)
+{
+    return kind == KIND_TEXT || kind == KIND_PROCESSING_INSTRUCTION || kind == KIND_COMMENT;
+}
+
 /* Copies a row of the last answer. */
 static bool row_copy(Rows *to, hp_session *session, size_t at)
 {
@@ -204,16 +215,12 @@ static bool row_copy(Rows *to, hp_session *session, size_t at)
     if (hp_row_at(session, at, &it->row))
         return false;
     it->first_pair = to->pairs_length;
-    for (uint8_t part = 0; part < 3 && hp_row_name(session, at, part, &name) == HP_OK; part++) {
-        it->names[part] = name_from(name.bytes, name.length);
-        if (!it->names[part])
+    for (uint8_t part = 0; part < parts_of(it->row.type); part++) {
+        if (hp_row_name(session, at, part, &name) || !(it->names[part] = name_from(name.bytes, name.length)))
             return false;
     }
-    if (hp_row_text(session, at, &text) == HP_OK) {
-        it->text = text_from(text.units, text.length);
-        if (!it->text)
-            return false;
-    }
+    if (has_data(it->row.type) && (hp_row_text(session, at, &text) || !(it->text = text_from(text.units, text.length))))
+        return false;
     return row_attributes(to, session, at, it->row.attributes);
 }
 
@@ -247,12 +254,13 @@ static PyObject *pairs_of(const Rows *rows, const Copied *it)
     return found;
 }
 
-static PyObject *tuple_new;
+/* What makes a tuple of a class. */
+static newfunc tuple_new;
 
-/* A named tuple of these parts, whose references go with it. */
-static PyObject *named_tuple(int kind, PyObject **parts, int count)
+/* A tuple of these parts, whose references go with it. */
+static PyObject *plain_tuple(PyObject **parts, int count)
 {
-    PyObject *plain = PyTuple_New(count), *found = NULL;
+    PyObject *plain = PyTuple_New(count);
     bool is_whole = plain != NULL;
     for (int at = 0; at < count; at++) {
         is_whole = is_whole && parts[at];
@@ -261,9 +269,19 @@ static PyObject *named_tuple(int kind, PyObject **parts, int count)
         else
             Py_XDECREF(parts[at]);
     }
-    if (is_whole)
-        found = PyObject_CallFunctionObjArgs(tuple_new, kinds[kind], plain, NULL);
+    if (!is_whole)
+        Py_CLEAR(plain);
+    return plain;
+}
+
+/* The same as a named tuple. */
+static PyObject *named_tuple(int kind, PyObject **parts, int count)
+{
+    PyObject *plain = plain_tuple(parts, count);
+    PyObject *words = plain ? PyTuple_Pack(1, plain) : NULL;
+    PyObject *found = words ? tuple_new((PyTypeObject *)kinds[kind], words, NULL) : NULL;
     Py_XDECREF(plain);
+    Py_XDECREF(words);
     return found;
 }
 
@@ -286,6 +304,68 @@ static PyObject *row_made(const Rows *rows, const Copied *it, PyObject *session,
         or_none(it->names[2]),
     };
     return named_tuple(KIND_ROW, parts, 7);
+}
+
+/* A part of rows for what writes trees. */
+typedef PyObject *PartMade(const Rows *, const Copied *);
+
+static PyObject *depth_made(const Rows *rows, const Copied *it)
+{
+    (void)rows;
+    return PyLong_FromSize_t(it->row.depth);
+}
+
+static PyObject *kind_made(const Rows *rows, const Copied *it)
+{
+    (void)rows;
+    return PyLong_FromLong(it->row.type);
+}
+
+static PyObject *name_made(const Rows *rows, const Copied *it)
+{
+    (void)rows;
+    return or_none(it->names[0]);
+}
+
+static PyObject *data_made(const Rows *rows, const Copied *it)
+{
+    (void)rows;
+    return or_none(it->text);
+}
+
+static PyObject *ids_made(const Rows *rows, const Copied *it)
+{
+    (void)rows;
+    return it->names[1] ? PyTuple_Pack(2, it->names[1], it->names[2]) : none();
+}
+
+/* A part of all rows, as a list. */
+static PyObject *column_made(const Rows *rows, PartMade *make)
+{
+    PyObject *found = PyList_New((Py_ssize_t)rows->count);
+    for (size_t at = 0; found && at < rows->count; at++) {
+        PyObject *part = make(rows, &rows->rows[at]);
+        if (!part)
+            Py_CLEAR(found);
+        else
+            PyList_SetItem(found, (Py_ssize_t)at, part);
+    }
+    return found;
+}
+
+/* The parts of all rows without their nodes: depths, kinds, names, attributes, data, and the ids of doctypes. */
+static PyObject *columns_answer(Calls *calls)
+{
+    PartMade *const parts[] = { depth_made, kind_made, name_made, pairs_of, data_made, ids_made };
+    Rows rows = { NULL, 0, NULL, 0, 0 };
+    PyObject *columns[6], *found = NULL;
+    if (rows_copy(&rows, &calls->session, SIZE_MAX)) {
+        for (int at = 0; at < 6; at++)
+            columns[at] = column_made(&rows, parts[at]);
+        found = plain_tuple(columns, 6);
+    }
+    rows_drop(&rows);
+    return found;
 }
 
 static PyObject *rows_made(const Rows *rows, PyObject *session, Calls *calls)

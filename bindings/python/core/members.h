@@ -64,6 +64,13 @@ static PyObject *same(PyObject *it)
     return it;
 }
 
+/* Counts that nodes may be gone. */
+static PyObject *let_go(Calls *calls, PyObject *answer)
+{
+    calls->epoch++;
+    return answer;
+}
+
 /* ---- calls of a session */
 
 static PyObject *calls_keep(PyObject *self, PyObject *words)
@@ -116,6 +123,7 @@ static PyObject *calls_read_line(PyObject *self, PyObject *words)
     if (!is_counted(words, 1, "read_line") || !octets_of(word(words, 0), &line))
         return NULL;
     uint8_t status = hp_line(session_at(self), line.at, line.length);
+    ((Calls *)self)->epoch++;
     PyObject *reply = line_answer(session_at(self));
     return reply ? Py_BuildValue("iN", (int)status, reply) : NULL;
 }
@@ -136,6 +144,15 @@ static PyObject *tree_of(PyObject *self, PyObject *session, PyObject *words, uin
 {
     uint8_t status = hp_tree(session_at(self), node);
     return status ? refused(status, "tree", self, words) : rows_answer(session, (Calls *)self, most);
+}
+
+static PyObject *calls_read_columns(PyObject *self, PyObject *words)
+{
+    uint32_t node = 0;
+    if (!is_counted(words, 1, "read_columns") || !uint32_of(word(words, 0), &node))
+        return NULL;
+    uint8_t status = hp_tree(session_at(self), node);
+    return status ? refused(status, "tree", self, words) : columns_answer((Calls *)self);
 }
 
 static PyObject *calls_read_tree(PyObject *self, PyObject *words)
@@ -215,11 +232,31 @@ static PyObject *kind_name(PyObject *self, uint8_t kind)
     return found;
 }
 
+/* The first part of a name never changes, and is asked for once for as long as nothing is let go. */
+static PyObject *known_name(PyObject *self)
+{
+    Thing *it = (Thing *)self;
+    return it->name && it->epoch == it->calls->epoch ? same(it->name) : NULL;
+}
+
+static void know_name(PyObject *self, PyObject *name)
+{
+    Thing *it = (Thing *)self;
+    Py_XDECREF(it->name);
+    it->name = same(name);
+    it->epoch = it->calls->epoch;
+}
+
 static PyObject *part_of_name(PyObject *self, const char *call, uint8_t part, bool is_any)
 {
     hp_place place;
+    PyObject *found = part ? NULL : known_name(self);
+    if (found)
+        return found;
     uint8_t status = hp_node(session_of(self), number_of(self), &place);
-    PyObject *found = status ? NULL : name_answer(session_of(self), part);
+    found = status ? NULL : name_answer(session_of(self), part);
+    if (found && !part)
+        know_name(self, found);
     if (found || PyErr_Occurred())
         return found;
     if (status || !is_any)

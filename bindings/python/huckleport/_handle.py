@@ -271,6 +271,12 @@ class Handle:
         rows = self._whole(lambda: self._answer_rows(most), "hp_tree", uint32(node))
         return [classes["Row"](depth, self._kept_node(session, number, kind), *parts) for depth, number, kind, parts in rows]
 
+    def read_columns(self, node: int) -> Tuple[List[Any], ...]:
+        """The rows of a node without their nodes, as a list for each part: depths, kinds, names, attributes, data, and the ids of doctypes."""
+        rows = self._whole(lambda: self._answer_rows(None), "hp_tree", uint32(node))
+        parts = [(depth, kind, *it[:3], None if it[3] is None else it[3:]) for depth, _, kind, it in rows]
+        return tuple(list(it) for it in zip(*parts))
+
     def _answer_rows(self, most: Optional[int]) -> List[Tuple[int, int, int, Tuple[Any, ...]]]:
         count = self._part_count()
         return [self._answer_row(at) for at in range(count if most is None else min(count, most))]

@@ -7,10 +7,11 @@
 from __future__ import annotations
 
 from importlib.util import find_spec
-from typing import List, Optional, Tuple, Union
+from typing import List, Optional, Union
 
+from ._writing import COMMENT, DOCTYPE, ELEMENT, INSTRUCTION, TEXT, Columns
 from .documents import Document
-from .nodes import Comment, DocumentFragment, DocumentType, Element, Node, ProcessingInstruction, Row, Text
+from .nodes import DocumentFragment, Node
 from .session import Session
 
 __all__ = ["PARSER", "parse", "parse_fragment", "serialize"]
@@ -51,60 +52,66 @@ def parse_fragment(source: Union[str, bytes], container: str = "div", document: 
     return fragment
 
 
-def escaped(text: str, is_attribute: bool = False) -> str:
+def _text(text: str) -> str:
     """A text as it is written in a page."""
-    text = text.replace("&", "&amp;").replace("\xa0", "&nbsp;").replace("<", "&lt;").replace(">", "&gt;")
-    return text.replace('"', "&quot;") if is_attribute else text
+    return text.replace("&", "&amp;").replace("\xa0", "&nbsp;").replace("<", "&lt;").replace(">", "&gt;")
 
 
-def _start(row: Row) -> str:
-    pairs = "".join(f' {name}="{escaped(value, True)}"' for name, value in row.attributes)
-    return f"<{row.name}{pairs}>"
+def _value(text: str) -> str:
+    """The value of an attribute as it is written."""
+    return _text(text).replace('"', "&quot;")
 
 
-def _other(row: Row, parent: str) -> str:
-    """What is written for a node that is no element."""
-    node = row.node
-    if isinstance(node, Text):
-        return (row.data or "") if parent in PLAIN else escaped(row.data or "")
-    if isinstance(node, Comment):
-        return f"<!--{row.data}-->"
-    if isinstance(node, ProcessingInstruction):
-        return f"<?{row.name} {row.data}>"
-    return f"<!DOCTYPE {row.name}>" if isinstance(node, DocumentType) else ""
+def _other(columns: Columns, at: int) -> str:
+    """What is written for a node that is no element and no Text."""
+    kind, name, data = columns.kinds[at], columns.names[at], columns.data[at]
+    if kind == COMMENT:
+        return f"<!--{data}-->"
+    if kind == INSTRUCTION:
+        return f"<?{name} {data}>"
+    return f"<!DOCTYPE {name}>" if kind == DOCTYPE else ""
 
 
-def _hidden_until(rows: List[Row], at: int) -> int:
-    """Where the rows below a row end."""
-    end = at + 1
-    while end < len(rows) and rows[end].depth > rows[at].depth:
-        end += 1
-    return end
+def _hide(columns: Columns) -> None:
+    """Takes out what stands below an element that has no end tag."""
+    depths, names = columns.depths, columns.names
+    void = [at for at, name in enumerate(names) if name in VOID and columns.kinds[at] == ELEMENT]
+    if not any(at + 1 < len(depths) and depths[at + 1] > depths[at] for at in void):
+        return
+    places, hidden, are_void = [], len(depths), set(void)
+    for at, depth in enumerate(depths):
+        if depth <= hidden:
+            places.append(at)
+            hidden = depth if at in are_void else len(depths)
+    columns.keep(places)
+
+
+def _name_above(node: Node) -> str:
+    parent = node.parent_node
+    return "" if parent is None else parent.node_name
 
 
 def serialize(node: Node, inner: bool = False) -> str:
     """A node and all below it as HTML, or what is below it alone. A Document and a fragment are what is below them."""
-    rows = node.tree()
+    columns = Columns(node)
+    _hide(columns)
+    texts, values = columns.texts(_text), columns.values(_value)
     found: List[str] = []
-    open_names: List[Tuple[int, str]] = []
-    parent = rows[0].node.parent_node if not inner else None
-    above = parent.node_name if parent is not None else ""
-    at = 0
-    if inner and isinstance(node, Element):
-        above, at = node.tag_name, 1 if node.tag_name not in VOID else len(rows)
-    while at < len(rows):
-        row = rows[at]
-        while open_names and open_names[-1][0] >= row.depth:
-            found.append(f"</{open_names.pop()[1]}>")
-        at += 1
-        if not isinstance(row.node, Element):
-            found.append(_other(row, open_names[-1][1] if open_names else above))
-            continue
-        found.append(_start(row))
-        name = row.name or ""
-        if name in VOID:
-            at = _hidden_until(rows, at - 1)
+    # The name of each node that is open, from that above the first; a Document has none.
+    names = [_name_above(node)]
+    for at, depth, after, kind, name in columns.steps():
+        if kind == TEXT:
+            text = next(texts)
+            found.append(columns.data[at] if names[-1] in PLAIN else text)
+        elif kind == ELEMENT:
+            pairs = columns.pairs[at]
+            said = "".join([f' {it}="{next(values)}"' for it, _ in pairs]) if pairs else ""
+            found.append(f"<{name}{said}>" if after > depth or name in VOID else f"<{name}{said}></{name}>")
         else:
-            open_names.append((row.depth, name))
-    found += [f"</{name}>" for _, name in reversed(open_names)]
-    return "".join(found)
+            found.append(_other(columns, at))
+        if after > depth:
+            names.append(name if kind == ELEMENT else "")
+        elif after < depth:
+            found += [f"</{it}>" for it in reversed(names[after + 1 :]) if it]
+            del names[after + 1 :]
+    return "".join(found[1:-1] if inner and columns.kinds[0] == ELEMENT else found)
