@@ -207,9 +207,8 @@ static bool has_data(uint16_t kind)
 }
 
 /* Copies a row of the last answer. */
-static bool row_copy(Rows *to, hp_session *session, size_t at)
+static bool row_copy(Rows *to, Copied *it, hp_session *session, size_t at)
 {
-    Copied *it = &to->rows[at];
     hp_bytes name;
     hp_text_view text;
     if (hp_row_at(session, at, &it->row))
@@ -233,7 +232,7 @@ static bool rows_copy(Rows *to, hp_session *session, size_t most)
     if (!to->rows)
         return PyErr_NoMemory() != NULL;
     for (size_t at = 0; at < to->count; at++) {
-        if (!row_copy(to, session, at))
+        if (!row_copy(to, &to->rows[at], session, at))
             return false;
     }
     return true;
@@ -304,68 +303,6 @@ static PyObject *row_made(const Rows *rows, const Copied *it, PyObject *session,
         or_none(it->names[2]),
     };
     return named_tuple(KIND_ROW, parts, 7);
-}
-
-/* A part of rows for what writes trees. */
-typedef PyObject *PartMade(const Rows *, const Copied *);
-
-static PyObject *depth_made(const Rows *rows, const Copied *it)
-{
-    (void)rows;
-    return PyLong_FromSize_t(it->row.depth);
-}
-
-static PyObject *kind_made(const Rows *rows, const Copied *it)
-{
-    (void)rows;
-    return PyLong_FromLong(it->row.type);
-}
-
-static PyObject *name_made(const Rows *rows, const Copied *it)
-{
-    (void)rows;
-    return or_none(it->names[0]);
-}
-
-static PyObject *data_made(const Rows *rows, const Copied *it)
-{
-    (void)rows;
-    return or_none(it->text);
-}
-
-static PyObject *ids_made(const Rows *rows, const Copied *it)
-{
-    (void)rows;
-    return it->names[1] ? PyTuple_Pack(2, it->names[1], it->names[2]) : none();
-}
-
-/* A part of all rows, as a list. */
-static PyObject *column_made(const Rows *rows, PartMade *make)
-{
-    PyObject *found = PyList_New((Py_ssize_t)rows->count);
-    for (size_t at = 0; found && at < rows->count; at++) {
-        PyObject *part = make(rows, &rows->rows[at]);
-        if (!part)
-            Py_CLEAR(found);
-        else
-            PyList_SetItem(found, (Py_ssize_t)at, part);
-    }
-    return found;
-}
-
-/* The parts of all rows without their nodes: depths, kinds, names, attributes, data, and the ids of doctypes. */
-static PyObject *columns_answer(Calls *calls)
-{
-    PartMade *const parts[] = { depth_made, kind_made, name_made, pairs_of, data_made, ids_made };
-    Rows rows = { NULL, 0, NULL, 0, 0 };
-    PyObject *columns[6], *found = NULL;
-    if (rows_copy(&rows, &calls->session, SIZE_MAX)) {
-        for (int at = 0; at < 6; at++)
-            columns[at] = column_made(&rows, parts[at]);
-        found = plain_tuple(columns, 6);
-    }
-    rows_drop(&rows);
-    return found;
 }
 
 static PyObject *rows_made(const Rows *rows, PyObject *session, Calls *calls)

@@ -4,6 +4,7 @@
  * while. calls.h is written by bindings/python/extension.py from the exports. */
 #include "core.h"
 #include "members.h"
+#include "writing.h"
 #include "calls.h"
 
 static PyMethodDef members_by_hand[] = {
@@ -29,7 +30,7 @@ static PyMethodDef calls_by_hand[] = {
     { "read_line", calls_read_line, METH_VARARGS, "The status of a line, and the line of its reply." },
     { "read_printed", calls_read_printed, METH_VARARGS, "A node as its line prints it." },
     { "read_tree", calls_read_tree, METH_VARARGS, "The rows of a session and a node, at most so many." },
-    { "read_columns", calls_read_columns, METH_VARARGS, "The rows of a node without their nodes, as a list for each part." },
+    { "read_markup", calls_read_markup, METH_VARARGS, "A node and all below it as markup: texts with other rows between, and all names." },
     { "read_records", calls_read_records, METH_VARARGS, "The records of a session and an observer, which are taken." },
     { "tell", calls_tell, METH_VARARGS, "Tells the observers of a session; the list takes what was told. Returns what was raised." },
     CALLS_MADE

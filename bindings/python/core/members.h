@@ -146,15 +146,6 @@ static PyObject *tree_of(PyObject *self, PyObject *session, PyObject *words, uin
     return status ? refused(status, "tree", self, words) : rows_answer(session, (Calls *)self, most);
 }
 
-static PyObject *calls_read_columns(PyObject *self, PyObject *words)
-{
-    uint32_t node = 0;
-    if (!is_counted(words, 1, "read_columns") || !uint32_of(word(words, 0), &node))
-        return NULL;
-    uint8_t status = hp_tree(session_at(self), node);
-    return status ? refused(status, "tree", self, words) : columns_answer((Calls *)self);
-}
-
 static PyObject *calls_read_tree(PyObject *self, PyObject *words)
 {
     uint32_t node = 0;

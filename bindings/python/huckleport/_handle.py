@@ -17,6 +17,7 @@ from typing import TYPE_CHECKING, Any, Callable, Dict, List, Optional, Sequence,
 
 from . import _signatures as made
 from ._library import library
+from ._writing import Style, put_together
 from .errors import NotThere, refusal
 
 if TYPE_CHECKING:
@@ -271,11 +272,10 @@ class Handle:
         rows = self._whole(lambda: self._answer_rows(most), "hp_tree", uint32(node))
         return [classes["Row"](depth, self._kept_node(session, number, kind), *parts) for depth, number, kind, parts in rows]
 
-    def read_columns(self, node: int) -> Tuple[List[Any], ...]:
-        """The rows of a node without their nodes, as a list for each part: depths, kinds, names, attributes, data, and the ids of doctypes."""
+    def read_markup(self, node: int, *how: Any) -> Any:
+        """A node and all below it as markup: texts with other rows between, and all names."""
         rows = self._whole(lambda: self._answer_rows(None), "hp_tree", uint32(node))
-        parts = [(depth, kind, *it[:3], None if it[3] is None else it[3:]) for depth, _, kind, it in rows]
-        return tuple(list(it) for it in zip(*parts))
+        return put_together(rows, Style(*how[:-1]), how[-1])
 
     def _answer_rows(self, most: Optional[int]) -> List[Tuple[int, int, int, Tuple[Any, ...]]]:
         count = self._part_count()

@@ -7,11 +7,11 @@
 from __future__ import annotations
 
 from importlib.util import find_spec
-from typing import List, Optional, Union
+from typing import Optional, Union
 
-from ._writing import COMMENT, DOCTYPE, ELEMENT, INSTRUCTION, TEXT, Columns
+from ._writing import COMMENT, INSTRUCTION, Style, markup, table
 from .documents import Document
-from .nodes import DocumentFragment, Node
+from .nodes import DocumentFragment, Element, Node
 from .session import Session
 
 __all__ = ["PARSER", "parse", "parse_fragment", "serialize"]
@@ -52,66 +52,24 @@ def parse_fragment(source: Union[str, bytes], container: str = "div", document: 
     return fragment
 
 
-def _text(text: str) -> str:
-    """A text as it is written in a page."""
-    return text.replace("&", "&amp;").replace("\xa0", "&nbsp;").replace("<", "&lt;").replace(">", "&gt;")
+IN_TEXT = {"&": "&amp;", "\xa0": "&nbsp;", "<": "&lt;", ">": "&gt;"}
+STYLE = Style(
+    table(IN_TEXT), table({**IN_TEXT, '"': "&quot;"}), tuple(it.encode() for it in sorted(VOID)), tuple(it.encode() for it in sorted(PLAIN)), False
+)
 
 
-def _value(text: str) -> str:
-    """The value of an attribute as it is written."""
-    return _text(text).replace('"', "&quot;")
-
-
-def _other(columns: Columns, at: int) -> str:
+def _other(kind: int, name: Optional[str], data: Optional[str], public_id: Optional[str], system_id: Optional[str]) -> str:
     """What is written for a node that is no element and no Text."""
-    kind, name, data = columns.kinds[at], columns.names[at], columns.data[at]
     if kind == COMMENT:
         return f"<!--{data}-->"
-    if kind == INSTRUCTION:
-        return f"<?{name} {data}>"
-    return f"<!DOCTYPE {name}>" if kind == DOCTYPE else ""
-
-
-def _hide(columns: Columns) -> None:
-    """Takes out what stands below an element that has no end tag."""
-    depths, names = columns.depths, columns.names
-    void = [at for at, name in enumerate(names) if name in VOID and columns.kinds[at] == ELEMENT]
-    if not any(at + 1 < len(depths) and depths[at + 1] > depths[at] for at in void):
-        return
-    places, hidden, are_void = [], len(depths), set(void)
-    for at, depth in enumerate(depths):
-        if depth <= hidden:
-            places.append(at)
-            hidden = depth if at in are_void else len(depths)
-    columns.keep(places)
-
-
-def _name_above(node: Node) -> str:
-    parent = node.parent_node
-    return "" if parent is None else parent.node_name
+    return f"<?{name} {data}>" if kind == INSTRUCTION else f"<!DOCTYPE {name}>"
 
 
 def serialize(node: Node, inner: bool = False) -> str:
     """A node and all below it as HTML, or what is below it alone. A Document and a fragment are what is below them."""
-    columns = Columns(node)
-    _hide(columns)
-    texts, values = columns.texts(_text), columns.values(_value)
-    found: List[str] = []
-    # The name of each node that is open, from that above the first; a Document has none.
-    names = [_name_above(node)]
-    for at, depth, after, kind, name in columns.steps():
-        if kind == TEXT:
-            text = next(texts)
-            found.append(columns.data[at] if names[-1] in PLAIN else text)
-        elif kind == ELEMENT:
-            pairs = columns.pairs[at]
-            said = "".join([f' {it}="{next(values)}"' for it, _ in pairs]) if pairs else ""
-            found.append(f"<{name}{said}>" if after > depth or name in VOID else f"<{name}{said}></{name}>")
-        else:
-            found.append(_other(columns, at))
-        if after > depth:
-            names.append(name if kind == ELEMENT else "")
-        elif after < depth:
-            found += [f"</{it}>" for it in reversed(names[after + 1 :]) if it]
-            del names[after + 1 :]
-    return "".join(found[1:-1] if inner and columns.kinds[0] == ELEMENT else found)
+    if inner:
+        has_end = not isinstance(node, Element) or node.tag_name not in VOID
+        return "".join([serialize(it) for it in node.child_nodes]) if has_end else ""
+    parent = node.parent_node
+    is_plain = parent is not None and parent.node_name in PLAIN
+    return markup(node, STYLE, is_plain, _other)[0]

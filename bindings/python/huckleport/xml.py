@@ -6,10 +6,10 @@ Names are kept as they are written, with their prefixes, and declarations of nam
 from __future__ import annotations
 
 import re
-from typing import Any, List, Optional, Union
+from typing import List, Optional, Union
 from xml.parsers import expat
 
-from ._writing import COMMENT, DOCTYPE, ELEMENT, INSTRUCTION, TEXT, Columns
+from ._writing import COMMENT, INSTRUCTION, Style, markup, table
 from .documents import Document
 from .nodes import Node, Text
 from .session import Session
@@ -89,23 +89,17 @@ def parse(source: Union[str, bytes], session: Optional[Session] = None) -> Docum
     return document
 
 
-def _checked(text: str, pattern: Any, what: str) -> str:
-    """The text, where the pattern finds nothing in it."""
-    found = pattern.search(text)
-    if found:
-        raise ValueError(f"XML has no {what}: {found.group()!r}")
-    return text
+def _name(name: str) -> str:
+    """The name, where XML can have it."""
+    if not NAME.fullmatch(name):
+        raise ValueError(f"XML has no name {name!r}")
+    return name
 
 
-def _text(text: str) -> str:
-    """A text as it is written. What a parser would make another line end of is a number."""
-    text = _checked(text, NO_CHARACTER, "character").replace("&", "&amp;").replace("<", "&lt;").replace(">", "&gt;")
-    return text.replace("\r", "&#xD;")
-
-
-def _value(text: str) -> str:
-    """The value of an attribute as it is written."""
-    return _text(text).replace('"', "&quot;").replace("\t", "&#x9;").replace("\n", "&#xA;")
+# What a parser would make another white space of is written as a number.
+IN_TEXT = {"&": "&amp;", "<": "&lt;", ">": "&gt;", "\r": "&#xD;"}
+IN_VALUE = {**IN_TEXT, '"': "&quot;", "\t": "&#x9;", "\n": "&#xA;"}
+STYLE = Style(table(IN_TEXT), table(IN_VALUE), (), (), True)
 
 
 def _doctype(name: str, public_id: str, system_id: str) -> str:
@@ -116,9 +110,9 @@ def _doctype(name: str, public_id: str, system_id: str) -> str:
     return f"<!DOCTYPE {name}{public}{f' {mark}{system_id}{mark}' if system_id or public_id else ''}>"
 
 
-def _other(columns: Columns, at: int) -> str:
+def _other(kind: int, name: Optional[str], data: Optional[str], public_id: Optional[str], system_id: Optional[str]) -> str:
     """What is written for a node that is no element and no Text."""
-    kind, name, data = columns.kinds[at], columns.names[at], _checked(columns.data[at] or "", NO_CHARACTER, "character")
+    name, data = name or "", data or ""
     if kind == COMMENT:
         if "--" in data or data.endswith("-"):
             raise ValueError(f"XML has no comment with two strokes, or one at its end: {data!r}")
@@ -126,37 +120,16 @@ def _other(columns: Columns, at: int) -> str:
     if kind == INSTRUCTION:
         if "?>" in data or name.lower() == "xml":
             raise ValueError(f"XML has no such processing instruction: {name!r} {data!r}")
-        return f"<?{name} {data}?>"
-    return _doctype(name, *columns.ids[at]) if kind == DOCTYPE else ""
-
-
-def _check_names(columns: Columns) -> None:
-    names = {*columns.names, *(name for pairs in columns.pairs if pairs for name, _ in pairs)}
-    for name in names:
-        if name is not None and not NAME.fullmatch(name):
-            raise ValueError(f"XML has no name {name!r}")
+        return f"<?{_name(name)} {data}?>"
+    return _doctype(_name(name), public_id or "", system_id or "")
 
 
 def serialize(node: Node) -> str:
     """A node and all below it as XML. What no XML can hold (a lone surrogate, a comment with two strokes) raises ``ValueError``."""
-    columns = Columns(node)
-    _check_names(columns)
-    texts, values = columns.texts(_text), columns.values(_value)
-    found: List[str] = []
-    # The end of each node that is open; a Document has none.
-    ends: List[str] = []
-    for at, depth, after, kind, name in columns.steps():
-        if kind == TEXT:
-            found.append(next(texts))
-        elif kind == ELEMENT:
-            pairs = columns.pairs[at]
-            said = "".join([f' {it}="{next(values)}"' for it, _ in pairs]) if pairs else ""
-            found.append(f"<{name}{said}>" if after > depth else f"<{name}{said}/>")
-        else:
-            found.append(_other(columns, at))
-        if after > depth:
-            ends.append(f"</{name}>" if kind == ELEMENT else "")
-        elif after < depth:
-            found += reversed(ends[after:])
-            del ends[after:]
-    return "".join(found)
+    found, names = markup(node, STYLE, False, _other)
+    for name in names:
+        _name(name)
+    bad = NO_CHARACTER.search(found)
+    if bad:
+        raise ValueError(f"XML has no character {bad.group()!r}")
+    return found

@@ -77,6 +77,7 @@ class Answers(unittest.TestCase):
                 made += 1
             rows = self.document.tree()
             self.assertEqual([(it.name, it.attributes) for it in rows[2:]], [(f"e{at}", (("at", str(at)),)) for at in range(count)])
+            self.assertEqual(h.xml.serialize(self.root), f"<root>{''.join(f'<e{at} at={chr(34)}{at}{chr(34)}/>' for at in range(count))}</root>")
             self.assertEqual([it.tag_name for it in self.root.child_nodes], [f"e{at}" for at in range(count)])
             taken = other.take_records()
             self.session.notify()
