@@ -30,6 +30,8 @@ SLICES = {"uint8_t": "name_of", "uint16_t": "text_of", "uint32_t": "numbers_of"}
 LENT = {"hp_bytes": "name_from({0}.bytes, {0}.length)", "hp_text_view": "text_from({0}.units, {0}.length)"}
 NUMBERS = {"uint8_t": "PyBool_FromLong({})", "int8_t": "PyLong_FromLong({})", "uint32_t": "PyLong_FromUnsignedLong({})", "size_t": "PyLong_FromSize_t({})"}
 READ = {"numbers": "numbers_answer({})", "names": "names_answer({})", "text": "text_answer({})", "text?": "text_answer({})"}
+# Calls after which nodes may be gone.
+LETTING_GO = {"hp_discard", "hp_close", "hp_line"}
 # The classes that a member makes, and their family.
 NEW = {"Element": "NODE", "Text": "NODE", "Comment": "NODE", "ProcessingInstruction": "NODE", "DocumentFragment": "NODE", "Document": "NODE", "Range": "RANGE"}
 
@@ -108,6 +110,9 @@ def answer_of(outs, read):
 
 def body(parts, reads, call, answer, refusal):
     """The body of a function that reads words, makes a call and answers, and lets its slices go."""
+    if call.partition("(")[0] in LETTING_GO:
+        counted = "(Calls *)self" if "session_at" in call else "((Thing *)self)->calls"
+        answer = f"let_go({counted}, {answer})"
     slices = [it.name for it in parts if it.kind == "slice"]
     text = "    PyObject *found = NULL;\n" if reads or slices else ""
     text += "".join(f"    begin(&{it});\n" for it in slices)

@@ -195,25 +195,31 @@ static bool row_attributes(Rows *to, hp_session *session, size_t at, size_t coun
     return true;
 }
 
-/* Copies a row of the last answer. */
-static bool row_copy(Rows *to, hp_session *session, size_t at)
+/* How many parts the name of a kind has, and whether it has data: what else is not asked for. */
+static uint8_t parts_of(uint16_t kind)
 {
-    Copied *it = &to->rows[at];
+    return kind == KIND_ELEMENT || kind == KIND_PROCESSING_INSTRUCTION ? 1 : kind == KIND_DOCUMENT_TYPE ? 3 : 0;
+}
+
+static bool has_data(uint16_t kind)
+{
+    return kind == KIND_TEXT || kind == KIND_PROCESSING_INSTRUCTION || kind == KIND_COMMENT;
+}
+
+/* Copies a row of the last answer. */
+static bool row_copy(Rows *to, Copied *it, hp_session *session, size_t at)
+{
     hp_bytes name;
     hp_text_view text;
     if (hp_row_at(session, at, &it->row))
         return false;
     it->first_pair = to->pairs_length;
-    for (uint8_t part = 0; part < 3 && hp_row_name(session, at, part, &name) == HP_OK; part++) {
-        it->names[part] = name_from(name.bytes, name.length);
-        if (!it->names[part])
+    for (uint8_t part = 0; part < parts_of(it->row.type); part++) {
+        if (hp_row_name(session, at, part, &name) || !(it->names[part] = name_from(name.bytes, name.length)))
             return false;
     }
-    if (hp_row_text(session, at, &text) == HP_OK) {
-        it->text = text_from(text.units, text.length);
-        if (!it->text)
-            return false;
-    }
+    if (has_data(it->row.type) && (hp_row_text(session, at, &text) || !(it->text = text_from(text.units, text.length))))
+        return false;
     return row_attributes(to, session, at, it->row.attributes);
 }
 
@@ -226,7 +232,7 @@ static bool rows_copy(Rows *to, hp_session *session, size_t most)
     if (!to->rows)
         return PyErr_NoMemory() != NULL;
     for (size_t at = 0; at < to->count; at++) {
-        if (!row_copy(to, session, at))
+        if (!row_copy(to, &to->rows[at], session, at))
             return false;
     }
     return true;
@@ -247,12 +253,13 @@ static PyObject *pairs_of(const Rows *rows, const Copied *it)
     return found;
 }
 
-static PyObject *tuple_new;
+/* What makes a tuple of a class. */
+static newfunc tuple_new;
 
-/* A named tuple of these parts, whose references go with it. */
-static PyObject *named_tuple(int kind, PyObject **parts, int count)
+/* A tuple of these parts, whose references go with it. */
+static PyObject *plain_tuple(PyObject **parts, int count)
 {
-    PyObject *plain = PyTuple_New(count), *found = NULL;
+    PyObject *plain = PyTuple_New(count);
     bool is_whole = plain != NULL;
     for (int at = 0; at < count; at++) {
         is_whole = is_whole && parts[at];
@@ -261,9 +268,19 @@ static PyObject *named_tuple(int kind, PyObject **parts, int count)
         else
             Py_XDECREF(parts[at]);
     }
-    if (is_whole)
-        found = PyObject_CallFunctionObjArgs(tuple_new, kinds[kind], plain, NULL);
+    if (!is_whole)
+        Py_CLEAR(plain);
+    return plain;
+}
+
+/* The same as a named tuple. */
+static PyObject *named_tuple(int kind, PyObject **parts, int count)
+{
+    PyObject *plain = plain_tuple(parts, count);
+    PyObject *words = plain ? PyTuple_Pack(1, plain) : NULL;
+    PyObject *found = words ? tuple_new((PyTypeObject *)kinds[kind], words, NULL) : NULL;
     Py_XDECREF(plain);
+    Py_XDECREF(words);
     return found;
 }
 
@@ -464,10 +481,37 @@ static bool notices_copy(Notices *to, Calls *calls)
     return true;
 }
 
+/* A new observer, without a callback, among those of a session. No code of Python runs here, which could be interrupted. */
+static PyObject *observer_made(PyObject *observers, PyObject *key, PyObject *session, Calls *calls)
+{
+    PyObject *found = PyType_GenericAlloc((PyTypeObject *)kinds[KIND_MUTATION_OBSERVER], 0);
+    if (!found)
+        return NULL;
+    settle((Thing *)found, session, calls, (uint32_t)PyLong_AsUnsignedLong(key), FAMILY_OTHER);
+    if (PyObject_SetAttrString(found, "callback", Py_None) < 0 || PyDict_SetItem(observers, key, found) < 0)
+        Py_CLEAR(found);
+    return found;
+}
+
+/* The observer of a number, which the session keeps. */
+static PyObject *observer_of(uint32_t number, PyObject *session, Calls *calls)
+{
+    PyObject *observers = PyObject_GetAttrString(session, "_observers");
+    PyObject *key = PyLong_FromUnsignedLong(number), *found = NULL;
+    if (observers && key) {
+        found = PyDict_GetItem(observers, key);
+        Py_XINCREF(found);
+        found = found ? found : observer_made(observers, key, session, calls);
+    }
+    Py_XDECREF(observers);
+    Py_XDECREF(key);
+    return found;
+}
+
 /* An observer and its records. */
 static PyObject *notice_made(const Notices *of, size_t at, PyObject *session, Calls *calls)
 {
-    PyObject *observer = PyObject_CallMethod(session, "_observer", "I", (unsigned)of->notices[at].observer);
+    PyObject *observer = observer_of(of->notices[at].observer, session, calls);
     PyObject *records = observer ? records_made(&of->records[at], session, calls) : NULL;
     PyObject *found = records ? PyTuple_Pack(2, observer, records) : NULL;
     Py_XDECREF(observer);
@@ -502,37 +546,52 @@ static PyObject *caught(void)
     return fault;
 }
 
-/* Calls the callback of the observer of a notice, where it has one. */
-static bool tell(PyObject *notice)
+/* What became of a notice: its observer has no callback, was told, or its callback raised. */
+typedef enum { WITHOUT_CALLBACK, WAS_TOLD, HAS_RAISED } Told;
+
+static Told tell(PyObject *notice)
 {
     PyObject *observer = PyTuple_GetItem(notice, 0);
-    PyObject *callback = PyObject_GetAttrString(observer, "callback");
-    PyObject *said = callback;
-    if (callback && callback != Py_None) {
-        said = PyObject_CallFunctionObjArgs(callback, PyTuple_GetItem(notice, 1), observer, NULL);
-        Py_XDECREF(said);
+    PyObject *callback = PyObject_GetAttrString(observer, "callback"), *said = NULL;
+    if (callback == Py_None) {
+        Py_DECREF(callback);
+        return WITHOUT_CALLBACK;
     }
+    if (callback)
+        said = PyObject_CallFunctionObjArgs(callback, PyTuple_GetItem(notice, 1), observer, NULL);
     Py_XDECREF(callback);
-    return said != NULL;
+    Py_XDECREF(said);
+    return said ? WAS_TOLD : HAS_RAISED;
 }
 
-/* Calls the callbacks of all notices, also where some raise, and returns the first that was raised, or null. */
-static PyObject *tell_all(PyObject *list)
+/* Calls the callbacks of all notices, also where some raise, and returns the first that was raised, or null. What was told to observers without
+ * a callback, or to one that was interrupted, is kept. */
+static PyObject *tell_all(PyObject *list, PyObject *kept)
 {
     PyObject *first = NULL;
     for (Py_ssize_t at = 0; at < PyList_Size(list); at++) {
         PyObject *notice = PyList_GetItem(list, at);
         Py_INCREF(notice);
-        if (!tell(notice)) {
-            PyObject *fault = caught();
-            if (first)
-                Py_XDECREF(fault);
-            else
-                first = fault;
-        }
+        Told told = tell(notice);
+        bool is_kept = told == WITHOUT_CALLBACK || (told == HAS_RAISED && !PyErr_ExceptionMatches(PyExc_Exception));
+        PyObject *fault = told == HAS_RAISED ? caught() : NULL;
+        if (is_kept)
+            PyList_Append(kept, notice);
+        if (first)
+            Py_XDECREF(fault);
+        else
+            first = fault;
         Py_DECREF(notice);
     }
     return first;
+}
+
+/* Where a callback raised, what is kept is left for later; else what was left before is told with the rest. */
+static bool leave(PyObject *told, PyObject *left, PyObject *kept, bool has_raised)
+{
+    if (has_raised)
+        return PyList_SetSlice(left, PyList_Size(left), PyList_Size(left), kept) == 0;
+    return PyList_SetSlice(told, 0, 0, left) == 0 && PyList_SetSlice(left, 0, PyList_Size(left), NULL) == 0;
 }
 
 #endif

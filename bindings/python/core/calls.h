@@ -170,7 +170,7 @@ static PyObject *call_close(PyObject *self, PyObject *words)
     PyObject *found = NULL;
     if (is_counted(words, 0, "close")) {
         uint8_t status = hp_close(session_at(self));
-        found = status ? refused(status, "close", self, words) : none();
+        found = status ? refused(status, "close", self, words) : let_go((Calls *)self, none());
     }
     return found;
 }
@@ -182,7 +182,7 @@ static PyObject *call_line(PyObject *self, PyObject *words)
     begin(&line);
     if (is_counted(words, 1, "line") && octets_of(word(words, 0), &line)) {
         uint8_t status = hp_line(session_at(self), line.at, line.length);
-        found = status ? refused(status, "line", self, words) : none();
+        found = status ? refused(status, "line", self, words) : let_go((Calls *)self, none());
     }
     drop(&line);
     return found;
@@ -632,7 +632,7 @@ static PyObject *call_discard(PyObject *self, PyObject *words)
     PyObject *found = NULL;
     if (is_counted(words, 1, "discard") && uint32_of(word(words, 0), &node)) {
         uint8_t status = hp_discard(session_at(self), node);
-        found = status ? refused(status, "discard", self, words) : none();
+        found = status ? refused(status, "discard", self, words) : let_go((Calls *)self, none());
     }
     return found;
 }
@@ -1867,7 +1867,7 @@ static PyObject *member_Node_discard(PyObject *self, PyObject *nothing)
 {
     (void)nothing;
     uint8_t status = hp_discard(session_of(self), number_of(self));
-    return status ? refused_of(status, "discard", self, NULL, 0) : none();
+    return status ? refused_of(status, "discard", self, NULL, 0) : let_go(((Thing *)self)->calls, none());
 }
 
 static PyObject *member_Node_text_content(PyObject *self, PyObject *nothing)

@@ -4,6 +4,7 @@
  * while. calls.h is written by bindings/python/extension.py from the exports. */
 #include "core.h"
 #include "members.h"
+#include "writing.h"
 #include "calls.h"
 
 static PyMethodDef members_by_hand[] = {
@@ -29,6 +30,7 @@ static PyMethodDef calls_by_hand[] = {
     { "read_line", calls_read_line, METH_VARARGS, "The status of a line, and the line of its reply." },
     { "read_printed", calls_read_printed, METH_VARARGS, "A node as its line prints it." },
     { "read_tree", calls_read_tree, METH_VARARGS, "The rows of a session and a node, at most so many." },
+    { "read_markup", calls_read_markup, METH_VARARGS, "A node and all below it as markup: texts with other rows between, and all names." },
     { "read_records", calls_read_records, METH_VARARGS, "The records of a session and an observer, which are taken." },
     { "tell", calls_tell, METH_VARARGS, "Tells the observers of a session; the list takes what was told. Returns what was raised." },
     CALLS_MADE
@@ -95,6 +97,7 @@ static const char *const KIND_WORDS[KINDS] = {
     [KIND_TREE_WALKER] = "TreeWalker",
     [KIND_ROW] = "Row",
     [KIND_MUTATION_RECORD] = "MutationRecord",
+    [KIND_MUTATION_OBSERVER] = "MutationObserver",
 };
 
 static bool take_hook(PyObject *classes, const char *name, PyObject **to)
@@ -156,6 +159,15 @@ static PyObject *module_member(PyObject *self, PyObject *words)
     return found ? member_made(found, doc) : none();
 }
 
+/* What makes a tuple of any class: that of a class which leaves it as it is. (The slots of tuple itself are hidden before 3.10.) */
+static newfunc tuple_maker(void)
+{
+    PyObject *kind = PyObject_CallFunction((PyObject *)&PyType_Type, "s(O){}", "Plain", (PyObject *)&PyTuple_Type);
+    newfunc found = kind ? (newfunc)PyType_GetSlot((PyTypeObject *)kind, Py_tp_new) : NULL;
+    Py_XDECREF(kind);
+    return found;
+}
+
 static PyMethodDef module_methods[] = {
     { "settle", module_settle, METH_O, "Takes the classes and functions of the package, by their names." },
     { "member", module_member, METH_VARARGS, "A member by its class and name, with a docstring, or None." },
@@ -176,7 +188,7 @@ static bool add_type(PyObject *to, const char *name, PyType_Spec *spec, PyTypeOb
 PyMODINIT_FUNC PyInit__core(void)
 {
     PyObject *found = PyModule_Create(&module);
-    tuple_new = PyObject_GetAttrString((PyObject *)&PyTuple_Type, "__new__");
+    tuple_new = tuple_maker();
     if (!found || !tuple_new || !structs_made() || !add_type(found, "Calls", &calls_spec, &calls_type) ||
         !add_type(found, "Thing", &thing_spec, &thing_type)) {
         Py_XDECREF(found);

@@ -64,6 +64,13 @@ static PyObject *same(PyObject *it)
     return it;
 }
 
+/* Counts that nodes may be gone. */
+static PyObject *let_go(Calls *calls, PyObject *answer)
+{
+    calls->epoch++;
+    return answer;
+}
+
 /* ---- calls of a session */
 
 static PyObject *calls_keep(PyObject *self, PyObject *words)
@@ -116,6 +123,7 @@ static PyObject *calls_read_line(PyObject *self, PyObject *words)
     if (!is_counted(words, 1, "read_line") || !octets_of(word(words, 0), &line))
         return NULL;
     uint8_t status = hp_line(session_at(self), line.at, line.length);
+    ((Calls *)self)->epoch++;
     PyObject *reply = line_answer(session_at(self));
     return reply ? Py_BuildValue("iN", (int)status, reply) : NULL;
 }
@@ -165,21 +173,33 @@ static PyObject *calls_read_records(PyObject *self, PyObject *words)
     return found;
 }
 
-/* Tells all observers. The list is given: what it has is told again, and it takes what is told now. Returns what a callback raised, or None. */
+/* Makes the call that empties all queues, and raises where it is refused. */
+static bool is_notified(PyObject *self)
+{
+    uint8_t status = hp_notify(session_at(self));
+    PyObject *words = status ? PyTuple_New(0) : NULL;
+    if (words)
+        refused(status, "notify", self, words);
+    Py_XDECREF(words);
+    return status == HP_OK;
+}
+
+/* Tells all observers of a session. A list takes what is told, another has what was left by an earlier call. Returns what was raised, or None. */
 static PyObject *calls_tell(PyObject *self, PyObject *words)
 {
-    if (!is_counted(words, 2, "tell"))
+    if (!is_counted(words, 3, "tell"))
         return NULL;
-    uint8_t status = hp_notify(session_at(self));
-    PyObject *asked = status ? PyTuple_New(0) : NULL;
-    if (asked) {
-        refused(status, "notify", self, asked);
-        Py_DECREF(asked);
+    PyObject *told = word(words, 1), *left = word(words, 2), *kept = PyList_New(0);
+    if (!kept || !is_notified(self) || !notices_answer(told, word(words, 0), (Calls *)self)) {
+        Py_XDECREF(kept);
+        return NULL;
     }
-    if (status || !notices_answer(word(words, 1), word(words, 0), (Calls *)self))
-        return NULL;
-    PyObject *fault = tell_all(word(words, 1));
-    return fault ? fault : none();
+    PyObject *fault = tell_all(told, kept);
+    bool is_left = leave(told, left, kept, fault != NULL);
+    Py_DECREF(kept);
+    if (!is_left)
+        Py_CLEAR(fault);
+    return fault || !is_left ? fault : none();
 }
 
 static PyObject *calls_is_open(PyObject *self, void *closure)
@@ -203,11 +223,31 @@ static PyObject *kind_name(PyObject *self, uint8_t kind)
     return found;
 }
 
+/* The first part of a name never changes, and is asked for once for as long as nothing is let go. */
+static PyObject *known_name(PyObject *self)
+{
+    Thing *it = (Thing *)self;
+    return it->name && it->epoch == it->calls->epoch ? same(it->name) : NULL;
+}
+
+static void know_name(PyObject *self, PyObject *name)
+{
+    Thing *it = (Thing *)self;
+    Py_XDECREF(it->name);
+    it->name = same(name);
+    it->epoch = it->calls->epoch;
+}
+
 static PyObject *part_of_name(PyObject *self, const char *call, uint8_t part, bool is_any)
 {
     hp_place place;
+    PyObject *found = part ? NULL : known_name(self);
+    if (found)
+        return found;
     uint8_t status = hp_node(session_of(self), number_of(self), &place);
-    PyObject *found = status ? NULL : name_answer(session_of(self), part);
+    found = status ? NULL : name_answer(session_of(self), part);
+    if (found && !part)
+        know_name(self, found);
     if (found || PyErr_Occurred())
         return found;
     if (status || !is_any)

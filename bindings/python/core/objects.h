@@ -10,6 +10,8 @@ typedef struct {
     PyObject_HEAD
     hp_session session;
     Table kept;
+    /* Counts what may have let nodes go: what is known of them is asked for anew then. */
+    uint32_t epoch;
 } Calls;
 
 /* An object with a number in a session. */
@@ -17,7 +19,9 @@ typedef struct {
     PyObject_HEAD
     PyObject *session;
     Calls *calls;
+    PyObject *name;
     uint32_t number;
+    uint32_t epoch;
     uint8_t family;
     bool is_kept;
 } Thing;
@@ -29,6 +33,7 @@ static PyTypeObject *calls_type, *thing_type;
 /* Raises what a status says of a call with these words. */
 static PyObject *refused(uint8_t status, const char *call, PyObject *calls, PyObject *words)
 {
+    ((Calls *)calls)->epoch += status == HP_OUT_OF_MEMORY;
     PyObject *fault = refuse_hook ? PyObject_CallFunction(refuse_hook, "isOO", (int)status, call, calls, words) : NULL;
     if (fault)
         PyErr_SetObject((PyObject *)Py_TYPE(fault), fault);
@@ -107,6 +112,7 @@ static void thing_dealloc(PyObject *self)
         table_take(&it->calls->kept, it->number, it->family, self);
     Py_XDECREF(it->session);
     Py_XDECREF((PyObject *)it->calls);
+    Py_XDECREF(it->name);
     PyObject_GC_Del(self);
     Py_DECREF(type);
 }

@@ -17,6 +17,7 @@ from typing import TYPE_CHECKING, Any, Callable, Dict, List, Optional, Sequence,
 
 from . import _signatures as made
 from ._library import library
+from ._writing import Style, put_together
 from .errors import NotThere, refusal
 
 if TYPE_CHECKING:
@@ -271,6 +272,11 @@ class Handle:
         rows = self._whole(lambda: self._answer_rows(most), "hp_tree", uint32(node))
         return [classes["Row"](depth, self._kept_node(session, number, kind), *parts) for depth, number, kind, parts in rows]
 
+    def read_markup(self, node: int, *how: Any) -> Any:
+        """A node and all below it as markup: texts with other rows between, and all names."""
+        rows = self._whole(lambda: self._answer_rows(None), "hp_tree", uint32(node))
+        return put_together(rows, Style(*how[:-1]), how[-1])
+
     def _answer_rows(self, most: Optional[int]) -> List[Tuple[int, int, int, Tuple[Any, ...]]]:
         count = self._part_count()
         return [self._answer_row(at) for at in range(count if most is None else min(count, most))]
@@ -306,18 +312,28 @@ class Handle:
         told = [self._part(made.hp_notice(), "hp_notice_at", at) for at in range(self._part_count())]
         return [(it.observer, self._answer_records(at, it.records)) for at, it in enumerate(told)]
 
-    def tell(self, session: Session, told: List[Any]) -> Optional[BaseException]:
-        """Tells all observers. The list takes what is told now; what it has already is told again. Returns what was raised first."""
+    def tell(self, session: Session, told: List[Any], left: List[Any]) -> Optional[BaseException]:
+        """Tells all observers. A list takes what is told, another has what was left by an earlier call. Returns what was raised first."""
         for number, records in self._whole(self._answer_notices, "hp_notify"):
             told.append((session._observer(number), [self._record(session, *it) for it in records]))
-        first = None
-        for observer, its in told:
-            try:
-                if observer.callback is not None:
-                    observer.callback(its, observer)
-            except BaseException as fault:
-                first = first or fault
-        return first
+        faults: List[BaseException] = []
+        kept = [it for it in told if not self._is_told(it[0], it[1], faults)]
+        if faults:
+            left += kept
+            return faults[0]
+        told[:0], left[:] = left, []
+        return None
+
+    def _is_told(self, observer: Any, records: List[Any], faults: List[BaseException]) -> bool:
+        """Calls the callback of an observer. It is not told where it has none, or was interrupted."""
+        if observer.callback is None:
+            return False
+        try:
+            observer.callback(records, observer)
+        except BaseException as fault:
+            faults.append(fault)
+            return isinstance(fault, Exception)
+        return True
 
     # objects
 

@@ -16,6 +16,7 @@ from .errors import NoSuchObject
 from .nodes import CharacterData, Element, Node
 from .observers import MutationRecord
 from .ranges import Range
+from .texts import utf16_length
 
 Pairs = List[Tuple[str, str]]
 Place = Tuple[Node, int, Node, int]
@@ -51,6 +52,10 @@ class State:
         found.children = None if self.children is None else list(self.children)
         found.data, found.pairs = self.data, None if self.pairs is None else list(self.pairs)
         return found
+
+    def is_like(self, other: State) -> bool:
+        """Whether both are the same."""
+        return (self.children, self.data, self.pairs) == (other.children, other.data, other.pairs)
 
     def take_back(self, record: MutationRecord) -> None:
         """What it had before a record's change."""
@@ -147,12 +152,31 @@ def put_attributes(element: Element, due: Pairs) -> None:
             element.set_attribute(name, value)
 
 
+def shared(one: str, other: str) -> int:
+    """How many characters two texts share at their start."""
+    low, high = 0, min(len(one), len(other))
+    while low < high:
+        half = (low + high + 1) // 2
+        low, high = (half, high) if one[low:half] == other[low:half] else (low, half - 1)
+    return low
+
+
+def put_data(node: CharacterData, due: str) -> None:
+    """Gives a node this text, by replacing what differs alone, so that ranges in the rest stay where they are."""
+    now = node.data
+    first = shared(now, due)
+    last = shared(now[first:][::-1], due[first:][::-1])
+    gone, come = now[first : len(now) - last], due[first : len(due) - last]
+    if gone or come:
+        node.replace_data(utf16_length(now[:first]), utf16_length(gone), come)
+
+
 def put(now: Dict[Node, State], due: Dict[Node, State]) -> None:
     """Puts what nodes have on one side of a group in place of what they have on the other."""
     put_children(now, due)
     for node, state in due.items():
-        if state.data is not None and cast(CharacterData, node).data != state.data:
-            cast(CharacterData, node).data = state.data
+        if state.data is not None:
+            put_data(cast(CharacterData, node), state.data)
         if state.pairs is not None:
             put_attributes(cast(Element, node), state.pairs)
 
@@ -223,6 +247,8 @@ class History:
         if not records and not (has_moves and places_before != self._places):
             return False
         before, after = self._states(records)
+        if places_before == self._places and all(state.is_like(after[node]) for node, state in before.items()):
+            return False
         self._done.append(Group(before, after, places_before, self._places))
         self._undone.clear()
         return True

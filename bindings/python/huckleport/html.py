@@ -7,10 +7,11 @@
 from __future__ import annotations
 
 from importlib.util import find_spec
-from typing import List, Optional, Tuple, Union
+from typing import Optional, Union
 
+from ._writing import COMMENT, INSTRUCTION, Style, markup, table
 from .documents import Document
-from .nodes import Comment, DocumentFragment, DocumentType, Element, Node, ProcessingInstruction, Row, Text
+from .nodes import DocumentFragment, Element, Node
 from .session import Session
 
 __all__ = ["PARSER", "parse", "parse_fragment", "serialize"]
@@ -51,60 +52,24 @@ def parse_fragment(source: Union[str, bytes], container: str = "div", document: 
     return fragment
 
 
-def escaped(text: str, is_attribute: bool = False) -> str:
-    """A text as it is written in a page."""
-    text = text.replace("&", "&amp;").replace("\xa0", "&nbsp;").replace("<", "&lt;").replace(">", "&gt;")
-    return text.replace('"', "&quot;") if is_attribute else text
+IN_TEXT = {"&": "&amp;", "\xa0": "&nbsp;", "<": "&lt;", ">": "&gt;"}
+STYLE = Style(
+    table(IN_TEXT), table({**IN_TEXT, '"': "&quot;"}), tuple(it.encode() for it in sorted(VOID)), tuple(it.encode() for it in sorted(PLAIN)), False
+)
 
 
-def _start(row: Row) -> str:
-    pairs = "".join(f' {name}="{escaped(value, True)}"' for name, value in row.attributes)
-    return f"<{row.name}{pairs}>"
-
-
-def _other(row: Row, parent: str) -> str:
-    """What is written for a node that is no element."""
-    node = row.node
-    if isinstance(node, Text):
-        return (row.data or "") if parent in PLAIN else escaped(row.data or "")
-    if isinstance(node, Comment):
-        return f"<!--{row.data}-->"
-    if isinstance(node, ProcessingInstruction):
-        return f"<?{row.name} {row.data}>"
-    return f"<!DOCTYPE {row.name}>" if isinstance(node, DocumentType) else ""
-
-
-def _hidden_until(rows: List[Row], at: int) -> int:
-    """Where the rows below a row end."""
-    end = at + 1
-    while end < len(rows) and rows[end].depth > rows[at].depth:
-        end += 1
-    return end
+def _other(kind: int, name: Optional[str], data: Optional[str], public_id: Optional[str], system_id: Optional[str]) -> str:
+    """What is written for a node that is no element and no Text."""
+    if kind == COMMENT:
+        return f"<!--{data}-->"
+    return f"<?{name} {data}>" if kind == INSTRUCTION else f"<!DOCTYPE {name}>"
 
 
 def serialize(node: Node, inner: bool = False) -> str:
     """A node and all below it as HTML, or what is below it alone. A Document and a fragment are what is below them."""
-    rows = node.tree()
-    found: List[str] = []
-    open_names: List[Tuple[int, str]] = []
-    parent = rows[0].node.parent_node if not inner else None
-    above = parent.node_name if parent is not None else ""
-    at = 0
-    if inner and isinstance(node, Element):
-        above, at = node.tag_name, 1 if node.tag_name not in VOID else len(rows)
-    while at < len(rows):
-        row = rows[at]
-        while open_names and open_names[-1][0] >= row.depth:
-            found.append(f"</{open_names.pop()[1]}>")
-        at += 1
-        if not isinstance(row.node, Element):
-            found.append(_other(row, open_names[-1][1] if open_names else above))
-            continue
-        found.append(_start(row))
-        name = row.name or ""
-        if name in VOID:
-            at = _hidden_until(rows, at - 1)
-        else:
-            open_names.append((row.depth, name))
-    found += [f"</{name}>" for _, name in reversed(open_names)]
-    return "".join(found)
+    if inner:
+        has_end = not isinstance(node, Element) or node.tag_name not in VOID
+        return "".join([serialize(it) for it in node.child_nodes]) if has_end else ""
+    parent = node.parent_node
+    is_plain = parent is not None and parent.node_name in PLAIN
+    return markup(node, STYLE, is_plain, _other)[0]

@@ -10,7 +10,7 @@ from typing import Dict, List, Optional, Tuple, Type, TypeVar, cast
 from ._calls import Calls, settle
 from ._signatures import HP_NO_SUCH_OBJECT, HP_NONE, hp_options
 from .documents import Document
-from .errors import Error, refusal
+from .errors import Error, NoSuchObject, refusal
 from .nodes import Comment, DocumentFragment, DocumentType, Element, Node, ProcessingInstruction, Row, Text
 from .objects import SessionObject
 from .observers import Callback, MutationObserver, MutationRecord
@@ -118,12 +118,24 @@ class Session:
         return self._observers.setdefault(number, MutationObserver(self, number))
 
     def _has_observer(self, number: int) -> None:
-        """Asks whether there is an observer: to watch without a type is refused, and for another reason where there is none."""
+        """Asks whether there is an observer: to watch a node without a type is refused, and for another reason where there is none."""
+        node = self._any_node()
         try:
-            self._calls.observe(number, 0, hp_options(2, 2, 2, 2, 2, 2, 0), b"", [])
+            self._calls.observe(number, node, hp_options(2, 2, 2, 2, 2, 2, 0), b"", [])
         except Error as fault:
             if fault.status == HP_NO_SUCH_OBJECT:
                 raise refusal(HP_NO_SUCH_OBJECT, "mutation_observer") from None
+        finally:
+            if node:
+                self._calls.discard(node)
+
+    def _any_node(self) -> int:
+        """The first Document, or a new one where it was discarded."""
+        try:
+            self._calls.node(0)
+        except NoSuchObject:
+            return self._calls.new_document()
+        return 0
 
     # what a session makes
 
@@ -153,20 +165,19 @@ class Session:
         """Tells each observer its records, by its callback, and returns what was told.
 
         Where callbacks raise, the others are still called, and then the first exception is raised. What was told to observers without a
-        callback is then kept for the next ``notify()``, or the observer's next ``take_records()``.
+        callback, or to one that was interrupted, is then kept for the next ``notify()`` to return, or the observer's next ``take_records()``.
         """
         told: List[Notice] = []
-        fault = self._calls.tell(self, told)
+        fault = self._calls.tell(self, told, self._left)
         if fault is not None:
-            self._left += [it for it in told if it[0].callback is None]
             raise fault
-        left, self._left = self._left, []
-        return left + told
+        return told
 
     def _take_left(self, observer: MutationObserver) -> List[MutationRecord]:
-        found = [record for it, records in self._left if it is observer for record in records]
-        self._left = [it for it in self._left if it[0] is not observer]
-        return found
+        mine = [it for it in self._left if it[0] is observer]
+        for it in mine:
+            self._left.remove(it)
+        return [record for _, records in mine for record in records]
 
     def pending(self) -> List[MutationObserver]:
         """The observers that wait to be told."""
@@ -194,7 +205,7 @@ class Session:
         return self._calls.read_tree(self, node.number, most)
 
 
-CLASSES: Tuple[Type[object], ...] = (Node, *KINDS.values(), Range, StaticRange, NodeIterator, TreeWalker, Row, MutationRecord)
+CLASSES: Tuple[Type[object], ...] = (Node, *KINDS.values(), Range, StaticRange, NodeIterator, TreeWalker, Row, MutationRecord, MutationObserver)
 settle(
     {
         **{it.__name__: it for it in CLASSES},

@@ -6,11 +6,12 @@ Names are kept as they are written, with their prefixes, and declarations of nam
 from __future__ import annotations
 
 import re
-from typing import Any, List, Optional, Tuple, Union
+from typing import List, Optional, Union
 from xml.parsers import expat
 
+from ._writing import COMMENT, INSTRUCTION, Style, markup, table
 from .documents import Document
-from .nodes import Comment, DocumentType, Element, Node, ProcessingInstruction, Row, Text
+from .nodes import Node, Text
 from .session import Session
 
 __all__ = ["parse", "serialize"]
@@ -88,70 +89,47 @@ def parse(source: Union[str, bytes], session: Optional[Session] = None) -> Docum
     return document
 
 
-def _checked(text: str, pattern: Any, what: str) -> str:
-    """The text, where the pattern finds nothing in it."""
-    found = pattern.search(text)
-    if found:
-        raise ValueError(f"XML has no {what}: {found.group()!r}")
-    return text
-
-
 def _name(name: str) -> str:
+    """The name, where XML can have it."""
     if not NAME.fullmatch(name):
         raise ValueError(f"XML has no name {name!r}")
     return name
 
 
-def escaped(text: str, is_attribute: bool = False) -> str:
-    """A text as it is written. What a parser would make another white space of is a number."""
-    text = _checked(text, NO_CHARACTER, "character").replace("&", "&amp;").replace("<", "&lt;").replace(">", "&gt;").replace("\r", "&#xD;")
-    return text.replace('"', "&quot;").replace("\t", "&#x9;").replace("\n", "&#xA;") if is_attribute else text
+# What a parser would make another white space of is written as a number.
+IN_TEXT = {"&": "&amp;", "<": "&lt;", ">": "&gt;", "\r": "&#xD;"}
+IN_VALUE = {**IN_TEXT, '"': "&quot;", "\t": "&#x9;", "\n": "&#xA;"}
+STYLE = Style(table(IN_TEXT), table(IN_VALUE), (), (), True)
 
 
-def _start(row: Row, is_empty: bool) -> str:
-    pairs = "".join(f' {_name(name)}="{escaped(value, True)}"' for name, value in row.attributes)
-    return f"<{_name(row.name or '')}{pairs}{'/' if is_empty else ''}>"
+def _doctype(name: str, public_id: str, system_id: str) -> str:
+    if '"' in system_id and "'" in system_id or '"' in public_id:
+        raise ValueError(f"XML has no doctype with these ids: {public_id!r}, {system_id!r}")
+    public = f' PUBLIC "{public_id}"' if public_id else " SYSTEM" if system_id else ""
+    mark = "'" if '"' in system_id else '"'
+    return f"<!DOCTYPE {name}{public}{f' {mark}{system_id}{mark}' if system_id or public_id else ''}>"
 
 
-def _doctype(row: Row) -> str:
-    public = f' PUBLIC "{row.public_id}"' if row.public_id else " SYSTEM" if row.system_id else ""
-    system = row.system_id or ""
-    if '"' in system and "'" in system or '"' in (row.public_id or ""):
-        raise ValueError(f"XML has no doctype with these ids: {row.public_id!r}, {system!r}")
-    mark = "'" if '"' in system else '"'
-    return f"<!DOCTYPE {row.name}{public}{f' {mark}{system}{mark}' if system or row.public_id else ''}>"
-
-
-def _other(row: Row) -> str:
-    """What is written for a node that is no element."""
-    node, data = row.node, row.data or ""
-    if isinstance(node, Text):
-        return escaped(data)
-    if isinstance(node, Comment):
+def _other(kind: int, name: Optional[str], data: Optional[str], public_id: Optional[str], system_id: Optional[str]) -> str:
+    """What is written for a node that is no element and no Text."""
+    name, data = name or "", data or ""
+    if kind == COMMENT:
         if "--" in data or data.endswith("-"):
             raise ValueError(f"XML has no comment with two strokes, or one at its end: {data!r}")
-        return f"<!--{_checked(data, NO_CHARACTER, 'character')}-->"
-    if isinstance(node, ProcessingInstruction):
-        if "?>" in data or (row.name or "").lower() == "xml":
-            raise ValueError(f"XML has no such processing instruction: {row.name!r} {data!r}")
-        return f"<?{_name(row.name or '')} {_checked(data, NO_CHARACTER, 'character')}?>"
-    return _doctype(row) if isinstance(node, DocumentType) else ""
+        return f"<!--{data}-->"
+    if kind == INSTRUCTION:
+        if "?>" in data or name.lower() == "xml":
+            raise ValueError(f"XML has no such processing instruction: {name!r} {data!r}")
+        return f"<?{_name(name)} {data}?>"
+    return _doctype(_name(name), public_id or "", system_id or "")
 
 
 def serialize(node: Node) -> str:
     """A node and all below it as XML. What no XML can hold (a lone surrogate, a comment with two strokes) raises ``ValueError``."""
-    rows = node.tree()
-    found: List[str] = []
-    open_names: List[Tuple[int, str]] = []
-    for at, row in enumerate(rows):
-        while open_names and open_names[-1][0] >= row.depth:
-            found.append(f"</{open_names.pop()[1]}>")
-        if not isinstance(row.node, Element):
-            found.append(_other(row))
-            continue
-        is_empty = at + 1 == len(rows) or rows[at + 1].depth <= row.depth
-        found.append(_start(row, is_empty))
-        if not is_empty:
-            open_names.append((row.depth, row.name or ""))
-    found += [f"</{name}>" for _, name in reversed(open_names)]
-    return "".join(found)
+    found, names = markup(node, STYLE, False, _other)
+    for name in names:
+        _name(name)
+    bad = NO_CHARACTER.search(found)
+    if bad:
+        raise ValueError(f"XML has no character {bad.group()!r}")
+    return found

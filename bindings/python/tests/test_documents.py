@@ -88,6 +88,15 @@ class Pages(unittest.TestCase):
         self.assertEqual(h.html.serialize(document.create_text_node("a<b")), "a&lt;b")
         self.assertEqual(h.html.serialize(document.create_processing_instruction("t", "d")), "<?t d>")
 
+    def test_texts_with_what_stands_between_texts(self):
+        document = h.Session().document
+        root = document.create_element("p")
+        root.append("a\x7f<", document.create_element("b"), "c")
+        root.set_attribute("x", "\x7f")
+        root.set_attribute("y", '"')
+        for write in (h.html.serialize, h.xml.serialize):
+            self.assertIn('<p x="\x7f" y="&quot;">a\x7f&lt;<b', write(root))
+
     def test_children_of_what_has_no_end(self):
         document = h.Session().document
         line = document.create_element("br")

@@ -74,7 +74,6 @@ class Members(unittest.TestCase):
             self.root.append(3)
 
     def test_looking_up(self):
-        self.document.replace_children(self.root)
         self.root.append(*self.make("p", "b", "p"))
         first, _, last = self.root.children
         first.set_attribute("id", "x")
