@@ -1,0 +1,52 @@
+// Names of the standard that neither the core nor the page has, and what each belongs to. Whoever uses one is told so, and the subtest counts as
+// not applicable, for that reason; a name that the player has is left as it is.
+
+const SIGN = "not in this profile: ";
+
+const ABSENT = {
+  Document: {
+    "Attr nodes": ["createAttribute", "createAttributeNS"],
+    events: ["createEvent"],
+  },
+  Element: {
+    "Attr nodes": ["getAttributeNode", "getAttributeNodeNS", "setAttributeNode", "setAttributeNodeNS", "removeAttributeNode"],
+    DOMTokenList: ["classList"],
+    "shadow trees": ["attachShadow", "shadowRoot", "assignedSlot", "slot"],
+    selectors: ["matches", "closest"],
+    parsing: ["outerHTML", "insertAdjacentHTML"],
+  },
+  Text: { wholeText: ["wholeText"], "shadow trees": ["assignedSlot"] },
+};
+
+const ABSENT_OF_WINDOWS = {
+  "Attr nodes": ["Attr"],
+  CDATA: ["CDATASection"],
+  "custom elements": ["customElements"],
+  events: ["Event", "CustomEvent", "MouseEvent", "UIEvent"],
+  parsing: ["DOMParser", "XMLSerializer"],
+  "shadow trees": ["ShadowRoot"],
+  DOMTokenList: ["DOMTokenList"],
+};
+
+function absent(target, reasons) {
+  for (const [reason, names] of Object.entries(reasons)) {
+    for (const name of names.filter((it) => !(it in target))) {
+      const refuse = () => { throw new Error(SIGN + reason); };
+      Object.defineProperty(target, name, { configurable: true, get: refuse, set: refuse });
+    }
+  }
+}
+
+export function sayWhatIsAbsent(global) {
+  for (const [name, reasons] of Object.entries(ABSENT)) absent(global[name].prototype, reasons);
+}
+
+const names = new Map(Object.entries(ABSENT_OF_WINDOWS).flatMap(([reason, its]) => its.map((name) => [name, reason])));
+
+// Why a subtest with this message is not applicable, or nothing.
+export function reasonOf(message) {
+  if (!message) return undefined;
+  const told = message.indexOf(SIGN);
+  if (told >= 0) return message.slice(told + SIGN.length).split(/["\n]/)[0];
+  return names.get(/(\w+) is not defined/.exec(message)?.[1]);
+}
