@@ -1,10 +1,11 @@
 // What is known of each file: how many subtests it has, and which of them do not pass, by the reason.
 //
 // expectations.json has for each path { subtests, notApplicable: { reason: names }, differs: { reason: names } }. A name that ends with "*" stands for
-// all subtests whose names begin so. The harness's own failure stands as the subtest "(the file)".
+// all subtests whose names begin so. The harness's own failure stands as the subtest "(the file)". A file is known once its subtests are counted here;
+// of others a message may tell by itself why a subtest does not pass, and a name that is listed need not be there.
 import { readFileSync, writeFileSync } from "node:fs";
 
-import { reasonOf } from "./page/absent.js";
+import { reasonOf } from "./page/reasons.js";
 
 const FILE = new URL("expectations.json", import.meta.url);
 const KINDS = ["notApplicable", "differs"];
@@ -41,27 +42,32 @@ function subtestsOf({ subtests, status, message }) {
   return [...subtests, ...harness].map(([name, it, said]) => ({ name, passed: it === PASSED, message: said ?? `status ${it}` }));
 }
 
-// What a subtest counts as. Where nothing is known of a file, a name that is absent says by itself why a subtest does not pass.
+// What a subtest counts as.
 function judge({ name, passed, message }, entry, isKnown) {
   if (passed) return entry ? { as: "failed", name, message: `it passes, but is listed: ${entry.reason}` } : { as: "passed", name };
   if (entry && entry.reason !== UNEXPLAINED) return { as: entry.kind, name, reason: entry.reason, message };
-  const reason = isKnown ? undefined : reasonOf(message);
-  return reason ? { as: "notApplicable", name, reason, message } : { as: "failed", name, message };
+  const told = isKnown ? undefined : reasonOf(message);
+  return told ? { as: told.kind, name, reason: told.reason, message } : { as: "failed", name, message };
 }
 
-// What became of a file: a judgement for each subtest, and one for each entry that no subtest answers to.
+// What a known file lacks.
+function lost(result, expected, entries, met) {
+  if (expected?.subtests === undefined) return [];
+  const found = entries.filter((it) => !met.has(it)).map(({ name }) => ({ as: "failed", name, message: "it is listed, and there is no such subtest" }));
+  const fewer = expected.subtests - result.subtests.length;
+  return fewer > 0 ? [...found, { as: "failed", name: THE_FILE, message: `${fewer} subtests fewer than are listed` }] : found;
+}
+
+// What became of a file: a judgement for each subtest, and one for what it lacks.
 export function judgeFile(result, expected) {
   const known = new Entries(expected);
   const met = new Set();
   const judgements = subtestsOf(result).map((subtest) => {
     const entry = known.of(subtest.name);
     met.add(entry);
-    return judge(subtest, entry, expected !== undefined);
+    return judge(subtest, entry, expected?.subtests !== undefined);
   });
-  const lost = known.all.filter((it) => !met.has(it)).map(({ name }) => ({ as: "failed", name, message: "it is listed, and there is no such subtest" }));
-  const fewer = (expected?.subtests ?? 0) - result.subtests.length;
-  if (fewer > 0) lost.push({ as: "failed", name: THE_FILE, message: `${fewer} subtests fewer than are listed` });
-  return [...judgements, ...lost];
+  return [...judgements, ...lost(result, expected, known.all, met)];
 }
 
 // What is listed of a file after a run: reasons that stand already are kept.
@@ -69,8 +75,7 @@ function listed(result, expected) {
   const known = new Entries(expected);
   const entry = { subtests: result.subtests.length };
   for (const { name, message } of subtestsOf(result).filter((it) => !it.passed)) {
-    const absent = reasonOf(message);
-    const { kind, reason, name: shown } = known.of(name) ?? { kind: absent ? "notApplicable" : "differs", reason: absent ?? UNEXPLAINED, name };
+    const { kind, reason, name: shown = name } = known.of(name) ?? reasonOf(message) ?? { kind: "differs", reason: UNEXPLAINED };
     const names = ((entry[kind] ??= {})[reason] ??= []);
     if (!names.includes(shown)) names.push(shown);
   }

@@ -70,8 +70,11 @@ const inDocuments = {
   location: getter(function () { return pageOf(this)?.global.location ?? null; }),
   currentScript: getter(() => null),
   addEventListener: method(function (type, listener) { pageOf(this)?.global.addEventListener(type, listener); }),
-  // (the core has no CDATA sections: a Text stands where a test only needs text)
-  createCDATASection: method(function (data) { return this.createTextNode(data); }),
+};
+
+// The core has no CDATA sections: a Text stands for one, since most tests that make one only need text.
+const standingIn = {
+  createCDATASection: { configurable: true, enumerable: true, ...method(function (data) { return this.createTextNode(data); }) },
 };
 
 const inElements = {
@@ -107,6 +110,7 @@ function complete(prototype, members) {
 export function completeDocuments(page) {
   pages.set(page.document, page);
   complete(page.global.Document.prototype, inDocuments);
+  Object.defineProperties(page.global.Document.prototype, standingIn);
   complete(page.global.Element.prototype, inElements);
   complete(page.global.DocumentFragment.prototype, { ...inTrees, getElementById: inDocuments.getElementById });
 }

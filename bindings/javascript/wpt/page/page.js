@@ -1,5 +1,5 @@
 // A page of a test: a window whose document is filled by parsing a file, and whose scripts run in order while it is parsed.
-import { sayWhatIsAbsent } from "./absent.js";
+import { sayWhatIsAbsent } from "./reasons.js";
 import { completeDocuments } from "./document.js";
 import { Frames } from "./frames.js";
 import { parseHTML, parseXML } from "./parsing.js";
@@ -8,12 +8,12 @@ import { completeWindow } from "./window.js";
 const ORIGIN = "http://page.test";
 
 export class Page {
-  // `host` has the checkout, the player that opens windows, the text of the report, and what is told of missing files and of results.
+  // `host` has the checkout, a function that opens windows, the text of the report, and what is told of missing files and of results.
   constructor(host, address, parent = null) {
     this.host = host;
     this.parent = parent;
     this.url = new URL(address, ORIGIN);
-    const { global, evaluate } = host.player.open();
+    const { global, evaluate } = host.open(this.url);
     this.global = global;
     this.evaluate = evaluate;
     this.document = global.document;

@@ -1,20 +1,24 @@
-// The package under test: each window is a realm of its own, with the package's interfaces made for it.
+// The package under test: each window is a realm of its own with the package's interfaces, and all windows of a page share a session.
 import { constants, createContext, runInContext, Script } from "node:vm";
 
 import { createWindow } from "../../lib/index.js";
 import { Page } from "../page/page.js";
 
-function openWindow() {
-  const context = createContext(constants?.DONT_CONTEXTIFY ?? {});
-  const global = runInContext("globalThis", context);
-  for (const [name, member] of Object.entries(Object.getOwnPropertyDescriptors(createWindow(global)))) {
-    Object.defineProperty(global, name, { ...member, configurable: true });
-  }
-  return { global, evaluate: (source, filename) => new Script(source, { filename }).runInContext(context) };
+// Opens windows for a page and its frames; `report` takes what a callback of an observer throws.
+function windows(report) {
+  let first;
+  return function open(address) {
+    const context = createContext(constants?.DONT_CONTEXTIFY ?? {});
+    const global = runInContext("globalThis", context);
+    createWindow({ global, beside: first, report, empty: true, url: address.href, xml: /\.(?:xhtml|xml)$/.test(address.pathname) });
+    first ??= global.document;
+    return { global, evaluate: (source, filename) => new Script(source, { filename }).runInContext(context) };
+  };
 }
 
 export async function open(host, path) {
-  const page = new Page({ ...host, player: { open: openWindow } }, `/${path}`);
-  for (const event of ["uncaughtException", "unhandledRejection"]) process.on(event, (error) => page.tellError(error));
+  const report = (error) => page.tellError(error);
+  const page = new Page({ ...host, open: windows(report) }, `/${path}`);
+  for (const event of ["uncaughtException", "unhandledRejection"]) process.on(event, report);
   await page.load();
 }

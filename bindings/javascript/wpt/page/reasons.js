@@ -1,5 +1,5 @@
-// Names of the standard that neither the core nor the page has, and what each belongs to. Whoever uses one is told so, and the subtest counts as
-// not applicable, for that reason; a name that the player has is left as it is.
+// Why subtests do not pass. Here stand the names of the standard that neither the core nor the page has, and what each belongs to: whoever uses one is
+// told so, and the subtest counts as not applicable, for that reason. A name that the player has is left as it is.
 
 const SIGN = "not in this profile: ";
 
@@ -43,10 +43,20 @@ export function sayWhatIsAbsent(global) {
 
 const names = new Map(Object.entries(ABSENT_OF_WINDOWS).flatMap(([reason, its]) => its.map((name) => [name, reason])));
 
-// Why a subtest with this message is not applicable, or nothing.
-export function reasonOf(message) {
-  if (!message) return undefined;
+// What the core takes by the standard's newer rules of names, and an older test says is refused.
+const NOT_REFUSED = /assert_throws_dom:[^]*\b(createElement|createElementNS|createDocument|createDocumentType|createProcessingInstruction|setAttribute|setAttributeNS|toggleAttribute)\([^]*did not throw/;
+
+function absentName(message) {
   const told = message.indexOf(SIGN);
   if (told >= 0) return message.slice(told + SIGN.length).split(/["\n]/)[0];
   return names.get(/(\w+) is not defined/.exec(message)?.[1]);
+}
+
+// Why a subtest with this message does not pass, as far as the message tells it: of a kind and a reason.
+export function reasonOf(message) {
+  const absent = absentName(message ?? "");
+  if (absent) return { kind: "notApplicable", reason: absent };
+  const call = NOT_REFUSED.exec(message ?? "")?.[1];
+  if (!call) return undefined;
+  return { kind: "differs", reason: call === "createProcessingInstruction" ? "targets of processing instructions" : "newer names" };
 }
