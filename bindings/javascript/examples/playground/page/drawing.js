@@ -79,7 +79,7 @@ export function records(step) {
   if (!step.observers.length) return [element("p", "none", "No observer has been made.")];
   return step.observers.flatMap((its, observer) => {
     const head = element("h3", "", `observer ${observer} `, element("small", "", its.length ? `${its.length} waiting` : "nothing waits"));
-    return [head, element("ul", "records", ...its.map(recordOf))];
+    return [head, element("ul", "waiting", ...its.map(recordOf))];
   });
 }
 
