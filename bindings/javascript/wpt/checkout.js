@@ -12,13 +12,21 @@ const LEFT_OUT = [
   ["events", /\bdispatchEvent\b|\bcreateEvent\b|new \w*Event\(|addEventListener\(\s*['"](?!load|DOMContentLoaded|error|message)/],
   ["layout or styles", /getComputedStyle|getBoundingClientRect|getClientRects|elementFromPoint|\.(?:offset|client|scroll)(?:Width|Height|Top|Left)\b|styleSheets|document\.fonts/],
   ["editing", /execCommand|designMode/],
-  ["browsing: windows, navigation, workers, requests", /window\.open\(|new (?:Shared)?Worker\(|XMLHttpRequest|\bfetch\(|document\.(?:open|write|domain)\b|ServiceWorker|location\.(?:href|assign|replace)/],
+  ["browsing: windows, navigation, workers, requests", /window\.open\(|new (?:Shared)?Worker\(|XMLHttpRequest|\bfetch\(|createObjectURL|srcdoc|document\.(?:open|write|domain)\b|ServiceWorker|location\.(?:href|assign|replace)/],
   ["DOMTokenList", /\bclassList\b|DOMTokenList/],
   ["selectors", /\.matches\(|\.closest\(/],
   ["a driver of a browser", /testdriver\.js/],
   ["the interfaces' own description", /idlharness\.js/],
   ["moving without removal", /\bmoveBefore\b/],
   ["modules", /<script[^>]*type=["']?module/],
+  ["a server that answers by a program", /\.py\b|[?&]pipe=/],
+];
+
+// Tests that are left out by their names.
+const LEFT_OUT_BY_NAME = [
+  ["selectors", /quer(?:y|ies)|matches|closest|NodeList-static/i],
+  ["scripts that run when they come in", /insertion-removing-steps/],
+  ["documents of other types, as a browser loads them", /contentType|namespace-tests/],
 ];
 
 // The end of a name that tells a file which is not a test that runs by itself.
@@ -57,7 +65,8 @@ export class Checkout {
   // Why a test is left out, or nothing.
   leftOut(path) {
     const text = this.read(path);
-    return LEFT_OUT.find(([, sign]) => sign.test(text))?.[0];
+    const found = LEFT_OUT_BY_NAME.find(([, sign]) => sign.test(path)) ?? LEFT_OUT.find(([, sign]) => sign.test(text));
+    return found?.[0];
   }
 
   tests() {

@@ -2,6 +2,7 @@
 import { sayWhatIsAbsent } from "./reasons.js";
 import { completeDocuments } from "./document.js";
 import { Frames } from "./frames.js";
+import { nameInterfaces } from "./interfaces.js";
 import { parseHTML, parseXML } from "./parsing.js";
 import { completeWindow } from "./window.js";
 
@@ -21,6 +22,7 @@ export class Page {
     this.frames = new Frames(this);
     completeWindow(this);
     completeDocuments(this);
+    nameInterfaces(global);
     sayWhatIsAbsent(global);
   }
 

@@ -4,16 +4,19 @@
 const SIGN = "not in this profile: ";
 
 const ABSENT = {
+  Node: { namespaces: ["lookupNamespaceURI", "lookupPrefix", "isDefaultNamespace"], events: ["addEventListener", "dispatchEvent"] },
   Document: {
     "Attr nodes": ["createAttribute", "createAttributeNS"],
     events: ["createEvent"],
+    "the page": ["forms", "images", "links", "scripts", "cookie", "write", "open", "all", "styleSheets", "getElementsByName"],
   },
   Element: {
-    "Attr nodes": ["getAttributeNode", "getAttributeNodeNS", "setAttributeNode", "setAttributeNodeNS", "removeAttributeNode"],
+    "Attr nodes": ["attributes", "getAttributeNode", "getAttributeNodeNS", "setAttributeNode", "setAttributeNodeNS", "removeAttributeNode"],
     DOMTokenList: ["classList"],
     "shadow trees": ["attachShadow", "shadowRoot", "assignedSlot", "slot"],
     selectors: ["matches", "closest"],
     parsing: ["outerHTML", "insertAdjacentHTML"],
+    "insertion beside an element": ["insertAdjacentElement", "insertAdjacentText"],
   },
   Text: { wholeText: ["wholeText"], "shadow trees": ["assignedSlot"] },
 };
