@@ -8,7 +8,7 @@ const ABSENT = {
   Document: {
     "Attr nodes": ["createAttribute", "createAttributeNS"],
     events: ["createEvent"],
-    "the page": ["forms", "images", "links", "scripts", "cookie", "write", "open", "all", "styleSheets", "getElementsByName"],
+    "the page": ["forms", "images", "links", "scripts", "cookie", "write", "open", "styleSheets", "getElementsByName"],
   },
   Element: {
     "Attr nodes": ["attributes", "getAttributeNode", "getAttributeNodeNS", "setAttributeNode", "setAttributeNodeNS", "removeAttributeNode"],
