@@ -1,13 +1,23 @@
-// Chromium without a window, spoken to by its debugging protocol over a WebSocket (node --experimental-websocket).
+// Chromium without a window, spoken to by its debugging protocol over a WebSocket: node's own (22 and later, or 20 with --experimental-websocket), or that
+// of the library ws.
 import { spawn, spawnSync } from "node:child_process";
 import { mkdtempSync, rmSync } from "node:fs";
 import { tmpdir } from "node:os";
 import { join } from "node:path";
 
+import { find } from "../../wpt/libraries.js";
+
+const Socket = globalThis.WebSocket ?? find("ws");
 const NAMES = ["chromium", "chromium-browser", "google-chrome"];
 
 // The program's name, or nothing where this machine has none.
-export const chromium = () => NAMES.find((name) => spawnSync(name, ["--version"], { stdio: "ignore" }).status === 0);
+const chromium = () => NAMES.find((name) => spawnSync(name, ["--version"], { stdio: "ignore" }).status === 0);
+
+// Why no page can be tested here, or nothing.
+export function missing() {
+  if (!chromium()) return "there is no chromium";
+  return Socket ? undefined : "there is no WebSocket (node 22, node 20 with --experimental-websocket, or Debian's node-ws)";
+}
 
 // Where the browser listens, as it says itself.
 function listening(child) {
@@ -31,7 +41,7 @@ export class Browser {
     it.folder = mkdtempSync(join(tmpdir(), "huckleport-browser-"));
     const words = ["--headless=new", "--no-sandbox", "--disable-gpu", "--hide-scrollbars", "--remote-debugging-port=0", `--user-data-dir=${it.folder}`, `--window-size=${width},${height}`];
     it.child = spawn(chromium(), [...words, "about:blank"], { stdio: ["ignore", "ignore", "pipe"] });
-    it.socket = new WebSocket(await listening(it.child));
+    it.socket = new Socket(await listening(it.child));
     it.socket.addEventListener("message", ({ data }) => it.#take(JSON.parse(data)));
     await new Promise((ready) => it.socket.addEventListener("open", ready));
     const { targetInfos } = await it.call("Target.getTargets");

@@ -1,5 +1,5 @@
 // Plays command lines in a session of their own, and asks after each what is there. Each reply is the core's; nothing is known here of what a command does.
-import { Session } from "../../lib/core.js";
+import { Session } from "../../lib/index.js";
 import { tokenText } from "./token_text.js";
 
 const NO_SUCH_OBJECT = "no-such-object";

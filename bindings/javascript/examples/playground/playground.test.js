@@ -1,5 +1,5 @@
 // Tests the playground: that each reply is the one of the dialogue, that token texts are those of docs/definitions.md, what the server refuses, and, where
-// Chromium is there, that what stands on the page is what the dialogue says. Run with node --experimental-websocket --test.
+// Chromium is there, that what stands on the page is what the dialogue says.
 import assert from "node:assert/strict";
 import { spawnSync } from "node:child_process";
 import { existsSync, readFileSync } from "node:fs";
@@ -7,7 +7,7 @@ import { request } from "node:http";
 import { after, before, describe, test } from "node:test";
 import { fileURLToPath } from "node:url";
 
-import { Browser, chromium } from "./browser.js";
+import { Browser, missing } from "./browser.js";
 import { dialogue, linesOf, names } from "./dialogues.js";
 import { GROUPS, openPlace, template } from "./page/commands.js";
 import { tokenText } from "./token_text.js";
@@ -116,9 +116,7 @@ describe("over the addon", { skip }, () => {
     assert.equal(await play({ name: "ranges/ends_after_split", count: null }), 200);
   });
 
-  const isLeftOut = !chromium() ? "there is no chromium" : typeof WebSocket === "undefined" ? "node was not started with --experimental-websocket" : false;
-
-  describe("in chromium", { skip: isLeftOut }, () => {
+  describe("in chromium", { skip: missing() ?? false }, () => {
     let browser;
     before(async () => { browser = await Browser.open(); });
     after(() => browser?.close());

@@ -1,6 +1,6 @@
 // What documents and elements of a page have beside the core: the parts of a page, ids and class names, reflected attributes, frames, markup.
 // A name that the player has already is left as it is.
-import { parseFragment } from "./parsing.js";
+import { parseFragment, serialize } from "../../lib/index.js";
 
 function* below(node) {
   for (let child = node.firstChild; child; child = child.nextSibling) {
@@ -91,12 +91,19 @@ const inElements = {
   },
   style: { get() { return styleOf(this); }, set() {} },
   innerHTML: {
-    get() { throw new Error("not in this profile: serializing"); },
-    set(markup) { this.replaceChildren(parseFragment(this, String(markup))); },
+    get() { return [...this.childNodes].map(markupOf).join(""); },
+    set(markup) { this.replaceChildren(parseFragment(String(markup), this)); },
   },
   contentWindow: getter(function () { return pageOf(this)?.frames.of(this)?.global ?? null; }),
   contentDocument: getter(function () { return pageOf(this)?.frames.of(this)?.document ?? null; }),
 };
+
+// A fragment of its own around a copy, so that a Text is written too.
+function markupOf(node) {
+  const around = node.ownerDocument.createDocumentFragment();
+  around.append(node.cloneNode(true));
+  return serialize(around);
+}
 
 const styles = new WeakMap();
 const styleOf = (element) => styles.get(element) ?? styles.set(element, {}).get(element);
