@@ -10,9 +10,8 @@ function windows(report) {
   return function open(address) {
     const context = createContext(constants?.DONT_CONTEXTIFY ?? {});
     const global = runInContext("globalThis", context);
-    const window = createWindow(global, { beside: first, report, url: address.href, xml: /\.(?:xhtml|xml)$/.test(address.pathname) });
-    Object.defineProperties(global, Object.getOwnPropertyDescriptors(window));
-    first ??= window;
+    createWindow({ global, beside: first, report, empty: true, url: address.href, xml: /\.(?:xhtml|xml)$/.test(address.pathname) });
+    first ??= global;
     return { global, evaluate: (source, filename) => new Script(source, { filename }).runInContext(context) };
   };
 }
