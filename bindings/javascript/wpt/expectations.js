@@ -50,9 +50,9 @@ function judge({ name, passed, message }, entry, isKnown) {
   return told ? { as: told.kind, name, reason: told.reason, message } : { as: "failed", name, message };
 }
 
-// What a known file lacks.
+// What a known file lacks. Where the harness failed, that is said already.
 function lost(result, expected, entries, met) {
-  if (expected?.subtests === undefined) return [];
+  if (expected?.subtests === undefined || result.status) return [];
   const found = entries.filter((it) => !met.has(it)).map(({ name }) => ({ as: "failed", name, message: "it is listed, and there is no such subtest" }));
   const fewer = expected.subtests - result.subtests.length;
   return fewer > 0 ? [...found, { as: "failed", name: THE_FILE, message: `${fewer} subtests fewer than are listed` }] : found;
