@@ -89,19 +89,19 @@ for (const [what, text] of [["replaced data are off by one", OFF_BY_ONE], ["a sp
   });
 }
 
-test("a file that does not end, one that ends the process and one that the checkout can't serve are told", { skip }, () => {
+test("a file that does not end, one that fails, and one that the checkout can't serve are told", { skip }, () => {
   const checkout = join(folder, "checkout");
-  cpSync(TESTS, checkout, { recursive: true });
+  cpSync(join(TESTS, "resources"), join(checkout, "resources"), { recursive: true });
   const harness = '<script src="/resources/testharness.js"></script>\n<script src="/resources/testharnessreport.js"></script>\n';
-  writeFileSync(join(checkout, "core/endless.html"), `${harness}<script>while (true);</script>`);
-  writeFileSync(join(checkout, "core/lost.html"), `${harness}<script src="nowhere.js"></script>`);
-  writeFileSync(join(checkout, "core/wrong.html"), `${harness}<script>test(() => assert_true(false), "it fails");</script>`);
-  const { status, said } = run([checkout, "--expect", EXPECTED, "--only", "core/", "--limit", "5"]);
+  writeFileSync(join(checkout, "endless.html"), `${harness}<script>while (true);</script>`);
+  writeFileSync(join(checkout, "lost.html"), `${harness}<script src="nowhere.js"></script>`);
+  writeFileSync(join(checkout, "wrong.html"), `${harness}<script>test(() => assert_true(false), "it fails");</script>`);
+  const { status, said } = run([checkout, "--expect", EXPECTED, "--limit", "8"]);
   assert.equal(status, 1, said);
-  assert.match(said, /core\/endless\.html: \(the file\)\n\s+it did not end within 5 seconds/);
-  assert.match(said, /core\/wrong\.html: it fails/);
-  assert.match(said, /core\/lost\.html: left out, the checkout lacks core\/nowhere\.js/);
-  assert.equal(counts(said)[3], 2, said);
+  assert.match(said, /endless\.html: \(the file\)\n\s+it did not end within 8 seconds/);
+  assert.match(said, /wrong\.html: it fails/);
+  assert.match(said, /lost\.html: left out, the checkout lacks nowhere\.js/);
+  assert.deepEqual(counts(said).slice(0, 4), [2, 2, 0, 2], said);
 });
 
 test("a run can write what it found", { skip }, () => {
