@@ -12,8 +12,9 @@ class Asking {
     this.known = { root: 0, range: 0, staticRange: 0, iterator: 0, walker: 0 };
   }
 
+  // (the library ends a reply with a newline)
   reply(line) {
-    return this.session.line(line);
+    return this.session.line(line).replace(/\n$/, "");
   }
 
   // The answer to a question, or undefined where it is about no object.

@@ -11,7 +11,7 @@ const ABSENT = {
     "the page": ["forms", "images", "links", "scripts", "cookie", "write", "open", "styleSheets", "getElementsByName"],
   },
   Element: {
-    "Attr nodes": ["attributes", "getAttributeNode", "getAttributeNodeNS", "setAttributeNode", "setAttributeNodeNS", "removeAttributeNode"],
+    "Attr nodes": ["getAttributeNode", "getAttributeNodeNS", "setAttributeNode", "setAttributeNodeNS", "removeAttributeNode"],
     DOMTokenList: ["classList"],
     "shadow trees": ["attachShadow", "shadowRoot", "assignedSlot", "slot"],
     selectors: ["matches", "closest"],
@@ -26,7 +26,7 @@ const ABSENT_OF_WINDOWS = {
   CDATA: ["CDATASection"],
   "custom elements": ["customElements"],
   events: ["Event", "CustomEvent", "MouseEvent", "UIEvent"],
-  parsing: ["DOMParser", "XMLSerializer"],
+  parsing: ["XMLSerializer"],
   "shadow trees": ["ShadowRoot"],
   DOMTokenList: ["DOMTokenList"],
 };
