@@ -1,5 +1,6 @@
 // What a window has beside the standard's interfaces: its frames, its place, timers, listeners of what the page itself tells, a parser.
-import { parseHTML, parseXML } from "./parsing.js";
+import { parse } from "../../lib/index.js";
+import { parseXML } from "./parsing.js";
 
 const own = (value) => ({ value, configurable: true, writable: true, enumerable: true });
 const got = (get) => ({ get, configurable: true, enumerable: true });
@@ -65,14 +66,18 @@ function selection() {
   };
 }
 
-// DOMParser: a Document of its own for each text. What is no XML is an error here, and no Document that tells of one.
+// DOMParser: a Document of its own for each text, whose scripts do not run. What is no XML is an error here, and no Document that tells of one.
 function parser(page) {
+  const { implementation } = page.document;
+  function emptied(document) {
+    document.replaceChildren();
+    return document;
+  }
   return class DOMParser {
     parseFromString(text, type) {
-      const implementation = page.document.implementation;
-      const made = type === "text/html" ? implementation.createHTMLDocument() : implementation.createDocument(null, null, null);
-      while (made.firstChild) made.removeChild(made.firstChild);
-      (type === "text/html" ? parseHTML : parseXML)(made, String(text), () => {});
+      if (type === "text/html") return parse(String(text), { document: emptied(implementation.createHTMLDocument()) });
+      const made = implementation.createDocument(null, null, null);
+      parseXML(made, String(text), () => {});
       return made;
     }
   };
