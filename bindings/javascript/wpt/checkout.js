@@ -15,6 +15,7 @@ const LEFT_OUT = [
   ["browsing: windows, navigation, workers, requests", /window\.open\(|new (?:Shared)?Worker\(|XMLHttpRequest|\bfetch\(|createObjectURL|srcdoc|document\.(?:open|write|domain)\b|ServiceWorker|location\.(?:href|assign|replace)/],
   ["DOMTokenList", /\bclassList\b|DOMTokenList/],
   ["selectors", /\.matches\(|\.closest\(/],
+  ["workers", /^\/\/ META: global=(?!.*\bwindow\b)/m],
   ["a driver of a browser", /testdriver\.js/],
   ["the interfaces' own description", /idlharness\.js/],
   ["moving without removal", /\bmoveBefore\b/],

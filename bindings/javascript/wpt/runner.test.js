@@ -128,6 +128,7 @@ test("what a file that is not known lacks says why", () => {
   assert.deepEqual(reasons("not in this profile: shadow trees"), ["notApplicable", "shadow trees"]);
   assert.deepEqual(reasons("XMLSerializer is not defined"), ["notApplicable", "parsing"]);
   assert.deepEqual(reasons('assert_throws_dom: function "() => document.createElement(it)" did not throw'), ["differs", "newer names"]);
+  assert.deepEqual(reasons('assert_throws_dom: function "() => document.createProcessingInstruction(it, 1)" did not throw'), ["differs", "targets of processing instructions"]);
   assert.deepEqual(reasons("something else"), ["failed", undefined]);
 });
 

@@ -14,7 +14,7 @@ export class Page {
     this.host = host;
     this.parent = parent;
     this.url = new URL(address, ORIGIN);
-    const { global, evaluate } = host.open(this.url);
+    const { global, evaluate } = host.open(this.url, (error) => this.tellError(error));
     this.global = global;
     this.evaluate = evaluate;
     this.document = global.document;
