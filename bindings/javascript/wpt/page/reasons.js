@@ -58,12 +58,13 @@ function absentName(message) {
   return names.get(/(\w+) is not defined/.exec(message)?.[1]);
 }
 
-// Why a subtest with this message does not pass, as far as the message tells it: of a kind and a reason.
-export function reasonOf(message) {
-  const absent = absentName(message ?? "");
+// Why a subtest does not pass, as far as its message tells it: of a kind and a reason. (The empty name is refused by the newer rules too.)
+export function reasonOf({ name, message }) {
+  const said = message ?? "";
+  const absent = absentName(said);
   if (absent) return { kind: "notApplicable", reason: absent };
-  if (OF_A_FILTER.test(message ?? "")) return { kind: "differs", reason: "the realm of a filter" };
-  const call = NOT_REFUSED.exec(message ?? "")?.[1];
-  if (!call) return undefined;
+  if (OF_A_FILTER.test(said)) return { kind: "differs", reason: "the realm of a filter" };
+  const call = NOT_REFUSED.exec(said)?.[1];
+  if (!call || name.includes('""')) return undefined;
   return { kind: "differs", reason: call === "createProcessingInstruction" ? "targets of processing instructions" : "newer names" };
 }
