@@ -3,7 +3,7 @@ import { existsSync, readdirSync, readFileSync, statSync } from "node:fs";
 import { join } from "node:path";
 
 // Folders that hold no tests: what tests load, and other kinds of tests.
-const NO_TESTS = new Set(["resources", "support", "reference", "crashtests", "tools", "node_modules", "moveBefore"]);
+const NO_TESTS = new Set(["resources", "support", "reference", "crashtests", "tentative", "tools", "node_modules"]);
 
 // A test that needs one of these is left out: the reason, and what tells it in the text of the file.
 const LEFT_OUT = [
@@ -15,6 +15,7 @@ const LEFT_OUT = [
   ["browsing: windows, navigation, workers, requests", /window\.open\(|new (?:Shared)?Worker\(|XMLHttpRequest|\bfetch\(|createObjectURL|srcdoc|document\.(?:open|write|domain)\b|ServiceWorker|location\.(?:href|assign|replace)/],
   ["DOMTokenList", /\bclassList\b|DOMTokenList/],
   ["selectors", /\.matches\(|\.closest\(/],
+  ["workers", /^\/\/ META: global=(?!.*\bwindow\b)/m],
   ["a driver of a browser", /testdriver\.js/],
   ["the interfaces' own description", /idlharness\.js/],
   ["moving without removal", /\bmoveBefore\b/],
@@ -26,6 +27,10 @@ const LEFT_OUT = [
 const LEFT_OUT_BY_NAME = [
   ["selectors", /quer(?:y|ies)|matches|closest|NodeList-static/i],
   ["scripts that run when they come in", /insertion-removing-steps/],
+  ["moving without removal", /moveBefore/],
+  ["Attr nodes", /\/attributes[\w-]*\./],
+  ["attributes that are reflected", /\/aria-/],
+  ["CDATA sections", /CDATASection/],
   ["documents of other types, as a browser loads them", /contentType|namespace-tests/],
 ];
 

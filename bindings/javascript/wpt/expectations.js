@@ -46,7 +46,7 @@ function subtestsOf({ subtests, status, message }) {
 function judge({ name, passed, message }, entry, isKnown) {
   if (passed) return entry ? { as: "failed", name, message: `it passes, but is listed: ${entry.reason}` } : { as: "passed", name };
   if (entry && entry.reason !== UNEXPLAINED) return { as: entry.kind, name, reason: entry.reason, message };
-  const told = isKnown ? undefined : reasonOf(message);
+  const told = isKnown ? undefined : reasonOf({ name, message });
   return told ? { as: told.kind, name, reason: told.reason, message } : { as: "failed", name, message };
 }
 
@@ -74,8 +74,8 @@ export function judgeFile(result, expected) {
 function listed(result, expected) {
   const known = new Entries(expected);
   const entry = { subtests: result.subtests.length };
-  for (const { name, message } of subtestsOf(result).filter((it) => !it.passed)) {
-    const { kind, reason, name: shown = name } = known.of(name) ?? reasonOf(message) ?? { kind: "differs", reason: UNEXPLAINED };
+  for (const subtest of subtestsOf(result).filter((it) => !it.passed)) {
+    const { kind, reason, name: shown = subtest.name } = known.of(subtest.name) ?? reasonOf(subtest) ?? { kind: "differs", reason: UNEXPLAINED };
     const names = ((entry[kind] ??= {})[reason] ??= []);
     if (!names.includes(shown)) names.push(shown);
   }

@@ -84,8 +84,14 @@ async function play(paths, expectations, words) {
   return files.sort((a, b) => (a.path < b.path ? -1 : 1));
 }
 
+// The package has to be there: else each file would fail.
+async function seePackage() {
+  await import("../lib/index.js").catch((fault) => refuse(fault.message));
+}
+
 async function main() {
   const words = given();
+  if (words.player === "huckleport") await seePackage();
   const tests = new Checkout(words.folder).tests().filter((it) => it.path.includes(words.only));
   const expectations = words.player === "jsdom" ? {} : readExpectations(words.expect);
   const found = await play(tests.filter((it) => !it.leftOut).map((it) => it.path), expectations, words);

@@ -124,10 +124,12 @@ test("each change shows", () => {
 });
 
 test("what a file that is not known lacks says why", () => {
-  const reasons = (message) => judgeFile(result(["a", 1, message]), undefined).map((it) => [it.as, it.reason])[0];
+  const reasons = (message, name = "a") => judgeFile(result([name, 1, message]), undefined).map((it) => [it.as, it.reason])[0];
   assert.deepEqual(reasons("not in this profile: shadow trees"), ["notApplicable", "shadow trees"]);
-  assert.deepEqual(reasons("DOMParser is not defined"), ["notApplicable", "parsing"]);
+  assert.deepEqual(reasons("XMLSerializer is not defined"), ["notApplicable", "parsing"]);
   assert.deepEqual(reasons('assert_throws_dom: function "() => document.createElement(it)" did not throw'), ["differs", "newer names"]);
+  assert.deepEqual(reasons('assert_throws_dom: function "() => document.createProcessingInstruction(it, 1)" did not throw'), ["differs", "targets of processing instructions"]);
+  assert.deepEqual(reasons('assert_throws_dom: function "() => document.createElement(it)" did not throw', 'createElement("")'), ["failed", undefined]);
   assert.deepEqual(reasons("something else"), ["failed", undefined]);
 });
 

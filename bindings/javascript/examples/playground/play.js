@@ -2,24 +2,30 @@
 import { Session } from "../../lib/index.js";
 import { tokenText } from "./token_text.js";
 
-const NO_SUCH_OBJECT = "no-such-object";
+// What a question is answered that is about no object, or that is longer than the session's lines may be.
+const NO_ANSWER = new Set(["no-such-object", "line-too-long"]);
+
+// The longest question: a line limit below it leaves trees unseen.
+const LONGEST_QUESTION = '["staticRange",4294967295]'.length;
 
 const shown = (line) => (Buffer.isBuffer(line) ? line.toString("utf8") : line);
 
 class Asking {
   constructor(options) {
     this.session = new Session(options);
+    this.isSilent = options.line < LONGEST_QUESTION;
     this.known = { root: 0, range: 0, staticRange: 0, iterator: 0, walker: 0 };
   }
 
+  // (the library ends a reply with a newline)
   reply(line) {
-    return this.session.line(line);
+    return this.session.line(line).replace(/\n$/, "");
   }
 
-  // The answer to a question, or undefined where it is about no object.
+  // The answer to a question, or undefined where there is none.
   ask(...question) {
     const told = JSON.parse(this.reply(JSON.stringify(question)));
-    if (told.error && told.error !== NO_SUCH_OBJECT) throw new Error(`${JSON.stringify(question)} can't be asked here: ${told.error}`);
+    if (told.error && !NO_ANSWER.has(told.error)) throw new Error(`${JSON.stringify(question)} can't be asked here: ${told.error}`);
     return told.ok;
   }
 
@@ -41,6 +47,7 @@ class Asking {
     const roots = this.allOf("root").filter(([node, root]) => node === root).map(([node]) => node);
     const trees = roots.map((root) => ({ root, rows: this.ask("tree", root) }));
     return {
+      isSilent: this.isSilent,
       trees: trees.map((it) => ({ ...it, tokens: tokenText(it.rows, ranges) })),
       ranges,
       staticRanges: this.allOf("staticRange"),

@@ -89,6 +89,8 @@ const inElements = {
       pageOf(this)?.frames.leave(this);
     },
   },
+  // (as far as names and values are counted and shown)
+  attributes: getter(function () { return this.getAttributeNames().map((name) => ({ name, value: this.getAttribute(name) })); }),
   style: { get() { return styleOf(this); }, set() {} },
   innerHTML: {
     get() { return [...this.childNodes].map(markupOf).join(""); },

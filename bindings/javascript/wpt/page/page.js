@@ -14,7 +14,7 @@ export class Page {
     this.host = host;
     this.parent = parent;
     this.url = new URL(address, ORIGIN);
-    const { global, evaluate } = host.open(this.url);
+    const { global, evaluate } = host.open(this.url, (error) => this.tellError(error));
     this.global = global;
     this.evaluate = evaluate;
     this.document = global.document;
@@ -69,17 +69,17 @@ export class Page {
     this.nameIds();
   }
 
-  parse() {
+  async parse() {
     if (this.url.protocol === "about:") return parseHTML(this.document, "", () => {});
     const path = this.path(this.url.href);
     const text = /\.(?:any|window)\.js$/.test(path) ? this.host.checkout.page(path) : this.text(path) ?? "";
     const parse = /\.(?:xhtml|xml)$/.test(path) ? parseXML : parseHTML;
-    parse(this.document, text, (script) => this.runScript(script));
+    return parse(this.document, text, (script) => this.runScript(script));
   }
 
   // Opens the page, and ends once it is loaded with all its frames.
   async load() {
-    this.run(() => this.parse());
+    await this.parse().catch((error) => this.tellError(error));
     this.readyState = "interactive";
     this.fire("DOMContentLoaded", {});
     await this.frames.loaded();

@@ -4,11 +4,25 @@ import { load } from "../libraries.js";
 
 const XMLNS = "http://www.w3.org/2000/xmlns/";
 
-// Fills a document with a page; `runScript` is called with each script element once its end tag is read.
-export function parseHTML(document, text, runScript) {
+// Ends once the microtasks that wait have run, and those that they left, as they do before and after each script of a page.
+const afterMicrotasks = () => new Promise((ready) => process.nextTick(ready));
+
+// Fills a document with a page; `runScript` is called with each script element once its end tag is read. What stands before the first script is there
+// at once.
+export async function parseHTML(document, text, runScript) {
   const { Parser } = load("parse5");
-  const parser = new Parser({ treeAdapter: treeAdapter(document) }, document, null, runScript);
+  const scripts = [];
+  const parser = new Parser({ treeAdapter: treeAdapter(document) }, document, null, (script) => {
+    scripts.push(script);
+    parser.tokenizer.pause();
+  });
   parser.tokenizer.write(text, true);
+  while (scripts.length) {
+    await afterMicrotasks();
+    runScript(scripts.shift());
+    await afterMicrotasks();
+    parser.tokenizer.resume();
+  }
 }
 
 function setAttributes(element, attributes) {

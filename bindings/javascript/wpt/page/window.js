@@ -1,4 +1,6 @@
-// What a window has beside the standard's interfaces: its frames, its place, timers, and listeners of what the page itself tells.
+// What a window has beside the standard's interfaces: its frames, its place, timers, listeners of what the page itself tells, a parser.
+import { parse } from "../../lib/index.js";
+import { parseXML } from "./parsing.js";
 
 const own = (value) => ({ value, configurable: true, writable: true, enumerable: true });
 const got = (get) => ({ get, configurable: true, enumerable: true });
@@ -64,9 +66,26 @@ function selection() {
   };
 }
 
+// DOMParser: a Document of its own for each text, whose scripts do not run. What is no XML is an error here, and no Document that tells of one.
+function parser(page) {
+  const { implementation } = page.document;
+  function emptied(document) {
+    document.replaceChildren();
+    return document;
+  }
+  return class DOMParser {
+    parseFromString(text, type) {
+      if (type === "text/html") return parse(String(text), { document: emptied(implementation.createHTMLDocument()) });
+      const made = implementation.createDocument(null, null, null);
+      parseXML(made, String(text), () => {});
+      return made;
+    }
+  };
+}
+
 export function completeWindow(page) {
   Object.defineProperties(page.global, { ...around(page), ...timers(page), ...listening(page) });
   const selected = selection();
-  Object.defineProperty(page.global, "getSelection", own(() => selected));
+  Object.defineProperties(page.global, { getSelection: own(() => selected), DOMParser: own(parser(page)) });
   Object.defineProperty(page.global, "reportResults", { value: page.host.results, configurable: true });
 }

@@ -36,6 +36,7 @@ const keysOf = (step) => new Set(step ? step.trees.flatMap(({ root, rows }) => r
 
 // The trees, with what is not as it was a step before marked.
 export function trees(step, before) {
+  if (step.isSilent) return [element("p", "none", "The lines of this session may not be as long as a question, so what stands in it can't be asked.")];
   const known = keysOf(before);
   return step.trees.map(({ root, rows }) => {
     const isNew = (row) => Boolean(before) && !known.has(`${root} ${JSON.stringify(row)}`);
