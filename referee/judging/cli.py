@@ -11,7 +11,7 @@ from judging.found import cases_of
 from judging.judge import Judge, same
 from judging.junit import junit_of
 from judging.known import KNOWN, read_known
-from judging.players import BY_NAME, LIBRARY, ROOT, NotThere, player_of
+from judging.players import BY_NAME, LIBRARY, PROGRAM, NotThere, player_of
 from judging.process import Fault
 from judging.report import line, page_of
 from judging.running import CoreFailed, Limits, Run
@@ -19,7 +19,6 @@ from judging.scenes import KINDS, NEEDS, scenes
 from judging.shrink import shrunk
 from judging.streams import play_commands
 
-PROGRAM = os.path.join(ROOT, "crates/domserve/out/domserve")
 SAME, DIFFERS, WRONG_WORDS, NOT_THERE = range(4)
 
 STATUSES = """
@@ -30,7 +29,7 @@ Statuses: 0 where nothing new was found, 1 where something was, 2 for wrong word
 def words_of_player(parser):
     parser.add_argument("--player", default="player", metavar="NAME", help=f"{', '.join(BY_NAME)}, or node:MODULE")
     parser.add_argument("--command", metavar="WORDS", help="a command line that answers lines, in place of a player's name")
-    parser.add_argument("--program", default=PROGRAM, help="the core: the program (crates/domserve/out/domserve), or a libhuckleport.so, which is quicker")
+    parser.add_argument("--program", help="the core: a program like domserve, or a libhuckleport.so, which is quicker (the library where it is made, else the program)")
     parser.add_argument("--library", default=LIBRARY, metavar="FOLDER", help="the folder of libhuckleport.so (bindings/c/out)")
     parser.add_argument("--wait", dest="seconds", type=float, default=10.0, metavar="SECONDS", help="how long a reply may take (10)")
 
@@ -216,6 +215,9 @@ PARTS = {
 
 def main():
     given = parser_of().parse_args()
+    if given.part != "report" and not given.program:
+        made = os.path.join(given.library, "libhuckleport.so")
+        given.program = made if os.path.exists(made) else PROGRAM
     if given.part != "report" and not os.access(given.program, os.X_OK):
         print(f"{given.program} is not built: run ./domserve once, or name another by --program", file=sys.stderr)
         return NOT_THERE

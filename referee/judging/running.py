@@ -14,7 +14,7 @@ from judging.states import states_of
 
 TELLS_EACH = 2.0
 # Of differences whose first look is the same, so many are shrunk; of the rest each whose count is a power of two.
-SHRUNK = 4
+SHRUNK = 2
 
 
 @dataclass
