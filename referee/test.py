@@ -200,7 +200,7 @@ def counts(line):
 
 def main():
     words = argparse.ArgumentParser(description=__doc__, formatter_class=argparse.RawDescriptionHelpFormatter)
-    words.add_argument("--program", default=GIVEN.program, help="the core (crates/domserve/out/domserve)")
+    words.add_argument("--program", default=GIVEN.program, help="the program (crates/domserve/out/domserve)")
     words.add_argument("--library", default=GIVEN.library, metavar="FOLDER", help="the folder of libhuckleport.so (bindings/c/out)")
     words.add_argument("--after", metavar="LINE", default="0 passed, 0 failed", help="the last line of the tests before these")
     words.add_argument("only", nargs="*", metavar="NAME", help="only these tests, as unittest names them")

@@ -5,13 +5,13 @@ import os
 import sys
 
 from judging.commands import COMMANDS
-from judging.core import Cores
+from judging.core import Cores, Turn
 from judging.drawing import GROUPS, drawn_stream
 from judging.found import cases_of
 from judging.judge import Judge, same
 from judging.junit import junit_of
 from judging.known import KNOWN, read_known
-from judging.players import BY_NAME, LIBRARY, ROOT, NotThere, player_of
+from judging.players import BY_NAME, LIBRARY, PROGRAM, NotThere, player_of
 from judging.process import Fault
 from judging.report import line, page_of
 from judging.running import CoreFailed, Limits, Run
@@ -19,7 +19,6 @@ from judging.scenes import KINDS, NEEDS, scenes
 from judging.shrink import shrunk
 from judging.streams import play_commands
 
-PROGRAM = os.path.join(ROOT, "crates/domserve/out/domserve")
 SAME, DIFFERS, WRONG_WORDS, NOT_THERE = range(4)
 
 STATUSES = """
@@ -30,7 +29,7 @@ Statuses: 0 where nothing new was found, 1 where something was, 2 for wrong word
 def words_of_player(parser):
     parser.add_argument("--player", default="player", metavar="NAME", help=f"{', '.join(BY_NAME)}, or node:MODULE")
     parser.add_argument("--command", metavar="WORDS", help="a command line that answers lines, in place of a player's name")
-    parser.add_argument("--program", default=PROGRAM, help="the core (crates/domserve/out/domserve)")
+    parser.add_argument("--program", help="the core: a program like domserve, or a libhuckleport.so, which is quicker (the library where it is made, else the program)")
     parser.add_argument("--library", default=LIBRARY, metavar="FOLDER", help="the folder of libhuckleport.so (bindings/c/out)")
     parser.add_argument("--wait", dest="seconds", type=float, default=10.0, metavar="SECONDS", help="how long a reply may take (10)")
 
@@ -67,6 +66,8 @@ def parser_of():
     play.add_argument("--weight", action="append", type=weight, metavar="COMMAND=WEIGHT", help="how often a command is drawn; 0 leaves it out")
     play.add_argument("--seed", default="1", help="the seed of the streams (1)")
     play.add_argument("--length", type=int, default=80, metavar="N", help="how long a stream gets (80)")
+    play.add_argument("--save", metavar="FILE", help="keeps the streams with the core's replies, for other players")
+    play.add_argument("--from", dest="saved", metavar="FILE", help="plays the streams that a file keeps, and draws none")
     play.add_argument("--streams", type=int, metavar="N", help="ends after so many streams")
     exhaust = parts.add_parser("exhaust", help="plays all short scenes of a kind", **raw)
     words_of_run(exhaust)
@@ -84,8 +85,19 @@ def parser_of():
     return parser
 
 
+def saved(path):
+    """The streams that a file keeps."""
+    with open(path, encoding="utf-8") as file:
+        for line in file:
+            group, seed, turns = json.loads(line)
+            yield group, seed, lambda core, turns=turns: [Turn(command, reply, [], places, last) for command, reply, places, last in turns]
+
+
 def drawn(given, player):
-    """Streams without an end, of the groups in turn."""
+    """Streams without an end, of the groups in turn; or those that a file keeps."""
+    if given.saved:
+        yield from saved(given.saved)
+        return
     groups = given.group or list(GROUPS)
     at = 0
     while True:
@@ -107,8 +119,8 @@ def exhausted(given, player):
 def run_of(given, streams):
     player = player_of(given)
     limits = Limits(given.time, given.lines, getattr(given, "streams", None), given.new)
-    cores = Cores([given.program])
-    run = Run(cores, player, read_known(given.known), given.out, limits, given.quiet)
+    cores = Cores(given.program)
+    run = Run(cores, player, read_known(given.known), given.out, limits, given.quiet, getattr(given, "save", None))
     try:
         told = run.play(streams(given, player))
     finally:
@@ -134,7 +146,7 @@ def commands_of(path):
 
 def replay(given):
     player = player_of(given)
-    with Cores([given.program]).open() as core:
+    with Cores(given.program).open() as core:
         turns = play_commands(core, commands_of(given.file))
     told = dict(player.replies(turns))
     player.end()
@@ -149,7 +161,7 @@ def replay(given):
 
 def shrink(given):
     player = player_of(given)
-    judge = Judge(Cores([given.program]), player)
+    judge = Judge(Cores(given.program), player)
     try:
         with judge.core() as core:
             found = judge.difference(play_commands(core, commands_of(given.file)))
@@ -203,6 +215,9 @@ PARTS = {
 
 def main():
     given = parser_of().parse_args()
+    if given.part != "report" and not given.program:
+        made = os.path.join(given.library, "libhuckleport.so")
+        given.program = made if os.path.exists(made) else PROGRAM
     if given.part != "report" and not os.access(given.program, os.X_OK):
         print(f"{given.program} is not built: run ./domserve once, or name another by --program", file=sys.stderr)
         return NOT_THERE

@@ -1,8 +1,10 @@
 """The core that judges: a process of the program for each world, and what its replies tell of the numbers that exist."""
 import json
+import os
 from collections import namedtuple
 
 from judging.commands import COMMANDS
+from judging.library import Library, Session
 from judging.process import STARTS, Lines, line_of, read_reply
 
 # A command that was played: its line, its reply, the numbers of nodes that it made, and what a player that numbers by place is told.
@@ -12,25 +14,31 @@ KINDS = ("node", "range", "static", "iterator", "walker", "observer")
 
 
 class Cores:
-    """Where worlds come from: a process of the program for each, or, of a core that says hello as players do, one process for all."""
+    """Where worlds come from: a process of the program for each; sessions of the library, where a libhuckleport.so is named; or one process for all,
+    where it says hello as players do.
+    """
 
-    def __init__(self, words):
-        self.words = words
-        self.kept = Lines(words)
-        told = json.loads(self.kept.ask(line_of({"hello": {}}), STARTS))
-        if "player" not in told:
-            self.kept.end()
-            self.kept = None
+    def __init__(self, path):
+        self.path, self.kept = path, None
+        self.library = Library(path) if ".so" in os.path.basename(path) else None
+        if not self.library:
+            self.kept = Lines([path])
+            told = json.loads(self.kept.ask(line_of({"hello": {}}), STARTS))
+            if "player" not in told:
+                self.end()
 
     def open(self):
+        if self.library:
+            return Core(Session(self.library), Session.end)
         if self.kept is None:
-            return Core(Lines(self.words), Lines.end)
+            return Core(Lines([self.path]), Lines.end)
         self.kept.ask(line_of({"world": {}}))
         return Core(self.kept, lambda lines: None)
 
     def end(self):
         if self.kept:
             self.kept.end()
+        self.kept = None
 
 
 class Core:

@@ -2,19 +2,19 @@
 
 An entry is an object: `players` (names), `commands` (what the difference comes from) and `shows` (whose reply differs) are lists, where a missing
 one stands for all; `due` and `told` are the forms of the two replies (`ok`, the name of a refusal, or `died`, `hung`, `rubbish`); `with` are
-commands that the stream must have; `values` is a pattern for the line of the command that it comes from. `why` is `choice` (of this profile),
+commands that the stream must have, `without` those that it must not have; `due_like` and `told_like` are patterns for the answers. `why` is `choice` (of this profile),
 `letter` (of the standard) or `fault` (of the player), and `reason` says it in a sentence.
 """
 import json
 import os
 import re
 
-from judging.judge import cause_of, key_of
+from judging.judge import key_of
 
 HERE = os.path.dirname(os.path.dirname(os.path.abspath(__file__)))
 KNOWN = os.path.join(HERE, "known.json")
 WHY = {"choice": "a choice of this profile", "letter": "the letter of the standard", "fault": "a fault of the player"}
-MEMBERS = {"name", "players", "commands", "shows", "due", "told", "with", "without", "values", "why", "reason", "section"}
+MEMBERS = {"name", "players", "commands", "shows", "due", "told", "with", "without", "due_like", "told_like", "why", "reason", "section"}
 
 
 def read_known(path):
@@ -28,11 +28,8 @@ def read_known(path):
     return found
 
 
-def cause_line(difference):
-    """The line of the command that a difference comes from."""
-    cause = cause_of(difference.turns, difference.told)
-    turn = next(it for it in reversed(difference.turns) if it.command[0] == cause)
-    return json.dumps(turn.command)
+def answer_of(reply):
+    return json.dumps(reply.get("ok"), separators=(",", ":"))
 
 
 def fits(entry, player, difference):
@@ -45,7 +42,8 @@ def fits(entry, player, difference):
     names = {it.command[0] for it in difference.turns}
     if not set(entry.get("with", ())) <= names or set(entry.get("without", ())) & names:
         return False
-    return re.search(entry.get("values", ""), cause_line(difference)) is not None
+    due, told = answer_of(difference.turns[-1].reply), answer_of(difference.told)
+    return re.search(entry.get("due_like", ""), due) is not None and re.search(entry.get("told_like", ""), told) is not None
 
 
 def entry_of(known, player, difference):

@@ -14,6 +14,7 @@ ROOT = os.path.dirname(HERE)
 PLAYERS = os.path.join(HERE, "players")
 MODULES = "/usr/share/nodejs"
 LIBRARY = os.path.join(ROOT, "bindings/c/out")
+PROGRAM = os.path.join(ROOT, "crates/domserve/out/domserve")
 
 # Refusals that an adapter to the standard's interfaces can't give: of a line's form, of numbers, and of this profile's own commands.
 NOT_OF_THE_STANDARD = {"line-too-long", "bad-json", "bad-command", "bad-arguments", "no-such-object", "limit", "in-use", "out-of-memory"}
@@ -33,11 +34,13 @@ class Player:
     """What all players have. `serves` are the commands that it has, or None for all; `itself` is what its adapter does by itself."""
 
     name, version, serves, itself = "player", "", None, []
+    # What the words of the command line call it.
+    called = None
     # Whether it numbers by place what a command makes inside, and whether a Document of its has children.
     numbers, documents = False, True
 
     def introduce(self, told):
-        self.name, self.version = told.get("name", self.name), told.get("version", "")
+        self.name, self.version = self.called or told.get("name", self.name), told.get("version", "")
         self.serves = set(told["serves"]) if "serves" in told else None
         self.itself, self.numbers = told.get("itself", []), told.get("numbers", False)
         self.documents = told.get("documents", True)
@@ -59,9 +62,7 @@ class Spoken(Player):
 
     def __init__(self, words, seconds, environment=None, name=None):
         self.words, self.seconds, self.environment = words, seconds, environment
-        self.process = None
-        self.starts = 0
-        self.name = name or words[0]
+        self.process, self.called = None, name
         self.open()
 
     def open(self):
@@ -71,7 +72,6 @@ class Spoken(Player):
         except (OSError, Fault, KeyError) as fault:
             self.end()
             raise NotThere(f"{shlex.join(self.words)} does not say hello: {fault}") from None
-        self.starts += 1
 
     def replies(self, turns):
         if self.process is None:
@@ -161,7 +161,7 @@ def of_python(script, *needs):
             tried = subprocess.run([python, "-c", "import " + ",".join(("sys", *needs))], stderr=subprocess.DEVNULL, check=False)
             if tried.returncode == 0:
                 environment = {**os.environ, "HUCKLEPORT_LIB_DIR": given.library}
-                return Spoken([python, os.path.join(PLAYERS, script)], given.seconds, environment, script)
+                return Spoken([python, os.path.join(PLAYERS, script)], given.seconds, environment)
         raise NotThere(f"no Python here has {' and '.join(needs)}")
 
     return made
@@ -175,7 +175,7 @@ def of_rust(given):
     built = subprocess.run(["cargo", "build", "--quiet", "--offline", "--release"], cwd=folder, env=environment, check=False)
     if built.returncode:
         raise NotThere("the player in Rust can't be built")
-    return Spoken([os.path.join(folder, "target/release/player")], given.seconds, environment, "rust")
+    return Spoken([os.path.join(folder, "target/release/player")], given.seconds, environment)
 
 
 def of_page(browser):
@@ -183,7 +183,10 @@ def of_page(browser):
 
 
 def of_program(given):
-    return Program([given.program], given.seconds, "program")
+    program = PROGRAM if given.program.endswith(".so") else given.program
+    if not os.access(program, os.X_OK):
+        raise NotThere(f"{program} is not built")
+    return Program([program], given.seconds, "program")
 
 
 BY_NAME = {
@@ -208,7 +211,7 @@ BY_NAME = {
 def player_of(given):
     """The player that the words name: one of the list, `node:MODULE`, or any command line."""
     if given.command:
-        return of_words(shlex.split(given.command), given.seconds, given.player)
+        return of_words(shlex.split(given.command), given.seconds, None if given.player == "player" else given.player)
     if given.player.startswith("node:"):
         return of_node(given.player[len("node:") :])(given)
     if given.player not in BY_NAME:

@@ -58,7 +58,7 @@ def chapter(cases, known):
     """The cases that look the same but for what stands in their commands: the shortest whole, of the others the commands."""
     first, *others = sorted(cases, key=lambda it: (len(it.commands), len(it.name())))
     count = sum(it.count for it in cases)
-    parts = [f"<h2>{escape(title(first))}</h2>", reason_of(first, known), f"<p>{count} streams shrank to it, in {len(cases)} forms.</p>"]
+    parts = [f"<h2>{escape(first.known or title(first))}</h2>", reason_of(first, known), f"<p>{count} streams shrank to it, in {len(cases)} forms.</p>"]
     parts += [rows_of(first), pictures_of(first), section(first)]
     parts.append(f"<p>In a browser's console:</p><pre>{escape(snippet_of(first))}</pre>")
     if others:
@@ -68,10 +68,10 @@ def chapter(cases, known):
 
 
 def chapters(cases, known):
-    """New differences first; each kind of difference once."""
+    """New differences first, each kind of them once; then each that is known once."""
     kinds = {}
     for case in cases:
-        kinds.setdefault((case.known or "", *case.key.values()), []).append(case)
+        kinds.setdefault((case.known,) if case.known else ("", *case.key.values()), []).append(case)
     ordered = sorted(kinds.items(), key=lambda it: (it[0][0] != "", it[0]))
     return "".join(chapter(it, known) for _, it in ordered)
 

@@ -1,4 +1,5 @@
 """A run: streams one after another, what differs shrunk and kept, progress told, and a stop that keeps what was found."""
+import json
 import signal
 import sys
 import time
@@ -13,7 +14,7 @@ from judging.states import states_of
 
 TELLS_EACH = 2.0
 # Of differences whose first look is the same, so many are shrunk; of the rest each whose count is a power of two.
-SHRUNK = 4
+SHRUNK = 2
 
 
 @dataclass
@@ -45,9 +46,10 @@ class Stop:
 
 
 class Run:
-    def __init__(self, cores, player, known, folder, limits, quiet=False):
+    def __init__(self, cores, player, known, folder, limits, quiet=False, save=None):
         self.judge, self.player, self.known = Judge(cores, player), player, known
         self.found, self.limits, self.quiet = Found(folder), limits, quiet
+        self.save = open(save, "w", encoding="utf-8") if save else None
         self.stop = Stop()
         self.begun = self.told = time.monotonic()
         self.seen, self.differing = {}, 0
@@ -101,6 +103,9 @@ class Run:
                 turns = played(core)
         except Fault as fault:
             raise CoreFailed(f"the core {fault.kind}: {fault.said} (group {group}, seed {seed})") from None
+        if self.save:
+            json.dump([group, seed, [[it.command, it.reply, it.places, it.next] for it in turns]], self.save, separators=(",", ":"))
+            self.save.write("\n")
         difference = self.judge.difference(turns)
         if difference:
             self.differing += 1
@@ -143,6 +148,8 @@ class Run:
 
     def end(self):
         told = self.summary()
+        if self.save:
+            self.save.close()
         self.found.end(told)
         self.tell(at_once=True)
         return told

@@ -4,7 +4,7 @@ from collections import namedtuple
 
 from judging.commands import COMMANDS
 from judging.judge import key_of
-from judging.streams import Made, Step, play_steps, steps_of
+from judging.streams import Made, play_commands, play_steps, steps_of
 
 # How long one stream may be worked on.
 SECONDS = 15.0
@@ -34,8 +34,9 @@ Shrunk = namedtuple("Shrunk", "difference key tries")
 class Shrinker:
     def __init__(self, judge, difference, seconds=SECONDS):
         self.judge, self.limit = judge, time.monotonic() + seconds
-        self.key = key_of(difference)
-        self.best, self.steps = difference, steps_of(difference.turns)
+        self.key, self.best = key_of(difference), difference
+        with judge.core() as core:
+            self.steps = steps_of(play_commands(core, [it.command for it in difference.turns]))
         self.tries = 0
 
     def out_of_time(self):
