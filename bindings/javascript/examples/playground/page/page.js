@@ -1,0 +1,142 @@
+// The page: which lines are played, which step is shown, and what is typed or clicked.
+import { GROUPS, openPlace, template } from "./commands.js";
+import { element, others, records, tokenTexts, trees } from "./drawing.js";
+
+const part = (id) => document.getElementById(id);
+
+// What is played: the first `count` lines of a dialogue (all of them where it is null), and then lines of one's own. Each step is what a line left.
+const state = { name: null, count: null, more: [], steps: [], at: 0 };
+
+async function asked(path, body) {
+  const response = await fetch(path, body && { method: "POST", body: JSON.stringify(body) });
+  if (!response.ok) throw new Error(await response.text());
+  return response.json();
+}
+
+function tell(message = "") {
+  part("fault").textContent = message;
+}
+
+// Plays lines from the beginning, and shows a step: the last one where none is named.
+async function play({ name, count, more }, at) {
+  try {
+    const steps = await asked("/play", { name, count, more });
+    Object.assign(state, { name, count, more, steps });
+    tell();
+    drawLines();
+    show(Math.min(at ?? steps.length - 1, steps.length - 1));
+  } catch (fault) {
+    tell(fault.message);
+  }
+}
+
+function lineOf({ line, reply }, at) {
+  const button = element("button", "line", element("code", "command", line), element("code", reply.startsWith('{"error"') ? "reply refused" : "reply", reply));
+  button.type = "button";
+  button.dataset.step = at + 1;
+  return element("li", "", button);
+}
+
+function drawLines() {
+  part("lines").replaceChildren(...state.steps.slice(1).map(lineOf));
+}
+
+// Shows what one step left.
+function show(at) {
+  state.at = at;
+  const [before, step] = [state.steps[at - 1], state.steps[at]];
+  for (const it of part("lines").querySelectorAll(".line")) it.setAttribute("aria-current", String(Number(it.dataset.step) === at));
+  for (const it of part("lines").querySelectorAll(".line")) it.classList.toggle("later", Number(it.dataset.step) > at);
+  part("lines").querySelector('[aria-current="true"]')?.scrollIntoView({ block: "nearest" });
+  part("trees").replaceChildren(...trees(step, before));
+  part("texts").replaceChildren(...tokenTexts(step));
+  part("records").replaceChildren(...records(step));
+  part("others").replaceChildren(...others(step));
+  part("place").textContent = `${at} of ${state.steps.length - 1}`;
+  for (const id of ["first", "back"]) part(id).disabled = at === 0;
+  for (const id of ["forward", "last"]) part(id).disabled = at === state.steps.length - 1;
+}
+
+// Adds a command behind the step that is shown; what was behind it goes.
+function add(line) {
+  const own = state.steps.length - 1 - state.more.length;
+  const count = state.name === null ? 0 : Math.min(state.at, own);
+  return play({ name: state.name, count, more: [...state.more.slice(0, Math.max(0, state.at - own)), line] });
+}
+
+function select(input) {
+  const place = openPlace(input.value);
+  input.focus();
+  if (place) input.setSelectionRange(...place);
+  else input.setSelectionRange(input.value.length, input.value.length);
+}
+
+// A number that is clicked fills the next open place of the command.
+function fill(number) {
+  const input = part("command");
+  const place = openPlace(input.value);
+  if (!place) return;
+  input.value = input.value.slice(0, place[0]) + number + input.value.slice(place[1]);
+  select(input);
+}
+
+function drawCommands(group) {
+  const buttons = GROUPS[group].map((command) => {
+    const it = element("button", "", command.split(" ")[0]);
+    it.type = "button";
+    it.title = command;
+    it.dataset.command = command;
+    return it;
+  });
+  part("commands").replaceChildren(...buttons);
+}
+
+function listen() {
+  const steps = { first: () => 0, back: () => state.at - 1, forward: () => state.at + 1, last: () => state.steps.length - 1 };
+  for (const [id, to] of Object.entries(steps)) part(id).addEventListener("click", () => show(to()));
+  part("lines").addEventListener("click", ({ target }) => target.closest(".line") && show(Number(target.closest(".line").dataset.step)));
+  part("trees").addEventListener("click", ({ target }) => target.dataset.node !== undefined && fill(target.dataset.node));
+  part("group").addEventListener("change", ({ target }) => drawCommands(target.value));
+  part("dialogue").addEventListener("change", ({ target }) => play({ name: target.value || null, count: null, more: [] }));
+  part("commands").addEventListener("click", ({ target }) => {
+    if (!target.dataset.command) return;
+    part("command").value = template(target.dataset.command);
+    select(part("command"));
+  });
+  part("entry").addEventListener("submit", (event) => {
+    event.preventDefault();
+    const line = part("command").value.trim();
+    if (line) add(line).then(() => { part("command").value = ""; });
+  });
+  document.addEventListener("keydown", (event) => {
+    if (["INPUT", "SELECT"].includes(event.target.tagName)) return;
+    const id = { ArrowLeft: "back", ArrowRight: "forward", Home: "first", End: "last" }[event.key];
+    if (id) part(id).click();
+  });
+}
+
+async function drawDialogues() {
+  const names = await asked("/dialogues");
+  const subjects = [...new Set(names.map((name) => name.split("/")[0]))];
+  for (const subject of subjects) {
+    const group = element("optgroup");
+    group.label = subject.replaceAll("_", " ");
+    group.append(...names.filter((name) => name.startsWith(`${subject}/`)).map((name) => new Option(name.split("/")[1].replaceAll("_", " "), name)));
+    part("dialogue").append(group);
+  }
+}
+
+// The address may name a dialogue and a step: ?dialogue=ranges/ends_after_split&step=12
+async function start() {
+  const words = new URLSearchParams(location.search);
+  part("group").append(...Object.keys(GROUPS).map((group) => new Option(group)));
+  drawCommands("making");
+  listen();
+  await drawDialogues();
+  part("dialogue").value = words.get("dialogue") ?? "";
+  const step = words.has("step") ? Number(words.get("step")) : undefined;
+  await play({ name: words.get("dialogue"), count: null, more: [] }, step);
+}
+
+await start();
+document.documentElement.dataset.ready = "true";
