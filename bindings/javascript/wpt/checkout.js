@@ -2,6 +2,9 @@
 import { existsSync, readdirSync, readFileSync, statSync } from "node:fs";
 import { join } from "node:path";
 
+// Where the tests of the core's sections are in a checkout.
+const SECTIONS = ["dom/nodes", "dom/ranges", "dom/traversal"];
+
 // Folders that hold no tests: what tests load, and other kinds of tests.
 const NO_TESTS = new Set(["resources", "support", "reference", "crashtests", "tentative", "tools", "node_modules"]);
 
@@ -74,8 +77,11 @@ export class Checkout {
     return found?.[0];
   }
 
+  // The tests of the core's sections; of a folder that has none of these, all.
   tests() {
-    return [...this.files()].filter((path) => this.isTest(path)).map((path) => ({ path, leftOut: this.leftOut(path) }));
+    const sections = SECTIONS.filter((section) => existsSync(join(this.folder, section)));
+    const files = sections.length ? sections.flatMap((section) => [...this.files(section)]) : [...this.files()];
+    return files.filter((path) => this.isTest(path)).map((path) => ({ path, leftOut: this.leftOut(path) }));
   }
 
   // The text of a page: that of the file, or for a script alone the page that runs it.
