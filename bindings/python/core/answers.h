@@ -273,10 +273,9 @@ static PyObject *plain_tuple(PyObject **parts, int count)
     return plain;
 }
 
-/* The same as a named tuple. */
-static PyObject *named_tuple(int kind, PyObject **parts, int count)
+/* A plain tuple as one of a class; its reference goes with it. */
+static PyObject *named(int kind, PyObject *plain)
 {
-    PyObject *plain = plain_tuple(parts, count);
     PyObject *words = plain ? PyTuple_Pack(1, plain) : NULL;
     PyObject *found = words ? tuple_new((PyTypeObject *)kinds[kind], words, NULL) : NULL;
     Py_XDECREF(plain);
@@ -302,7 +301,7 @@ static PyObject *row_made(const Rows *rows, const Copied *it, PyObject *session,
         or_none(it->names[1]),
         or_none(it->names[2]),
     };
-    return named_tuple(KIND_ROW, parts, 7);
+    return named(KIND_ROW, plain_tuple(parts, 7));
 }
 
 static PyObject *rows_made(const Rows *rows, PyObject *session, Calls *calls)
@@ -419,7 +418,7 @@ static PyObject *record_made(const Records *of, const Noted *it, PyObject *sessi
         or_none(it->name),
         or_none(it->old_value),
     };
-    return named_tuple(KIND_MUTATION_RECORD, parts, 8);
+    return named(KIND_MUTATION_RECORD, plain_tuple(parts, 8));
 }
 
 static PyObject *records_made(const Records *of, PyObject *session, Calls *calls)
