@@ -304,8 +304,29 @@ static PyObject *row_made(const Rows *rows, const Copied *it, PyObject *session,
     return named(KIND_ROW, plain_tuple(parts, 7));
 }
 
+/* Python's own functions that stop the collector and let it go on. */
+static PyObject *gc_is_enabled, *gc_disable, *gc_enable;
+
+/* Stops the collector while many objects are made, of which none is garbage. Returns whether it was running. */
+static bool pause_collector(void)
+{
+    PyObject *is_on = PyObject_CallFunctionObjArgs(gc_is_enabled, NULL);
+    bool was_on = is_on == Py_True;
+    Py_XDECREF(is_on);
+    if (was_on)
+        Py_XDECREF(PyObject_CallFunctionObjArgs(gc_disable, NULL));
+    return was_on;
+}
+
+static void resume_collector(bool was_on)
+{
+    if (was_on)
+        Py_XDECREF(PyObject_CallFunctionObjArgs(gc_enable, NULL));
+}
+
 static PyObject *rows_made(const Rows *rows, PyObject *session, Calls *calls)
 {
+    bool was_on = pause_collector();
     PyObject *found = PyList_New((Py_ssize_t)rows->count);
     for (size_t at = 0; found && at < rows->count; at++) {
         PyObject *row = row_made(rows, &rows->rows[at], session, calls);
@@ -314,6 +335,7 @@ static PyObject *rows_made(const Rows *rows, PyObject *session, Calls *calls)
         else
             PyList_SetItem(found, (Py_ssize_t)at, row);
     }
+    resume_collector(was_on);
     return found;
 }
 

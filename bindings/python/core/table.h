@@ -60,16 +60,18 @@ static bool table_grow(Table *it)
     return true;
 }
 
-static bool table_put(Table *it, uint32_t number, uint32_t family, PyObject *object)
+/* Puts an object in, or returns the one that stands there already, with a reference of its own. Null where memory is wanting. */
+static PyObject *table_put(Table *it, uint32_t number, uint32_t family, PyObject *object)
 {
-    if ((!it->entries || 2 * (it->used + 1) > it->mask) && !table_grow(it)) {
-        PyErr_NoMemory();
-        return false;
-    }
+    if ((!it->entries || 2 * (it->used + 1) > it->mask) && !table_grow(it))
+        return PyErr_NoMemory();
     Entry *to = entry_of(it, number, family);
+    if (to->object && (uint32_t)Py_REFCNT(to->object) > 0)
+        object = to->object;
     it->used += to->object == NULL;
     *to = (Entry){ number, family, object };
-    return true;
+    Py_INCREF(object);
+    return object;
 }
 
 /* Empties a place, and moves up those that passed it. */
