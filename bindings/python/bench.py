@@ -35,6 +35,14 @@ def page():
     return f"<r>{rows}</r>"
 
 
+WORKS = ("create and append, pairs", "set an attribute", "read a text", "next sibling", "tag name", "rows of a tree, nodes", "serialize, nodes", "parse XML, nodes")
+
+
+def named(count, nodes, *works):
+    """The works by their names, with how many calls each makes."""
+    return {name: (work, nodes if "nodes" in name else count) for name, work in zip(WORKS, works)}
+
+
 def ours(count):
     """The works over the package: their names, and how many calls each makes."""
     import huckleport as h
@@ -62,8 +70,7 @@ def ours(count):
             root.tag_name
 
     siblings = document.create_element("r")
-    for _ in range(CHILDREN):
-        siblings.append_child(document.create_element("p"))
+    siblings.append(*(document.create_element("p") for _ in range(CHILDREN)))
 
     def walk():
         for _ in range(count // CHILDREN):
@@ -73,9 +80,17 @@ def ours(count):
 
     tree = h.xml.parse(page())
     nodes = len(tree.tree())
-    works = {"create and append, pairs": (build, count), "set an attribute": (attribute, count), "read a text": (read, count)}
-    works.update({"next sibling": (walk, count), "tag name": (name, count), "rows of a tree, nodes": (lambda: tree.tree(), nodes)})
-    return {**works, "serialize, nodes": (lambda: h.xml.serialize(tree), nodes), "parse XML, nodes": (lambda: h.xml.parse(page()), nodes)}
+    writing = (lambda: tree.tree(), lambda: h.xml.serialize(tree), lambda: h.xml.parse(page()))
+    return named(count, nodes, build, attribute, read, walk, name, *writing)
+
+
+def below(node, depth, found):
+    """Rows of minidom, as the package has them."""
+    pairs = tuple(node.attributes.items()) if node.nodeType == 1 else ()
+    found.append((depth, node, node.nodeName, pairs, node.nodeValue))
+    for child in node.childNodes:
+        below(child, depth + 1, found)
+    return found
 
 
 def of_minidom(count):
@@ -112,17 +127,18 @@ def of_minidom(count):
 
     tree = minidom.parseString(page())
 
-    def rows(node, depth, found):
-        pairs = tuple(node.attributes.items()) if node.nodeType == 1 else ()
-        found.append((depth, node, node.nodeName, pairs, node.nodeValue))
-        for child in node.childNodes:
-            rows(child, depth + 1, found)
-        return found
+    nodes = len(below(tree, 0, []))
+    writing = (lambda: below(tree, 0, []), lambda: tree.toxml(), lambda: minidom.parseString(page()))
+    return named(count, nodes, build, attribute, read, walk, name, *writing)
 
-    nodes = len(rows(tree, 0, []))
-    works = {"create and append, pairs": (build, count), "set an attribute": (attribute, count), "read a text": (read, count)}
-    works.update({"next sibling": (walk, count), "tag name": (name, count), "rows of a tree, nodes": (lambda: rows(tree, 0, []), nodes)})
-    return {**works, "serialize, nodes": (lambda: tree.toxml(), nodes), "parse XML, nodes": (lambda: minidom.parseString(page()), nodes)}
+
+def rows_of_lxml(tree):
+    return [(it, it.tag, tuple(it.attrib.items()), it.text, it.tail) for it in tree.iter()]
+
+
+def nodes_of_lxml(tree):
+    """How many nodes a tree has elsewhere: texts are members of elements here."""
+    return sum(1 + bool(it.text) + bool(it.tail) for it in tree.iter()) + 1
 
 
 def of_lxml(count):
@@ -159,15 +175,8 @@ def of_lxml(count):
                 it = it.getnext()
 
     tree = etree.fromstring(page())
-    # (texts are members of elements here, and are counted as the nodes that they are elsewhere)
-    nodes = sum(1 + bool(it.text) + bool(it.tail) for it in tree.iter()) + 1
-
-    def rows():
-        return [(it, it.tag, tuple(it.attrib.items()), it.text, it.tail) for it in tree.iter()]
-
-    works = {"create and append, pairs": (build, count), "set an attribute": (attribute, count), "read a text": (read, count)}
-    works.update({"next sibling": (walk, count), "tag name": (name, count), "rows of a tree, nodes": (rows, nodes)})
-    return {**works, "serialize, nodes": (lambda: etree.tostring(tree), nodes), "parse XML, nodes": (lambda: etree.fromstring(page()), nodes)}
+    writing = (lambda: rows_of_lxml(tree), lambda: etree.tostring(tree), lambda: etree.fromstring(page()))
+    return named(count, nodes_of_lxml(tree), build, attribute, read, walk, name, *writing)
 
 
 KINDS = {"ours": ours, "minidom": of_minidom, "lxml": of_lxml}

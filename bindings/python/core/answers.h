@@ -273,10 +273,9 @@ static PyObject *plain_tuple(PyObject **parts, int count)
     return plain;
 }
 
-/* The same as a named tuple. */
-static PyObject *named_tuple(int kind, PyObject **parts, int count)
+/* A plain tuple as one of a class; its reference goes with it. */
+static PyObject *named(int kind, PyObject *plain)
 {
-    PyObject *plain = plain_tuple(parts, count);
     PyObject *words = plain ? PyTuple_Pack(1, plain) : NULL;
     PyObject *found = words ? tuple_new((PyTypeObject *)kinds[kind], words, NULL) : NULL;
     Py_XDECREF(plain);
@@ -302,11 +301,32 @@ static PyObject *row_made(const Rows *rows, const Copied *it, PyObject *session,
         or_none(it->names[1]),
         or_none(it->names[2]),
     };
-    return named_tuple(KIND_ROW, parts, 7);
+    return named(KIND_ROW, plain_tuple(parts, 7));
+}
+
+/* Python's own functions that stop the collector and let it go on. */
+static PyObject *gc_is_enabled, *gc_disable, *gc_enable;
+
+/* Stops the collector while many objects are made, of which none is garbage. Returns whether it was running. */
+static bool pause_collector(void)
+{
+    PyObject *is_on = PyObject_CallFunctionObjArgs(gc_is_enabled, NULL);
+    bool was_on = is_on == Py_True;
+    Py_XDECREF(is_on);
+    if (was_on)
+        Py_XDECREF(PyObject_CallFunctionObjArgs(gc_disable, NULL));
+    return was_on;
+}
+
+static void resume_collector(bool was_on)
+{
+    if (was_on)
+        Py_XDECREF(PyObject_CallFunctionObjArgs(gc_enable, NULL));
 }
 
 static PyObject *rows_made(const Rows *rows, PyObject *session, Calls *calls)
 {
+    bool was_on = pause_collector();
     PyObject *found = PyList_New((Py_ssize_t)rows->count);
     for (size_t at = 0; found && at < rows->count; at++) {
         PyObject *row = row_made(rows, &rows->rows[at], session, calls);
@@ -315,6 +335,7 @@ static PyObject *rows_made(const Rows *rows, PyObject *session, Calls *calls)
         else
             PyList_SetItem(found, (Py_ssize_t)at, row);
     }
+    resume_collector(was_on);
     return found;
 }
 
@@ -419,7 +440,7 @@ static PyObject *record_made(const Records *of, const Noted *it, PyObject *sessi
         or_none(it->name),
         or_none(it->old_value),
     };
-    return named_tuple(KIND_MUTATION_RECORD, parts, 8);
+    return named(KIND_MUTATION_RECORD, plain_tuple(parts, 8));
 }
 
 static PyObject *records_made(const Records *of, PyObject *session, Calls *calls)

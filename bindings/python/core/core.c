@@ -185,11 +185,21 @@ static bool add_type(PyObject *to, const char *name, PyType_Spec *spec, PyTypeOb
     return PyModule_AddObject(to, name, (PyObject *)*type) == 0;
 }
 
+static bool take_collector(void)
+{
+    PyObject *found = PyImport_ImportModule("gc");
+    gc_is_enabled = found ? PyObject_GetAttrString(found, "isenabled") : NULL;
+    gc_disable = found ? PyObject_GetAttrString(found, "disable") : NULL;
+    gc_enable = found ? PyObject_GetAttrString(found, "enable") : NULL;
+    Py_XDECREF(found);
+    return gc_is_enabled && gc_disable && gc_enable;
+}
+
 PyMODINIT_FUNC PyInit__core(void)
 {
     PyObject *found = PyModule_Create(&module);
     tuple_new = tuple_maker();
-    if (!found || !tuple_new || !structs_made() || !add_type(found, "Calls", &calls_spec, &calls_type) ||
+    if (!found || !tuple_new || !take_collector() || !structs_made() || !add_type(found, "Calls", &calls_spec, &calls_type) ||
         !add_type(found, "Thing", &thing_spec, &thing_type)) {
         Py_XDECREF(found);
         return NULL;

@@ -183,10 +183,8 @@ static PyObject *made(PyObject *session, Calls *calls, PyObject *kind, uint8_t f
     if (!it)
         return NULL;
     settle(it, session, calls, number, family);
-    found = table_find(&calls->kept, number, family);
-    it->is_kept = !found && table_put(&calls->kept, number, family, (PyObject *)it);
-    if (it->is_kept)
-        return (PyObject *)it;
+    found = table_put(&calls->kept, number, family, (PyObject *)it);
+    it->is_kept = found == (PyObject *)it;
     Py_DECREF((PyObject *)it);
     return found;
 }

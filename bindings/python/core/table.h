@@ -14,12 +14,14 @@ typedef struct {
     Entry *entries;
     size_t mask;
     size_t used;
+    int bits;
 } Table;
 
-/* Numbers that are neighbours stay neighbours, in blocks of 128. */
+/* Four numbers that are neighbours stay so, which is a line of memory; their blocks are spread evenly, by the golden section. */
 static size_t place_of(const Table *it, uint32_t number, uint32_t family)
 {
-    return (size_t)(number + (number >> 7) * 0x9E3779B1u + family * 0x85EBCA6Bu) & it->mask;
+    uint64_t block = ((uint64_t)(number >> 2) + ((uint64_t)family << 30)) * 0x9E3779B97F4A7C15u;
+    return (size_t)(block >> (66 - it->bits)) << 2 | (number & 3);
 }
 
 /* Where an entry is, or the empty place where it would be. */
@@ -43,7 +45,8 @@ static PyObject *table_find(const Table *it, uint32_t number, uint32_t family)
 
 static bool table_grow(Table *it)
 {
-    Table wider = { NULL, it->entries ? 2 * it->mask + 1 : 63, it->used };
+    int bits = it->entries ? it->bits + 1 : 6;
+    Table wider = { NULL, ((size_t)1 << bits) - 1, it->used, bits };
     wider.entries = PyMem_Calloc(wider.mask + 1, sizeof(Entry));
     if (!wider.entries)
         return false;
@@ -57,16 +60,18 @@ static bool table_grow(Table *it)
     return true;
 }
 
-static bool table_put(Table *it, uint32_t number, uint32_t family, PyObject *object)
+/* Puts an object in, or returns the one that stands there already, with a reference of its own. Null where memory is wanting. */
+static PyObject *table_put(Table *it, uint32_t number, uint32_t family, PyObject *object)
 {
-    if ((!it->entries || 2 * (it->used + 1) > it->mask) && !table_grow(it)) {
-        PyErr_NoMemory();
-        return false;
-    }
+    if ((!it->entries || 2 * (it->used + 1) > it->mask) && !table_grow(it))
+        return PyErr_NoMemory();
     Entry *to = entry_of(it, number, family);
+    if (to->object && (uint32_t)Py_REFCNT(to->object) > 0)
+        object = to->object;
     it->used += to->object == NULL;
     *to = (Entry){ number, family, object };
-    return true;
+    Py_INCREF(object);
+    return object;
 }
 
 /* Empties a place, and moves up those that passed it. */
