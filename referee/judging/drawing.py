@@ -11,13 +11,14 @@ from judging.commands import COMMANDS, COMMENT, DOCTYPE, DOCUMENT, ELEMENT, FLAG
 # What is there ahead of the drawn commands, and how often each of these is drawn.
 Group = namedtuple("Group", "ranges iterators walkers observers weights")
 
-KEEPS_REFUSED = 0.15
+KEEPS_REFUSED = 0.3
 UNITS = ("", "a", "ab", "abc", "abcd", "\u00e9", "\U0001f600", "a\U0001f600b", [55357], [56832, 97], "]]>", " \n", "0")
 NAMES = ("a", "b", "p", "b")
 ODD_NAMES = ("", "1a", "a b", "\u00e9", ":a", "a=b", "a>b", "-a", "A", "a:b", "a\u00b7", "xmlns", "\U0001f600")
 ATTRIBUTES = ("x", "y", "x", "k")
 SHOWS = (4294967295, 4294967295, 4294967295, 1, 4, 5, 128, 1024, 0)
 FILTERS = ([], [], [["b", "skip"]], [["b", "reject"]], [["#text", "reject"]], [["#text", "skip"]], [["a", "skip"], ["*", "accept"]], [["*", "skip"]])
+STEPPING = {"nextNode", "previousNode", "walk"}
 MAKERS = {ELEMENT: "createElement", TEXT: "createText", COMMENT: "createComment", PI: "createPI", DOCTYPE: "createDoctype", FRAGMENT: "createFragment"}
 MADE = {**{name: kind for kind, name in MAKERS.items()}, "newDocument": DOCUMENT}
 
@@ -30,10 +31,10 @@ PARTS = {"data": 1, "substringData": 2}
 ATTRIBUTE = {"setAttribute": 5, "getAttribute": 2, "hasAttribute": 1, "removeAttribute": 2, "toggleAttribute": 3, "attributeNames": 1}
 ENDS = {"setStart": 4, "setEnd": 4, "setStartBefore": 1, "setStartAfter": 1, "setEndBefore": 1, "setEndAfter": 1, "collapse": 1, "selectNode": 1}
 MORE_ENDS = {"selectNodeContents": 1, "createRange": 0.3, "cloneRange": 0.5, "releaseRange": 0.1, "createStaticRange": 0.5, "staticRange": 0.5}
-ASKED = {"compareBoundaryPoints": 2, "comparePoint": 2, "isPointInRange": 2, "intersectsNode": 2, "commonAncestor": 1, "rangeText": 1}
-CONTENTS = {"deleteContents": 3, "extractContents": 3, "cloneContents": 3, "insertNode": 4, "surroundContents": 3, "rangeText": 1}
-STEPS = {"nextNode": 6, "previousNode": 5, "walk": 10, "setCurrent": 2, "createIterator": 0.5, "createWalker": 0.5}
-WATCHING = {"observe": 2, "disconnect": 0.3, "takeRecords": 1, "notify": 1, "pending": 0.5, "createObserver": 0.1}
+ASKED = {"compareBoundaryPoints": 2, "comparePoint": 5, "isPointInRange": 3, "intersectsNode": 2, "commonAncestor": 1, "rangeText": 4}
+CONTENTS = {"deleteContents": 3, "extractContents": 3, "cloneContents": 3, "insertNode": 4, "surroundContents": 3, "rangeText": 3}
+STEPS = {"nextNode": 14, "previousNode": 12, "walk": 30, "setCurrent": 6, "createIterator": 0.5, "createWalker": 0.5}
+WATCHING = {"observe": 2, "disconnect": 0.3, "takeRecords": 1, "notify": 3, "pending": 0.5, "createObserver": 0.1}
 
 
 def weights(*parts, **few):
@@ -140,7 +141,8 @@ class Scene:
     def offset(self, given):
         """An offset of the node that was named last: mostly at an end or beside one."""
         length = self.core.ask("length", given[-1]) or 0
-        return self.chance.choice((0, length, length, max(length - 1, 0), min(1, length), self.chance.randint(0, length), self.chance.randint(0, length + 1)))
+        inside = self.chance.randint(0, length)
+        return self.chance.choice((0, length, length, max(length - 1, 0), min(1, length), inside, inside, length + 1))
 
     def count(self, given):
         return self.chance.choice((0, 1, 1, 2, 3, 4294967295))
@@ -175,7 +177,7 @@ class Scene:
         return self.chance.choice(FILTERS)
 
     def move(self, given):
-        return self.chance.choice(MOVES)
+        return self.chance.choice((*MOVES, "nextNode", "previousNode", "previousNode"))
 
     def options(self, given):
         found = {"childList": True} if self.chance.random() < 0.7 else {}
@@ -211,13 +213,23 @@ class Scene:
     def plant(self):
         """A small tree, in which Texts often stand side by side."""
         self.main = self.say("createElement", 0, "a")
-        if self.documents and self.chance.random() < 0.6:
+        with_doctype = self.documents and self.may_say("createDoctype") and self.chance.random() < 0.25
+        if with_doctype:
+            self.say("appendChild", 0, self.make(DOCTYPE))
+        if self.documents and self.chance.random() < (0.3 if with_doctype else 0.6):
             self.say("appendChild", 0, self.main)
         for _ in range(self.chance.randint(2, 7)):
             made = self.make(self.chance.choice((ELEMENT, ELEMENT, TEXT, TEXT, TEXT, TEXT, COMMENT, PI)))
             if made is not None:
                 parents = [row[1] for row in self.core.ask("tree", self.main) if row[2] == ELEMENT]
                 self.say("appendChild", self.chance.choice(parents), made)
+
+    def plant_fragment(self):
+        """A fragment that has a child or two."""
+        made = self.make(FRAGMENT)
+        for kind in (TEXT, self.chance.choice((ELEMENT, TEXT, COMMENT))) if made is not None else ():
+            self.say("appendChild", made, self.make(kind))
+        return made
 
     def watch(self, group):
         for _ in range(group.ranges if self.may_say("createRange") else 0):
@@ -229,7 +241,16 @@ class Scene:
             if self.may_say(name):
                 self.say(name, self.inside(), self.show([]), self.filter([]))
         for _ in range(group.observers if self.may_say("createObserver") else 0):
-            self.say("observe", self.say("createObserver"), self.inside(), {**self.options([]), "childList": True, "subtree": True})
+            self.observe(self.say("createObserver"))
+
+    def observe(self, observer):
+        """An observer of most of what happens, and often of a fragment, or of another node with other options."""
+        self.say("observe", observer, self.inside(), {**self.options([]), "childList": True, "subtree": True})
+        more = self.chance.random()
+        fragment = self.plant_fragment() if more < 0.3 else None
+        if fragment is not None or more > 0.5:
+            node = self.inside() if fragment is None else fragment
+            self.say("observe", observer, node, {**self.options([]), "childList": True, "attributes": True, "characterData": True})
 
     def probe(self):
         """Questions that show what a change did."""
@@ -238,10 +259,23 @@ class Scene:
         for kind in ("iterator", "walker"):
             for number in self.objects[kind][:3]:
                 self.say(kind, number)
+        if self.objects["range"] and self.chance.random() < 0.1:
+            self.say("rangeText", self.chance.choice(self.objects["range"]))
         if self.objects["observer"] and self.chance.random() < 0.6:
             self.say("takeRecords", self.chance.choice(self.objects["observer"]))
         if self.may_say("tree") and self.chance.random() < 0.3:
             self.say("tree", self.inside())
+
+    def step(self, command):
+        """Says a command and asks what it did. What an iterator or a walker came to is often taken out next."""
+        count = len(self.turns)
+        answer = self.say(*command, keeps=KEEPS_REFUSED) if command else None
+        if len(self.turns) == count or "ok" not in self.turns[-1].reply:
+            return
+        if COMMANDS[command[0]].changes:
+            self.probe()
+        if command[0] in STEPPING and answer is not None and self.may_say("remove") and self.chance.random() < 0.2:
+            self.step(["remove", answer])
 
     def close(self):
         """All trees, and what every observer is still to be told."""
@@ -263,12 +297,7 @@ def drawn_stream(core, seed, group, length, player, given=None):
     tries = 4 * length
     while len(scene.turns) < length and tries:
         tries -= 1
-        command = scene.drawn(chance.choices(names, [found[it] for it in names])[0])
-        count = len(scene.turns)
-        if command:
-            scene.say(*command, keeps=KEEPS_REFUSED)
-        if len(scene.turns) > count and "ok" in scene.turns[-1].reply and COMMANDS[command[0]].changes:
-            scene.probe()
+        scene.step(scene.drawn(chance.choices(names, [found[it] for it in names])[0]))
     if scene.may_say("tree"):
         scene.close()
     return scene.turns

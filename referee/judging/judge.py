@@ -11,14 +11,20 @@ Difference = namedtuple("Difference", "turns told")
 Key = namedtuple("Key", "cause shows due told")
 
 
+# A refusal of a player whose refusals have no names, which is the same as any.
+NAMELESS = "*"
+
+
 def form_of(reply):
     """What a reply is by its form: ok, the name of a refusal, or what became of a player that gave none."""
     return "ok" if "ok" in reply else reply.get("error") or reply.get("fault")
 
 
 def same(due, told):
+    if due is told:
+        return True
     if "ok" not in due or "ok" not in told:
-        return form_of(due) == form_of(told)
+        return form_of(due) == form_of(told) or (told.get("error") == NAMELESS and "error" in due)
     return due["ok"] == told["ok"] and json.dumps(due["ok"], sort_keys=True) == json.dumps(told["ok"], sort_keys=True)
 
 

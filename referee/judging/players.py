@@ -24,6 +24,11 @@ class NotThere(Exception):
     """A player that this machine has not."""
 
 
+def told_by(line, turn):
+    """The reply that a line is; where it is the due one to the byte, that itself, which saves reading it."""
+    return turn.reply if line == line_of(turn.reply) else read_reply(line)
+
+
 def is_for_adapters(turn):
     """Whether a line can be given to an adapter: whatever it refuses for kinds alone has changed nothing, so it can be left out."""
     refused = turn.reply.get("error")
@@ -80,7 +85,7 @@ class Spoken(Player):
         found = []
         try:
             for (at, _), line in zip(given, self.process.ask_all(line_of(it) for _, it in given)):
-                found.append((at, read_reply(line)))
+                found.append((at, read_reply(line) if at is None else told_by(line, turns[at])))
         except Fault as fault:
             self.end()
             found.append((next((at for at, _ in given[len(found) :] if at is not None), len(turns) - 1), {"fault": fault.kind, "said": fault.said}))
@@ -104,7 +109,7 @@ class Program(Player):
         found = []
         try:
             for line in process.ask_all(line_of(it.command) for it in turns):
-                found.append((len(found), read_reply(line)))
+                found.append((len(found), told_by(line, turns[len(found)])))
         except Fault as fault:
             found.append((len(found), {"fault": fault.kind, "said": fault.said}))
         finally:

@@ -133,8 +133,8 @@ def used_nodes(commands):
 def asked_line(command, reply, told):
     """The last line, whose reply differs."""
     call = call_of(command)
-    if "error" in reply or form_of(told) != "ok" or COMMANDS[command[0]].changes and not COMMANDS[command[0]].makes:
-        return f"try {{ console.log({call.replace(' = ', ' = ', 1)}); }} catch (refused) {{ console.log(refused.name); }}"
+    if "error" in reply or form_of(told) != "ok":
+        return f"try {{ console.log({call}); }} catch (refused) {{ console.log(refused.name); }}"
     return f"console.log({call});"
 
 

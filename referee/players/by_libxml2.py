@@ -2,10 +2,9 @@
 import ctypes
 import ctypes.util
 
-from speaking import Refused, Skip, commands_of, serve
+from speaking import Refused, Skip, commands_of, serve, walk
 
 XML = ctypes.CDLL(ctypes.util.find_library("xml2"))
-MOST = 10000
 
 
 class Node(ctypes.Structure):
@@ -65,7 +64,7 @@ class World:
 
     def _made(self, pointer):
         if not pointer:
-            raise Refused("no node")
+            raise Refused("*")
         self.number[address(pointer)] = len(self.nodes)
         self.nodes.append(pointer)
         return len(self.nodes) - 1
@@ -84,27 +83,16 @@ class World:
             yield child
             child = child.contents.next
 
-    def _walk(self, top):
-        waiting, count = [(0, top)], 0
-        while waiting:
-            count += 1
-            if count > MOST:
-                raise Refused("a tree without an end")
-            depth, pointer = waiting.pop()
-            yield depth, pointer
-            waiting += [(depth + 1, it) for it in self._children(pointer)][::-1]
+    def _key(self, pointer):
+        return address(pointer)
 
-    def numbered(self, trees, last):
-        self.nodes += [None] * (last - len(self.nodes))
-        for top, numbers in trees:
-            for number, (_, pointer) in zip(numbers, self._walk(self.nodes[top]) if self.nodes[top] else ()):
-                if address(pointer) not in self.number:
-                    self.nodes[number], self.number[address(pointer)] = pointer, number
+    def _walk(self, top):
+        return walk(top, self._children)
 
     def _put(self, number, placed):
         """What a call that places a node gives back: another node where the two were joined, and the one that was given is gone."""
         if not placed:
-            raise Refused("no node")
+            raise Refused("*")
         if address(placed) != address(self._n(number)):
             del self.number[address(self._n(number))]
             self.nodes[number] = None
@@ -198,6 +186,7 @@ class World:
 
 
 ITSELF = [
+    "tells a call that gives no node back as a refusal without a name, which is the same as any",
     "reads and writes JSON; has no doctypes, no ranges, iterators, walkers or observers",
     "takes a node out before it appends it, as a caller of the library has to, and asks whether a child is of that parent",
     "numbers what a command makes; those made inside take the core's numbers, place by place",

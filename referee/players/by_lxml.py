@@ -2,9 +2,21 @@
 import copy
 
 from lxml import etree
-from speaking import Refused, Skip, commands_of, serve
+from speaking import Refused, Skip, commands_of, serve, walk
 
 KINDS = {etree.Comment: (8, "#comment"), etree.ProcessingInstruction: (7, None)}
+
+
+def refusing(method):
+    """A method whose ValueError is a refusal without a name."""
+
+    def called(*values):
+        try:
+            return method(*values)
+        except ValueError:
+            raise Refused("*") from None
+
+    return called
 
 
 class World:
@@ -24,17 +36,11 @@ class World:
     def _of(self, node):
         return None if node is None else self.number.get(node, "a node without a number")
 
-    def _walk(self, node, depth=0):
-        yield depth, node
-        for child in node:
-            yield from self._walk(child, depth + 1)
+    def _key(self, node):
+        return node
 
-    def numbered(self, trees, last):
-        self.nodes += [None] * (last - len(self.nodes))
-        for top, numbers in trees:
-            for number, (_, node) in zip(numbers, self._walk(self.nodes[top]) if self.nodes[top] is not None else ()):
-                if node not in self.number:
-                    self.nodes[number], self.number[node] = node, number
+    def _walk(self, top):
+        return walk(top, list)
 
     def _child(self, parent, child):
         if self._n(child).getparent() is not self._n(parent):
@@ -61,17 +67,11 @@ class World:
         return node
 
     def replaceChild(self, parent, node, child):
-        try:
-            self._n(parent).replace(self._n(child), self._n(node))
-        except ValueError:
-            raise Refused("NotFoundError") from None
+        self._n(parent).replace(self._n(child), self._n(node))
         return child
 
     def removeChild(self, parent, child):
-        try:
-            self._n(parent).remove(self._n(child))
-        except ValueError:
-            raise Refused("NotFoundError") from None
+        self._n(parent).remove(self._n(child))
         return child
 
     def cloneNode(self, node, deep):
@@ -120,9 +120,12 @@ class World:
 ITSELF = [
     "reads and writes JSON; has no Texts, no Documents with children, no fragments",
     "has no answer where a node is put before one that is no child of the parent: the package's call names no parent",
-    "tells the ValueError of remove and replace as NotFoundError",
+    "tells each ValueError as a refusal without a name, which is the same as any",
     "numbers what a command makes; those made inside take the core's numbers, place by place",
     "answers tree by a walk over children, and tells a missing text as an empty one",
 ]
-TOLD = {"name": "lxml", "version": etree.__version__, "serves": commands_of(World), "itself": ITSELF, "numbers": True, "documents": False}
+COMMANDS = commands_of(World)
+for it in COMMANDS:
+    setattr(World, it, refusing(getattr(World, it)))
+TOLD = {"name": "lxml", "version": etree.__version__, "serves": COMMANDS, "itself": ITSELF, "numbers": True, "documents": False}
 serve(World, TOLD)

@@ -3,7 +3,7 @@ import sys
 import xml.dom
 from xml.dom import minidom
 
-from speaking import Refused, Skip, commands_of, serve
+from speaking import Refused, Skip, commands_of, serve, walk
 
 NAMES = {1: "IndexSizeError", 3: "HierarchyRequestError", 4: "WrongDocumentError", 5: "InvalidCharacterError", 8: "NotFoundError"}
 NAMES.update({9: "NotSupportedError", 11: "InvalidStateError", 15: "InvalidAccessError", 16: "ValidationError"})
@@ -32,6 +32,10 @@ def refusing(method):
             return method(*values)
         except xml.dom.DOMException as fault:
             raise Refused(NAMES.get(fault.code, type(fault).__name__)) from None
+        except AttributeError as fault:
+            if not isinstance(fault.obj, minidom.Node) or not fault.name.endswith("Data"):
+                raise
+            raise Skip("a processing instruction has no calls for its data") from None
 
     return called
 
@@ -54,17 +58,11 @@ class World:
     def _of(self, node):
         return None if node is None else self.number.get(id(node), "a node without a number")
 
-    def _walk(self, node, depth=0):
-        yield depth, node
-        for child in node.childNodes:
-            yield from self._walk(child, depth + 1)
+    def _key(self, node):
+        return id(node)
 
-    def numbered(self, trees, last):
-        self.nodes += [None] * (last - len(self.nodes))
-        for top, numbers in trees:
-            for number, (_, node) in zip(numbers, self._walk(self.nodes[top]) if self.nodes[top] else ()):
-                if id(node) not in self.number:
-                    self.nodes[number], self.number[id(node)] = node, number
+    def _walk(self, top):
+        return walk(top, lambda node: node.childNodes)
 
     def newDocument(self):
         return self._made(minidom.Document())

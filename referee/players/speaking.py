@@ -15,6 +15,32 @@ class Refused(Exception):
         self.name = name
 
 
+# Past so many nodes a tree is taken for one that has itself below itself.
+MOST = 2000
+
+
+def walk(top, children):
+    """A tree in tree order: depths and nodes. `children` gives those of a node, in order."""
+    waiting, count = [(0, top)], 0
+    while waiting:
+        count += 1
+        if count > MOST:
+            raise Refused("a tree without an end")
+        depth, node = waiting.pop()
+        yield depth, node
+        waiting += [(depth + 1, it) for it in children(node)][::-1]
+
+
+def known_by_place(speaker, trees, last):
+    """Numbers nodes that a command made inside: of each tree the numbers of its nodes, in tree order."""
+    speaker.nodes += [None] * (last - len(speaker.nodes))
+    for top, numbers in trees:
+        found = speaker._walk(speaker.nodes[top]) if speaker.nodes[top] is not None else ()
+        for number, (_, node) in zip(numbers, found):
+            if speaker._key(node) not in speaker.number:
+                speaker.nodes[number], speaker.number[speaker._key(node)] = node, number
+
+
 def reply_of(speaker, name, values):
     """The reply of a speaker, whose methods have the names of the commands."""
     method = getattr(speaker, name, None) if name[:1] != "_" else None
@@ -26,8 +52,6 @@ def reply_of(speaker, name, values):
         return {"skip": str(skip)}
     except Refused as refused:
         return {"error": refused.name}
-    except RecursionError:
-        return {"error": "RecursionError"}
     except Exception as fault:
         return {"error": type(fault).__name__, "message": str(fault)}
 
@@ -44,7 +68,7 @@ def serve(begin, told, reply=reply_of):
         elif "world" in given:
             speaker, found = begin(), {"ok": None}
         else:
-            speaker.numbered(given["numbers"], given["next"])
+            known_by_place(speaker, given["numbers"], given["next"])
             found = {"ok": None}
         if isinstance(found, bytes):
             sys.stdout.write(found.decode())
@@ -54,6 +78,6 @@ def serve(begin, told, reply=reply_of):
         sys.stdout.flush()
 
 
-def commands_of(kind, *others):
-    """The commands that a speaker has: its public methods, but for those that are no commands."""
-    return sorted(it for it in dir(kind) if it[0] != "_" and it not in ("numbered", *others) and callable(getattr(kind, it)))
+def commands_of(kind):
+    """The commands that a speaker has: its public methods."""
+    return sorted(it for it in dir(kind) if it[0] != "_" and callable(getattr(kind, it)))
