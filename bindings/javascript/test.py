@@ -19,6 +19,9 @@ from make import build, words_of
 PACKAGES = {"parse5": "parsing HTML", "saxes": "parsing XML"}
 SETTINGS = {**os.environ, "NODE_PATH": os.pathsep.join(filter(None, [os.environ.get("NODE_PATH"), "/usr/share/nodejs"]))}
 
+# The oldest node that the package is for.
+OLDEST = 20
+
 # What is run by node: what it is, node's options, and the files.
 PARTS = (
     ("the tests of the package", ["--expose-gc"], "tests/*.test.js"),
@@ -27,10 +30,18 @@ PARTS = (
 )
 
 
+def is_old():
+    """Whether node is older than the package asks for."""
+    said = subprocess.run(["node", "--version"], stdout=subprocess.PIPE, universal_newlines=True, check=True).stdout
+    return int(said.strip().lstrip("v").split(".")[0]) < OLDEST
+
+
 def missing(given):
     """Why nothing can be tested here, or None."""
     if not shutil.which("node"):
         return "there is no node"
+    if is_old():
+        return f"node is older than {OLDEST}"
     if not shutil.which(given.compiler):
         return f"there is no compiler {given.compiler}"
     if not given.headers:

@@ -1,5 +1,5 @@
-// Nanoseconds of processor time a step of scenes, by this package and by jsdom where that is there: `node bench/run.js [--count N] [--times N] [--scene NAME]`, with
-// NODE_PATH at the folder that has jsdom (Debian's node-jsdom: /usr/share/nodejs).
+// Nanoseconds of processor time a step of scenes, by this package and by jsdom where that is there, with NODE_PATH at the folder that has jsdom
+// (Debian's node-jsdom: /usr/share/nodejs): `node bench/run.js [--count N] [--times N] [--scene NAME]`.
 //
 // Each scene is run a few times by each, each time in a process of its own, and the quickest run is told. The ratio is jsdom's over ours.
 import { spawnSync } from "node:child_process";
