@@ -218,9 +218,11 @@ def made(found):
     return text + f"\nstatic PyMethodDef members_made[] = {{\n{table}    {{ NULL, NULL, 0, NULL }},\n}};\n"
 
 
-def defines(found):
-    names = {it.name for module in found for it in module.exports}
-    return ["-DHAS_OUTER_CHILDREN"] if names.issuperset(OUTER_CHILDREN) else []
+def defines(library):
+    """What the sources are told of the library whose header is in a folder."""
+    with open(os.path.join(library, "huckleport.h"), encoding="utf-8") as file:
+        text = file.read()
+    return ["HAS_OUTER_CHILDREN"] if all(f"{it}(" in text for it in OUTER_CHILDREN) else []
 
 
 def what_is_missing(given):
@@ -234,12 +236,13 @@ def what_is_missing(given):
     return f"{given.library} has no {' and no '.join(lacking)}: python3 bindings/c/make.py makes them" if lacking else ""
 
 
-def build(given, found):
+def build(given):
     """Compiles and links the module. It shows one name, and is put in place whole."""
     missing = what_is_missing(given)
     if missing:
         sys.exit(f"the extension module can't be built: {missing}")
-    words = [given.compiler, "-std=c99", "-O2", "-fPIC", "-shared", "-Wall", "-Wextra", "-Wno-missing-field-initializers", "-fvisibility=hidden", *defines(found)]
+    words = [given.compiler, "-std=c99", "-O2", "-fPIC", "-shared", "-Wall", "-Wextra", "-Wno-missing-field-initializers", "-fvisibility=hidden"]
+    words += [f"-D{it}" for it in defines(given.library)]
     words += [f"-I{sysconfig.get_path('include')}", f"-I{given.library}", f"-I{CORE}", os.path.join(CORE, "core.c")]
     words += [os.path.join(given.library, "libhuckleport.a"), "-Wl,--exclude-libs,ALL", "-Wl,-z,noexecstack"]
     if subprocess.run([*words, "-o", given.to + ".new"]).returncode:
@@ -257,10 +260,9 @@ def main():
     parser.add_argument("--compiler", default="gcc", help="the C compiler (gcc)")
     parser.add_argument("--to", default=MODULE, metavar="FILE", help="the module that is built (huckleport/_core.abi3.so)")
     given = parser.parse_args()
-    found = modules(given.sources)
     if given.build:
-        return build(given, found)
-    text = made(found)
+        return build(given)
+    text = made(modules(given.sources))
     if not given.check:
         with open(MADE, "w", encoding="utf-8") as file:
             file.write(text)
