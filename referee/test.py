@@ -43,6 +43,12 @@ def lines(path, commands):
         file.writelines(json.dumps(it) + "\n" for it in commands)
 
 
+def core():
+    """The words for the core: the library where it is, since it is quicker, or else the program."""
+    made = os.path.join(GIVEN.library, "libhuckleport.so")
+    return ["--library", GIVEN.library, "--program", made if os.path.exists(made) else GIVEN.program]
+
+
 def wrong(fault):
     """The words of a core with a wrong body."""
     return shlex.join([sys.executable, WRONG, GIVEN.program, fault])
@@ -73,8 +79,7 @@ class Run(unittest.TestCase):
         self.folder = kept.name
 
     def run_of(self, part, *words):
-        common = ["--program", GIVEN.program, "--library", GIVEN.library, "--out", self.folder, "--quiet"]
-        return said(part, *common, *words)
+        return said(part, *core(), "--out", self.folder, "--quiet", *words)
 
     def cases(self):
         return cases_of(self.folder)[0]
@@ -82,18 +87,18 @@ class Run(unittest.TestCase):
 
 class Itself(Run):
     def test_program(self):
-        for part, words in (("play", ["--lines", "20000"]), ("exhaust", ["--lines", "20000"])):
-            status, out, err = self.run_of(part, "--player", "program", *words)
+        for part, words in (("play", ["--lines", "5000"]), ("exhaust", ["--lines", "5000"])):
+            status, out, err = said(part, "--program", GIVEN.program, "--out", self.folder, "--quiet", "--player", "program", *words)
             self.assertEqual((status, self.cases()), (0, []), out + err)
 
 
 class Bodies(unittest.TestCase):
-    """Each wrong body is found within a minute, by streams of all groups, and what is kept is short."""
+    """Each wrong body is found within a minute, by streams of the group that has its commands, and what is kept is short."""
 
     def found(self, fault):
         with tempfile.TemporaryDirectory() as folder:
-            words = ["--program", GIVEN.program, "--out", folder, "--quiet", "--command", wrong(fault), "--new", "1", "--for", "60", "--wait", "3"]
-            status, out, err = said("play", *words)
+            words = ["--out", folder, "--quiet", "--command", wrong(fault), "--group", FAULTS[fault].group, "--new", "1", "--for", "60", "--wait", "3"]
+            status, out, err = said("play", *core(), *words)
             return status, out + err, cases_of(folder)[0]
 
     def test_wrong_bodies(self):
@@ -113,10 +118,10 @@ class Kept(Run):
     def setUp(self):
         super().setUp()
         self.junit = os.path.join(self.folder, "junit.xml")
-        words = ["--command", wrong("split_off_by_one"), "--player", "wrong", "--new", "1", "--for", "60", "--junit", self.junit]
+        words = ["--command", wrong("split_off_by_one"), "--player", "wrong", "--group", "data", "--new", "1", "--for", "60", "--junit", self.junit]
         self.assertEqual(self.run_of("play", *words)[0], 1)
         self.case = os.path.join(self.folder, "case-001.json")
-        self.player = ["--program", GIVEN.program, "--command", wrong("split_off_by_one")]
+        self.player = [*core(), "--command", wrong("split_off_by_one")]
 
     def test_junit(self):
         suite = xml.etree.ElementTree.parse(self.junit).getroot()[0]
@@ -154,7 +159,7 @@ class Kept(Run):
         self.assertEqual({it.known for it in self.cases()}, {"split"})
 
     def test_stop(self):
-        words = ["play", "--program", GIVEN.program, "--command", wrong("split_off_by_one"), "--out", self.folder, "--group", "data"]
+        words = ["play", *core(), "--command", wrong("split_off_by_one"), "--out", self.folder, "--group", "data"]
         process = subprocess.Popen([sys.executable, REFEREE, *words], stdout=subprocess.PIPE, stderr=subprocess.PIPE, text=True)
         for line in process.stderr:
             if line.startswith("new"):
@@ -182,12 +187,12 @@ class Players(Run):
             return
         for name in LIBRARIES:
             with self.subTest(name):
-                self.short(name, "--lines", "6000")
+                self.short(name, "--lines", "3000")
 
     def test_others(self):
         for name in OTHERS:
             with self.subTest(name):
-                self.short(name, "--for", "4")
+                self.short(name, "--streams", "8", "--for", "10", "--seed", "21")
 
 
 def counts(line):
