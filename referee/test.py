@@ -9,6 +9,7 @@ import json
 import os
 import re
 import shlex
+import shutil
 import signal
 import subprocess
 import sys
@@ -115,17 +116,26 @@ class Bodies(unittest.TestCase):
 class Kept(Run):
     """What a run keeps, and what is made of it."""
 
+    @classmethod
+    def setUpClass(cls):
+        kept = tempfile.TemporaryDirectory()
+        cls.addClassCleanup(kept.cleanup)
+        cls.ran = kept.name
+        words = ["--out", cls.ran, "--quiet", "--command", wrong("split_off_by_one"), "--player", "wrong", "--group", "data", "--new", "1", "--for", "60"]
+        status, out, err = said("play", *core(), *words, "--junit", os.path.join(cls.ran, "junit.xml"))
+        if status != 1:
+            raise AssertionError(out + err)
+
     def setUp(self):
         super().setUp()
+        shutil.copytree(self.ran, self.folder, dirs_exist_ok=True)
         self.junit = os.path.join(self.folder, "junit.xml")
-        words = ["--command", wrong("split_off_by_one"), "--player", "wrong", "--group", "data", "--new", "1", "--for", "60", "--junit", self.junit]
-        self.assertEqual(self.run_of("play", *words)[0], 1)
         self.case = os.path.join(self.folder, "case-001.json")
         self.player = [*core(), "--command", wrong("split_off_by_one")]
 
     def test_junit(self):
         suite = xml.etree.ElementTree.parse(self.junit).getroot()[0]
-        self.assertEqual((suite.get("failures"), len(suite.findall("testcase/failure"))), ("1", "1"))
+        self.assertEqual((suite.get("failures"), len(suite.findall("testcase/failure"))), ("1", 1))
 
     def test_page(self):
         status, out, _ = said("report", self.folder)
@@ -144,17 +154,17 @@ class Kept(Run):
     def test_shrink(self):
         path = os.path.join(self.folder, "stream")
         more = [["createElement", 0, "a"], ["createText", 0, "abcd"], ["appendChild", 1, 2], ["createComment", 0, "c"], ["appendChild", 1, 3]]
-        ranges = [["createRange", 0], ["setStart", 0, 2, 1], ["setEnd", 0, 2, 4], ["cloneNode", 1, True]]
+        ranges = [["createRange", 0], ["setStart", 0, 2, 1], ["setEnd", 0, 2, 3], ["cloneNode", 1, True]]
         lines(path, more + ranges + [["splitText", 2, 2], ["tree", 1], ["range", 0]])
         status, out, err = said("shrink", *self.player, path)
         self.assertEqual(status, 1, err)
-        self.assertLessEqual(len(out.splitlines()), 6)
+        self.assertLessEqual(len(out.splitlines()), 7)
 
     def test_known(self):
         known = os.path.join(self.folder, "known")
         with open(known, "w", encoding="utf-8") as file:
             json.dump([{"name": "split", "players": ["wrong"], "commands": ["splitText"], "why": "fault", "reason": "It is made so."}], file)
-        words = ["--command", wrong("split_off_by_one"), "--player", "wrong", "--group", "data", "--streams", "60", "--known", known]
+        words = ["--command", wrong("split_off_by_one"), "--player", "wrong", "--group", "data", "--streams", "200", "--known", known]
         self.assertEqual(self.run_of("play", *words)[0], 0)
         self.assertEqual({it.known for it in self.cases()}, {"split"})
 
