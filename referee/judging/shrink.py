@@ -7,7 +7,7 @@ from judging.judge import key_of
 from judging.streams import Made, play_commands, play_steps, steps_of
 
 # How long one stream may be worked on.
-SECONDS = 15.0
+SECONDS = 8.0
 
 MAKERS = {"createElement", "createText", "createComment", "createPI", "createDoctype", "createFragment", "createRange", "createObserver", "newDocument"}
 # A plainer command for one that is not needed as it is.

@@ -13,7 +13,7 @@ def refusing(method):
     def called(*values):
         try:
             return method(*values)
-        except ValueError:
+        except (TypeError, ValueError):
             raise Refused("*") from None
 
     return called
@@ -120,7 +120,7 @@ class World:
 ITSELF = [
     "reads and writes JSON; has no Texts, no Documents with children, no fragments",
     "has no answer where a node is put before one that is no child of the parent: the package's call names no parent",
-    "tells each ValueError as a refusal without a name, which is the same as any",
+    "tells each ValueError and TypeError as a refusal without a name, which is the same as any",
     "numbers what a command makes; those made inside take the core's numbers, place by place",
     "answers tree by a walk over children, and tells a missing text as an empty one",
 ]

@@ -8,6 +8,7 @@ import json
 import os
 import sys
 import time
+from collections import namedtuple
 
 HERE = os.path.dirname(os.path.abspath(__file__))
 sys.path.insert(0, os.path.dirname(HERE))
@@ -326,12 +327,17 @@ def prints_rubbish(world, command):
     return "Segmentation fault" if command[0] == "normalize" else world.pass_on(command)
 
 
-FAULTS = {it.__name__: it for it in (
-    removal_past_the_node, removal_leaves_ends, insertion_shifts_equal, split_off_by_one, split_leaves_parent_ends, fragment_record_lost,
-    equal_data_record_lost, old_value_of_nearest, transients_outlive_notify, surround_half_done, iterator_steps_back, child_ahead_of_ancestor,
-    doctype_may_follow, length_in_characters, shifted_ahead_of_removal, walker_shuts_out_root, refusal_spends_number, extract_without_empty,
-    range_text_with_comments, observer_replaces_another, offset_ahead_of_root, always_in_use, dies, hangs, prints_rubbish,
-)}  # fmt: skip
+# The faults by the group of streams that has their commands.
+GROUPS = {
+    "ranges": (removal_past_the_node, removal_leaves_ends, insertion_shifts_equal, split_leaves_parent_ends, shifted_ahead_of_removal, offset_ahead_of_root,),
+    "data": (split_off_by_one, equal_data_record_lost, dies, hangs, prints_rubbish,),
+    "observers": (fragment_record_lost, old_value_of_nearest, transients_outlive_notify, observer_replaces_another,),
+    "contents": (surround_half_done, extract_without_empty, range_text_with_comments,),
+    "traversal": (iterator_steps_back, walker_shuts_out_root,),
+    "trees": (child_ahead_of_ancestor, doctype_may_follow, length_in_characters, refusal_spends_number, always_in_use,),
+}
+Fault = namedtuple("Fault", "group answer")
+FAULTS = {it.__name__: Fault(group, it) for group, its in GROUPS.items() for it in its}
 
 
 def main():
@@ -340,7 +346,7 @@ def main():
     for line in sys.stdin:
         given = json.loads(line)
         if isinstance(given, list):
-            reply = FAULTS[name](world, given)
+            reply = FAULTS[name].answer(world, given)
         elif "hello" in given:
             reply = {"player": {"name": name}}
         else:
