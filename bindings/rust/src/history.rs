@@ -201,7 +201,7 @@ impl History {
         ask(session, &due.states)?;
         let here = self.places_now(session)?;
         put(session, &now.states, &due.states)?;
-        for (&range, ends) in due.places.iter().filter(|(it, _)| here.get(it).is_some() && here.get(it) == now.places.get(it)) {
+        for (&range, ends) in due.places.iter().filter(|(it, _)| here.contains_key(it) && here.get(it) == now.places.get(it)) {
             session.set_start(range, ends.start.node, ends.start.offset as u32)?;
             session.set_end(range, ends.end.node, ends.end.offset as u32)?;
         }
