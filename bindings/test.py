@@ -1,7 +1,7 @@
 #!/usr/bin/env python3
-"""The tests of what is linked: the library for C, and then each language that stands on it.
+"""The tests of what is linked: that each manifest has the version of bindings/VERSION, the library for C, and then each language that stands on it.
 
-Each part is a script bindings/NAME/test.py, which makes what it needs and leaves out, with a line that says so, what this machine has no tools for.
+Each other part is a script bindings/NAME/test.py, which makes what it needs and leaves out, with a line that says so, what this machine has no tools for.
 The last line says how many parts passed and failed; --after adds them to what another run said in its last line.
 """
 import argparse
@@ -13,12 +13,36 @@ import sys
 HERE = os.path.dirname(os.path.abspath(__file__))
 # The library comes first: the others link what its tests make.
 FIRST = "c"
+# Where the version stands a second time, since a tool of the language reads it there. The header and huckleport.pc are made of bindings/VERSION.
+REPEATED = {
+    "python/huckleport/__init__.py": r'^__version__ = "(.*)"$',
+    "rust/Cargo.toml": r'^version = "(.*)"$',
+    "rust/Cargo.lock": r'^name = "huckleport"\nversion = "(.*)"$',
+    "javascript/package.json": r'^  "version": "(.*)",$',
+    "../CHANGELOG.md": r"\A# Changes\n.*?^## (.*?)$",
+}
 
 
 def parts():
     """The folders that have tests."""
     found = [name for name in os.listdir(HERE) if os.path.isfile(os.path.join(HERE, name, "test.py"))]
     return sorted(found, key=lambda name: (name != FIRST, name))
+
+
+def text_of(file):
+    with open(os.path.join(HERE, file), encoding="utf-8") as it:
+        return it.read()
+
+
+def versions():
+    """Whether each file that repeats the version has that of bindings/VERSION; says where one has not."""
+    version = text_of("VERSION").strip()
+    found = {file: re.search(pattern, text_of(file), re.M | re.S if file.endswith(".md") else re.M) for file, pattern in REPEATED.items()}
+    others = [file for file, it in found.items() if not it or it[1] != version]
+    for file in others:
+        print(f"FAILED bindings/{file}: its version is not {version}, as bindings/VERSION has it")
+    print(f"version {version} in {len(found) - len(others)} of {len(found)} files that repeat it", flush=True)
+    return not others
 
 
 def counts(line):
@@ -33,6 +57,8 @@ def main():
     words = argparse.ArgumentParser(description=__doc__, formatter_class=argparse.RawDescriptionHelpFormatter)
     words.add_argument("--after", metavar="LINE", default="0 passed, 0 failed", help="the last line of the tests before these")
     passed, failed = counts(words.parse_args().after)
+    right = versions()
+    passed, failed = passed + right, failed + (not right)
     for name in parts():
         print(f"== bindings/{name}", flush=True)
         status = subprocess.run([sys.executable, os.path.join(HERE, name, "test.py")], check=False).returncode

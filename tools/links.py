@@ -1,5 +1,5 @@
 #!/usr/bin/env python3
-"""Tests that what README.md, docs/*.md and the pages of crates point at is there, and fails where something is not.
+"""Tests that what the pages at the top, docs/*.md and the pages of crates point at is there, and fails where something is not.
 
 Tested are: each link to a file of the repository, and its anchor among that file's headings; each file or folder named in backticks, by its
 path from the top, from the page, or by its last parts, with or without its ending (capitals as NAME and `*` stand for any word; what lies in a folder
@@ -21,7 +21,7 @@ MODEL = "crates/dom_model"
 TABLE = f"{MODEL}/specs/Commands/Table.antt"
 # The theorems of the dialogues, which tools/rows.py writes; the index names them by their folder.
 WRITTEN = f"{MODEL}/proofs/Dialogues/"
-PAGES = ("docs/*.md", "crates/*/*.md")
+PAGES = ("*.md", "docs/*.md", "crates/*/*.md")
 # The pages on which plain words are names too.
 PAGES_OF_NAMES = (COMMANDS, INDEX, "docs/proved.md", "docs/rules.md")
 SOURCES = (".rt", ".antt", ".py", ".sh", ".edit", ".c", ".h", ".rs", ".toml", ".js", ".ts", ".json")
@@ -46,7 +46,7 @@ def files():
 
 def pages():
     found = [it for pattern in PAGES for it in glob.glob(f"{ROOT}/{pattern}")]
-    return ["README.md", *sorted(os.path.relpath(it, ROOT) for it in found)]
+    return sorted(os.path.relpath(it, ROOT) for it in found)
 
 
 def prose(page):

@@ -9,6 +9,7 @@ import textwrap
 
 from exports import SOURCES, modules, status_word
 from sections import section
+from version import VERSION
 
 HEAD = """\
 /* huckleport.h: documents by the DOM Standard. Made by bindings/c/header.py from the exports of the library; not to be edited.
@@ -41,6 +42,10 @@ extern "C" {
 """
 
 LITERALS = """\
+/* The version of this header: its name, and a number that is greater in a later one. */
+#define HP_VERSION "{version}"
+#define HP_VERSION_NUMBER ({number})
+
 /* A session before its first hp_open. */
 #define HP_SESSION_INIT { { NULL }, false }
 
@@ -65,6 +70,12 @@ TAIL = """
 """
 
 WIDTH = 120
+
+
+def literals():
+    """What stands beside the exports, with the version in it."""
+    major, minor, patch = VERSION.split(".")
+    return LITERALS.replace("{version}", VERSION).replace("{number}", f"{major} * 1000000 + {minor} * 1000 + {patch}")
 
 
 def comment(text, indent=""):
@@ -197,7 +208,7 @@ def header(found):
     exports = [it for module in found for it in module.exports]
     options_are_known(structs)
     lent = lends(structs)
-    text = HEAD + "\n" + "".join(map(constant, constants)) + "\n" + "\n".join(map(struct, structs)) + "\n" + LITERALS
+    text = HEAD + "\n" + "".join(map(constant, constants)) + "\n" + "\n".join(map(struct, structs)) + "\n" + literals()
     for module in found:
         if module.exports:
             text += "\n" + comment("---- " + module.doc)

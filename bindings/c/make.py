@@ -13,10 +13,10 @@ import sys
 
 from exports import ROOT, SOURCES, modules
 from header import header
+from version import LICENSE, VERSION
 
 HERE = os.path.dirname(os.path.abspath(__file__))
 CRATE = "dom_c"
-VERSION = "0.1.0"
 SONAME = "libhuckleport.so.0"
 
 PKGCONFIG = """\
@@ -27,13 +27,14 @@ includedir=${{prefix}}{include}
 Name: huckleport
 Description: Documents by the DOM Standard: trees, live ranges, iterators, walkers and mutation observers
 Version: {version}
+License: {license}
 Libs: -L${{libdir}} -lhuckleport
 Cflags: -I${{includedir}}
 """
 
 
 def pkgconfig(prefix, lib="", include=""):
-    return PKGCONFIG.format(prefix=prefix, lib=lib, include=include, version=VERSION)
+    return PKGCONFIG.format(prefix=prefix, lib=lib, include=include, version=VERSION, license=LICENSE)
 
 
 def start():

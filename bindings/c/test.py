@@ -7,15 +7,18 @@
 - each allocation refused in turn over all dialogues, and over one of the calls that copy names and texts;
 - two sessions on two threads;
 - the example, as docs/c-library.md shows it;
+- that page's table of structs, which has the members of the header;
 - the programs above under valgrind: no bad access, nothing in use at the end.
 """
 import os
+import re
 import shutil
 import subprocess
 import sys
 import tempfile
 from concurrent.futures import ThreadPoolExecutor
 
+from declared import header
 from exports import ROOT
 from make import HERE, make, words_of
 
@@ -189,6 +192,17 @@ class Tests:
             if self.must("the example over the shared object", program) == out:
                 self.say("editor: the same over the shared object")
 
+    def page(self):
+        said = content(os.path.join(ROOT, "docs/c-library.md")).decode()
+        rows = re.findall(r"^\| `(hp_\w+)`[^|]*\| (`.*`) \|$", said, re.M)
+        shown = {name: re.findall(r"\w+", members) for name, members in rows}
+        due = header(os.path.join(self.folder, "huckleport.h")).structs
+        for name in sorted({*due, *shown} - {"hp_session", "hp_slot"}):
+            members = [it.name for it in due.get(name, [])]
+            if shown.get(name) != members:
+                self.faults.append("the table of structs")
+                self.say(f"FAILED {name} has the members {members}, and docs/c-library.md says {shown.get(name)}")
+
     def all(self):
         if not self.has_valgrind:
             self.say("left out: what runs under valgrind, since there is no valgrind")
@@ -198,7 +212,7 @@ class Tests:
         return 1 if self.faults else 0
 
 
-PARTS = ("header", "lines", "typed", "closed", "misuse", "refused", "threads", "example")
+PARTS = ("header", "lines", "typed", "closed", "misuse", "refused", "threads", "example", "page")
 
 
 def main():

@@ -1,25 +1,49 @@
-//! Finds the library: in HUCKLEPORT_LIB_DIR, or else where `bindings/c/make.py` puts it.
+//! Finds the library: in the folder that HUCKLEPORT_LIB_DIR names; else by pkg-config, where that has this version of it; else beside the crate, in
+//! `lib`, as a release has it, or where `bindings/c/make.py` puts it.
 use std::env;
 use std::path::{Path, PathBuf};
+use std::process::Command;
 
 const ARCHIVE: &str = "libhuckleport.a";
+const SETTINGS: [&str; 5] = ["HUCKLEPORT_LIB_DIR", "PKG_CONFIG", "PKG_CONFIG_PATH", "PKG_CONFIG_LIBDIR", "PKG_CONFIG_SYSROOT_DIR"];
+
+fn has_archive(folder: &Path) -> bool {
+    folder.join(ARCHIVE).is_file()
+}
+
+/// What pkg-config knows is of this machine, and so no answer where another one is built for.
+fn by_pkg_config() -> Option<PathBuf> {
+    if env::var_os("TARGET") != env::var_os("HOST") {
+        return None;
+    }
+    let program = env::var_os("PKG_CONFIG").unwrap_or_else(|| "pkg-config".into());
+    let wanted = concat!("huckleport = ", env!("CARGO_PKG_VERSION"));
+    let said = Command::new(program).args(["--variable=libdir", wanted]).output().ok()?;
+    let folder = PathBuf::from(String::from_utf8(said.stdout).ok()?.trim_end());
+    (said.status.success() && has_archive(&folder)).then_some(folder)
+}
 
 fn folder() -> PathBuf {
     if let Some(folder) = env::var_os("HUCKLEPORT_LIB_DIR") {
         return PathBuf::from(folder);
     }
-    let here = env::var_os("CARGO_MANIFEST_DIR").expect("cargo sets CARGO_MANIFEST_DIR");
-    Path::new(&here).join("../c/out")
+    let here = PathBuf::from(env::var_os("CARGO_MANIFEST_DIR").expect("cargo sets CARGO_MANIFEST_DIR"));
+    let beside = || Some(here.join("lib")).filter(|it| has_archive(it));
+    by_pkg_config().or_else(beside).unwrap_or_else(|| here.join("../c/out"))
 }
 
 fn main() {
-    println!("cargo:rerun-if-env-changed=HUCKLEPORT_LIB_DIR");
+    for it in SETTINGS {
+        println!("cargo:rerun-if-env-changed={it}");
+    }
     let folder = folder();
     let archive = folder.join(ARCHIVE);
     println!("cargo:rerun-if-changed={}", archive.display());
-    if !archive.is_file() {
+    if !has_archive(&folder) {
         eprintln!("{} is not there.", archive.display());
-        eprintln!("Make it by `python3 bindings/c/make.py`, or set HUCKLEPORT_LIB_DIR to the folder of a {ARCHIVE}.");
+        eprintln!(
+            "Make it by `python3 bindings/c/make.py`, install a release for pkg-config, or set HUCKLEPORT_LIB_DIR to the folder of a {ARCHIVE}."
+        );
         std::process::exit(1);
     }
     println!("cargo:rustc-link-search=native={}", folder.display());

@@ -48,12 +48,14 @@
 
 mod answers;
 mod attributes;
+mod changes;
 mod contents;
 mod data;
 mod exception;
 #[rustfmt::skip]
 mod ffi;
 mod filters;
+mod history;
 mod making;
 mod numbers;
 mod observers;
@@ -70,6 +72,7 @@ pub use answers::{Names, Nodes, Observers};
 pub use attributes::Force;
 pub use exception::{Exception, Result};
 pub use filters::{Rule, Verdict, SHOW_ALL};
+pub use history::History;
 pub use numbers::{Node, NodeIterator, Observer, Range, StaticRange, TreeWalker};
 pub use observers::Options;
 pub use points::{BoundaryPoint, Ends, How, StaticEnds};

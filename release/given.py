@@ -1,0 +1,73 @@
+"""What a release is made of: the program and the libraries that were proved and built, the pages of the repository, and its version."""
+import os
+import re
+import shutil
+import subprocess
+import sys
+
+import files
+
+ROOT = os.path.dirname(os.path.dirname(os.path.abspath(__file__)))
+BINDINGS = os.path.join(ROOT, "bindings")
+sys.path.insert(0, os.path.join(BINDINGS, "c"))
+import make
+from exports import SOURCES, modules
+from header import header
+from version import LICENSE, VERSION
+
+PROGRAM = os.path.join(ROOT, "crates/domserve/out/domserve")
+LIBRARY = os.path.join(BINDINGS, "c/out")
+NAME = f"huckleport-{VERSION}"
+ARCHIVE, SHARED, HEADER = "libhuckleport.a", make.SONAME, "huckleport.h"
+
+
+def text_of(path):
+    with open(os.path.join(ROOT, path), encoding="utf-8") as file:
+        return file.read()
+
+
+def template(name, **values):
+    """A template with values at the places that it names."""
+    return files.text(re.sub(r"@([A-Z]+)@", lambda it: str(values[it[1]]), text_of(f"release/templates/{name}")))
+
+
+def page(path, beside=()):
+    """A page of the repository. Of its links stay those into itself, to the web, and to the pages that go with it; of the others their words."""
+    def kept(it):
+        words, target = it[1], it[2]
+        if re.match(r"\w+:|#", target):
+            return it[0]
+        file, mark, anchor = target.partition("#")
+        name = os.path.basename(file)
+        return f"[{words}]({name}{mark}{anchor})" if name in beside else words
+
+    return files.text(re.sub(r"\[([^]]*)\]\(([^)\s]+)\)", kept, text_of(path)))
+
+
+def take(library, work):
+    """Copies the program and the libraries into a folder, with a header that is made anew; ends where something is missing or does not fit."""
+    beside = os.path.join(library, "domserve")
+    program = beside if os.path.isfile(beside) else PROGRAM
+    made_by = {os.path.join(library, ARCHIVE): "bindings/c/make.py", os.path.join(library, SHARED): "bindings/c/make.py", program: "tools/start.py"}
+    for path, script in made_by.items():
+        if not os.path.isfile(path):
+            sys.exit(f"{path} is not there: python3 {script} makes it")
+        shutil.copy(path, work)
+    found = modules(SOURCES)
+    make.check(os.path.join(work, SHARED), [it.name for module in found for it in module.exports])
+    make.write(os.path.join(work, HEADER), header(found))
+
+
+def run(script, *words):
+    """Runs a script of the bindings; ends with what it said where it fails."""
+    make.call(sys.executable, os.path.join(BINDINGS, script), *words)
+
+
+def has_header(folder, name):
+    return bool(folder) and os.path.isfile(os.path.join(folder, name))
+
+
+def node_headers():
+    """The folder of node's headers, or None, as the addon's own script finds it."""
+    words = [sys.executable, "-c", "import make; print(make.headers() or '')"]
+    return subprocess.run(words, cwd=os.path.join(BINDINGS, "javascript"), stdout=subprocess.PIPE, universal_newlines=True, check=True).stdout.strip()
