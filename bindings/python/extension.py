@@ -2,7 +2,7 @@
 """Writes core/calls.h, the part of the extension module that follows from the exports of crates/dom_c and the table of members.py; and builds the module.
 
 With --check nothing is written, and it fails where the file is not what the sources give. With --build the module is compiled and linked
-with libhuckleport.a, as huckleport/_core.abi3.so, which any CPython from 3.8 on can load.
+with libhuckleport.a, as huckleport/_core.abi3.so, which any CPython from 3.9 on can load.
 """
 import argparse
 import os
