@@ -31,11 +31,14 @@ def main():
     if not shutil.which("cargo"):
         print("left out: the library for Rust, since there is no cargo")
         return int(faults)
+    # (what is tested is the library beside it, also where another is installed)
+    made = os.path.join(os.path.dirname(HERE), "c/out")
+    environment = {"HUCKLEPORT_LIB_DIR": made, **os.environ, "RUSTDOCFLAGS": "-D warnings"}
     for what, words in STEPS:
         if words[0] == "clippy" and not has("clippy"):
             print("left out: clippy, since it is not there")
             continue
-        ran = subprocess.run(["cargo", words[0], "--offline", *words[1:]], cwd=HERE, env={**os.environ, "RUSTDOCFLAGS": "-D warnings"})
+        ran = subprocess.run(["cargo", words[0], "--offline", *words[1:]], cwd=HERE, env=environment)
         print(f"{'FAILED ' if ran.returncode else ''}{what}", flush=True)
         faults = faults or ran.returncode != 0
     return int(faults)
