@@ -50,7 +50,8 @@ export const elementName = (session, core) => known(session, session.elementName
 export const attributeName = (session, core) => known(session, session.attributeNames, core, null);
 
 function marked(session, { namespace, prefix = null, local }, plain) {
-  if (namespace === plain && prefix === null && !local.includes(MARK)) return local;
+  // A mark would make a name of an empty one, which the core refuses.
+  if (local === "" || (namespace === plain && prefix === null && !local.includes(MARK))) return local;
   return `${local}${MARK}${numberOfNamespace(session, namespace)}${prefix === null ? "" : `:${prefix}`}`;
 }
 
