@@ -108,8 +108,8 @@ impl Ranges {
         self.chains.gather(tree, top, to);
     }
 
-    // All ends inside a node go to one point. It walks the nodes inside, and where they are more than the ends it asks each end.
-    fn gather<X>(&mut self, tree: &Tree<X>, top: NodeId, to: Point)
+    // All ends inside a node go to one point. It walks so many nodes inside, and where there are more it asks each end.
+    fn gather<X>(&mut self, tree: &Tree<X>, top: NodeId, steps: usize, to: Point)
         requires held { HasNode tree.now.forest top }
         requires covered { IsCovered self.old to.node }
         requires fits { to.offset < 2 ^ 64 }
@@ -117,7 +117,7 @@ impl Ranges {
     {
         tree.sound();
         let mut here = top;
-        for _step in 0..self.steps() {
+        for _step in 0..steps {
             self.gather_at(here, to);
             match tree.next_inside(top, here) {
                 Some(next) => here = next,
@@ -134,7 +134,8 @@ impl Ranges {
         ensures { IfSome (parent_of tree.now.forest node) (λ p. self.new ≡ record self.old { ranges = map_ranges (after_removal (inclusive_descendants tree.now.forest node) p (index_of tree.now.forest node)) self.old.ranges }) }
     {
         let parent = tree.parent(node).unwrap();
-        let inside = self.refers(tree, node);
+        let steps = self.steps(tree, node);
+        let inside = self.refers_within(tree, node, steps);
         if !inside && !self.stands_in(parent) {
             return;
         }
@@ -144,6 +145,7 @@ impl Ranges {
             self.gather(
                 tree,
                 node,
+                steps,
                 Point {
                     node: parent,
                     offset: index,

@@ -92,6 +92,17 @@ impl Chains {
         self.head(node).is_some()
     }
 
+    // The node in which an end stands; none past the last end.
+    pub(crate) fn node(&self, index: usize) -> Option<NodeId>
+        ensures { result ≡ option_map (λ (p : PointValue). p.node) (point_at self.now.table.items index) }
+    {
+        let end = self.table.get(index)?;
+        match end.point {
+            Some(point) => Some(point.node),
+            None => None,
+        }
+    }
+
     // Where an end stands, and its neighbours.
     pub(crate) fn end(&self, id: EndId) -> End
         requires { id < length self.now.table.items }

@@ -200,22 +200,33 @@ impl Ranges {
         self.numbers.is_empty()
     }
 
-    // So many nodes are asked for the ends that stand in them, before each end is asked for its node instead.
-    pub(crate) fn steps(&self) -> usize {
-        self.chains.count() + 16
+    // So many nodes inside are asked for the ends that stand in them, before each end is asked for its node instead: the way that ends first
+    // is taken to its end.
+    pub(crate) fn steps<X>(&self, tree: &Tree<X>, top: NodeId) -> usize
+        requires { HasNode tree.now.forest top }
+    {
+        tree.steps_inside(top, |index| self.chains.node(index))
     }
 
     /// Whether an end of a live range stands inside a node.
     ///
-    /// It walks the nodes inside, and where they are more than the ends it asks each end.
+    /// It walks the nodes inside, or climbs from each end where that takes fewer steps.
     pub fn refers<X>(&self, tree: &Tree<X>, top: NodeId) -> bool
+        requires { HasNode tree.now.forest top }
+        ensures { result ≡ list_any (λ m. among m (inclusive_descendants tree.now.forest top)) (live_nodes self.now) }
+    {
+        self.refers_within(tree, top, self.steps(tree, top))
+    }
+
+    // The same, asked of so many nodes inside, or of each end where there are more.
+    pub(crate) fn refers_within<X>(&self, tree: &Tree<X>, top: NodeId, steps: usize) -> bool
         requires { HasNode tree.now.forest top }
         ensures { result ≡ list_any (λ m. among m (inclusive_descendants tree.now.forest top)) (live_nodes self.now) }
     {
         if self.is_idle() {
             return false;
         }
-        match tree.any_inside(top, self.steps(), |node| self.stands_in(node)) {
+        match tree.any_inside(top, steps, |node| self.stands_in(node)) {
             Some(answer) => answer,
             None => self.chains.refer(tree, top),
         }

@@ -167,14 +167,25 @@ impl Statics {
 
     /// Whether an end of a static range stands inside a node.
     ///
-    /// It walks the nodes inside, and where they are more than there are static ranges it asks each of these.
+    /// It walks the nodes inside, or climbs from each end where that takes fewer steps.
     pub fn refers<X>(&self, tree: &Tree<X>, top: NodeId) -> bool
         requires { HasNode tree.now.forest top }
         ensures { result ≡ list_any (λ m. among m (inclusive_descendants tree.now.forest top)) (flat_map nodes_of_range self.now) }
     {
-        match tree.any_inside(top, self.table.len(), |node| self.names(node)) {
+        let steps = tree.steps_inside(top, |index| self.node(index));
+        match tree.any_inside(top, steps, |node| self.names(node)) {
             Some(answer) => answer,
             None => self.refer(tree, top),
+        }
+    }
+
+    // The node of an end, of the two of each range; none past the last.
+    fn node(&self, index: usize) -> Option<NodeId> {
+        let range = self.table.get(index / 2)?;
+        if index % 2 == 0 {
+            Some(range.start.node)
+        } else {
+            Some(range.end.node)
         }
     }
 

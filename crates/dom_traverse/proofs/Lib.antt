@@ -2,8 +2,10 @@ pub mod Asking
 pub mod Chained
 pub mod CourseSteps
 pub mod Descendants
+pub mod Exiting
 pub mod Following
 pub mod Found
+pub mod JudgingRules
 pub mod Leaving
 pub mod LeavingInside
 pub mod ListsBeside

@@ -25,17 +25,6 @@ module _ {X : Type 0} (f : Forest X) (o : IsOnce f) where
         inside = subst (λ n. 0 < hits i.reference (inclusive_descendants f n)) d (subst (λ n. 0 < hits n (inclusive_descendants f root)) e (among-hits reference (inclusive_descendants f root) (among-inside f o reference root ∙ u)));
       }
 
-  -- where the reference is lost, the root stands over the node
-  pub lost-under : (n : ℕ) (i : Iterator) → (among i.reference (inclusive_descendants f n) && (not (n == i.root) && among n (inclusive_descendants f i.root))) ≡ true → among i.root (ancestors n f) ≡ true
-  lost-under n i h =
-      let inside = inclusive_descendants f n in
-      let all = inclusive_descendants f i.root in
-      sym (among-inside f o n i.root) ∙ (and_parts (not (n == i.root)) (among n all) (and_parts (among i.reference inside) (not (n == i.root) && among n all) h).1).1
-
--- three tests in turn
-pub all_three : (a b c r : Bool) → a ≡ true → b ≡ true → r ≡ c → r ≡ (a && (b && c))
-all_three a b c r i j k = rw (i, j) k
-
 -- what a sound world says of its iterators and its walkers
 pub sound-inside : (f : Forest Content) (i : Iterator) → IsIterator f i → StandsInside f i
 sound-inside f i h = record { root = h.root; inside = h.inside }

@@ -1,6 +1,8 @@
 pub mod Courses
 pub mod Ends
+pub mod Exits
 pub mod GivingWay
+pub mod Judging
 pub mod Naming
 pub mod Placing
 pub mod Seats

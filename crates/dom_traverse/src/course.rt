@@ -1,6 +1,6 @@
 //! How a tree walker's walk goes through children and siblings (DOM Standard, "Interface TreeWalker": traverse children, traverse siblings, `nextNode`).
 
-use crate::filter::Filter;
+use crate::judge::Judge;
 use dom_model::Verdict;
 use dom_tree::{NodeId, Tree};
 
@@ -72,7 +72,7 @@ impl Course {
     }
 
     // Whether the walk does not go up past the node from what is under it.
-    fn stops_at<X>(&self, tree: &Tree<X>, filter: &Filter, node: NodeId) -> bool
+    fn stops_at<X>(&self, tree: &Tree<X>, filter: &Judge, node: NodeId) -> bool
         requires { HasNode tree.now.forest node }
         ensures { result ≡ stops self.now.limit tree.now.forest filter.now self.now.root self.now.current node }
     {
@@ -84,7 +84,7 @@ impl Course {
     }
 
     // The sibling that follows a node, or the nearest of its ancestors that has one, within the limit.
-    pub fn past<X>(&self, tree: &Tree<X>, filter: &Filter, node: NodeId) -> Option<NodeId>
+    pub fn past<X>(&self, tree: &Tree<X>, filter: &Judge, node: NodeId) -> Option<NodeId>
         requires held { HasNode tree.now.forest node }
         requires ends { Ending tree.now.forest filter.now self.now (past_in tree.now.forest filter.now self.now node) }
         ensures there { IfSome result (HasNode tree.now.forest) }
@@ -119,7 +119,7 @@ impl Course {
     fn onward<X>(
         &self,
         tree: &Tree<X>,
-        filter: &Filter,
+        filter: &Judge,
         verdict: Verdict,
         node: NodeId,
     ) -> Option<NodeId>
@@ -138,7 +138,7 @@ impl Course {
     }
 
     // The first accepted node that the walk comes to, from a node on.
-    pub fn run<X>(&self, tree: &Tree<X>, filter: &Filter, node: NodeId) -> Option<NodeId>
+    pub fn run<X>(&self, tree: &Tree<X>, filter: &Judge, node: NodeId) -> Option<NodeId>
         requires held { HasNode tree.now.forest node }
         requires ends { Ending tree.now.forest filter.now self.now (at node) }
         ensures { result ≡ found_from tree.now.forest filter.now self.now (at node) }

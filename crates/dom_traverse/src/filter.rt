@@ -1,12 +1,6 @@
-//! What a filter says of a node (DOM Standard, "Interface NodeFilter").
+//! What a filter is made of (DOM Standard, "Interface NodeFilter").
 
-ghost use Rattle.std.specs.Prelude.{◌≡◌, ℕ};
-ghost use Rattle.dom_model.specs.Traversal.Filters.{shows, is_rule_for, ruled, verdict_on, accepts, rejects};
-ghost use Rattle.dom_model.specs.Forests.Forest.{HasNode};
-
-use dom_kinds::{Kind, NodeType};
 use dom_model::Verdict;
-use dom_tree::{NodeId, Tree};
 use std::marker::Model;
 
 /// A node name, or `*` for every one, and what the filter says of nodes of that name.
@@ -40,63 +34,4 @@ impl Model for Filter {
     ghost Value = { PlainFilter };
 
     ghost view = { λ f. record { show = f.show; rules = f.rules.items } };
-}
-
-impl Rule {
-    // Whether the rule is for nodes of that name.
-    fn is_for(&self, name: &str) -> bool
-        ensures { result ≡ is_rule_for name.now self.now }
-    {
-        self.name.as_str() == name || self.name.as_str() == "*"
-    }
-}
-
-impl Filter {
-    /// What the filter says of a node.
-    pub fn judge<X>(&self, tree: &Tree<X>, node: NodeId) -> Verdict
-        requires { HasNode tree.now.forest node }
-        ensures { result ≡ verdict_on tree.now.forest self.now node }
-    {
-        let label = tree.label(node);
-        if self.shows(label.kind) {
-            self.ruled(label.node_name())
-        } else {
-            Verdict::Skip
-        }
-    }
-
-    // Whether the filter accepts a node.
-    pub(crate) fn accepts<X>(&self, tree: &Tree<X>, node: NodeId) -> bool
-        requires { HasNode tree.now.forest node }
-        ensures { result ≡ accepts tree.now.forest self.now node }
-    {
-        self.judge(tree, node) == Verdict::Accept
-    }
-
-    // Whether the filter rejects a node.
-    pub(crate) fn rejects<X>(&self, tree: &Tree<X>, node: NodeId) -> bool
-        requires { HasNode tree.now.forest node }
-        ensures { result ≡ rejects tree.now.forest self.now node }
-    {
-        self.judge(tree, node) == Verdict::Reject
-    }
-
-    // Whether nodes of the kind are shown.
-    fn shows(&self, kind: Kind) -> bool
-        ensures { result ≡ shows self.now.show kind }
-    {
-        (self.show >> (kind.number() - 1)) % 2 == 1
-    }
-
-    // What the first rule for the name says.
-    fn ruled(&self, name: &str) -> Verdict
-        ensures { result ≡ ruled self.now.rules name.now }
-    {
-        for rule in &self.rules {
-            if rule.is_for(name) {
-                return rule.verdict;
-            }
-        }
-        Verdict::Accept
-    }
 }

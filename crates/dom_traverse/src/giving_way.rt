@@ -1,33 +1,43 @@
 //! How the node iterators at a node give way before it leaves with a tree, and come to stand elsewhere.
 
-ghost use Rattle.std.specs.Prelude.{◌≡◌};
-ghost use Rattle.dom_model.specs.Forests.Forest.{HasNode};
+ghost use Rattle.std.specs.Prelude.{◌≡◌, true};
+ghost use Rattle.std.specs.Option.{ForSome};
+ghost use Rattle.dom_model.specs.PlainLists.Lists.{among};
+ghost use Rattle.dom_model.specs.Forests.Forest.{HasNode, inclusive_descendants};
 ghost use Rattle.dom_model.specs.MutationAlgorithms.PreRemoval.{pre_removed};
+ghost use Rattle.dom_traverse.specs.Exits.{IsExit};
 ghost use Rattle.dom_traverse.specs.GivingWay.{references_of, GaveWay, StandOrWait};
 
+use crate::exit::Exit;
 use crate::iterator::NodeIterator;
 use crate::whereabouts::Whereabouts;
 use dom_tree::{NodeId, Tree};
 
-// The pre-removing steps for `node` of the iterators whose reference is `here`, and of those that share its place. They wait from then on, so
-// that the walk meets each once.
+// The pre-removing steps for `node` of the iterators whose reference is `here`, inside it, and of those that share its place. They wait from
+// then on, so that the walk meets each once. Where those of a root go is found once for all that follow one another.
 pub(crate) fn give_way<X>(
     iterators: &mut [NodeIterator],
     references: &mut Whereabouts,
     tree: &Tree<X>,
     node: NodeId,
     here: NodeId,
-)
+    last: Option<Exit>,
+) -> Option<Exit>
     requires held { HasNode tree.now.forest node }
+    requires inside { among here (inclusive_descendants tree.now.forest node) ≡ true }
+    requires found { ForSome last (IsExit tree.now.forest node) }
     requires stand { references.old ≡ references_of iterators.old }
     ensures gave { GaveWay (pre_removed tree.now.forest node) here iterators.old iterators.new }
     ensures stand { StandOrWait iterators.new references.new }
+    ensures found { ForSome result (IsExit tree.now.forest node) }
 {
+    let mut last = last;
     while let Some(id) = references.first(here) {
         let iterator = &mut iterators[id as usize];
-        iterator.removing(tree, node);
+        last = iterator.removing(tree, node, here, last);
         references.wait(id);
     }
+    last
 }
 
 // Those that wait come to stand at their references.

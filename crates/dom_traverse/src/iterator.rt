@@ -1,17 +1,20 @@
 //! One node iterator (DOM Standard, "Interface NodeIterator").
 
-ghost use Rattle.std.specs.Prelude.{◌≡◌, ◌==◌, true, not, ◌&&◌, find, reverse};
+ghost use Rattle.std.specs.Prelude.{◌≡◌, true, find, reverse};
 ghost use Rattle.std.specs.List.{list_any};
+ghost use Rattle.std.specs.Option.{ForSome};
 ghost use Rattle.dom_model.specs.PlainLists.Lists.{among, up_to, past};
 ghost use Rattle.dom_model.specs.MutationAlgorithms.Discarding.{nodes_of_iterator};
 ghost use Rattle.dom_model.specs.Forests.Forest.{HasNode, ancestors, inclusive_descendants};
 ghost use Rattle.dom_model.specs.Traversal.Filters.{accepts};
 ghost use Rattle.dom_model.specs.Traversal.Iterators.{next_found, previous_found, moved_to_next, moved_to_previous};
 ghost use Rattle.dom_model.specs.MutationAlgorithms.PreRemoval.{pre_removed};
+ghost use Rattle.dom_traverse.specs.Exits.{IsExit, gone_by};
 ghost use Rattle.dom_traverse.specs.Standing.{StandsInside};
 
-use crate::filter::Filter;
-use crate::inside::{past_inside, previous_inside};
+use crate::exit::Exit;
+use crate::inside::previous_inside;
+use crate::judge::Judge;
 use dom_tree::{NodeId, Tree};
 use std::marker::Model;
 
@@ -21,7 +24,7 @@ pub struct NodeIterator {
     pub root: NodeId,
     pub reference: NodeId,
     pub before: bool,
-    pub filter: Filter,
+    pub filter: Judge,
 }
 
 impl Model for NodeIterator {
@@ -33,7 +36,7 @@ impl Model for NodeIterator {
 }
 
 // The first accepted node that follows `node` inside the root.
-fn next_accepted<X>(tree: &Tree<X>, filter: &Filter, root: NodeId, node: NodeId) -> Option<NodeId>
+fn next_accepted<X>(tree: &Tree<X>, filter: &Judge, root: NodeId, node: NodeId) -> Option<NodeId>
     requires held { HasNode tree.now.forest node }
     requires under { among root (ancestors node tree.now.forest) ≡ true }
     ensures { result ≡ find (accepts tree.now.forest filter.now) (past node (inclusive_descendants tree.now.forest root)) }
@@ -52,7 +55,7 @@ fn next_accepted<X>(tree: &Tree<X>, filter: &Filter, root: NodeId, node: NodeId)
 // The first accepted node that precedes `node` inside the root, the nearest first.
 fn previous_accepted<X>(
     tree: &Tree<X>,
-    filter: &Filter,
+    filter: &Judge,
     root: NodeId,
     node: NodeId,
 ) -> Option<NodeId>
@@ -120,37 +123,55 @@ impl NodeIterator {
         previous_accepted(tree, &self.filter, self.root, self.reference)
     }
 
-    // Before a node is removed: a reference inside it steps off, on where the pointer is before it, or else back.
-    pub fn removing<X>(&mut self, tree: &Tree<X>, node: NodeId)
-        requires { HasNode tree.now.forest node }
-        ensures { self.new ≡ pre_removed tree.now.forest node self.old }
+    // Before a node is removed: a reference inside it steps off, on where the pointer is before it, or else back. `here` is such a reference, of
+    // which this is known. What is found for the root is answered, or else what was found last.
+    pub fn removing<X>(
+        &mut self,
+        tree: &Tree<X>,
+        node: NodeId,
+        here: NodeId,
+        last: Option<Exit>,
+    ) -> Option<Exit>
+        requires held { HasNode tree.now.forest node }
+        requires inside { among here (inclusive_descendants tree.now.forest node) ≡ true }
+        requires found { ForSome last (IsExit tree.now.forest node) }
+        ensures moved { self.new ≡ pre_removed tree.now.forest node self.old }
+        ensures found { ForSome result (IsExit tree.now.forest node) }
     {
         tree.sound();
-        if !self.loses(tree, node) {
+        if !self.is_lost(tree, node, here) {
+            return last;
+        }
+        let exit = Exit::for_root(last, tree, node, self.root);
+        self.step_off(&exit);
+        Some(exit)
+    }
+
+    // Whether the reference is inside a node, as `here` is.
+    fn is_lost<X>(&self, tree: &Tree<X>, node: NodeId, here: NodeId) -> bool
+        requires { among here (inclusive_descendants tree.now.forest node) ≡ true }
+        ensures { result ≡ among self.now.reference (inclusive_descendants tree.now.forest node) }
+    {
+        self.reference == here || tree.is_inside(node, self.reference)
+    }
+
+    // A reference inside the node goes.
+    fn step_off(&mut self, exit: &Exit)
+        ensures { self.new ≡ gone_by exit.now self.old }
+    {
+        if !exit.loses {
             return;
         }
-        let root = self.root;
         if self.before {
-            if let Some(following) = past_inside(tree, root, node) {
+            if let Some(following) = exit.following {
                 self.reference = following;
                 return;
             }
             self.before = false;
         }
-        if let Some(preceding) = previous_inside(tree, root, node) {
+        if let Some(preceding) = exit.preceding {
             self.reference = preceding;
         }
-    }
-
-    // Whether the root loses the reference with the node.
-    fn loses<X>(&self, tree: &Tree<X>, node: NodeId) -> bool
-        requires { HasNode tree.now.forest node }
-        ensures { result ≡ (among self.now.reference (inclusive_descendants tree.now.forest node) && (not (node == self.now.root) && among node (inclusive_descendants tree.now.forest self.now.root))) }
-    {
-        tree.sound();
-        tree.is_inside(node, self.reference)
-            && node != self.root
-            && tree.is_ancestor(self.root, node)
     }
 
     // Whether the root or the reference is an inclusive descendant of a node.

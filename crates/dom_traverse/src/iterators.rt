@@ -1,6 +1,6 @@
 //! The node iterators of a session, by number (DOM Standard, "Interface NodeIterator").
 
-ghost use Rattle.std.specs.Prelude.{◌≡◌, ℕ, ◌<◌, [], ◌∷◌, ◌++◌, length, slice_get, slice_set, IfSome, IfOk, OnOk, OnErr, IsTrue, ◌↔◌};
+ghost use Rattle.std.specs.Prelude.{◌≡◌, ℕ, ◌<◌, [], ◌∷◌, ◌++◌, length, slice_get, slice_set, IfSome, IfOk, OnOk, OnErr, IsTrue, ◌↔◌, true};
 ghost use Rattle.std.specs.List.{list_any, flat_map};
 ghost use Rattle.std.specs.Option.{ForSome};
 ghost use Rattle.dom_model.specs.PlainLists.Lists.{among};
@@ -8,13 +8,16 @@ ghost use Rattle.dom_model.specs.Forests.Forest.{HasNode, inclusive_descendants}
 ghost use Rattle.dom_model.specs.Traversal.Iterators.{new_iterator, next_found, previous_found, moved_to_next, moved_to_previous};
 ghost use Rattle.dom_model.specs.MutationAlgorithms.PreRemoval.{pre_removed, pre_removed_all};
 ghost use Rattle.dom_model.specs.MutationAlgorithms.Discarding.{nodes_of_iterator};
+ghost use Rattle.dom_traverse.specs.Exits.{IsExit};
 ghost use Rattle.dom_traverse.specs.GivingWay.{GaveWay};
 ghost use Rattle.dom_traverse.specs.Standing.{StandsInside};
 
+use crate::exit::Exit;
 use crate::filter::Filter;
 use crate::giving_way::{give_way, settle};
 use crate::inside::has_few_inside;
 use crate::iterator::NodeIterator;
+use crate::judge::Judge;
 use crate::naming::{name, names_inside};
 use crate::whereabouts::Whereabouts;
 use dom_tree::{NodeId, Tree};
@@ -99,6 +102,7 @@ impl NodeIterators {
         ensures unchanged { OnErr result (self.new ≡ self.old) }
     {
         let id = IteratorId::new(self.iterators.len() as u32);
+        let filter = Judge::new(*self.iterators.allocator(), filter)?;
         self.iterators.reserve(1)?;
         self.roots.reserve(1)?;
         self.references.add(root)?;
@@ -163,16 +167,23 @@ impl NodeIterators {
 
     /// The pre-removing steps of every iterator, before a node is taken from its parent.
     ///
-    /// It walks the nodes inside, and where they are more than the iterators it asks each iterator.
+    /// It walks the nodes inside, or climbs from each reference where that takes fewer steps.
     pub fn removing<X>(&mut self, tree: &Tree<X>, node: NodeId)
         requires { HasNode tree.now.forest node }
         ensures { self.new ≡ pre_removed_all tree.now.forest node self.old }
     {
-        if has_few_inside(tree, node, self.iterators.len()) {
+        let steps = tree.steps_inside(node, |index| self.reference(index));
+        if has_few_inside(tree, node, steps) {
             self.removing_inside(tree, node);
         } else {
             self.removing_each(tree, node);
         }
+    }
+
+    // The reference of an iterator; none past the last.
+    fn reference(&self, index: usize) -> Option<NodeId> {
+        let iterator = self.iterators.get(index)?;
+        Some(iterator.reference)
     }
 
     // The same, by the iterators at each node inside.
@@ -182,8 +193,9 @@ impl NodeIterators {
     {
         tree.sound();
         let mut here = node;
+        let mut last = None;
         loop {
-            self.give_way(tree, node, here);
+            last = self.give_way(tree, node, here, last);
             let Some(next) = tree.next_inside(node, here) else {
                 return;
             };
@@ -196,39 +208,78 @@ impl NodeIterators {
         requires { HasNode tree.now.forest node }
         ensures { self.new ≡ pre_removed_all tree.now.forest node self.old }
     {
+        let mut last = None;
         for index in 0..self.iterators.len() {
-            self.step_off(tree, node, index as u32);
+            last = self.step_off(tree, node, index as u32, last);
         }
     }
 
-    // The pre-removing steps of the iterators whose reference is `here`, and of others that are found with them.
-    fn give_way<X>(&mut self, tree: &Tree<X>, node: NodeId, here: NodeId)
-        requires { HasNode tree.now.forest node }
-        ensures { GaveWay (pre_removed tree.now.forest node) here self.old self.new }
+    // The pre-removing steps of the iterators whose reference is `here`, inside the node, and of others that are found with them.
+    fn give_way<X>(
+        &mut self,
+        tree: &Tree<X>,
+        node: NodeId,
+        here: NodeId,
+        last: Option<Exit>,
+    ) -> Option<Exit>
+        requires held { HasNode tree.now.forest node }
+        requires inside { among here (inclusive_descendants tree.now.forest node) ≡ true }
+        requires found { ForSome last (IsExit tree.now.forest node) }
+        ensures gave { GaveWay (pre_removed tree.now.forest node) here self.old self.new }
+        ensures found { ForSome result (IsExit tree.now.forest node) }
     {
-        give_way(&mut self.iterators, &mut self.references, tree, node, here);
+        let last = give_way(
+            &mut self.iterators,
+            &mut self.references,
+            tree,
+            node,
+            here,
+            last,
+        );
         settle(&self.iterators, &mut self.references);
+        last
     }
 
     // The pre-removing steps of one iterator.
-    fn step_off<X>(&mut self, tree: &Tree<X>, node: NodeId, id: u32)
+    fn step_off<X>(
+        &mut self,
+        tree: &Tree<X>,
+        node: NodeId,
+        id: u32,
+        last: Option<Exit>,
+    ) -> Option<Exit>
         requires held { HasNode tree.now.forest node }
         requires there { id < length self.old }
-        ensures { IfSome (slice_get self.old id) (λ i. self.new ≡ slice_set self.old id (pre_removed tree.now.forest node i)) }
+        requires found { ForSome last (IsExit tree.now.forest node) }
+        ensures stepped { IfSome (slice_get self.old id) (λ i. self.new ≡ slice_set self.old id (pre_removed tree.now.forest node i)) }
+        ensures found { ForSome result (IsExit tree.now.forest node) }
     {
+        tree.sound();
         let iterator = &mut self.iterators[id as usize];
-        iterator.removing(tree, node);
+        let last = iterator.removing(tree, node, node, last);
         self.references.set(id, iterator.reference);
+        last
+    }
+
+    // The root or the reference of an item, one after the other of each; none past the last.
+    fn node(&self, index: usize) -> Option<NodeId> {
+        let iterator = self.iterators.get(index / 2)?;
+        if index % 2 == 0 {
+            Some(iterator.root)
+        } else {
+            Some(iterator.reference)
+        }
     }
 
     /// Whether some iterator has its root or its reference among the inclusive descendants of a node.
     ///
-    /// It walks the nodes inside, and where they are more than the iterators it asks each iterator.
+    /// It walks the nodes inside, or climbs from each iterator where that takes fewer steps.
     pub fn refers<X>(&self, tree: &Tree<X>, top: NodeId) -> bool
         requires { HasNode tree.now.forest top }
         ensures { result ≡ list_any (λ m. among m (inclusive_descendants tree.now.forest top)) (flat_map nodes_of_iterator self.now) }
     {
-        match names_inside(&self.roots, &self.references, tree, top) {
+        let steps = tree.steps_inside(top, |index| self.node(index));
+        match names_inside(&self.roots, &self.references, tree, top, steps) {
             Some(answer) => answer,
             None => self.refer(tree, top),
         }

@@ -2,11 +2,13 @@
 #![tactic(auto)]
 
 mod course;
+mod exit;
 mod filter;
 mod giving_way;
 mod inside;
 mod iterator;
 mod iterators;
+mod judge;
 mod naming;
 mod places;
 mod seats;

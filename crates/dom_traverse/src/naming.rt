@@ -26,15 +26,16 @@ fn names(roots: &IndexSet<u32>, standing: &Whereabouts, node: NodeId) -> bool
     roots.contains(&node.number()) || standing.names(node)
 }
 
-// Whether an item names a node inside `top`: it walks the nodes there, and has no answer where they are more than the items.
+// Whether an item names a node inside `top`: it asks so many nodes there, and has no answer where there are more.
 pub(crate) fn names_inside<X>(
     roots: &IndexSet<u32>,
     standing: &Whereabouts,
     tree: &Tree<X>,
     top: NodeId,
+    steps: usize,
 ) -> Option<bool>
     requires { HasNode tree.now.forest top }
     ensures { (ns : List ℕ) → AreNames roots.now standing.now ns → IfSome result (λ b. b ≡ list_any (λ m. among m (inclusive_descendants tree.now.forest top)) ns) }
 {
-    tree.any_inside(top, standing.count(), |node| names(roots, standing, node))
+    tree.any_inside(top, steps, |node| names(roots, standing, node))
 }

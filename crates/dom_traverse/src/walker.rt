@@ -9,7 +9,7 @@ ghost use Rattle.dom_model.specs.MutationAlgorithms.Discarding.{nodes_of_walker}
 ghost use Rattle.dom_traverse.specs.Standing.{StandsThere};
 
 use crate::course::Side;
-use crate::filter::Filter;
+use crate::judge::Judge;
 use crate::walks;
 use dom_model::Move;
 use dom_tree::{NodeId, Tree};
@@ -20,7 +20,7 @@ use std::marker::Model;
 pub struct TreeWalker {
     pub root: NodeId,
     pub current: NodeId,
-    pub filter: Filter,
+    pub filter: Judge,
 }
 
 impl Model for TreeWalker {

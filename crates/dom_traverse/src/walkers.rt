@@ -10,6 +10,7 @@ ghost use Rattle.dom_model.specs.MutationAlgorithms.Discarding.{nodes_of_walker}
 ghost use Rattle.dom_traverse.specs.Standing.{StandsThere};
 
 use crate::filter::Filter;
+use crate::judge::Judge;
 use crate::naming::{name, names_inside};
 use crate::walker::TreeWalker;
 use crate::whereabouts::Whereabouts;
@@ -96,6 +97,7 @@ impl Walkers {
         ensures unchanged { OnErr result (self.new ≡ self.old) }
     {
         let id = WalkerId::new(self.walkers.len() as u32);
+        let filter = Judge::new(*self.walkers.allocator(), filter)?;
         self.walkers.reserve(1)?;
         self.roots.reserve(1)?;
         self.currents.add(root)?;
@@ -153,14 +155,25 @@ impl Walkers {
         found
     }
 
+    // The root or the current node of an item, one after the other of each; none past the last.
+    fn node(&self, index: usize) -> Option<NodeId> {
+        let walker = self.walkers.get(index / 2)?;
+        if index % 2 == 0 {
+            Some(walker.root)
+        } else {
+            Some(walker.current)
+        }
+    }
+
     /// Whether some walker has its root or its current node among the inclusive descendants of a node.
     ///
-    /// It walks the nodes inside, and where they are more than the walkers it asks each walker.
+    /// It walks the nodes inside, or climbs from each walker where that takes fewer steps.
     pub fn refers<X>(&self, tree: &Tree<X>, top: NodeId) -> bool
         requires { HasNode tree.now.forest top }
         ensures { result ≡ list_any (λ m. among m (inclusive_descendants tree.now.forest top)) (flat_map nodes_of_walker self.now) }
     {
-        match names_inside(&self.roots, &self.currents, tree, top) {
+        let steps = tree.steps_inside(top, |index| self.node(index));
+        match names_inside(&self.roots, &self.currents, tree, top, steps) {
             Some(answer) => answer,
             None => self.refer(tree, top),
         }

@@ -8,13 +8,13 @@ ghost use Rattle.dom_traverse.specs.Courses.{child_move, sibling_move};
 ghost use Rattle.dom_traverse.specs.Ends.{Descends, IsEnd};
 
 use crate::course::{Course, Limit, Side};
-use crate::filter::Filter;
+use crate::judge::Judge;
 use dom_tree::{NodeId, Tree};
 
 // `parentNode()`.
 pub fn parent_node<X>(
     tree: &Tree<X>,
-    filter: &Filter,
+    filter: &Judge,
     root: NodeId,
     current: NodeId,
 ) -> Option<NodeId>
@@ -35,7 +35,7 @@ pub fn parent_node<X>(
 // `firstChild()` or `lastChild()`.
 pub fn child<X>(
     tree: &Tree<X>,
-    filter: &Filter,
+    filter: &Judge,
     root: NodeId,
     current: NodeId,
     side: Side,
@@ -57,7 +57,7 @@ pub fn child<X>(
 // `nextSibling()` or `previousSibling()`.
 pub fn sibling<X>(
     tree: &Tree<X>,
-    filter: &Filter,
+    filter: &Judge,
     root: NodeId,
     current: NodeId,
     side: Side,
@@ -80,12 +80,7 @@ pub fn sibling<X>(
 }
 
 // `nextNode()`.
-pub fn next_node<X>(
-    tree: &Tree<X>,
-    filter: &Filter,
-    root: NodeId,
-    current: NodeId,
-) -> Option<NodeId>
+pub fn next_node<X>(tree: &Tree<X>, filter: &Judge, root: NodeId, current: NodeId) -> Option<NodeId>
     requires { HasNode tree.now.forest current }
     ensures { result ≡ next_by_steps tree.now.forest filter.now root current }
 {
@@ -104,7 +99,7 @@ pub fn next_node<X>(
 }
 
 // Down through last children, as long as no node is rejected.
-fn end_of<X>(tree: &Tree<X>, filter: &Filter, node: NodeId) -> NodeId
+fn end_of<X>(tree: &Tree<X>, filter: &Judge, node: NodeId) -> NodeId
     requires { HasNode tree.now.forest node }
     ensures there { HasNode tree.now.forest result }
     ensures descends { Descends tree.now.forest filter.now node result }
@@ -124,7 +119,7 @@ fn end_of<X>(tree: &Tree<X>, filter: &Filter, node: NodeId) -> NodeId
 // `previousNode()`. The root ends the walk where it is come up to, or has no previous sibling; from behind it is passed.
 pub fn previous_node<X>(
     tree: &Tree<X>,
-    filter: &Filter,
+    filter: &Judge,
     root: NodeId,
     current: NodeId,
 ) -> Option<NodeId>

@@ -55,13 +55,6 @@ impl Whereabouts {
         }
     }
 
-    // How many items there are.
-    pub(crate) fn count(&self) -> usize
-        ensures { result ≡ length self.now }
-    {
-        self.nodes.len()
-    }
-
     // Whether an item stands at the node.
     pub(crate) fn names(&self, node: NodeId) -> bool
         ensures { result ≡ list_any (λ o. is_number o node) self.now }

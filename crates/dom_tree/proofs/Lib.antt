@@ -9,7 +9,8 @@ pub mod Kept
 pub mod Making
 pub mod Nodes
 pub mod Numbering
-pub mod NumberingAll
+pub mod PlacesAt
+pub mod Written
 pub mod OwnedSlots
 pub mod OwnedSteps
 pub mod OwnedTrees

@@ -104,8 +104,8 @@ module _ {X : Type 0} where
   pub indexed-nodes : (a : Arena (Kept X)) (n i : ℕ) → nodes_of (indexed a n i) ≡ nodes_of a
   indexed-nodes a n i = unaltered-nodes (λ (e : Entry (Kept X)). with_value (with_index i e.value) e) (λ e. refl) a n
 
-  pub assured-nodes : (a : Arena (Kept X)) (n s : ℕ) → nodes_of (assured a n s) ≡ nodes_of a
-  assured-nodes a n s = unaltered-nodes (λ (e : Entry (Kept X)). with_value (with_sure s e.value) e) (λ e. refl) a n
+  pub assured-nodes : (a : Arena (Kept X)) (n s r : ℕ) → nodes_of (assured a n s r) ≡ nodes_of a
+  assured-nodes a n s r = unaltered-nodes (λ (e : Entry (Kept X)). with_value (with_sure s r e.value) e) (λ e. refl) a n
 
   pub linked-nodes : (a : Arena (Kept X)) (p c : ℕ) (b : Option ℕ) → nodes_of (linked a p c b) ≡ linked (nodes_of a) p c b
   linked-nodes a p c b =

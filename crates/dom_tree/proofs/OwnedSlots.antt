@@ -6,7 +6,7 @@ use Rattle.dom_model.specs.Forests.Arena.{Arena, Entry, entry_at, parent_in, wit
 use Rattle.dom_model.specs.Forests.Forest.{one_at}
 use Rattle.dom_model.proofs.PlainLists.Numbers.{same_or, same, apart}
 use Rattle.dom_tree.specs.Slots.{Kept, with_index, with_sure, with_owned, with_document, owned_in, indexed, assured, owning, one_more, one_less, homed}
-use Rattle.dom_tree.specs.Numberings.{index_put, sure_put, numbered_put, numbered_cut, numbered_cut_from}
+use Rattle.dom_tree.specs.Numberings.{index_put, sure_put, reach_put, numbered_put, numbered_cut, numbered_cut_from}
 use Rattle.dom_tree.proofs.Stores.{altered-at}
 
 module _ {X : Type 0} where
@@ -21,8 +21,8 @@ module _ {X : Type 0} where
   pub indexed-owned : (a : Arena (Kept X)) (n i s : ℕ) → owned_in (entry_at (indexed a n i) s) ≡ owned_in (entry_at a s)
   indexed-owned a n i s = altered-owned (λ (e : Entry (Kept X)). with_value (with_index i e.value) e) (λ e. refl) a n s
 
-  pub assured-owned : (a : Arena (Kept X)) (n c s : ℕ) → owned_in (entry_at (assured a n c) s) ≡ owned_in (entry_at a s)
-  assured-owned a n c s = altered-owned (λ (e : Entry (Kept X)). with_value (with_sure c e.value) e) (λ e. refl) a n s
+  pub assured-owned : (a : Arena (Kept X)) (n c r s : ℕ) → owned_in (entry_at (assured a n c r) s) ≡ owned_in (entry_at a s)
+  assured-owned a n c r s = altered-owned (λ (e : Entry (Kept X)). with_value (with_sure c r e.value) e) (λ e. refl) a n s
 
   pub homed-owned : (a : Arena (Kept X)) (n d s : ℕ) → owned_in (entry_at (homed a n d) s) ≡ owned_in (entry_at a s)
   homed-owned a n d s = altered-owned (λ (e : Entry (Kept X)). with_value (with_document d e.value) e) (λ e. refl) a n s
@@ -43,7 +43,7 @@ module _ {X : Type 0} where
 
   pub put-owned : (a : Arena (Kept X)) (p c : ℕ) (b : Option ℕ) (s : ℕ) → owned_in (entry_at (numbered_put a p c b) s) ≡ owned_in (entry_at a s)
   put-owned a p c b s =
-      assured-owned (indexed a c (index_put (entry_at a) p b)) p (sure_put (entry_at a) p b (index_put (entry_at a) p b)) s
+      assured-owned (indexed a c (index_put (entry_at a) p b)) p (sure_put (entry_at a) p b (index_put (entry_at a) p b)) (reach_put (entry_at a) p b) s
       ∙ indexed-owned a c (index_put (entry_at a) p b) s
 
   pub cut-owned : (a : Arena (Kept X)) (c s : ℕ) → owned_in (entry_at (numbered_cut a c) s) ≡ owned_in (entry_at a s)
@@ -51,7 +51,7 @@ module _ {X : Type 0} where
     where
       go : (o : Option ℕ) → owned_in (entry_at (numbered_cut_from o a c) s) ≡ owned_in (entry_at a s)
       go None = refl
-      go (Some p) = assured-owned a p _ s
+      go (Some p) = assured-owned a p _ _ s
 
   -- a slot's count is the one that was set; the other slots have theirs
   owning-at : (a : Arena (Kept X)) (n c s : ℕ) → IsHeld a n → owned_in (entry_at (owning a n c) s) ≡ (if s == n then c else owned_in (entry_at a s))

@@ -11,7 +11,7 @@ use Rattle.dom_model.proofs.Forests.Changes.{seen, nothing, just}
 use Rattle.dom_tree.specs.Standing.{MayStand}
 use Rattle.dom_tree.specs.Spelled.{number_at, slot_in, slot_for, shown, IsKept}
 use Rattle.dom_tree.specs.Slots.{Kept, node_entry, nodes_of, indexed, index_in, sure_in, IsCounted, IsStored, IsTree}
-use Rattle.dom_tree.specs.Numberings.{index_put, sure_put, numbered_put, numbered_cut_from, numbered_cut, IsAllNumbered}
+use Rattle.dom_tree.specs.Numberings.{index_put, sure_put, reach_put, numbered_put, numbered_cut_from, numbered_cut, IsNumbered}
 use Rattle.dom_tree.proofs.Kept.{Keeps, index-slot}
 use Rattle.dom_tree.proofs.Making as making
 use Rattle.dom_tree.proofs.Reading as reading
@@ -80,7 +80,7 @@ module _ {X : Type 0} where
 
   pub put-nodes : (a : Arena (Kept X)) (p c : ℕ) (b : Option ℕ) → nodes_of (numbered_put a p c b) ≡ nodes_of a
   put-nodes a p c b =
-      assured-nodes (indexed a c (index_put (entry_at a) p b)) p (sure_put (entry_at a) p b (index_put (entry_at a) p b)) ∙ indexed-nodes a c (index_put (entry_at a) p b)
+      assured-nodes (indexed a c (index_put (entry_at a) p b)) p (sure_put (entry_at a) p b (index_put (entry_at a) p b)) (reach_put (entry_at a) p b) ∙ indexed-nodes a c (index_put (entry_at a) p b)
 
   pub room-cut : (a : Arena (Kept X)) (c : ℕ) → length (numbered_cut a c).slots ≡ length a.slots
   room-cut a c = go (parent_in (entry_at a c))
@@ -94,7 +94,7 @@ module _ {X : Type 0} where
     where
       go : (o : Option ℕ) → nodes_of (numbered_cut_from o a c) ≡ nodes_of a
       go None = refl
-      go (Some p) = assured-nodes a p _
+      go (Some p) = assured-nodes a p _ _
 
 module _ {X : Type 0} {a : Arena (Kept X)} {table : List (Option ℕ)} {live : ℕ} {strays : Bool} (k : IsTree a table live strays) {w : Grove X} (v : record { forest = shown (nodes_of a) table; made = length table } ≡ w) where
   pub slot-held : (n : ℕ) → HasNode w.forest n → IsSome (slot_in table n)
@@ -150,7 +150,7 @@ module _ {X : Type 0} {a : Arena (Kept X)} {table : List (Option ℕ)} {live : �
   pub previous-read : IsSound a → (n s : ℕ) (o r : Option ℕ) → slot_in table n ≡ Some s → o ≡ previous_in (entry_at a) s → r ≡ option_map (number_at (entry_at (nodes_of a))) o → r ≡ previous_of w.forest n
   previous-read l n s o r i h = reading.previous-read k.stored.kept v (sound-nodes l) n s o r i (h ∙ sym (previous-nodes a s))
 
-  index-slots : IsSound a → (n s : ℕ) → slot_in table n ≡ Some s → index_of w.forest n ≡ place_in s (siblings_in (entry_at a) s)
+  pub index-slots : IsSound a → (n s : ℕ) → slot_in table n ≡ Some s → index_of w.forest n ≡ place_in s (siblings_in (entry_at a) s)
   index-slots l n s i =
       ap (λ (g : Grove X). index_of g.forest n) (sym v) ∙ index-slot k.stored.kept (sound-nodes l) n s i ∙ ap (place_in s) (siblings-nodes a s)
 
@@ -158,7 +158,7 @@ module _ {X : Type 0} {a : Arena (Kept X)} {table : List (Option ℕ)} {live : �
   pub kept-read : IsSound a → (n s p : ℕ) → slot_in table n ≡ Some s → parent_in (entry_at a s) ≡ Some p → (x y z u : Kept X) → z ≡ x → u ≡ y → IfSome (entry_at a s) (λ e. x ≡ e.value) → IfSome (entry_at a p) (λ e. y ≡ e.value) → z.index < u.sure → z.index ≡ index_of w.forest n
   kept-read l n s p i ep x y z u zx uy hx hy lt =
       let listed : 0 < hits s (children_in (entry_at a p)) = omega (arith, l.linked p s, ap (λ o. names o p) ep, names-itself p) in
-      let c = k.stored.counted p s listed in
+      let c = (k.stored.counted p s listed).0 in
       let place : index_of w.forest n ≡ place_in s (children_in (entry_at a p)) = index-slots l n s i ∙ ap (λ o. place_in s (list_under (entry_at a) o)) ep in
       let zi : z.index ≡ index_in (entry_at a s) = ap (λ (q : Kept X). q.index) zx ∙ index_is (entry_at a s) (held-slot n s i) hx in
       let us : u.sure ≡ sure_in (entry_at a p) = ap (λ (q : Kept X). q.sure) uy ∙ sure_is (entry_at a p) (parents-held l s p ep) hy in
@@ -251,7 +251,7 @@ module _ {X : Type 0} {a : Arena (Kept X)} {table : List (Option ℕ)} {live : �
       stays (altered (λ (d : Entry (Kept X)). with_value (record d.value { node = h d.value.node }) d) a s) (altered (λ (d : Entry (Node X)). with_value (h d.value) d) (nodes_of a) s) table live (with_node n h (shown (nodes_of a) table))
       (altered-nodes (λ (d : Entry (Kept X)). with_value (record d.value { node = h d.value.node }) d) (λ (d : Entry (Node X)). with_value (h d.value) d) (λ d. refl) a s)
       (reading.alter-done k.stored.kept v n s i h hn hl)
-      (counted-altered (λ (q : Kept X). record q { node = h q.node }) (λ q. refl) (λ q. refl) a s k.stored.counted)
+      (counted-altered (λ (q : Kept X). record q { node = h q.node }) (λ q. refl) (λ q. refl) (λ q. refl) a s k.stored.counted)
       (omega (arith, k.stored.room, room-altered (λ (d : Entry (Kept X)). with_value (record d.value { node = h d.value.node }) d) a s))
 
   -- a node written to its slot, with the number and the label that stood there
@@ -266,16 +266,16 @@ module _ {X : Type 0} {a : Arena (Kept X)} {table : List (Option ℕ)} {live : �
       same_store : altered (with_value z) a s ≡ altered (λ (d : Entry (Kept X)). with_value (record d.value { node = h d.value.node }) d) a s
       same_store = ap (λ o. record a { slots = slice_set a.slots s o }) (each (entry_at a s) j)
 
-  pub numbered-done : (d : Arena (Kept X)) (s : ℕ) → IsAllNumbered a d s → IsStored d table live
-  numbered-done d s n =
+  pub numbered-done : (d : Arena (Kept X)) (s t : ℕ) → IsNumbered a d s t → IsStored d table live
+  numbered-done d s t n =
       record {
         kept = subst (λ (b : Arena (Node X)). IsKept b table live) (sym n.nodes) k.stored.kept;
         counted = n.counted;
         room = (let r = k.stored.room in omega (arith, r, n.room));
       }
 
-  pub numbered-shown : (d : Arena (Kept X)) (s : ℕ) → IsAllNumbered a d s → ◌≡◌ {A = Grove X} (record { forest = shown (nodes_of d) table; made = length table }) w
-  numbered-shown d s n = (λ i. record { forest = shown (n.nodes i) table; made = length table }) ∙ v
+  pub numbered-shown : (d : Arena (Kept X)) (s t : ℕ) → IsNumbered a d s t → ◌≡◌ {A = Grove X} (record { forest = shown (nodes_of d) table; made = length table }) w
+  numbered-shown d s t n = (λ i. record { forest = shown (n.nodes i) table; made = length table }) ∙ v
 
   pub children-none : (n s : ℕ) → slot_in table n ≡ Some s → children_of w.forest n ≡ [] → children_in (entry_at a s) ≡ []
   children-none n s i h =

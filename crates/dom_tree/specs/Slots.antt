@@ -8,23 +8,34 @@ use Rattle.dom_model.specs.Forests.ForestCode.{node_code}
 use Rattle.dom_tree.specs.Owned.{document_in, IsOwned}
 use Rattle.dom_tree.specs.Spelled.{slot_in, shown, IsKept}
 
--- a node, its kept index, how many of its first children have a right one, and how many nodes have it as their node document
+-- a node, its kept index, how many of its first children have a right one, how many of them may have one at all, and how many nodes have it as
+-- their node document
 pub record Kept (X : Type 0) : Type 0 where
   pub node : Node X
   pub index : ℕ
   pub sure : ℕ
+  pub reach : ℕ
   pub owned : ℕ
 
 abbrev pub kept_code : {X : Type 0} → Coded X → Coded (Kept X)
 kept_code {X} c =
-    code_by (Node X × (ℕ × (ℕ × ℕ))) (coded× (node_code c) (coded× coded_ℕ (coded× coded_ℕ coded_ℕ))) (λ k. (k.node, (k.index, (k.sure, k.owned)))) (λ p. record { node = p.0; index = p.1.0; sure = p.1.1.0; owned = p.1.1.1 }) (λ _. refl)
+    code_by (Node X × (ℕ × (ℕ × (ℕ × ℕ)))) (coded× (node_code c) (coded× coded_ℕ (coded× coded_ℕ (coded× coded_ℕ coded_ℕ)))) (λ k. (k.node, (k.index, (k.sure, (k.reach, k.owned))))) (λ p. record { node = p.0; index = p.1.0; sure = p.1.1.0; reach = p.1.1.1.0; owned = p.1.1.1.1 }) (λ _. refl)
+
+-- the index of a child of which none is known
+abbrev pub unknown : ℕ
+unknown = 18446744073709551615
+
+-- What a kept index tells of a child's place: it is the place where either is below the parent's count of right ones, and else both are beyond that;
+-- and it is unknown from the parent's reach on.
+abbrev pub Tells : ℕ → ℕ → ℕ → ℕ → Type 0
+Tells index place sure reach = (min index sure ≡ min place sure) × (reach ≤ place → index ≡ unknown)
 
 module _ {X : Type 0} where
   abbrev pub with_index : ℕ → Kept X → Kept X
   with_index i k = record k { index = i }
 
-  abbrev pub with_sure : ℕ → Kept X → Kept X
-  with_sure n k = record k { sure = n }
+  abbrev pub with_sure : ℕ → ℕ → Kept X → Kept X
+  with_sure n r k = record k { sure = n; reach = r }
 
   abbrev pub with_owned : ℕ → Kept X → Kept X
   with_owned n k = record k { owned = n }
@@ -39,6 +50,10 @@ module _ {X : Type 0} where
   abbrev pub sure_in : Option (Entry (Kept X)) → ℕ
   sure_in None = 0
   sure_in (Some e) = e.value.sure
+
+  abbrev pub reach_in : Option (Entry (Kept X)) → ℕ
+  reach_in None = 0
+  reach_in (Some e) = e.value.reach
 
   abbrev pub owned_in : Option (Entry (Kept X)) → ℕ
   owned_in None = 0
@@ -59,14 +74,14 @@ module _ {X : Type 0} where
   abbrev pub indexed : Arena (Kept X) → ℕ → ℕ → Arena (Kept X)
   indexed a slot i = altered (λ (e : Entry (Kept X)). with_value (with_index i e.value) e) a slot
 
-  -- a slot's count of children with a right index set
-  abbrev pub assured : Arena (Kept X) → ℕ → ℕ → Arena (Kept X)
-  assured a slot n = altered (λ (e : Entry (Kept X)). with_value (with_sure n e.value) e) a slot
+  -- a slot's counts of children with a right index, and with any, set
+  abbrev pub assured : Arena (Kept X) → ℕ → ℕ → ℕ → Arena (Kept X)
+  assured a slot n r = altered (λ (e : Entry (Kept X)). with_value (with_sure n r e.value) e) a slot
 
-  -- The kept index of a child is its place where either is below its parent's count, and else both are beyond that.
+  -- each child's kept index tells what it is to tell
   abbrev pub IsCounted : (ℕ → Option (Entry (Kept X))) → Type 0
   IsCounted at =
-      (p c : ℕ) → 0 < hits c (children_in (at p)) → min (index_in (at c)) (sure_in (at p)) ≡ min (place_in c (children_in (at p))) (sure_in (at p))
+      (p c : ℕ) → 0 < hits c (children_in (at p)) → Tells (index_in (at c)) (place_in c (children_in (at p))) (sure_in (at p)) (reach_in (at p))
 
   -- a slot's count of nodes that have its node as their node document set
   abbrev pub owning : Arena (Kept X) → ℕ → ℕ → Arena (Kept X)

@@ -5,9 +5,9 @@ ghost use Rattle.dom_model.specs.Forests.Forest.{HasNode, parent_of, index_of};
 
 use crate::node_id::NodeId;
 use crate::tree::{Tree, slot_of};
-use crate::upkeep::number_all;
+use crate::upkeep::number_up_to;
 
-// How far an index is looked for before all children are numbered.
+// How far an index is looked for before it is made known.
 const NEAR: usize = 64;
 
 impl<X> Tree<X> {
@@ -26,17 +26,34 @@ impl<X> Tree<X> {
         None
     }
 
+    // Makes an index that was found known until the list changes in front of it, with those of the siblings ahead.
+    fn make_known(&mut self, id: NodeId, index: usize)
+        requires held { HasNode self.old.forest id }
+        requires index { index ≡ index_of self.old.forest id }
+        ensures { self.new ≡ self.old }
+    {
+        let slot = slot_of(&self.table, id);
+        self.links.sound();
+        if let Some(parent) = self.links.parent(slot) {
+            number_up_to(&mut self.links, parent, slot, index);
+        }
+    }
+
     /// Numbers the children of a parent, so that each child's index is known until the list changes in front of it. It takes no memory.
     pub fn number_children(&mut self, parent: NodeId)
         requires { HasNode self.old.forest parent }
         ensures { self.new ≡ self.old }
     {
-        let slot = slot_of(&self.table, parent);
-        self.links.sound();
-        number_all(&mut self.links, slot);
+        self.sound();
+        if let Some(last) = self.last(parent) {
+            let index = self.index(last);
+            self.make_known(last, index);
+        }
     }
 
-    /// The number of preceding siblings; 0 for a root. It looks 64 steps to both sides, and where it does not find it there it numbers all children of the parent, so that it is known of each. It takes no memory.
+    /// The number of preceding siblings; 0 for a root. It looks 64 steps to both sides, and where it does not find it there it makes it known, with the index of each sibling ahead, until the list changes in front of it. It takes no memory.
+    ///
+    /// So what asks for one index after another and changes the list there, from either end or from some place on, takes no more steps a question than lie between two of them, once it has come to the first.
     pub fn found_index(&mut self, id: NodeId) -> usize
         requires { HasNode self.old.forest id }
         ensures index { result ≡ index_of self.old.forest id }
@@ -45,13 +62,12 @@ impl<X> Tree<X> {
         if let Some(index) = self.index_within(id, NEAR) {
             return index;
         }
-        self.sound();
-        if let Some(parent) = self.parent(id) {
-            self.number_children(parent);
-        }
-        self.index(id)
+        let index = self.index(id);
+        self.make_known(id, index);
+        index
     }
-    /// Whether `a` comes before `b` among the children of their parent. Where that is not found 64 steps to both sides of `a`, all children are numbered, so that it is known when it is asked for again. It takes no memory.
+
+    /// Whether `a` comes before `b` among the children of their parent. Where that is not found 64 steps to both sides of `a`, the indices of both are made known, so that it is known when it is asked for again. It takes no memory.
     pub fn found_before(&mut self, a: NodeId, b: NodeId) -> bool
         requires a_held { HasNode self.old.forest a }
         requires b_held { HasNode self.old.forest b }
@@ -69,6 +85,14 @@ impl<X> Tree<X> {
         if let Some(before) = self.is_ahead_within(a, b, NEAR) {
             return before;
         }
-        self.found_index(a) < self.found_index(b)
+        let a_index = self.index(a);
+        let b_index = self.index(b);
+        let before = a_index < b_index;
+        if before {
+            self.make_known(b, b_index);
+        } else {
+            self.make_known(a, a_index);
+        }
+        before
     }
 }

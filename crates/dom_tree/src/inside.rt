@@ -1,9 +1,9 @@
 //! What stands inside a node: its inclusive descendants (DOM Standard, "Trees").
 
-ghost use Rattle.std.specs.Prelude.{◌≡◌, ℕ, Bool, List, Some, IfSome, true};
+ghost use Rattle.std.specs.Prelude.{◌≡◌, ◌==◌, ℕ, Bool, List, Some, None, IfSome, true, if◌then◌else◌};
 ghost use Rattle.std.specs.List.{list_any};
 ghost use Rattle.dom_model.specs.PlainLists.Lists.{among, after, last_of};
-ghost use Rattle.dom_model.specs.Forests.Forest.{HasNode, ancestors, inclusive_descendants};
+ghost use Rattle.dom_model.specs.Forests.Forest.{HasNode, parent_of, ancestors, inclusive_descendants};
 
 use crate::node_id::NodeId;
 use crate::tree::{Tree, number_of, slot_at, slot_of};
@@ -85,5 +85,45 @@ impl<X> Tree<X> {
             }
         }
         None
+    }
+
+    /// One step of a climb to `top`, or to a root: there it ends, and where the tree does not hold the node.
+    pub fn climb_to(&self, top: NodeId, node: NodeId) -> Option<NodeId>
+        ensures { result ≡ (if node == top then None else parent_of self.now.forest node) }
+    {
+        if node == top || !self.holds(node) {
+            return None;
+        }
+        self.parent(node)
+    }
+
+    /// How many inclusive descendants of `top` a walk over them passes until it ends, or until the climbs from some nodes have ended, of which
+    /// one after another is asked for by index until there is none: walk and climbs go in step, a node and then a step of a climb.
+    ///
+    /// So it costs no more than twice the shorter of the two. Only the time that something takes hangs on the answer, so no clause says it.
+    pub fn steps_inside<F: Fn(usize) -> Option<NodeId>>(&self, top: NodeId, nodes: F) -> usize
+        requires held { HasNode self.now.forest top }
+        requires callable { F.IsAlwaysCallable nodes }
+    {
+        self.sound();
+        let mut here = top;
+        let mut climbing = None;
+        let mut begun = 0;
+        for passed in 0..usize::MAX {
+            if let Some(node) = climbing {
+                climbing = self.climb_to(top, node);
+            } else {
+                climbing = nodes(begun);
+                if climbing.is_none() {
+                    return passed;
+                }
+                begun = begun.saturating_add(1);
+            }
+            match self.next_inside(top, here) {
+                Some(next) => here = next,
+                None => return passed + 1,
+            }
+        }
+        usize::MAX
     }
 }

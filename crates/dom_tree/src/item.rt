@@ -4,9 +4,12 @@ use crate::node_id::NodeId;
 use dom_kinds::Label;
 use std::marker::Model;
 
+/// The index of a child of which none is known.
+pub const UNKNOWN: usize = usize::MAX;
+
 /// A node as its slot holds it, with the number that callers know it by.
 ///
-/// `index` is its place among its siblings where it is below the parent's `sure`, the number of first children whose `index` is right. `owned` is how many nodes have it as their node document, where the tree keeps count of that.
+/// `index` is its place among its siblings where it is below the parent's `sure`, the number of first children whose `index` is right. From the parent's `reach` on it is `UNKNOWN`, so that it is not taken for right once `sure` has grown. `owned` is how many nodes have it as their node document, where the tree keeps count of that.
 #[derive(Drop)]
 pub struct Item<X> {
     pub number: NodeId,
@@ -15,6 +18,7 @@ pub struct Item<X> {
     pub body: X,
     pub index: usize,
     pub sure: usize,
+    pub reach: usize,
     pub owned: u64,
 }
 
@@ -25,5 +29,5 @@ impl<X> Model for Item<X> {
 
     ghost coded = { kept_code X.code };
 
-    ghost view = { λ i. record { node = record { number = i.number; document = i.document; label = i.label; body = i.body }; index = i.index; sure = i.sure; owned = i.owned } };
+    ghost view = { λ i. record { node = record { number = i.number; document = i.document; label = i.label; body = i.body }; index = i.index; sure = i.sure; reach = i.reach; owned = i.owned } };
 }

@@ -139,6 +139,7 @@ impl<X: Drop> Tree<X> {
             body,
             index: 0,
             sure: 0,
+            reach: 0,
             owned: 1,
         };
         self.links.sound();

@@ -1,10 +1,15 @@
 -- Those that gave way wait, and the others stay.
+use Rattle.std.specs.Option.{ForSome}
 use Rattle.dom_model.specs.MutationAlgorithms.PreRemoval.{pre_removed}
+use Rattle.dom_traverse.specs.Exits.{IsExit}
 use Rattle.dom_traverse.proofs.Leaving.{standing, AreLeaving}
 use Rattle.dom_traverse.proofs.giving_way.give_way.Given as goal
 
 abbrev pub invariant-loop-id : goal.invariant-loop-id
-invariant-loop-id g l = AreLeaving (pre_removed l.tree.forest l.node) l.fn.iterators l.iterators l.references
+invariant-loop-id g l = record {
+  leaving : AreLeaving (pre_removed l.tree.forest l.node) l.fn.iterators l.iterators l.references;
+  found : ForSome l.last (IsExit l.tree.forest l.node);
+}
 
 abbrev pub decreases-loop-id : goal.decreases-loop-id
 decreases-loop-id g l = standing l.references

@@ -10,7 +10,7 @@ pub returns-then-not-stands_in : goal.returns-then-not-stands_in
 returns-then-not-stands_in g c =
     if-some _ _ c.unwrap-parent.result (sym c.parent.ensures ∙ c.unwrap-parent.ensures)
     (still-removed c.args.self.now (inclusive_descendants c.args.tree.now.forest c.args.node) c.unwrap-parent.result (index_of c.args.tree.now.forest c.args.node)
-    (sym c.refers-inside.ensures ∙ c.if-not-inside.true) (sym c.stands_in.ensures ∙ c.if-not-stands_in.true))
+    (sym c.refers_within-inside.ensures ∙ c.if-not-inside.true) (sym c.stands_in.ensures ∙ c.if-not-stands_in.true))
 
 pub returns-then-inside : goal.returns-then-inside
 returns-then-inside g c =
@@ -25,5 +25,5 @@ pub returns-else-inside : goal.returns-else-inside
 returns-else-inside g c =
     if-some _ _ c.unwrap-parent.result (sym c.parent.ensures ∙ c.unwrap-parent.ensures)
     (closed-removed c.args.self.now (inclusive_descendants c.args.tree.now.forest c.args.node) c.unwrap-parent.result (index_of c.args.tree.now.forest c.args.node)
-    c.close_up.new.self (sym c.refers-inside.ensures ∙ c.if-inside.false)
+    c.close_up.new.self (sym c.refers_within-inside.ensures ∙ c.if-inside.false)
     (c.close_up.ensures ∙ ap (λ n. record c.args.self.now { ranges = map_ranges (after_splice c.unwrap-parent.result n 1 0) c.args.self.now.ranges }) c.index-index.ensures))

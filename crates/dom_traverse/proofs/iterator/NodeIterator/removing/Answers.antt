@@ -1,29 +1,15 @@
--- The root stands over the node that goes.
-use Rattle.std.proofs.Common.{◌≡◌, true, sym, ◌∙◌, subst, tests, rules}
-use Rattle.dom_model.specs.PlainLists.Lists.{among}
-use Rattle.dom_model.specs.Forests.Forest.{ancestors}
+-- A reference elsewhere stays, and one inside goes by the exits of its root.
+use Rattle.std.proofs.Common.{sym, ap, ◌∙◌}
 use Rattle.dom_model.specs.Worlds.World.{Iterator}
-use Rattle.dom_traverse.proofs.Stances.{lost-under}
+use Rattle.dom_traverse.proofs.Exiting.{goes}
+use Rattle.dom_traverse.proofs.StepsOff.{elsewhere}
 use Rattle.dom_traverse.proofs.iterator.NodeIterator.removing.Goals as goal
 
-pub past_inside-requires-clause-under : goal.past_inside-requires-clause-under
-past_inside-requires-clause-under g c =
-    subst (λ (i : Iterator). among i.root (ancestors c.args.node c.args.tree.now.forest) ≡ true) (sym c.self.view_is)
-    (lost-under c.args.tree.now.forest c.sound.ensures.once c.args.node c.args.self.now (sym c.loses.ensures ∙ c.if-not-loses.false))
+pub returns-then-not-is_lost-clause-moved : goal.returns-then-not-is_lost-clause-moved
+returns-then-not-is_lost-clause-moved g c =
+    sym (elsewhere c.args.tree.now.forest c.sound.ensures.once c.args.node c.args.self.now (sym c.is_lost.ensures ∙ c.if-not-is_lost.true))
 
-pub previous_inside-requires-clause-under : goal.previous_inside-requires-clause-under
-previous_inside-requires-clause-under g c =
-    subst (λ (i : Iterator). among i.root (ancestors c.args.node c.args.tree.now.forest) ≡ true) (sym c.self.view_is)
-    (lost-under c.args.tree.now.forest c.sound.ensures.once c.args.node c.args.self.now (sym c.loses.ensures ∙ c.if-not-loses.false))
-
-pub returns-then-not-loses : goal.returns-then-not-loses
-returns-then-not-loses g c = search (tests, rules)
-
-pub returns-in-Some : goal.returns-in-Some
-returns-in-Some g c = search (tests, rules)
-
-pub returns-in-Some-previous_inside : goal.returns-in-Some-previous_inside
-returns-in-Some-previous_inside g c = search (tests, rules)
-
-pub returns-in_default-previous_inside : goal.returns-in_default-previous_inside
-returns-in_default-previous_inside g c = search (tests, rules)
+pub returns-clause-moved : goal.returns-clause-moved
+returns-clause-moved g c =
+    c.step_off.ensures
+    ∙ goes c.args.tree.now.forest c.args.node c.for_root-exit.result c.for_root-exit.ensures.exit c.args.self.now (c.for_root-exit.ensures.root ∙ ap (λ (i : Iterator). i.root) c.self.view_is) (sym c.is_lost.ensures ∙ c.if-not-is_lost.false)

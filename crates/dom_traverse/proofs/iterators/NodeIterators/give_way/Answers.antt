@@ -11,8 +11,8 @@ pub invariant_of-self : goal.invariant_of-self
 invariant_of-self g c =
     let is = c.self.inside.iterators in
     let step = pre_removed c.args.tree.now.forest c.args.node in
-    let gave = subst (λ old. GaveWay step c.args.here old c.give_way.new.iterators) c.deref_mut.ensures.value c.give_way.ensures.gave in
-    let back = written-back c.give_way.new.iterators is.items is.len (omega (arith, is.ok.0, gave.long)) in
+    let gave = subst (λ old. GaveWay step c.args.here old c.give_way-last.new.iterators) c.deref_mut.ensures.value c.give_way-last.ensures.gave in
+    let back = written-back c.give_way-last.new.iterators is.items is.len (omega (arith, is.ok.0, gave.long)) in
     rw back
-    (found-gave step c.args.here is.items c.give_way.new.iterators c.self.inside.roots c.self.inside.references c.settle.new.references (root-stays c.args.tree.now.forest c.args.node) c.self.invariant gave
+    (found-gave step c.args.here is.items c.give_way-last.new.iterators c.self.inside.roots c.self.inside.references c.settle.new.references (root-stays c.args.tree.now.forest c.args.node) c.self.invariant gave
     (c.settle.ensures ∙ ap references_of (c.deref.ensures.value ∙ back)))

@@ -16,4 +16,4 @@ returns-clause-unchanged c = search (tests, rules)
 pub invariant_of-self-2 : goal.invariant_of-self-2
 invariant_of-self-2 c =
     found-more (λ (i : Iterator). i.root) (λ (i : Iterator). i.reference) c.self.inside.iterators.items c.self.inside.roots c.self.inside.references c.self.invariant c.push_reserved.new.self.items c.reserve-2.new.self c.name.new.roots c.add.new.self
-    (new_iterator c.args.root c.args.filter) c.args.root (omega (arith, c.requires.room, ap length c.self.view_is)) c.reserve-2.ensures.keys refl refl c.name.ensures c.in_ok-add.ensures.added (c.push_reserved.ensures.items ∙ ap (λ is. is ++ new_iterator c.args.root c.args.filter ∷ []) c.reserve.ensures.items)
+    (new_iterator c.args.root c.in_ok-filter.filter) c.args.root (omega (arith, c.requires.room, ap length c.self.view_is)) c.reserve-2.ensures.keys refl refl c.name.ensures c.in_ok-add.ensures.added (c.push_reserved.ensures.items ∙ ap (λ is. is ++ new_iterator c.args.root c.in_ok-filter.filter ∷ []) c.reserve.ensures.items)

@@ -2,18 +2,25 @@
 use Rattle.std.proofs.Common.{length, ap, ◌∙◌, refl, arith}
 use Rattle.dom_model.specs.Worlds.World.{Iterator}
 use Rattle.dom_model.specs.MutationAlgorithms.PreRemoval.{pre_removed}
+use Rattle.dom_model.proofs.Forests.TreeOrder.InsideWalks.{at-top}
+use Rattle.dom_traverse.proofs.Descendants.{among-inside}
 use Rattle.dom_traverse.proofs.Following.{written-at}
 use Rattle.dom_traverse.proofs.Found.{found-written}
 use Rattle.dom_traverse.proofs.StepsOff.{root-stays}
 use Rattle.dom_traverse.proofs.iterators.NodeIterators.step_off.Goals as goal
 
+pub removing-last-requires-clause-inside : goal.removing-last-requires-clause-inside
+removing-last-requires-clause-inside g c =
+    let f = c.args.tree.now.forest in
+    among-inside f c.sound.ensures.once c.args.node c.args.node ∙ (at-top c.args.tree.now c.sound.ensures c.args.node c.requires.held).under
+
 pub invariant_of-self : goal.invariant_of-self
 invariant_of-self g c =
-    found-written (λ (i : Iterator). i.root) (λ (i : Iterator). i.reference) c.self.inside.iterators.items c.self.inside.roots c.self.inside.references c.self.invariant c.set.new.self c.args.id c.args.id c.iterator.inside.reference c.index_mut-iterator.result.now c.removing.new.self
+    found-written (λ (i : Iterator). i.root) (λ (i : Iterator). i.reference) c.self.inside.iterators.items c.self.inside.roots c.self.inside.references c.self.invariant c.set.new.self c.args.id c.args.id c.iterator.inside.reference c.index_mut-iterator.result.now c.removing-last.new.self
     refl (omega (arith, c.requires.there, ap length c.self.view_is)) c.index_mut-iterator.ensures.value
-    (ap (λ (i : Iterator). i.root) c.removing.ensures ∙ root-stays c.args.tree.now.forest c.args.node c.index_mut-iterator.result.now) (ap (λ (i : Iterator). i.reference) c.iterator.view_is) c.set.ensures
+    (ap (λ (i : Iterator). i.root) c.removing-last.ensures.moved ∙ root-stays c.args.tree.now.forest c.args.node c.index_mut-iterator.result.now) (ap (λ (i : Iterator). i.reference) c.iterator.view_is) c.set.ensures
 
-pub returns : goal.returns
-returns g c =
+pub returns-clause-stepped : goal.returns-clause-stepped
+returns-clause-stepped g c =
     written-at c.self.inside.iterators.items c.args.self.now c.self.view_is c.args.id c.args.id refl c.requires.there c.index_mut-iterator.result.now c.index_mut-iterator.ensures.value
-    (pre_removed c.args.tree.now.forest c.args.node) c.removing.new.self c.removing.ensures
+    (pre_removed c.args.tree.now.forest c.args.node) c.removing-last.new.self c.removing-last.ensures.moved

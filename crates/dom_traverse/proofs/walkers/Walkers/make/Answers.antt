@@ -16,4 +16,4 @@ returns-clause-unchanged c = search (tests, rules)
 pub invariant_of-self-2 : goal.invariant_of-self-2
 invariant_of-self-2 c =
     found-more (λ (k : Walker). k.root) (λ (k : Walker). k.current) c.self.inside.walkers.items c.self.inside.roots c.self.inside.currents c.self.invariant c.push_reserved.new.self.items c.reserve-2.new.self c.name.new.roots c.add.new.self
-    (new_walker c.args.root c.args.filter) c.args.root (omega (arith, c.requires.room, ap length c.self.view_is)) c.reserve-2.ensures.keys refl refl c.name.ensures c.in_ok-add.ensures.added (c.push_reserved.ensures.items ∙ ap (λ ks. ks ++ new_walker c.args.root c.args.filter ∷ []) c.reserve.ensures.items)
+    (new_walker c.args.root c.in_ok-filter.filter) c.args.root (omega (arith, c.requires.room, ap length c.self.view_is)) c.reserve-2.ensures.keys refl refl c.name.ensures c.in_ok-add.ensures.added (c.push_reserved.ensures.items ∙ ap (λ ks. ks ++ new_walker c.args.root c.in_ok-filter.filter ∷ []) c.reserve.ensures.items)

@@ -4,7 +4,7 @@ use Rattle.std.proofs.lemmas.Bool.{false≢true}
 use Rattle.std.specs.Prelude.{slice_get}
 use Rattle.dom_model.specs.PlainLists.Lists.{last_of}
 use Rattle.dom_model.specs.Forests.Forest.{children_of}
-use Rattle.dom_tree.proofs.NumberingAll.{get-within}
+use Rattle.dom_tree.proofs.PlacesAt.{get-within}
 use Rattle.dom_tree.proofs.Beside.{get-last, child-back}
 use Rattle.dom_tree.proofs.Trees.{slot-held}
 use Rattle.dom_tree.proofs.Steps.{called, begins, down_last, leaf, back, foremost}

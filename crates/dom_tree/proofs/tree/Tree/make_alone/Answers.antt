@@ -8,7 +8,7 @@ use Rattle.dom_tree.proofs.tree.Tree.make_alone.Goals as goal
 
 pub invariant_of-self-2 : goal.invariant_of-self-2
 invariant_of-self-2 g c =
-    let x : Kept g.row.X.Denot = record { node = record { number = c.new-id.result; document = c.new-id.result; label = c.args.label; body = c.args.body }; index = 0; sure = 0; owned = 1 } in
+    let x : Kept g.row.X.Denot = record { node = record { number = c.new-id.result; document = c.new-id.result; label = c.args.label; body = c.args.body }; index = 0; sure = 0; reach = 0; owned = 1 } in
     let added_is : c.add.new.self ≡ added c.self.inside.links x = c.in-Ok.ensures.added in
     let fresh : entry_at c.self.inside.links c.in-Ok.slot ≡ None = c.in-Ok.ensures.fresh in
     let slot_is : c.in-Ok.slot ≡ next_slot c.self.inside.links = c.in-Ok.ensures.slot in
@@ -19,7 +19,7 @@ invariant_of-self-2 g c =
 
 pub returns-clause-made : goal.returns-clause-made
 returns-clause-made g c =
-    let x : Kept g.row.X.Denot = record { node = record { number = c.new-id.result; document = c.new-id.result; label = c.args.label; body = c.args.body }; index = 0; sure = 0; owned = 1 } in
+    let x : Kept g.row.X.Denot = record { node = record { number = c.new-id.result; document = c.new-id.result; label = c.args.label; body = c.args.body }; index = 0; sure = 0; reach = 0; owned = 1 } in
     let added_is : c.add.new.self ≡ added c.self.inside.links x = c.in-Ok.ensures.added in
     let fresh : entry_at c.self.inside.links c.in-Ok.slot ≡ None = c.in-Ok.ensures.fresh in
     let slot_is : c.in-Ok.slot ≡ next_slot c.self.inside.links = c.in-Ok.ensures.slot in
@@ -27,7 +27,7 @@ returns-clause-made g c =
     let number_is : c.new-id.result ≡ length c.self.inside.table.items = c.new-id.ensures ∙ c.len.ensures ∙ ap length c.reserve.ensures.items in
     let done = made-keeps c.self.invariant c.self.view_is c.sound.ensures x c.add.new.self c.push_reserved.new.self.items c.in-Ok.slot number_is fresh c.requires.room added_is slot_is table_is in
     let m = number_is ∙ made-is c.self.invariant c.self.view_is in
-    let y : Kept g.row.X.Denot = record { node = record { number = c.args.self.now.made; document = c.args.self.now.made; label = c.args.label; body = c.args.body }; index = 0; sure = 0; owned = 1 } in
+    let y : Kept g.row.X.Denot = record { node = record { number = c.args.self.now.made; document = c.args.self.now.made; label = c.args.label; body = c.args.body }; index = 0; sure = 0; reach = 0; owned = 1 } in
     made-shown c.self.invariant c.self.view_is x y c.add.new.self c.push_reserved.new.self.items c.in-Ok.slot
     (λ i. record { number = m i; document = m i; label = c.args.label; body = c.args.body }) table_is done
 

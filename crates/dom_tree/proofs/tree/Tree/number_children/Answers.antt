@@ -1,16 +1,19 @@
--- The nodes are the same, and the indices right.
-use Rattle.dom_tree.proofs.Trees.{slot-held, held-slot, numbered-shown}
-use Rattle.dom_tree.proofs.OwnedTrees.{numbered-tree}
+-- The last child is held.
+use Rattle.std.proofs.Common.{sym, ◌∙◌}
+use Rattle.dom_model.specs.Forests.Forest.{children_of}
+use Rattle.dom_model.proofs.PlainLists.Members.{hits-last_of}
+use Rattle.dom_model.proofs.Forests.Entries.{HasNode-occurs}
+use Rattle.dom_model.proofs.Forests.Indices.{child-there}
 use Rattle.dom_tree.proofs.tree.Tree.number_children.Goals as goal
 
-pub slot_of-slot-requires : goal.slot_of-slot-requires
-slot_of-slot-requires g c = slot-held c.self.invariant c.self.view_is c.args.parent c.requires
+pub index-index-requires : goal.index-index-requires
+index-index-requires g c =
+    let f = c.args.self.now.forest in
+    let last = c.in-Some.last in
+    HasNode-occurs f last (child-there f c.sound.ensures.once last c.args.parent (hits-last_of (children_of f c.args.parent) last (sym c.last.ensures ∙ c.in-Some.is)))
 
-pub number_all-requires : goal.number_all-requires
-number_all-requires g c = record { held = held-slot c.self.invariant c.self.view_is c.args.parent c.slot_of-slot.result c.slot_of-slot.ensures; sound = c.sound.ensures; counted = c.self.invariant.stored.counted }
-
-pub invariant_of-self : goal.invariant_of-self
-invariant_of-self g c = numbered-tree c.self.invariant c.number_all.new.links c.slot_of-slot.result c.number_all.ensures
-
-pub returns : goal.returns
-returns g c = numbered-shown c.self.invariant c.self.view_is c.number_all.new.links c.slot_of-slot.result c.number_all.ensures
+pub make_known-requires-clause-held : goal.make_known-requires-clause-held
+make_known-requires-clause-held g c =
+    let f = c.args.self.now.forest in
+    let last = c.in-Some.last in
+    HasNode-occurs f last (child-there f c.sound.ensures.once last c.args.parent (hits-last_of (children_of f c.args.parent) last (sym c.last.ensures ∙ c.in-Some.is)))

@@ -4,7 +4,7 @@ use Rattle.dom_model.specs.PlainLists.Lists.{among}
 use Rattle.dom_model.specs.Forests.Forest.{inclusive_descendants}
 use Rattle.dom_ranges.specs.Tables.{live_nodes}
 use Rattle.dom_ranges.proofs.EndsAsked.{referred}
-use Rattle.dom_ranges.proofs.ranges.Ranges.refers.Goals as goal
+use Rattle.dom_ranges.proofs.ranges.Ranges.refers_within.Goals as goal
 
 pub returns-then-is_idle : goal.returns-then-is_idle
 returns-then-is_idle g c = search (tests, rules)

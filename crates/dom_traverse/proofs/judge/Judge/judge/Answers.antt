@@ -1,5 +1,5 @@
 use Rattle.std.proofs.Common.{tests, rules}
-use Rattle.dom_traverse.proofs.filter.Filter.judge.Goals as goal
+use Rattle.dom_traverse.proofs.judge.Judge.judge.Goals as goal
 
 pub returns-then-shows : goal.returns-then-shows
 returns-then-shows g c = search (tests, rules)

@@ -1,0 +1,76 @@
+//! Where the references inside a node go before it is removed: what was found for one iterator serves the others of its root.
+
+ghost use Rattle.std.specs.Prelude.{◌≡◌, ◌==◌, not, ◌&&◌};
+ghost use Rattle.std.specs.Option.{ForSome};
+ghost use Rattle.dom_model.specs.PlainLists.Lists.{among};
+ghost use Rattle.dom_model.specs.Forests.Forest.{HasNode, inclusive_descendants};
+ghost use Rattle.dom_traverse.specs.Exits.{IsExit};
+
+use crate::inside::{past_inside, previous_inside};
+use dom_tree::{NodeId, Tree};
+
+// The nodes to which references inside a node go that is to be removed, in iterators of one root: on, or else back.
+#[derive(Clone, Copy, Drop)]
+pub(crate) struct Exit {
+    root: NodeId,
+    // whether the root loses the node
+    pub(crate) loses: bool,
+    pub(crate) following: Option<NodeId>,
+    pub(crate) preceding: Option<NodeId>,
+}
+
+// Whether a root loses a node that goes: it stands over it.
+fn loses<X>(tree: &Tree<X>, root: NodeId, node: NodeId) -> bool
+    requires { HasNode tree.now.forest node }
+    ensures { result ≡ (not (node == root) && among node (inclusive_descendants tree.now.forest root)) }
+{
+    tree.sound();
+    node != root && tree.is_ancestor(root, node)
+}
+
+impl Exit {
+    // What is found for a root.
+    fn of<X>(tree: &Tree<X>, node: NodeId, root: NodeId) -> Exit
+        requires { HasNode tree.now.forest node }
+        ensures root { result.root ≡ root }
+        ensures exit { IsExit tree.now.forest node result }
+    {
+        if !loses(tree, root, node) {
+            return Exit {
+                root,
+                loses: false,
+                following: None,
+                preceding: None,
+            };
+        }
+        tree.sound();
+        let following = past_inside(tree, root, node);
+        let preceding = previous_inside(tree, root, node);
+        Exit {
+            root,
+            loses: true,
+            following,
+            preceding,
+        }
+    }
+
+    // The same: what was found last, where that was for this root.
+    pub(crate) fn for_root<X>(
+        last: Option<Exit>,
+        tree: &Tree<X>,
+        node: NodeId,
+        root: NodeId,
+    ) -> Exit
+        requires held { HasNode tree.now.forest node }
+        requires found { ForSome last (IsExit tree.now.forest node) }
+        ensures root { result.root ≡ root }
+        ensures exit { IsExit tree.now.forest node result }
+    {
+        if let Some(exit) = last {
+            if exit.root == root {
+                return exit;
+            }
+        }
+        Exit::of(tree, node, root)
+    }
+}

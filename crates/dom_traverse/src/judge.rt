@@ -1,0 +1,124 @@
+//! A filter whose rules are found by name (DOM Standard, "Interface NodeFilter").
+
+ghost use Rattle.std.specs.Prelude.{◌≡◌, ℕ, List, string_bytes, bytes_eq, if◌then◌else◌, IfOk, OnOk};
+ghost use Rattle.dom_model.specs.declared.Verdict.{Verdict as AVerdict};
+ghost use Rattle.dom_model.specs.Traversal.Filters.{shows, ruled, verdict_on, accepts, rejects};
+ghost use Rattle.dom_model.specs.Forests.Forest.{HasNode};
+ghost use Rattle.dom_traverse.specs.Judging.{known_or, AreRulesByName};
+
+use crate::filter::{Filter, Rule};
+use dom_kinds::{Kind, NodeType};
+use dom_model::Verdict;
+use dom_tree::{NodeId, Tree};
+use std::alloc::{AllocError, Global};
+use std::collections::BTreeMap;
+use std::marker::Model;
+
+// A filter, with the verdict of the first rule for each name and that on all other names. A map in the order of the names has no worst case.
+#[derive(Drop)]
+pub struct Judge {
+    filter: Filter,
+    verdicts: BTreeMap<String, Verdict>,
+    others: Verdict,
+}
+
+impl Model for Judge {
+    ghost use Rattle.dom_model.specs.Worlds.World.{Filter as PlainFilter};
+
+    ghost Value = { PlainFilter };
+
+    ghost view = { λ j. j.filter };
+
+    ghost use Rattle.dom_traverse.specs.Judging.{AreRulesByName};
+
+    ghost invariant = { λ j. AreRulesByName j.filter.rules j.verdicts j.others };
+}
+
+// Puts a rule among the verdicts, where none is known for its name.
+fn note(verdicts: &mut BTreeMap<String, Verdict>, rule: &Rule) -> Result<(), AllocError>
+    ensures { OnOk result ((name : List ℕ) (others : AVerdict) → known_or verdicts.new others name ≡ known_or verdicts.old (if bytes_eq rule.now.name name then rule.now.verdict else others) name) }
+{
+    if verdicts.contains_key(rule.name.as_str()) {
+        return Ok(());
+    }
+    let name = rule.name.clone()?;
+    verdicts.insert(name, rule.verdict)?;
+    Ok(())
+}
+
+// The verdicts of rules by name, and that on all other names: of the first rule for every name, or none.
+fn by_name(
+    alloc: Global,
+    rules: &[Rule],
+) -> Result<(BTreeMap<String, Verdict>, Verdict), AllocError>
+    ensures { IfOk result (λ known. AreRulesByName rules.now known.0 known.1) }
+{
+    let mut verdicts = BTreeMap::new(alloc);
+    for rule in rules {
+        if rule.name.as_str() == "*" {
+            return Ok((verdicts, rule.verdict));
+        }
+        note(&mut verdicts, rule)?;
+    }
+    Ok((verdicts, Verdict::Accept))
+}
+
+impl Judge {
+    // The same filter, with its rules by name.
+    pub fn new(alloc: Global, filter: Filter) -> Result<Judge, AllocError>
+        ensures { IfOk result (λ judge. judge ≡ filter) }
+    {
+        let (verdicts, others) = by_name(alloc, filter.rules.as_slice())?;
+        Ok(Judge {
+            filter,
+            verdicts,
+            others,
+        })
+    }
+
+    // What the filter says of a node.
+    pub fn judge<X>(&self, tree: &Tree<X>, node: NodeId) -> Verdict
+        requires { HasNode tree.now.forest node }
+        ensures { result ≡ verdict_on tree.now.forest self.now node }
+    {
+        let label = tree.label(node);
+        if self.shows(label.kind) {
+            self.ruled(label.node_name())
+        } else {
+            Verdict::Skip
+        }
+    }
+
+    // Whether the filter accepts a node.
+    pub fn accepts<X>(&self, tree: &Tree<X>, node: NodeId) -> bool
+        requires { HasNode tree.now.forest node }
+        ensures { result ≡ accepts tree.now.forest self.now node }
+    {
+        self.judge(tree, node) == Verdict::Accept
+    }
+
+    // Whether the filter rejects a node.
+    pub fn rejects<X>(&self, tree: &Tree<X>, node: NodeId) -> bool
+        requires { HasNode tree.now.forest node }
+        ensures { result ≡ rejects tree.now.forest self.now node }
+    {
+        self.judge(tree, node) == Verdict::Reject
+    }
+
+    // Whether nodes of the kind are shown.
+    fn shows(&self, kind: Kind) -> bool
+        ensures { result ≡ shows self.now.show kind }
+    {
+        (self.filter.show >> (kind.number() - 1)) % 2 == 1
+    }
+
+    // What the first rule for the name says.
+    fn ruled(&self, name: &str) -> Verdict
+        ensures { result ≡ ruled self.now.rules name.now }
+    {
+        match self.verdicts.get(name) {
+            Some(verdict) => *verdict,
+            None => self.others,
+        }
+    }
+}
