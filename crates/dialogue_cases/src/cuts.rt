@@ -28,7 +28,7 @@ fn is_answered_in_pieces(rt: &impl Abort, alloc: Global, dialogue: &Dialogue) {
 
 /// That the dialogue is answered as is due whole, in pieces, where a growth is refused, and cut in two at any byte; and that faults are
 /// told. Each dialogue has a test that asks it, beside its text.
-pub fn is_answered_in_two(rt: &impl Abort, alloc: Global, dialogue: &Dialogue) {
+pub(crate) fn is_answered_in_two(rt: &impl Abort, alloc: Global, dialogue: &Dialogue) {
     is_answered_over_memory(rt, alloc, dialogue);
     is_answered_in_pieces(rt, alloc, dialogue);
     is_answered_or_wants(rt, alloc, dialogue);

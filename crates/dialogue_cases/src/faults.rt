@@ -163,7 +163,7 @@ fn fills_each_room(rt: &impl Abort, alloc: Global, dialogue: &Dialogue) {
 }
 
 /// That in pieces of 1, 7 and 65,536 bytes each read, write and flush fails in turn as it should, and that a writer is filled to its last byte.
-pub fn is_told_of_each_fault(rt: &impl Abort, alloc: Global, dialogue: &Dialogue) {
+pub(crate) fn is_told_of_each_fault(rt: &impl Abort, alloc: Global, dialogue: &Dialogue) {
     for most in [1, 7, 65536] {
         fails_at_each_read(rt, alloc, dialogue, most);
         fails_at_each_write(rt, alloc, dialogue, most);

@@ -8,7 +8,7 @@ use std::alloc::Global;
 use std::process::Abort;
 
 /// The limits of a dialogue.
-pub fn limits_of(dialogue: &Dialogue) -> Limits
+pub(crate) fn limits_of(dialogue: &Dialogue) -> Limits
     ensures { (result.numbers ≡ dialogue.now.numbers) × (result.line ≡ dialogue.now.line) }
 {
     Limits {
@@ -18,7 +18,7 @@ pub fn limits_of(dialogue: &Dialogue) -> Limits
 }
 
 /// That the dialogue is answered as is due, in as many lines as have a reply, over readers and writers of the library.
-pub fn is_answered_over_memory(rt: &impl Abort, alloc: Global, dialogue: &Dialogue) {
+pub(crate) fn is_answered_over_memory(rt: &impl Abort, alloc: Global, dialogue: &Dialogue) {
     let limits = limits_of(dialogue);
     assert!(rt; 1 <= limits.numbers && limits.numbers <= 4294967295 && 1 <= limits.line);
     let mut reader = FromRead::new(dialogue.input());

@@ -28,7 +28,7 @@ fn is_cut_by_want(output: &[u8], text: &[u8]) -> bool {
 }
 
 /// That the dialogue is answered whole, or up to a want of memory.
-pub fn is_answered_or_wants(rt: &impl Abort, alloc: Global, dialogue: &Dialogue) {
+pub(crate) fn is_answered_or_wants(rt: &impl Abort, alloc: Global, dialogue: &Dialogue) {
     let Ok(mut writer) = roomy(alloc) else {
         return;
     };

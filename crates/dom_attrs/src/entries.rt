@@ -10,7 +10,7 @@ use indexmap::IndexMap;
 use std::alloc::{AllocError, Global};
 
 // The number of attributes.
-pub fn count_in(map: &IndexMap<String, Units>) -> usize
+pub(crate) fn count_in(map: &IndexMap<String, Units>) -> usize
     ensures len { result ≡ length (attributes_of map.now.entries) }
     ensures distinct { IsDistinct bytes_eq (attribute_names (attributes_of map.now.entries)) }
 {
@@ -18,14 +18,14 @@ pub fn count_in(map: &IndexMap<String, Units>) -> usize
 }
 
 // The value of the attribute of that name.
-pub fn value_in<'a>(map: &'a IndexMap<String, Units>, name: &str) -> Option<&'a Units>
+pub(crate) fn value_in<'a>(map: &'a IndexMap<String, Units>, name: &str) -> Option<&'a Units>
     ensures { option_copied result ≡ attribute_value name.now (attributes_of map.now.entries) }
 {
     map.get(name)
 }
 
 // Whether there is an attribute of that name and that value.
-pub fn has_in(map: &IndexMap<String, Units>, name: &str, value: &Units) -> bool
+pub(crate) fn has_in(map: &IndexMap<String, Units>, name: &str, value: &Units) -> bool
     requires { IsDistinct string_eq (keys_of map.now.entries) }
     ensures { result ≡ list_any (is_attribute (record { name = name.now; value = value.now })) (attributes_of map.now.entries) }
 {
@@ -36,7 +36,7 @@ pub fn has_in(map: &IndexMap<String, Units>, name: &str, value: &Units) -> bool
 }
 
 // The attribute at an index.
-pub fn pair_in(map: &IndexMap<String, Units>, index: usize) -> Option<(&str, &Units)>
+pub(crate) fn pair_in(map: &IndexMap<String, Units>, index: usize) -> Option<(&str, &Units)>
     ensures { option_map attribute_at result ≡ slice_get (attributes_of map.now.entries) index }
 {
     match map.get_index(index) {
@@ -46,7 +46,7 @@ pub fn pair_in(map: &IndexMap<String, Units>, index: usize) -> Option<(&str, &Un
 }
 
 // The map, or an empty one where there is none.
-pub fn or_new(
+pub(crate) fn or_new(
     alloc: Global,
     map: Option<Box<IndexMap<String, Units>>>,
 ) -> Result<Box<IndexMap<String, Units>>, AllocError>
@@ -60,7 +60,7 @@ pub fn or_new(
 }
 
 // Sets a value, and answers the old one.
-pub fn put_in(
+pub(crate) fn put_in(
     map: &mut IndexMap<String, Units>,
     name: String,
     value: Units,
@@ -75,7 +75,7 @@ pub fn put_in(
 }
 
 // Takes the attribute of that name out, and answers its value.
-pub fn take_from(map: &mut IndexMap<String, Units>, name: &str) -> Option<Units>
+pub(crate) fn take_from(map: &mut IndexMap<String, Units>, name: &str) -> Option<Units>
     ensures value { result ≡ attribute_value name.now (attributes_of map.old.entries) }
     ensures rest { attributes_of map.new.entries ≡ without_attribute name.now (attributes_of map.old.entries) }
     ensures unique { IsDistinct string_eq (keys_of map.new.entries) }

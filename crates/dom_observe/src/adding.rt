@@ -19,7 +19,7 @@ use slab::Slab;
 use std::alloc::{AllocError, Global};
 
 // Puts a registration last among those of its node, and its key among those of its observer.
-pub fn add(
+pub(crate) fn add(
     table: &mut Slab<Registration>,
     nodes: &mut IndexMap<u32, Vec<usize>>,
     keys: &mut Vec<usize>,
@@ -80,7 +80,7 @@ fn transient_of(
 }
 
 // Puts a transient registration on a node for each registration with subtree among those under the keys, once for each observer and origin.
-pub fn add_transients(
+pub(crate) fn add_transients(
     table: &mut Slab<Registration>,
     nodes: &mut IndexMap<u32, Vec<usize>>,
     passing: &mut Vec<Vec<usize>>,
@@ -115,7 +115,7 @@ pub fn add_transients(
 }
 
 // The keys of the registrations that stand on the inclusive ancestors of a node, from the node upwards.
-pub fn standing<X>(
+pub(crate) fn standing<X>(
     nodes: &IndexMap<u32, Vec<usize>>,
     tree: &Tree<X>,
     node: NodeId,
@@ -163,7 +163,7 @@ fn push_deep(
 }
 
 // The keys of the registrations with subtree that stand on the inclusive ancestors of a node, from the node upwards.
-pub fn standing_deep<X>(
+pub(crate) fn standing_deep<X>(
     table: &Slab<Registration>,
     nodes: &IndexMap<u32, Vec<usize>>,
     tree: &Tree<X>,

@@ -91,7 +91,7 @@ fn end_one(
 }
 
 // Takes out the registrations under several keys, where the step ends them.
-pub fn end_among(
+pub(crate) fn end_among(
     table: &mut Slab<Registration>,
     nodes: &mut IndexMap<u32, Vec<usize>>,
     keys: &[usize],
@@ -111,7 +111,7 @@ pub fn end_among(
 }
 
 // Ends registrations of an observer by its keys, and leaves it the keys of those that stay.
-pub fn end_own(
+pub(crate) fn end_own(
     table: &mut Slab<Registration>,
     nodes: &mut IndexMap<u32, Vec<usize>>,
     lists: &mut Vec<Vec<usize>>,
@@ -134,7 +134,7 @@ pub fn end_own(
 }
 
 // Ends the transient registrations of several observers.
-pub fn end_transients(
+pub(crate) fn end_transients(
     table: &mut Slab<Registration>,
     nodes: &mut IndexMap<u32, Vec<usize>>,
     passing: &mut Vec<Vec<usize>>,

@@ -28,19 +28,26 @@ fn has_keys_inside<X>(tree: &Tree<X>, top: NodeId, nodes: &IndexMap<u32, Vec<usi
         .any(|number| tree.is_inside(top, NodeId::new(*number)))
 }
 
+// The node with keys in a place of the table, as long as there is one.
+fn node_at(nodes: &IndexMap<u32, Vec<usize>>, index: usize) -> Option<NodeId> {
+    let (number, _) = nodes.get_index(index)?;
+    Some(NodeId::new(*number))
+}
+
 // Whether a registration stands on a node inside another.
 //
-// It walks the nodes inside, and where they are more than those with registrations it asks each of these.
-pub fn is_named<X>(tree: &Tree<X>, top: NodeId, nodes: &IndexMap<u32, Vec<usize>>) -> bool
+// It walks the nodes inside, or climbs from each node with a registration where that takes fewer steps.
+pub(crate) fn is_named<X>(tree: &Tree<X>, top: NodeId, nodes: &IndexMap<u32, Vec<usize>>) -> bool
     requires { HasNode tree.now.forest top }
     ensures { result ≡ list_any (λ m. among m (inclusive_descendants tree.now.forest top)) (keys_of nodes.now.entries) }
 {
-    tree.any_inside(top, nodes.len(), |node| has_keys(nodes, node))
+    let steps = tree.steps_inside(top, |index| node_at(nodes, index));
+    tree.any_inside(top, steps, |node| has_keys(nodes, node))
         .unwrap_or_else(|| has_keys_inside(tree, top, nodes))
 }
 
 // Whether a record that waits for a pending observer names a node inside.
-pub fn is_told<X>(
+pub(crate) fn is_told<X>(
     tree: &Tree<X>,
     top: NodeId,
     queues: &[Queue],

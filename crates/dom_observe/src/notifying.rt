@@ -15,7 +15,7 @@ use indexmap::IndexSet;
 use std::alloc::{AllocError, Global};
 
 // Takes the records of the pending observers out of their queues, in order; an observer whose queue is empty is left out.
-pub fn gather(
+pub(crate) fn gather(
     pending: &IndexSet<ObserverId>,
     queues: &mut Vec<Queue>,
     alloc: Global,

@@ -69,13 +69,20 @@ impl Queue {
 
     // Whether a record names a node inside another.
     //
-    // It walks the nodes inside, and where they are more than those that the records name it asks each of these.
+    // It walks the nodes inside, or climbs from each node that the records name where that takes fewer steps.
     pub fn names_inside<X>(&self, tree: &Tree<X>, top: NodeId) -> bool
         requires { HasNode tree.now.forest top }
         ensures { result ≡ list_any (λ m. among m (inclusive_descendants tree.now.forest top)) (flat_map nodes_of_record self.now) }
     {
-        tree.any_inside(top, self.named.len(), |node| self.names(node))
+        let steps = tree.steps_inside(top, |index| self.named_at(index));
+        tree.any_inside(top, steps, |node| self.names(node))
             .unwrap_or_else(|| self.has_name_inside(tree, top))
+    }
+
+    // The node that is named in a place of the set, as long as there is one.
+    fn named_at(&self, index: usize) -> Option<NodeId> {
+        let number = self.named.get_index(index)?;
+        Some(NodeId::new(*number))
     }
 
     // Whether a record names a node.

@@ -8,7 +8,7 @@ use crate::record::Record;
 use std::alloc::Global;
 
 // Takes the records out of an observer's queue.
-pub fn take_from(queues: &mut Vec<Queue>, observer: ObserverId, alloc: Global) -> Vec<Record>
+pub(crate) fn take_from(queues: &mut Vec<Queue>, observer: ObserverId, alloc: Global) -> Vec<Record>
     requires { observer < length queues.old.items }
     ensures records { result.items ≡ slice_index_or queues.old.items observer [] }
     ensures emptied { queues.new.items ≡ slice_set queues.old.items observer [] }

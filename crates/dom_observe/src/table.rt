@@ -26,14 +26,14 @@ fn is_live(table: &Slab<Registration>, key: usize) -> bool
 }
 
 // Takes out the keys under which nothing is left.
-pub fn prune(table: &Slab<Registration>, keys: &mut Vec<usize>)
+pub(crate) fn prune(table: &Slab<Registration>, keys: &mut Vec<usize>)
     ensures { keys.new.items ≡ filter (is_live (at table.now)) keys.old.items }
 {
     keys.retain(|key| is_live(table, *key));
 }
 
 // The keys of a node.
-pub fn keys_on(nodes: &IndexMap<u32, Vec<usize>>, node: NodeId) -> &[usize]
+pub(crate) fn keys_on(nodes: &IndexMap<u32, Vec<usize>>, node: NodeId) -> &[usize]
     ensures { result.now ≡ on node (listed nodes.now.entries) }
 {
     match nodes.get(&node.number()) {
@@ -43,7 +43,7 @@ pub fn keys_on(nodes: &IndexMap<u32, Vec<usize>>, node: NodeId) -> &[usize]
 }
 
 // Puts a key last among those of a node.
-pub fn put_key(
+pub(crate) fn put_key(
     nodes: &mut IndexMap<u32, Vec<usize>>,
     node: NodeId,
     key: usize,
@@ -77,7 +77,12 @@ fn is_own(table: &Slab<Registration>, key: usize, observer: ObserverId, node: No
 }
 
 // Whether a transient registration of the observer that comes from the node is under the key.
-pub fn is_from(table: &Slab<Registration>, key: usize, observer: ObserverId, node: NodeId) -> bool
+pub(crate) fn is_from(
+    table: &Slab<Registration>,
+    key: usize,
+    observer: ObserverId,
+    node: NodeId,
+) -> bool
     ensures { result ≡ from_at (at table.now) observer node key }
 {
     match table.get(key) {
@@ -87,7 +92,7 @@ pub fn is_from(table: &Slab<Registration>, key: usize, observer: ObserverId, nod
 }
 
 // The first of the keys under which the observer's registration on the node is.
-pub fn own_key(
+pub(crate) fn own_key(
     table: &Slab<Registration>,
     keys: &[usize],
     observer: ObserverId,
@@ -101,7 +106,7 @@ pub fn own_key(
 }
 
 // Puts other options in place of those of a registration.
-pub fn set_options(table: &mut Slab<Registration>, key: usize, options: Options)
+pub(crate) fn set_options(table: &mut Slab<Registration>, key: usize, options: Options)
     ensures changed { at table.new key ≡ option_map (with_new_options options) (at table.old key) }
     ensures others { (other : ℕ) → other ≢ key → at table.new other ≡ at table.old other }
 {
@@ -111,7 +116,11 @@ pub fn set_options(table: &mut Slab<Registration>, key: usize, options: Options)
 }
 
 // Makes room for the keys of one more observer than were made.
-pub fn seat(lists: &mut Vec<Vec<usize>>, made: usize, alloc: Global) -> Result<(), AllocError>
+pub(crate) fn seat(
+    lists: &mut Vec<Vec<usize>>,
+    made: usize,
+    alloc: Global,
+) -> Result<(), AllocError>
     requires { made ≤ length lists.old.items }
     ensures room { OnOk result (made < length lists.new.items) }
     ensures same { (i : ℕ) → slice_index_or (keys_by lists.new.items) i [] ≡ slice_index_or (keys_by lists.old.items) i [] }

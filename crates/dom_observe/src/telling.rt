@@ -50,7 +50,10 @@ fn note(heard: &mut IndexMap<u32, bool>, observer: ObserverId, asks: bool) -> Re
 }
 
 // Puts an observer on the pending list, where it is not there yet.
-pub fn pend(pending: &mut IndexSet<ObserverId>, observer: ObserverId) -> Result<(), AllocError>
+pub(crate) fn pend(
+    pending: &mut IndexSet<ObserverId>,
+    observer: ObserverId,
+) -> Result<(), AllocError>
     ensures ok { OnOk result (pending.new.keys ≡ with_last pending.old.keys observer) }
     ensures err { OnErr result (pending.new.keys ≡ pending.old.keys) }
 {
@@ -59,7 +62,7 @@ pub fn pend(pending: &mut IndexSet<ObserverId>, observer: ObserverId) -> Result<
 }
 
 // The observers that the registrations under the keys make interested, which become pending in their order.
-pub fn listen(
+pub(crate) fn listen(
     table: &Slab<Registration>,
     standing: &[usize],
     question: &Question<'_>,
@@ -94,7 +97,7 @@ fn deliver(queues: &mut Vec<Queue>, observer: u32, told: Record) -> Result<(), A
 }
 
 // Puts a record of the mutation last in the queue of each listener.
-pub fn tell(
+pub(crate) fn tell(
     queues: &mut Vec<Queue>,
     heard: &IndexMap<u32, bool>,
     mutation: &Mutation<'_>,

@@ -64,7 +64,7 @@ fn reply_text(
 }
 
 /// Writes the reply to a line and passes it on; for want of memory says that.
-pub fn answer<W: Sink>(
+pub(crate) fn answer<W: Sink>(
     alloc: Global,
     session: &mut Session,
     kept: &[u8],

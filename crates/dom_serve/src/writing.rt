@@ -48,7 +48,7 @@ fn out_of_memory_text() -> &'static [u8]
 }
 
 /// Says that memory was wanting, and gives the fault.
-pub fn write_out_of_memory<W: Sink>(writer: &mut W) -> Fault
+pub(crate) fn write_out_of_memory<W: Sink>(writer: &mut W) -> Fault
     ensures written { SaysWant (W.taken writer.old) (W.taken writer.new) result }
     ensures passed { is_write result ≡ false → W.is_passed_on writer.new ≡ true }
     ensures writer { IsWritten W.works W.fails (is_write result) writer.old writer.new }

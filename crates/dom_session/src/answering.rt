@@ -25,7 +25,7 @@ use dom_edit::World;
 use std::alloc::{AllocError, Global};
 
 /// Answers a command, where memory is there: each group of commands by the function for it.
-pub fn answered(
+pub(crate) fn answered(
     world: &mut World,
     numbers: u64,
     alloc: Global,

@@ -22,7 +22,7 @@ use dom_units::Units;
 use std::alloc::{AllocError, Global};
 
 /// Sets an attribute of an element.
-pub fn set_attribute(
+pub(crate) fn set_attribute(
     world: &mut World,
     alloc: Global,
     element: NodeId,
@@ -67,7 +67,7 @@ fn value_in(
 }
 
 /// The value of an attribute of an element, where there is one.
-pub fn get_attribute(
+pub(crate) fn get_attribute(
     world: &World,
     alloc: Global,
     element: NodeId,
@@ -92,7 +92,7 @@ fn has_in(tree: &Tree<Content>, element: NodeId, name: &str) -> bool
 }
 
 /// Whether an element has an attribute of that name.
-pub fn has_attribute(world: &World, element: NodeId, name: &str) -> Reply
+pub(crate) fn has_attribute(world: &World, element: NodeId, name: &str) -> Reply
     requires shown { IsShown world.now }
     ensures { (b : Bounds) → IsStep world.now world.now b (HasAttribute element name.now) result }
 {
@@ -103,7 +103,7 @@ pub fn has_attribute(world: &World, element: NodeId, name: &str) -> Reply
 }
 
 /// Removes an attribute of an element, where it is there.
-pub fn remove_attribute(
+pub(crate) fn remove_attribute(
     world: &mut World,
     alloc: Global,
     element: NodeId,
@@ -120,7 +120,7 @@ pub fn remove_attribute(
 }
 
 /// Adds or removes an attribute of an element, and answers whether it is there afterwards.
-pub fn toggle_attribute(
+pub(crate) fn toggle_attribute(
     world: &mut World,
     alloc: Global,
     element: NodeId,
@@ -162,7 +162,11 @@ fn names_in(attrs: &Attrs, alloc: Global) -> Result<Vec<String>, AllocError>
 }
 
 /// The names of the attributes of an element, in order.
-pub fn attribute_names(world: &World, alloc: Global, element: NodeId) -> Result<Reply, AllocError>
+pub(crate) fn attribute_names(
+    world: &World,
+    alloc: Global,
+    element: NodeId,
+) -> Result<Reply, AllocError>
     requires shown { IsShown world.now }
     ensures { IfOk result (λ reply. (b : Bounds) → IsStep world.now world.now b (AttributeNames element) reply) }
 {
@@ -174,7 +178,7 @@ pub fn attribute_names(world: &World, alloc: Global, element: NodeId) -> Result<
 }
 
 /// Answers the commands on attributes.
-pub fn change_attributes(
+pub(crate) fn change_attributes(
     world: &mut World,
     alloc: Global,
     command: Attributes,

@@ -52,7 +52,7 @@ fn is_inside(tree: &mut Tree<Content>, point: Point, start: Point, end: Point) -
 
 /// Compares an end of a live range with one of a source: with `how` 0 both starts, 1 the end with the source's start, 2 both ends, 3 the
 /// start with the source's end.
-pub fn compare_boundary_points(
+pub(crate) fn compare_boundary_points(
     world: &mut World,
     range: RangeId,
     how: u32,
@@ -83,7 +83,7 @@ pub fn compare_boundary_points(
 }
 
 /// Whether a point stands before a live range, in it, or after it.
-pub fn compare_point(world: &mut World, range: RangeId, node: NodeId, offset: u32) -> Reply
+pub(crate) fn compare_point(world: &mut World, range: RangeId, node: NodeId, offset: u32) -> Reply
     requires shown { IsShown world.old }
     ensures step { (b : Bounds) → IsStep world.old world.new b (ComparePoint range node offset) result }
     ensures unchanged { world.new ≡ world.old }
@@ -108,7 +108,12 @@ pub fn compare_point(world: &mut World, range: RangeId, node: NodeId, offset: u3
 }
 
 /// Whether a point stands in a live range; a point of another root does not.
-pub fn is_point_in_range(world: &mut World, range: RangeId, node: NodeId, offset: u32) -> Reply
+pub(crate) fn is_point_in_range(
+    world: &mut World,
+    range: RangeId,
+    node: NodeId,
+    offset: u32,
+) -> Reply
     requires shown { IsShown world.old }
     ensures step { (b : Bounds) → IsStep world.old world.new b (IsPointInRange range node offset) result }
     ensures unchanged { world.new ≡ world.old }
@@ -150,7 +155,7 @@ fn meets(tree: &mut Tree<Content>, node: NodeId, start: Point, end: Point) -> bo
 }
 
 /// Whether a live range and a node meet.
-pub fn intersects_node(world: &mut World, range: RangeId, node: NodeId) -> Reply
+pub(crate) fn intersects_node(world: &mut World, range: RangeId, node: NodeId) -> Reply
     requires shown { IsShown world.old }
     ensures step { (b : Bounds) → IsStep world.old world.new b (IntersectsNode range node) result }
     ensures unchanged { world.new ≡ world.old }
@@ -163,7 +168,7 @@ pub fn intersects_node(world: &mut World, range: RangeId, node: NodeId) -> Reply
 }
 
 /// The deepest node that has both ends of a live range in it.
-pub fn common_ancestor(world: &World, range: RangeId) -> Reply
+pub(crate) fn common_ancestor(world: &World, range: RangeId) -> Reply
     requires shown { IsShown world.now }
     ensures step { (b : Bounds) → IsStep world.now world.now b (CommonAncestor range) result }
 {
@@ -176,7 +181,7 @@ pub fn common_ancestor(world: &World, range: RangeId) -> Reply
 }
 
 /// Answers the questions about live ranges.
-pub fn compare(world: &mut World, command: Comparing) -> Reply
+pub(crate) fn compare(world: &mut World, command: Comparing) -> Reply
     requires shown { IsShown world.old }
     ensures step { (b : Bounds) → IsStep world.old world.new b (comparing_view command) result }
 {

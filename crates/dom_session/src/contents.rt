@@ -18,7 +18,7 @@ use dom_tree::NodeId;
 use std::alloc::{AllocError, Global};
 
 /// The data of the Texts that lie in a live range.
-pub fn range_text(world: &World, alloc: Global, range: RangeId) -> Result<Reply, AllocError>
+pub(crate) fn range_text(world: &World, alloc: Global, range: RangeId) -> Result<Reply, AllocError>
     requires shown { IsShown world.now }
     ensures { IfOk result (λ reply. (b : Bounds) → IsStep world.now world.now b (RangeText range) reply) }
 {
@@ -30,7 +30,7 @@ pub fn range_text(world: &World, alloc: Global, range: RangeId) -> Result<Reply,
 }
 
 /// Deletes what lies in a live range.
-pub fn delete_contents(
+pub(crate) fn delete_contents(
     world: &mut World,
     alloc: Global,
     range: RangeId,
@@ -46,7 +46,7 @@ pub fn delete_contents(
 }
 
 /// Takes what lies in a live range into a new fragment, and answers that.
-pub fn extract_contents(
+pub(crate) fn extract_contents(
     world: &mut World,
     numbers: u64,
     alloc: Global,
@@ -69,7 +69,7 @@ pub fn extract_contents(
 }
 
 /// Copies what lies in a live range into a new fragment, and answers that.
-pub fn clone_contents(
+pub(crate) fn clone_contents(
     world: &mut World,
     numbers: u64,
     alloc: Global,
@@ -92,7 +92,7 @@ pub fn clone_contents(
 }
 
 /// Inserts a node at the start of a live range.
-pub fn insert_node(
+pub(crate) fn insert_node(
     world: &mut World,
     numbers: u64,
     alloc: Global,
@@ -116,7 +116,7 @@ pub fn insert_node(
 }
 
 /// Puts what lies in a live range into a node, and that node in its place.
-pub fn surround_contents(
+pub(crate) fn surround_contents(
     world: &mut World,
     numbers: u64,
     alloc: Global,
@@ -140,7 +140,7 @@ pub fn surround_contents(
 }
 
 /// Answers the commands on the contents of ranges.
-pub fn change_contents(
+pub(crate) fn change_contents(
     world: &mut World,
     numbers: u64,
     alloc: Global,

@@ -19,7 +19,7 @@ use dom_tree::NodeId;
 use std::alloc::{AllocError, Global};
 
 /// Whether too few numbers are left for a command that copies: twice the nodes in use, and eight.
-pub fn lacks_numbers(world: &World, numbers: u64) -> bool
+pub(crate) fn lacks_numbers(world: &World, numbers: u64) -> bool
     requires { numbers ≤ 4294967295 }
     ensures { result ≡ nat_lt numbers (world.now.tree.made + (2 * size world.now.tree.forest + 8)) }
 {
@@ -29,7 +29,7 @@ pub fn lacks_numbers(world: &World, numbers: u64) -> bool
 }
 
 /// Copies a node into a document, with or without all below it.
-pub fn import_node(
+pub(crate) fn import_node(
     world: &mut World,
     numbers: u64,
     alloc: Global,
@@ -57,7 +57,7 @@ pub fn import_node(
 }
 
 /// Copies a node, with or without all below it.
-pub fn clone_node(
+pub(crate) fn clone_node(
     world: &mut World,
     numbers: u64,
     alloc: Global,
@@ -79,7 +79,7 @@ pub fn clone_node(
 }
 
 /// Whether two nodes are equal; none is equal to no node.
-pub fn is_equal(world: &World, node: NodeId, other: Option<NodeId>) -> Reply
+pub(crate) fn is_equal(world: &World, node: NodeId, other: Option<NodeId>) -> Reply
     requires shown { IsShown world.now }
     ensures { (b : Bounds) → IsStep world.now world.now b (IsEqual node other) result }
 {
@@ -96,7 +96,7 @@ pub fn is_equal(world: &World, node: NodeId, other: Option<NodeId>) -> Reply
 }
 
 /// Whether the second is an inclusive descendant of the first; none is of no node.
-pub fn contains(world: &World, node: NodeId, other: Option<NodeId>) -> Reply
+pub(crate) fn contains(world: &World, node: NodeId, other: Option<NodeId>) -> Reply
     requires shown { IsShown world.now }
     ensures { (b : Bounds) → IsStep world.now world.now b (IsContaining node other) result }
 {
@@ -113,7 +113,7 @@ pub fn contains(world: &World, node: NodeId, other: Option<NodeId>) -> Reply
 }
 
 /// Where the second stands, seen from the first.
-pub fn compare_position(world: &World, node: NodeId, other: NodeId) -> Reply
+pub(crate) fn compare_position(world: &World, node: NodeId, other: NodeId) -> Reply
     requires shown { IsShown world.now }
     ensures { (b : Bounds) → IsStep world.now world.now b (ComparePosition node other) result }
 {
@@ -125,7 +125,7 @@ pub fn compare_position(world: &World, node: NodeId, other: NodeId) -> Reply
 }
 
 /// Answers the commands that copy or compare nodes.
-pub fn copy_nodes(
+pub(crate) fn copy_nodes(
     world: &mut World,
     numbers: u64,
     alloc: Global,

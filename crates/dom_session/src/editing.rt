@@ -38,7 +38,7 @@ fn is_child_node(kind: Kind) -> bool
 }
 
 /// Inserts a node under a parent, before a child of it or last.
-pub fn insert_before(
+pub(crate) fn insert_before(
     world: &mut World,
     alloc: Global,
     parent: NodeId,
@@ -58,7 +58,7 @@ pub fn insert_before(
 }
 
 /// Appends a node to the children of a parent.
-pub fn append_child(
+pub(crate) fn append_child(
     world: &mut World,
     alloc: Global,
     parent: NodeId,
@@ -77,7 +77,7 @@ pub fn append_child(
 }
 
 /// Puts a node in the place of a child of a parent, and answers the child.
-pub fn replace_child(
+pub(crate) fn replace_child(
     world: &mut World,
     alloc: Global,
     parent: NodeId,
@@ -97,7 +97,7 @@ pub fn replace_child(
 }
 
 /// Takes a child out of a parent.
-pub fn remove_child(
+pub(crate) fn remove_child(
     world: &mut World,
     alloc: Global,
     parent: NodeId,
@@ -116,7 +116,7 @@ pub fn remove_child(
 }
 
 /// Takes a node out of its parent, where it has one.
-pub fn remove(world: &mut World, alloc: Global, node: NodeId) -> Result<Reply, AllocError>
+pub(crate) fn remove(world: &mut World, alloc: Global, node: NodeId) -> Result<Reply, AllocError>
     requires shown { IsShown world.old }
     ensures step { IfOk result (λ reply. (b : Bounds) → IsStep world.old world.new b (Remove node) reply) }
 {
@@ -131,7 +131,7 @@ pub fn remove(world: &mut World, alloc: Global, node: NodeId) -> Result<Reply, A
 }
 
 /// Makes a node, or nothing, all that stands under a parent.
-pub fn replace_children(
+pub(crate) fn replace_children(
     world: &mut World,
     alloc: Global,
     parent: NodeId,
@@ -153,7 +153,7 @@ pub fn replace_children(
 }
 
 /// Takes a node out of its parent, into a document.
-pub fn adopt_node(
+pub(crate) fn adopt_node(
     world: &mut World,
     alloc: Global,
     document: NodeId,
@@ -175,7 +175,7 @@ pub fn adopt_node(
 }
 
 /// Lets a node and all that stands under it go, where nothing else names one of them.
-pub fn discard(world: &mut World, top: NodeId) -> Reply
+pub(crate) fn discard(world: &mut World, top: NodeId) -> Reply
     requires whole { IsWhole world.old }
     ensures step { (b : Bounds) → IsStep world.old world.new b (Discard top) result }
 {
@@ -190,7 +190,11 @@ pub fn discard(world: &mut World, top: NodeId) -> Reply
 }
 
 /// Answers the commands that change where nodes stand.
-pub fn edit_tree(world: &mut World, alloc: Global, command: Editing) -> Result<Reply, AllocError>
+pub(crate) fn edit_tree(
+    world: &mut World,
+    alloc: Global,
+    command: Editing,
+) -> Result<Reply, AllocError>
     requires shown { IsShown world.old }
     ensures step { IfOk result (λ reply. (b : Bounds) → IsStep world.old world.new b (editing_view command) reply) }
 {

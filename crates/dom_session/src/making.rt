@@ -21,7 +21,7 @@ use dom_units::Units;
 use std::alloc::{AllocError, Global};
 
 /// The label of a Document.
-pub fn document_label(alloc: Global) -> Label
+pub(crate) fn document_label(alloc: Global) -> Label
     ensures { result ≡ document_label }
 {
     label(alloc, Kind::Document, String::new(alloc))
@@ -56,7 +56,11 @@ fn refusal(world: &World, numbers: u64, document: NodeId) -> Option<Reply>
 }
 
 /// Makes a Document.
-pub fn new_document(world: &mut World, numbers: u64, alloc: Global) -> Result<Reply, AllocError>
+pub(crate) fn new_document(
+    world: &mut World,
+    numbers: u64,
+    alloc: Global,
+) -> Result<Reply, AllocError>
     requires numbers { numbers ≤ 4294967295 }
     requires shown { IsShown world.old }
     ensures step { IfOk result (IsStep world.old world.new (numbered numbers) NewDocument) }
@@ -70,7 +74,7 @@ pub fn new_document(world: &mut World, numbers: u64, alloc: Global) -> Result<Re
 }
 
 /// Makes an Element.
-pub fn create_element(
+pub(crate) fn create_element(
     world: &mut World,
     numbers: u64,
     alloc: Global,
@@ -98,7 +102,7 @@ pub fn create_element(
 }
 
 /// Makes a Text.
-pub fn create_text(
+pub(crate) fn create_text(
     world: &mut World,
     numbers: u64,
     alloc: Global,
@@ -118,7 +122,7 @@ pub fn create_text(
 }
 
 /// Makes a Comment.
-pub fn create_comment(
+pub(crate) fn create_comment(
     world: &mut World,
     numbers: u64,
     alloc: Global,
@@ -152,7 +156,7 @@ fn closes_instruction(units: &[u16]) -> bool
 }
 
 /// Makes a ProcessingInstruction.
-pub fn create_instruction(
+pub(crate) fn create_instruction(
     world: &mut World,
     numbers: u64,
     alloc: Global,
@@ -179,7 +183,7 @@ pub fn create_instruction(
 }
 
 /// Makes a DocumentType.
-pub fn create_doctype(
+pub(crate) fn create_doctype(
     world: &mut World,
     numbers: u64,
     alloc: Global,
@@ -210,7 +214,7 @@ pub fn create_doctype(
 }
 
 /// Makes a DocumentFragment.
-pub fn create_fragment(
+pub(crate) fn create_fragment(
     world: &mut World,
     numbers: u64,
     alloc: Global,
@@ -230,7 +234,7 @@ pub fn create_fragment(
 }
 
 /// Answers the commands that make nodes.
-pub fn make_nodes(
+pub(crate) fn make_nodes(
     world: &mut World,
     numbers: u64,
     alloc: Global,

@@ -18,7 +18,7 @@ use dom_tree::NodeId;
 use std::alloc::{AllocError, Global};
 
 /// Makes a mutation observer, with nothing to observe yet (`new MutationObserver()`).
-pub fn create_observer(world: &mut World, numbers: u64) -> Result<Reply, AllocError>
+pub(crate) fn create_observer(world: &mut World, numbers: u64) -> Result<Reply, AllocError>
     requires numbers { numbers ≤ 4294967295 }
     requires shown { IsShown world.old }
     ensures step { IfOk result (IsStep world.old world.new (numbered numbers) CreateObserver) }
@@ -31,7 +31,7 @@ pub fn create_observer(world: &mut World, numbers: u64) -> Result<Reply, AllocEr
 }
 
 /// Lets an observer watch a node, in place of how it watched it before (`observe`).
-pub fn observe(
+pub(crate) fn observe(
     world: &mut World,
     observer: ObserverId,
     node: NodeId,
@@ -53,7 +53,7 @@ pub fn observe(
 }
 
 /// Lets an observer watch nothing more, and drops the records that wait for it (`disconnect`).
-pub fn disconnect(world: &mut World, observer: ObserverId) -> Reply
+pub(crate) fn disconnect(world: &mut World, observer: ObserverId) -> Reply
     requires shown { IsShown world.old }
     ensures step { (b : Bounds) → IsStep world.old world.new b (Disconnect observer) result }
 {
@@ -65,7 +65,7 @@ pub fn disconnect(world: &mut World, observer: ObserverId) -> Reply
 }
 
 /// Takes the records that wait for an observer (`takeRecords`).
-pub fn take_records(world: &mut World, observer: ObserverId) -> Reply
+pub(crate) fn take_records(world: &mut World, observer: ObserverId) -> Reply
     requires shown { IsShown world.old }
     ensures step { (b : Bounds) → IsStep world.old world.new b (TakeRecords observer) result }
 {
@@ -87,7 +87,7 @@ fn all_told(alloc: Global, all: Vec<(ObserverId, Vec<Record>)>) -> Result<Vec<To
 }
 
 /// Tells each observer that waits its records, in the order in which they began to wait ("notify mutation observers").
-pub fn notify(world: &mut World, alloc: Global) -> Result<Reply, AllocError>
+pub(crate) fn notify(world: &mut World, alloc: Global) -> Result<Reply, AllocError>
     requires shown { IsShown world.old }
     ensures step { IfOk result (λ reply. (b : Bounds) → IsStep world.old world.new b Notify reply) }
 {
@@ -107,7 +107,7 @@ fn pending_numbers(observers: &Observers, alloc: Global) -> Result<Vec<u32>, All
 }
 
 /// The observers that wait to be told, in the order in which they began to wait.
-pub fn pending(world: &World, alloc: Global) -> Result<Reply, AllocError>
+pub(crate) fn pending(world: &World, alloc: Global) -> Result<Reply, AllocError>
     ensures step { IfOk result (λ reply. (b : Bounds) → IsStep world.now world.now b Pending reply) }
 {
     let numbers = pending_numbers(&world.observers, alloc)?;
@@ -115,7 +115,7 @@ pub fn pending(world: &World, alloc: Global) -> Result<Reply, AllocError>
 }
 
 /// Answers the commands on observers.
-pub fn watch(
+pub(crate) fn watch(
     world: &mut World,
     numbers: u64,
     alloc: Global,

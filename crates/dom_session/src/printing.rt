@@ -55,7 +55,7 @@ fn rows_of(tree: &Tree<Content>, alloc: Global, top: NodeId) -> Result<Vec<TreeR
 }
 
 /// Prints a node and all that stands below it.
-pub fn print_tree(world: &World, alloc: Global, top: NodeId) -> Result<Reply, AllocError>
+pub(crate) fn print_tree(world: &World, alloc: Global, top: NodeId) -> Result<Reply, AllocError>
     ensures { IfOk result (λ reply. (b : Bounds) → IsStep world.now world.now b (TreeCommand top) reply) }
 {
     if !world.tree.holds(top) {

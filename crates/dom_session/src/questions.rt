@@ -17,7 +17,7 @@ use dom_tree::{NodeId, Tree};
 use std::alloc::{AllocError, Global};
 
 /// Tells where a node stands, and what it is.
-pub fn describe_node(world: &World, alloc: Global, node: NodeId) -> Result<Reply, AllocError>
+pub(crate) fn describe_node(world: &World, alloc: Global, node: NodeId) -> Result<Reply, AllocError>
     ensures { IfOk result (λ reply. (b : Bounds) → IsStep world.now world.now b (DescribeNode node) reply) }
 {
     if !world.tree.holds(node) {
@@ -50,7 +50,7 @@ fn child_numbers(
 }
 
 /// The children of a node, in order.
-pub fn children(world: &World, alloc: Global, node: NodeId) -> Result<Reply, AllocError>
+pub(crate) fn children(world: &World, alloc: Global, node: NodeId) -> Result<Reply, AllocError>
     ensures { IfOk result (λ reply. (b : Bounds) → IsStep world.now world.now b (Children node) reply) }
 {
     if !world.tree.holds(node) {
@@ -61,7 +61,7 @@ pub fn children(world: &World, alloc: Global, node: NodeId) -> Result<Reply, All
 }
 
 /// How many siblings stand before a node. Where that is not found near it, all of them are counted, so that it is known of each.
-pub fn index(world: &mut World, node: NodeId) -> Reply
+pub(crate) fn index(world: &mut World, node: NodeId) -> Reply
     ensures step { (b : Bounds) → IsStep world.old world.new b (Index node) result }
     ensures unchanged { world.new ≡ world.old }
 {
@@ -80,7 +80,7 @@ pub(crate) fn find_index(world: &mut World, node: NodeId)
 }
 
 /// The length of a node.
-pub fn length(world: &World, node: NodeId) -> Reply
+pub(crate) fn length(world: &World, node: NodeId) -> Reply
     ensures { (b : Bounds) → IsStep world.now world.now b (Length node) result }
 {
     if !world.tree.holds(node) {
@@ -90,7 +90,7 @@ pub fn length(world: &World, node: NodeId) -> Reply
 }
 
 /// The root of a node.
-pub fn root(world: &World, node: NodeId) -> Reply
+pub(crate) fn root(world: &World, node: NodeId) -> Reply
     ensures { (b : Bounds) → IsStep world.now world.now b (Root node) result }
 {
     if !world.tree.holds(node) {
@@ -100,7 +100,11 @@ pub fn root(world: &World, node: NodeId) -> Reply
 }
 
 /// Answers the questions about nodes.
-pub fn ask_tree(world: &mut World, alloc: Global, command: Asking) -> Result<Reply, AllocError>
+pub(crate) fn ask_tree(
+    world: &mut World,
+    alloc: Global,
+    command: Asking,
+) -> Result<Reply, AllocError>
     requires shown { IsShown world.old }
     ensures step { IfOk result (λ reply. (b : Bounds) → IsStep world.old world.new b (asking_view command) reply) }
 {

@@ -19,7 +19,11 @@ use dom_tree::NodeId;
 use std::alloc::AllocError;
 
 /// Makes a live range whose ends both stand at the start of a document.
-pub fn create_range(world: &mut World, numbers: u64, document: NodeId) -> Result<Reply, AllocError>
+pub(crate) fn create_range(
+    world: &mut World,
+    numbers: u64,
+    document: NodeId,
+) -> Result<Reply, AllocError>
     requires numbers { numbers ≤ 4294967295 }
     requires shown { IsShown world.old }
     ensures step { IfOk result (IsStep world.old world.new (numbered numbers) (CreateRange document)) }
@@ -42,7 +46,11 @@ pub fn create_range(world: &mut World, numbers: u64, document: NodeId) -> Result
 }
 
 /// Makes a live range with the ends of another.
-pub fn clone_range(world: &mut World, numbers: u64, range: RangeId) -> Result<Reply, AllocError>
+pub(crate) fn clone_range(
+    world: &mut World,
+    numbers: u64,
+    range: RangeId,
+) -> Result<Reply, AllocError>
     requires numbers { numbers ≤ 4294967295 }
     requires shown { IsShown world.old }
     ensures step { IfOk result (IsStep world.old world.new (numbered numbers) (CloneRange range)) }
@@ -59,7 +67,7 @@ pub fn clone_range(world: &mut World, numbers: u64, range: RangeId) -> Result<Re
 }
 
 /// Tells where a live range starts and ends.
-pub fn describe_range(world: &World, range: RangeId) -> Reply
+pub(crate) fn describe_range(world: &World, range: RangeId) -> Reply
     ensures step { (b : Bounds) → IsStep world.now world.now b (DescribeRange range) result }
 {
     if !world.ranges.holds(range) {
@@ -70,7 +78,7 @@ pub fn describe_range(world: &World, range: RangeId) -> Reply
 }
 
 /// Lets a live range go: it is adjusted no more, and its number is not used again.
-pub fn release_range(world: &mut World, range: RangeId) -> Reply
+pub(crate) fn release_range(world: &mut World, range: RangeId) -> Reply
     requires shown { IsShown world.old }
     ensures step { (b : Bounds) → IsStep world.old world.new b (ReleaseRange range) result }
 {
@@ -82,7 +90,11 @@ pub fn release_range(world: &mut World, range: RangeId) -> Reply
 }
 
 /// Answers the commands that make, tell and release live ranges.
-pub fn act_on_ranges(world: &mut World, numbers: u64, command: Ranging) -> Result<Reply, AllocError>
+pub(crate) fn act_on_ranges(
+    world: &mut World,
+    numbers: u64,
+    command: Ranging,
+) -> Result<Reply, AllocError>
     requires numbers { numbers ≤ 4294967295 }
     requires shown { IsShown world.old }
     ensures step { IfOk result (IsStep world.old world.new (numbered numbers) (ranging_view command)) }

@@ -12,7 +12,7 @@ use dom_model::OwnError;
 use dom_tree::NodeId;
 
 /// Why a command on nodes of one kind may not act on a node.
-pub fn kind_refusal(world: &World, node: NodeId, kind: Kind) -> Option<Reply>
+pub(crate) fn kind_refusal(world: &World, node: NodeId, kind: Kind) -> Option<Reply>
     ensures { option_map reply_view result ≡ kind_refusal (is_kind kind) world.now node }
 {
     if !world.tree.holds(node) {

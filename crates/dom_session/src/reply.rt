@@ -114,7 +114,7 @@ pub enum Reply {
 }
 
 /// What a command answers where its call was refused: the name of the exception. Want of memory is no answer.
-pub fn reply_to(refusal: Refusal) -> Result<Reply, AllocError>
+pub(crate) fn reply_to(refusal: Refusal) -> Result<Reply, AllocError>
     ensures { result ≡ reply_to refusal }
 {
     match refusal {

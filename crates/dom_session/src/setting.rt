@@ -22,7 +22,7 @@ use dom_ranges::RangeId;
 use dom_tree::NodeId;
 
 /// Sets the start of a live range.
-pub fn set_start(world: &mut World, range: RangeId, node: NodeId, offset: u32) -> Reply
+pub(crate) fn set_start(world: &mut World, range: RangeId, node: NodeId, offset: u32) -> Reply
     requires shown { IsShown world.old }
     ensures step { (b : Bounds) → IsStep world.old world.new b (SetStart range node offset) result }
 {
@@ -40,7 +40,7 @@ pub fn set_start(world: &mut World, range: RangeId, node: NodeId, offset: u32) -
 }
 
 /// Sets the end of a live range.
-pub fn set_end(world: &mut World, range: RangeId, node: NodeId, offset: u32) -> Reply
+pub(crate) fn set_end(world: &mut World, range: RangeId, node: NodeId, offset: u32) -> Reply
     requires shown { IsShown world.old }
     ensures step { (b : Bounds) → IsStep world.old world.new b (SetEnd range node offset) result }
 {
@@ -94,7 +94,7 @@ fn set_end_beside(world: &mut World, range: RangeId, node: NodeId, point: Option
 }
 
 /// Sets the start of a live range before a node.
-pub fn set_start_before(world: &mut World, range: RangeId, node: NodeId) -> Reply
+pub(crate) fn set_start_before(world: &mut World, range: RangeId, node: NodeId) -> Reply
     requires shown { IsShown world.old }
     ensures step { (b : Bounds) → IsStep world.old world.new b (SetStartBefore range node) result }
 {
@@ -107,7 +107,7 @@ pub fn set_start_before(world: &mut World, range: RangeId, node: NodeId) -> Repl
 }
 
 /// Sets the start of a live range after a node.
-pub fn set_start_after(world: &mut World, range: RangeId, node: NodeId) -> Reply
+pub(crate) fn set_start_after(world: &mut World, range: RangeId, node: NodeId) -> Reply
     requires shown { IsShown world.old }
     ensures step { (b : Bounds) → IsStep world.old world.new b (SetStartAfter range node) result }
 {
@@ -120,7 +120,7 @@ pub fn set_start_after(world: &mut World, range: RangeId, node: NodeId) -> Reply
 }
 
 /// Sets the end of a live range before a node.
-pub fn set_end_before(world: &mut World, range: RangeId, node: NodeId) -> Reply
+pub(crate) fn set_end_before(world: &mut World, range: RangeId, node: NodeId) -> Reply
     requires shown { IsShown world.old }
     ensures step { (b : Bounds) → IsStep world.old world.new b (SetEndBefore range node) result }
 {
@@ -133,7 +133,7 @@ pub fn set_end_before(world: &mut World, range: RangeId, node: NodeId) -> Reply
 }
 
 /// Sets the end of a live range after a node.
-pub fn set_end_after(world: &mut World, range: RangeId, node: NodeId) -> Reply
+pub(crate) fn set_end_after(world: &mut World, range: RangeId, node: NodeId) -> Reply
     requires shown { IsShown world.old }
     ensures step { (b : Bounds) → IsStep world.old world.new b (SetEndAfter range node) result }
 {
@@ -146,7 +146,7 @@ pub fn set_end_after(world: &mut World, range: RangeId, node: NodeId) -> Reply
 }
 
 /// Moves one end of a live range to the other: the end to the start, or the start to the end.
-pub fn collapse(world: &mut World, range: RangeId, to_start: bool) -> Reply
+pub(crate) fn collapse(world: &mut World, range: RangeId, to_start: bool) -> Reply
     requires shown { IsShown world.old }
     ensures step { (b : Bounds) → IsStep world.old world.new b (Collapse range to_start) result }
 {
@@ -158,7 +158,7 @@ pub fn collapse(world: &mut World, range: RangeId, to_start: bool) -> Reply
 }
 
 /// Sets the ends of a live range around a node.
-pub fn select_node(world: &mut World, range: RangeId, node: NodeId) -> Reply
+pub(crate) fn select_node(world: &mut World, range: RangeId, node: NodeId) -> Reply
     requires shown { IsShown world.old }
     ensures step { (b : Bounds) → IsStep world.old world.new b (SelectNode range node) result }
 {
@@ -173,7 +173,7 @@ pub fn select_node(world: &mut World, range: RangeId, node: NodeId) -> Reply
 }
 
 /// Sets the ends of a live range around what a node has.
-pub fn select_node_contents(world: &mut World, range: RangeId, node: NodeId) -> Reply
+pub(crate) fn select_node_contents(world: &mut World, range: RangeId, node: NodeId) -> Reply
     requires shown { IsShown world.old }
     ensures step { (b : Bounds) → IsStep world.old world.new b (SelectNodeContents range node) result }
 {
@@ -187,7 +187,7 @@ pub fn select_node_contents(world: &mut World, range: RangeId, node: NodeId) -> 
 }
 
 /// Answers the commands that set the ends of live ranges.
-pub fn set_ranges(world: &mut World, command: Setting) -> Reply
+pub(crate) fn set_ranges(world: &mut World, command: Setting) -> Reply
     requires shown { IsShown world.old }
     ensures step { (b : Bounds) → IsStep world.old world.new b (setting_view command) result }
 {

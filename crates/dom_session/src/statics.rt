@@ -17,7 +17,7 @@ use dom_ranges::{StaticId, Statics};
 use std::alloc::AllocError;
 
 /// Makes a static range. Its offsets may lie past the lengths of its nodes.
-pub fn create_static_range(
+pub(crate) fn create_static_range(
     world: &mut World,
     numbers: u64,
     start: Point,
@@ -43,7 +43,7 @@ pub fn create_static_range(
 }
 
 /// Tells where a static range starts and ends, and whether it is valid as the tree stands.
-pub fn describe_static_range(world: &mut World, range: StaticId) -> Reply
+pub(crate) fn describe_static_range(world: &mut World, range: StaticId) -> Reply
     requires shown { IsShown world.old }
     ensures step { (b : Bounds) → IsStep world.old world.new b (DescribeStaticRange range) result }
 {
@@ -56,7 +56,7 @@ pub fn describe_static_range(world: &mut World, range: StaticId) -> Reply
 }
 
 /// Answers the commands on static ranges.
-pub fn act_on_statics(
+pub(crate) fn act_on_statics(
     world: &mut World,
     numbers: u64,
     command: StaticRanging,

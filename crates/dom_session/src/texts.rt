@@ -34,7 +34,7 @@ fn refusal(world: &World, node: NodeId) -> Option<Reply>
 }
 
 /// The data of a node.
-pub fn data(world: &World, alloc: Global, node: NodeId) -> Result<Reply, AllocError>
+pub(crate) fn data(world: &World, alloc: Global, node: NodeId) -> Result<Reply, AllocError>
     requires shown { IsShown world.now }
     ensures { IfOk result (λ reply. (b : Bounds) → IsStep world.now world.now b (GetData node) reply) }
 {
@@ -46,7 +46,7 @@ pub fn data(world: &World, alloc: Global, node: NodeId) -> Result<Reply, AllocEr
 }
 
 /// Puts a text in place of all data of a node.
-pub fn set_data(
+pub(crate) fn set_data(
     world: &mut World,
     alloc: Global,
     node: NodeId,
@@ -63,7 +63,7 @@ pub fn set_data(
 }
 
 /// Puts a text in place of so many units from an offset on.
-pub fn replace_data(
+pub(crate) fn replace_data(
     world: &mut World,
     alloc: Global,
     node: NodeId,
@@ -84,7 +84,7 @@ pub fn replace_data(
 }
 
 /// Puts a text behind the data of a node.
-pub fn append_data(
+pub(crate) fn append_data(
     world: &mut World,
     alloc: Global,
     node: NodeId,
@@ -101,7 +101,7 @@ pub fn append_data(
 }
 
 /// Puts a text into the data of a node, at an offset.
-pub fn insert_data(
+pub(crate) fn insert_data(
     world: &mut World,
     alloc: Global,
     node: NodeId,
@@ -115,7 +115,7 @@ pub fn insert_data(
 }
 
 /// Takes so many units out of the data of a node, from an offset on.
-pub fn delete_data(
+pub(crate) fn delete_data(
     world: &mut World,
     alloc: Global,
     node: NodeId,
@@ -129,7 +129,7 @@ pub fn delete_data(
 }
 
 /// So many units of the data of a node, from an offset on.
-pub fn substring_data(
+pub(crate) fn substring_data(
     world: &World,
     alloc: Global,
     node: NodeId,
@@ -149,7 +149,7 @@ pub fn substring_data(
 }
 
 /// The text in a node; none in a Document and a doctype.
-pub fn text_content(world: &World, alloc: Global, node: NodeId) -> Result<Reply, AllocError>
+pub(crate) fn text_content(world: &World, alloc: Global, node: NodeId) -> Result<Reply, AllocError>
     requires shown { IsShown world.now }
     ensures { IfOk result (λ reply. (b : Bounds) → IsStep world.now world.now b (TextContent node) reply) }
 {
@@ -161,7 +161,7 @@ pub fn text_content(world: &World, alloc: Global, node: NodeId) -> Result<Reply,
 }
 
 /// Makes a text the data of a node, or the one Text below it.
-pub fn set_text_content(
+pub(crate) fn set_text_content(
     world: &mut World,
     numbers: u64,
     alloc: Global,
@@ -183,7 +183,7 @@ pub fn set_text_content(
 }
 
 /// Splits a Text at an offset, and answers the new one.
-pub fn split_text(
+pub(crate) fn split_text(
     world: &mut World,
     numbers: u64,
     alloc: Global,
@@ -207,7 +207,7 @@ pub fn split_text(
 }
 
 /// Joins Texts below a node that stand side by side, and takes empty ones out.
-pub fn normalize(world: &mut World, alloc: Global, node: NodeId) -> Result<Reply, AllocError>
+pub(crate) fn normalize(world: &mut World, alloc: Global, node: NodeId) -> Result<Reply, AllocError>
     requires shown { IsShown world.old }
     ensures step { IfOk result (λ reply. (b : Bounds) → IsStep world.old world.new b (Normalize node) reply) }
 {
@@ -219,7 +219,7 @@ pub fn normalize(world: &mut World, alloc: Global, node: NodeId) -> Result<Reply
 }
 
 /// Answers the commands on data and text.
-pub fn change_texts(
+pub(crate) fn change_texts(
     world: &mut World,
     numbers: u64,
     alloc: Global,

@@ -28,7 +28,7 @@ fn reply_found(found: Option<NodeId>) -> Reply
 }
 
 /// Makes a node iterator that stands before its root (`createNodeIterator`).
-pub fn create_iterator(
+pub(crate) fn create_iterator(
     world: &mut World,
     numbers: u64,
     root: NodeId,
@@ -49,7 +49,7 @@ pub fn create_iterator(
 }
 
 /// Makes a tree walker that stands at its root (`createTreeWalker`).
-pub fn create_walker(
+pub(crate) fn create_walker(
     world: &mut World,
     numbers: u64,
     root: NodeId,
@@ -70,7 +70,7 @@ pub fn create_walker(
 }
 
 /// Tells the root and the reference of an iterator, and whether it stands before the reference.
-pub fn describe_iterator(world: &World, iterator: IteratorId) -> Reply
+pub(crate) fn describe_iterator(world: &World, iterator: IteratorId) -> Reply
     ensures step { (b : Bounds) → IsStep world.now world.now b (DescribeIterator iterator) result }
 {
     if !world.iterators.holds(iterator) {
@@ -81,7 +81,7 @@ pub fn describe_iterator(world: &World, iterator: IteratorId) -> Reply
 }
 
 /// Moves an iterator on (`nextNode`).
-pub fn next_node(world: &mut World, iterator: IteratorId) -> Reply
+pub(crate) fn next_node(world: &mut World, iterator: IteratorId) -> Reply
     requires shown { IsShown world.old }
     ensures step { (b : Bounds) → IsStep world.old world.new b (NextNode iterator) result }
 {
@@ -93,7 +93,7 @@ pub fn next_node(world: &mut World, iterator: IteratorId) -> Reply
 }
 
 /// Moves an iterator back (`previousNode`).
-pub fn previous_node(world: &mut World, iterator: IteratorId) -> Reply
+pub(crate) fn previous_node(world: &mut World, iterator: IteratorId) -> Reply
     requires shown { IsShown world.old }
     ensures step { (b : Bounds) → IsStep world.old world.new b (PreviousNode iterator) result }
 {
@@ -105,7 +105,7 @@ pub fn previous_node(world: &mut World, iterator: IteratorId) -> Reply
 }
 
 /// Tells the root and the current node of a walker.
-pub fn describe_walker(world: &World, walker: WalkerId) -> Reply
+pub(crate) fn describe_walker(world: &World, walker: WalkerId) -> Reply
     ensures step { (b : Bounds) → IsStep world.now world.now b (DescribeWalker walker) result }
 {
     if !world.walkers.holds(walker) {
@@ -116,7 +116,7 @@ pub fn describe_walker(world: &World, walker: WalkerId) -> Reply
 }
 
 /// Sets a walker on a node, which may stand outside its root (`currentNode`).
-pub fn set_current(world: &mut World, walker: WalkerId, node: NodeId) -> Reply
+pub(crate) fn set_current(world: &mut World, walker: WalkerId, node: NodeId) -> Reply
     requires shown { IsShown world.old }
     ensures step { (b : Bounds) → IsStep world.old world.new b (SetCurrent walker node) result }
 {
@@ -128,7 +128,7 @@ pub fn set_current(world: &mut World, walker: WalkerId, node: NodeId) -> Reply
 }
 
 /// Makes one of the seven moves of a walker, where it finds a node.
-pub fn walk(world: &mut World, walker: WalkerId, direction: Move) -> Reply
+pub(crate) fn walk(world: &mut World, walker: WalkerId, direction: Move) -> Reply
     requires shown { IsShown world.old }
     ensures step { (b : Bounds) → IsStep world.old world.new b (Walk walker direction) result }
 {
@@ -140,7 +140,11 @@ pub fn walk(world: &mut World, walker: WalkerId, direction: Move) -> Reply
 }
 
 /// Answers the commands on iterators and walkers.
-pub fn traverse(world: &mut World, numbers: u64, command: Traversing) -> Result<Reply, AllocError>
+pub(crate) fn traverse(
+    world: &mut World,
+    numbers: u64,
+    command: Traversing,
+) -> Result<Reply, AllocError>
     requires numbers { numbers ≤ 4294967295 }
     requires shown { IsShown world.old }
     ensures step { IfOk result (IsStep world.old world.new (numbered numbers) (traversing_view command)) }

@@ -12,7 +12,7 @@ use crate::judge::Judge;
 use dom_tree::{NodeId, Tree};
 
 // `parentNode()`.
-pub fn parent_node<X>(
+pub(crate) fn parent_node<X>(
     tree: &Tree<X>,
     filter: &Judge,
     root: NodeId,
@@ -33,7 +33,7 @@ pub fn parent_node<X>(
 }
 
 // `firstChild()` or `lastChild()`.
-pub fn child<X>(
+pub(crate) fn child<X>(
     tree: &Tree<X>,
     filter: &Judge,
     root: NodeId,
@@ -55,7 +55,7 @@ pub fn child<X>(
 }
 
 // `nextSibling()` or `previousSibling()`.
-pub fn sibling<X>(
+pub(crate) fn sibling<X>(
     tree: &Tree<X>,
     filter: &Judge,
     root: NodeId,
@@ -80,7 +80,12 @@ pub fn sibling<X>(
 }
 
 // `nextNode()`.
-pub fn next_node<X>(tree: &Tree<X>, filter: &Judge, root: NodeId, current: NodeId) -> Option<NodeId>
+pub(crate) fn next_node<X>(
+    tree: &Tree<X>,
+    filter: &Judge,
+    root: NodeId,
+    current: NodeId,
+) -> Option<NodeId>
     requires { HasNode tree.now.forest current }
     ensures { result ≡ next_by_steps tree.now.forest filter.now root current }
 {
@@ -117,7 +122,7 @@ fn end_of<X>(tree: &Tree<X>, filter: &Judge, node: NodeId) -> NodeId
 }
 
 // `previousNode()`. The root ends the walk where it is come up to, or has no previous sibling; from behind it is passed.
-pub fn previous_node<X>(
+pub(crate) fn previous_node<X>(
     tree: &Tree<X>,
     filter: &Judge,
     root: NodeId,

@@ -6,7 +6,7 @@ ghost use Rattle.dom_model.specs.Forests.Texts.{units_of, is_well_formed_units};
 use std::alloc::{AllocError, Global};
 
 // The units of a text. There are at most as many as the text has bytes.
-pub fn encode(alloc: Global, text: &str) -> Result<Vec<u16>, AllocError>
+pub(crate) fn encode(alloc: Global, text: &str) -> Result<Vec<u16>, AllocError>
     ensures { IfOk result (λ units. units.items ≡ units_of text.now) }
 {
     let mut units = Vec::with_capacity(alloc, text.len())?;
@@ -18,7 +18,7 @@ pub fn encode(alloc: Global, text: &str) -> Result<Vec<u16>, AllocError>
 }
 
 // Whether each surrogate has its partner.
-pub fn is_well_formed(units: &[u16]) -> bool
+pub(crate) fn is_well_formed(units: &[u16]) -> bool
     ensures { result ≡ is_well_formed_units units.now }
 {
     let mut wants_low = false;

@@ -5,7 +5,7 @@ ghost use Rattle.dom_model.specs.Forests.Texts.{spliced};
 use std::alloc::AllocError;
 
 // Puts `added` in place of the `count` units from `at` on.
-pub fn splice(
+pub(crate) fn splice(
     units: &mut Vec<u16>,
     at: usize,
     count: usize,

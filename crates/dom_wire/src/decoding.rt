@@ -18,7 +18,7 @@ use serde_json::Value;
 use std::alloc::Global;
 
 /// As many values as shapes, each of its shape.
-pub fn arguments_of(
+pub(crate) fn arguments_of(
     alloc: Global,
     shapes: &[Shape],
     values: &[Value],

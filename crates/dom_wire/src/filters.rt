@@ -40,7 +40,7 @@ fn course_of(text: &str) -> Option<Move>
 }
 
 /// A string that names a walker's move.
-pub fn course_in(value: &Value) -> Option<Move>
+pub(crate) fn course_in(value: &Value) -> Option<Move>
     ensures { result ≡ move_in (view value.now) }
 {
     match value.as_str() {
@@ -50,7 +50,7 @@ pub fn course_in(value: &Value) -> Option<Move>
 }
 
 /// An array of rules, each an array of a name and a verdict.
-pub fn rules_in(alloc: Global, value: &Value) -> Result<Vec<Rule>, ReadError>
+pub(crate) fn rules_in(alloc: Global, value: &Value) -> Result<Vec<Rule>, ReadError>
     ensures { Decodes (λ rules. rules.items) result (list_in rule_in (view value.now)) }
 {
     match value {

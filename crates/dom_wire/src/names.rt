@@ -102,7 +102,7 @@ pub enum Name {
 
 /// The names of that length in bytes, in the order of the table.
 #[tactic(auto, unfolding(crate::specs::Rows::row_of, dom_model::specs::Commands::Table::whole_table))]
-pub fn names_of_length(length: usize) -> &'static [Name]
+pub(crate) fn names_of_length(length: usize) -> &'static [Name]
     ensures { map row_of result.now ≡ filter (is_of_length length) whole_table }
 {
     match length {

@@ -14,7 +14,7 @@ use serde_json::Value;
 use std::alloc::Global;
 
 /// An object. Each member that it has of those of `MutationObserverInit` is of its type; others are passed over.
-pub fn options_in(alloc: Global, value: &Value) -> Result<RawOptions, ReadError>
+pub(crate) fn options_in(alloc: Global, value: &Value) -> Result<RawOptions, ReadError>
     ensures { Decodes (λ options. options) result (options_in (view value.now)) }
 {
     match names_member(alloc, value) {

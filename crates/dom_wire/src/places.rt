@@ -16,7 +16,7 @@ use json::Writer;
 use std::alloc::AllocError;
 
 /// An object of a node, its keys in ASCII order.
-pub fn write_description(node: &Description, writer: &mut Writer) -> Result<(), AllocError>
+pub(crate) fn write_description(node: &Description, writer: &mut Writer) -> Result<(), AllocError>
     ensures { Adds result writer.old writer.new (tokens_of (description_json node.now)) }
 {
     writer.begin_object()?;
@@ -86,7 +86,7 @@ fn write_points(start: Point, end: Point, writer: &mut Writer) -> Result<(), All
 }
 
 /// An array of both ends.
-pub fn write_ends(start: Point, end: Point, writer: &mut Writer) -> Result<(), AllocError>
+pub(crate) fn write_ends(start: Point, end: Point, writer: &mut Writer) -> Result<(), AllocError>
     ensures { Adds result writer.old writer.new
         (tokens_of (list_json (ends_json (record { start = start; end = end })))) }
 {
@@ -96,7 +96,7 @@ pub fn write_ends(start: Point, end: Point, writer: &mut Writer) -> Result<(), A
 }
 
 /// An array of both ends, and whether the range is valid.
-pub fn write_static_ends(
+pub(crate) fn write_static_ends(
     start: Point,
     end: Point,
     is_valid: bool,
@@ -112,7 +112,7 @@ pub fn write_static_ends(
 }
 
 /// An array of the root and the reference, and whether the iterator stands before it.
-pub fn write_iterator(
+pub(crate) fn write_iterator(
     root: NodeId,
     reference: NodeId,
     is_before: bool,
@@ -129,7 +129,11 @@ pub fn write_iterator(
 }
 
 /// An array of the root and the current node.
-pub fn write_walker(root: NodeId, current: NodeId, writer: &mut Writer) -> Result<(), AllocError>
+pub(crate) fn write_walker(
+    root: NodeId,
+    current: NodeId,
+    writer: &mut Writer,
+) -> Result<(), AllocError>
     ensures { Adds result writer.old writer.new (tokens_of (list_json
         (number_json root ∷ number_json current ∷ []))) }
 {

@@ -11,7 +11,11 @@ use json::Writer;
 use std::alloc::{AllocError, Global};
 
 /// An array of observers, each with its records.
-pub fn write_notified(alloc: Global, told: &[Told], writer: &mut Writer) -> Result<(), AllocError>
+pub(crate) fn write_notified(
+    alloc: Global,
+    told: &[Told],
+    writer: &mut Writer,
+) -> Result<(), AllocError>
     ensures { Adds result writer.old writer.new (tokens_of (list_json (map told_json told.now))) }
 {
     writer.begin_array()?;
@@ -31,7 +35,7 @@ fn write_told(alloc: Global, told: &Told, writer: &mut Writer) -> Result<(), All
 }
 
 /// An array of records.
-pub fn write_records(
+pub(crate) fn write_records(
     alloc: Global,
     records: &[Record],
     writer: &mut Writer,

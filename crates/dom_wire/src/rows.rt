@@ -13,7 +13,11 @@ use json::Writer;
 use std::alloc::{AllocError, Global};
 
 /// An array of rows.
-pub fn write_rows(alloc: Global, rows: &[TreeRow], writer: &mut Writer) -> Result<(), AllocError>
+pub(crate) fn write_rows(
+    alloc: Global,
+    rows: &[TreeRow],
+    writer: &mut Writer,
+) -> Result<(), AllocError>
     ensures { Adds result writer.old writer.new (tokens_of (list_json (map row_json rows.now))) }
 {
     writer.begin_array()?;

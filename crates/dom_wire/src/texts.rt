@@ -12,7 +12,7 @@ use serde_json::Value;
 use std::alloc::Global;
 
 /// An integer from 0 to 4294967295.
-pub fn number_in(value: &Value) -> Option<u32>
+pub(crate) fn number_in(value: &Value) -> Option<u32>
     ensures { result ≡ number_in (view value.now) }
 {
     match value.as_u64() {
@@ -22,7 +22,7 @@ pub fn number_in(value: &Value) -> Option<u32>
 }
 
 /// A string as its units, or an array of units.
-pub fn text_in(alloc: Global, value: &Value) -> Result<Units, ReadError>
+pub(crate) fn text_in(alloc: Global, value: &Value) -> Result<Units, ReadError>
     ensures { Decodes (λ units. units) result (text_in (view value.now)) }
 {
     match value {

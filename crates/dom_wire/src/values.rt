@@ -12,7 +12,7 @@ use std::alloc::{AllocError, Global};
 use std::cmp::Ordering;
 
 /// -1, 0 or 1.
-pub fn write_order(order: Ordering, writer: &mut Writer) -> Result<(), AllocError>
+pub(crate) fn write_order(order: Ordering, writer: &mut Writer) -> Result<(), AllocError>
     ensures { Adds result writer.old writer.new (tokens_of (order_json order)) }
 {
     match order {
@@ -23,7 +23,7 @@ pub fn write_order(order: Ordering, writer: &mut Writer) -> Result<(), AllocErro
 }
 
 /// The number, or null.
-pub fn write_maybe_number(number: Option<u32>, writer: &mut Writer) -> Result<(), AllocError>
+pub(crate) fn write_maybe_number(number: Option<u32>, writer: &mut Writer) -> Result<(), AllocError>
     ensures { Adds result writer.old writer.new (tokens_of (or_null number_json number)) }
 {
     match number {
@@ -33,7 +33,7 @@ pub fn write_maybe_number(number: Option<u32>, writer: &mut Writer) -> Result<()
 }
 
 /// The number of the node, or null.
-pub fn write_maybe_node(node: Option<NodeId>, writer: &mut Writer) -> Result<(), AllocError>
+pub(crate) fn write_maybe_node(node: Option<NodeId>, writer: &mut Writer) -> Result<(), AllocError>
     ensures { Adds result writer.old writer.new (tokens_of (or_null number_json node)) }
 {
     match node {
@@ -43,7 +43,7 @@ pub fn write_maybe_node(node: Option<NodeId>, writer: &mut Writer) -> Result<(),
 }
 
 /// The name, or null.
-pub fn write_maybe_name(name: &Option<String>, writer: &mut Writer) -> Result<(), AllocError>
+pub(crate) fn write_maybe_name(name: &Option<String>, writer: &mut Writer) -> Result<(), AllocError>
     ensures { Adds result writer.old writer.new (tokens_of (or_null string (name_of name.now))) }
 {
     match name {
@@ -53,7 +53,7 @@ pub fn write_maybe_name(name: &Option<String>, writer: &mut Writer) -> Result<()
 }
 
 /// A text, or null.
-pub fn write_maybe_units(
+pub(crate) fn write_maybe_units(
     alloc: Global,
     units: &Option<Units>,
     writer: &mut Writer,
@@ -67,7 +67,11 @@ pub fn write_maybe_units(
 }
 
 /// A string where the units are well-formed, or else their numbers.
-pub fn write_units(alloc: Global, units: &Units, writer: &mut Writer) -> Result<(), AllocError>
+pub(crate) fn write_units(
+    alloc: Global,
+    units: &Units,
+    writer: &mut Writer,
+) -> Result<(), AllocError>
     ensures { Adds result writer.old writer.new (tokens_of (units_json units.now)) }
 {
     match units.to_text(alloc)? {
@@ -87,7 +91,7 @@ fn write_each_unit(units: &[u16], writer: &mut Writer) -> Result<(), AllocError>
 }
 
 /// An array of numbers.
-pub fn write_numbers(numbers: &[u32], writer: &mut Writer) -> Result<(), AllocError>
+pub(crate) fn write_numbers(numbers: &[u32], writer: &mut Writer) -> Result<(), AllocError>
     ensures { Adds result writer.old writer.new (tokens_of (numbers_json numbers.now)) }
 {
     writer.begin_array()?;
@@ -98,7 +102,7 @@ pub fn write_numbers(numbers: &[u32], writer: &mut Writer) -> Result<(), AllocEr
 }
 
 /// An array of the numbers of nodes.
-pub fn write_nodes(nodes: &[NodeId], writer: &mut Writer) -> Result<(), AllocError>
+pub(crate) fn write_nodes(nodes: &[NodeId], writer: &mut Writer) -> Result<(), AllocError>
     ensures { Adds result writer.old writer.new (tokens_of (numbers_json nodes.now)) }
 {
     writer.begin_array()?;
@@ -109,7 +113,7 @@ pub fn write_nodes(nodes: &[NodeId], writer: &mut Writer) -> Result<(), AllocErr
 }
 
 /// An array of names.
-pub fn write_names(names: &[String], writer: &mut Writer) -> Result<(), AllocError>
+pub(crate) fn write_names(names: &[String], writer: &mut Writer) -> Result<(), AllocError>
     ensures { Adds result writer.old writer.new
         (tokens_of (names_json (map string_bytes names.now))) }
 {

@@ -103,7 +103,7 @@ fn refusal_of(alloc: Global, error: &Error) -> Refusal
 }
 
 /// The limits that the words ask for, the program's name first.
-pub fn limits_from<S: AsStr>(alloc: Global, words: &[S]) -> Result<Limits, Refusal>
+pub(crate) fn limits_from<S: AsStr>(alloc: Global, words: &[S]) -> Result<Limits, Refusal>
     ensures range { IfOk result (λ limits. IsInRange (bounds_of limits)) }
     ensures asked { IfOk result (λ limits. bounds_of limits ≡ bounds_asked (map S.text words.now)) }
 

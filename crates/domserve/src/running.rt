@@ -50,7 +50,7 @@ fn faulted<E: Write>(errors: &mut E, fault: &Fault) -> u8
 }
 
 /// Says that memory was wanting, and gives its status.
-pub fn without_memory<E: Write>(errors: &mut E) -> u8
+pub(crate) fn without_memory<E: Write>(errors: &mut E) -> u8
     ensures { result ≡ 1 }
 {
     faulted(errors, &Fault::Memory)

@@ -13,7 +13,7 @@ fn close_down(text: &mut Vec<Token>, depth: u64, open: u64) -> Result<(), AllocE
 }
 
 /// Puts units behind a text.
-pub fn push_units(text: &mut Vec<Token>, units: &[u8]) -> Result<(), AllocError> {
+pub(crate) fn push_units(text: &mut Vec<Token>, units: &[u8]) -> Result<(), AllocError> {
     for unit in units {
         text.push(Token::OneUnit(*unit))?;
     }
@@ -71,7 +71,7 @@ fn marked(alloc: Global, tree: &[Token], ranges: &[Ends]) -> Result<Vec<Token>, 
 }
 
 /// The text of a tree, with a marker for each end.
-pub fn draw(alloc: Global, told: &Told) -> Result<Vec<Token>, AllocError> {
+pub(crate) fn draw(alloc: Global, told: &Told) -> Result<Vec<Token>, AllocError> {
     let mut tree = Vec::new(alloc);
     push_tree(&mut tree, told.rows.as_slice())?;
     marked(alloc, tree.as_slice(), told.ranges.as_slice())
@@ -117,7 +117,7 @@ fn write_token(letters: &mut String, open: &mut Vec<Sign>, token: Token) -> Resu
 }
 
 /// A text as it is read.
-pub fn written(alloc: Global, text: &[Token]) -> Result<String, AllocError> {
+pub(crate) fn written(alloc: Global, text: &[Token]) -> Result<String, AllocError> {
     let mut letters = String::new(alloc);
     let mut open = Vec::new(alloc);
     for token in text {

@@ -93,7 +93,12 @@ impl Told {
 }
 
 /// What the replies from a line on tell: one a tree, and each of so many after it a live range.
-pub fn told_from(alloc: Global, replies: &str, first: usize, ranges: usize) -> Result<Told, Fail> {
+pub(crate) fn told_from(
+    alloc: Global,
+    replies: &str,
+    first: usize,
+    ranges: usize,
+) -> Result<Told, Fail> {
     let mut told = Told {
         rows: Vec::new(alloc),
         ranges: Vec::new(alloc),

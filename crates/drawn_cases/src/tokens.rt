@@ -52,7 +52,7 @@ fn step(here: &mut Vec<Point>) {
 }
 
 /// Where the walk has come to past the token.
-pub fn pass(here: &mut Vec<Point>, token: Token) -> Result<(), AllocError> {
+pub(crate) fn pass(here: &mut Vec<Point>, token: Token) -> Result<(), AllocError> {
     match token {
         Token::Open(node, _) => here.push(Point { node, offset: 0 })?,
         Token::Close => {
@@ -66,7 +66,11 @@ pub fn pass(here: &mut Vec<Point>, token: Token) -> Result<(), AllocError> {
 }
 
 /// The gap of a marker, as a point.
-pub fn gap_of(alloc: Global, text: &[Token], mark: Token) -> Result<Option<Point>, AllocError> {
+pub(crate) fn gap_of(
+    alloc: Global,
+    text: &[Token],
+    mark: Token,
+) -> Result<Option<Point>, AllocError> {
     let mut here = Vec::new(alloc);
     for token in text {
         if *token == mark {
@@ -78,7 +82,7 @@ pub fn gap_of(alloc: Global, text: &[Token], mark: Token) -> Result<Option<Point
 }
 
 /// How many tokens are ahead of the point's gap.
-pub fn ahead_of(alloc: Global, text: &[Token], point: Point) -> Result<usize, AllocError>
+pub(crate) fn ahead_of(alloc: Global, text: &[Token], point: Point) -> Result<usize, AllocError>
     ensures { IfOk result (λ ahead. ahead ≤ length text.now) }
 {
     let mut here = Vec::new(alloc);

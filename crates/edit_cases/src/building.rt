@@ -14,7 +14,7 @@ use std::process::Abort;
 use std::test::Fail;
 
 /// The units of a text. Where a growth is refused, they are made at the second try.
-pub fn units(alloc: Global, text: &str) -> Result<Units, AllocError> {
+pub(crate) fn units(alloc: Global, text: &str) -> Result<Units, AllocError> {
     match Units::from_str(alloc, text) {
         Ok(units) => Ok(units),
         Err(_) => Units::from_str(alloc, text),
@@ -22,7 +22,7 @@ pub fn units(alloc: Global, text: &str) -> Result<Units, AllocError> {
 }
 
 /// A name. Where a growth is refused, it is made at the second try.
-pub fn name(alloc: Global, text: &str) -> Result<String, AllocError> {
+pub(crate) fn name(alloc: Global, text: &str) -> Result<String, AllocError> {
     match String::from_str(alloc, text) {
         Ok(name) => Ok(name),
         Err(_) => String::from_str(alloc, text),
@@ -30,7 +30,7 @@ pub fn name(alloc: Global, text: &str) -> Result<String, AllocError> {
 }
 
 /// A label without names.
-pub fn label(alloc: Global, kind: Kind) -> Label
+pub(crate) fn label(alloc: Global, kind: Kind) -> Label
     ensures { result.kind ≡ kind }
 {
     Label {
@@ -42,7 +42,7 @@ pub fn label(alloc: Global, kind: Kind) -> Label
 }
 
 /// Data without attributes.
-pub fn content(alloc: Global, text: &str) -> Result<Content, AllocError> {
+pub(crate) fn content(alloc: Global, text: &str) -> Result<Content, AllocError> {
     Ok(Content {
         text: units(alloc, text)?,
         attrs: Attrs::new(alloc),
@@ -50,7 +50,7 @@ pub fn content(alloc: Global, text: &str) -> Result<Content, AllocError> {
 }
 
 /// Makes a root with that data in document 0.
-pub fn made(
+pub(crate) fn made(
     rt: &impl Abort,
     world: &mut World,
     alloc: Global,
@@ -69,7 +69,7 @@ pub fn made(
 }
 
 /// What a call answers that no exception stands in the way of.
-pub fn allowed<T>(rt: &impl Abort, outcome: Result<T, Refusal>) -> Result<T, AllocError> {
+pub(crate) fn allowed<T>(rt: &impl Abort, outcome: Result<T, Refusal>) -> Result<T, AllocError> {
     match outcome {
         Ok(value) => Ok(value),
         Err(refusal) => {
@@ -80,7 +80,7 @@ pub fn allowed<T>(rt: &impl Abort, outcome: Result<T, Refusal>) -> Result<T, All
 }
 
 /// Puts a node last under another.
-pub fn appended(
+pub(crate) fn appended(
     rt: &impl Abort,
     world: &mut World,
     alloc: Global,
@@ -192,7 +192,7 @@ fn prepare(rt: &impl Abort, world: &mut World, alloc: Global) -> Result<(), Allo
 }
 
 /// A world with document 0 alone. What it stands for is left out, so that what follows stays cheap to prove.
-pub fn first(alloc: Global) -> Result<World, AllocError>
+pub(crate) fn first(alloc: Global) -> Result<World, AllocError>
     ensures { IfOk result IsWhole }
 {
     World::new(alloc)
@@ -226,13 +226,13 @@ pub trait Scene {
 }
 
 /// Plays a scene in a small world of its own. It alone owns the world and lets it go, which is dear to prove.
-pub fn played<S: Scene>(rt: &impl Abort, alloc: Global) -> Result<(), Fail> {
+pub(crate) fn played<S: Scene>(rt: &impl Abort, alloc: Global) -> Result<(), Fail> {
     let mut world = begun(rt, alloc)?;
     S::play(rt, &mut world, alloc)
 }
 
 /// A second document, numbered 13. Where a growth is refused, it is made at the second try.
-pub fn second_document(
+pub(crate) fn second_document(
     rt: &impl Abort,
     world: &mut World,
     alloc: Global,
@@ -261,7 +261,7 @@ pub fn second_document(
 }
 
 /// That these are the children of a node, in their order.
-pub fn expect_children(rt: &impl Abort, world: &World, parent: u32, numbers: &[u32]) {
+pub(crate) fn expect_children(rt: &impl Abort, world: &World, parent: u32, numbers: &[u32]) {
     let parent = NodeId::new(parent);
     assert!(rt; world.tree.holds(parent));
     assert_eq!(rt; world.tree.count(parent), numbers.len());
@@ -281,35 +281,35 @@ pub fn expect_children(rt: &impl Abort, world: &World, parent: u32, numbers: &[u
 }
 
 /// That a node has no parent.
-pub fn expect_root(rt: &impl Abort, world: &World, node: u32) {
+pub(crate) fn expect_root(rt: &impl Abort, world: &World, node: u32) {
     let node = NodeId::new(node);
     assert!(rt; world.tree.holds(node));
     assert_eq!(rt; world.tree.parent(node), None);
 }
 
 /// That none of these nodes has a parent.
-pub fn expect_roots(rt: &impl Abort, world: &World, numbers: &[u32]) {
+pub(crate) fn expect_roots(rt: &impl Abort, world: &World, numbers: &[u32]) {
     for number in numbers {
         expect_root(rt, world, *number);
     }
 }
 
 /// That a node has that node document.
-pub fn expect_document(rt: &impl Abort, world: &World, node: u32, document: u32) {
+pub(crate) fn expect_document(rt: &impl Abort, world: &World, node: u32, document: u32) {
     let node = NodeId::new(node);
     assert!(rt; world.tree.holds(node));
     assert_eq!(rt; world.tree.document_of(node), NodeId::new(document));
 }
 
 /// That a node has that data, of units below 128.
-pub fn expect_data(rt: &impl Abort, world: &World, node: u32, text: &str) {
+pub(crate) fn expect_data(rt: &impl Abort, world: &World, node: u32, text: &str) {
     let node = NodeId::new(node);
     assert!(rt; world.tree.holds(node));
     expect_units(rt, &world.tree.body(node).text, text);
 }
 
 /// That these are the units of a text, each below 128.
-pub fn expect_units(rt: &impl Abort, units: &Units, text: &str) {
+pub(crate) fn expect_units(rt: &impl Abort, units: &Units, text: &str) {
     assert!(rt;
         units
             .units()
@@ -320,7 +320,7 @@ pub fn expect_units(rt: &impl Abort, units: &Units, text: &str) {
 }
 
 /// That the nodes below a number are held.
-pub fn expect_held(rt: &impl Abort, world: &World, made: u32) {
+pub(crate) fn expect_held(rt: &impl Abort, world: &World, made: u32) {
     for number in 0..made {
         assert!(rt; world.tree.holds(NodeId::new(number)), "node {number}");
     }

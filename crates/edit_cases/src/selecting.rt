@@ -55,7 +55,7 @@ fn behind_the_first_unit(text: u32) -> Point {
 }
 
 /// Live range 0, from behind the first unit of one Text to behind the first of another.
-pub fn select_between(
+pub(crate) fn select_between(
     rt: &impl Abort,
     world: &mut World,
     first: u32,
@@ -69,7 +69,7 @@ pub fn select_between(
 }
 
 /// Live range 0, from Text 2 to Text 5.
-pub fn select(rt: &impl Abort, world: &mut World) -> Result<RangeId, AllocError>
+pub(crate) fn select(rt: &impl Abort, world: &mut World) -> Result<RangeId, AllocError>
     requires { IsWhole world.old }
     ensures { IsWhole world.new }
 {
@@ -77,7 +77,13 @@ pub fn select(rt: &impl Abort, world: &mut World) -> Result<RangeId, AllocError>
 }
 
 /// That both ends of a live range stand in element 1, at these offsets.
-pub fn expect_ends(rt: &impl Abort, world: &World, range: RangeId, start: usize, end: usize) {
+pub(crate) fn expect_ends(
+    rt: &impl Abort,
+    world: &World,
+    range: RangeId,
+    start: usize,
+    end: usize,
+) {
     let node = NodeId::new(1);
     assert!(rt; world.ranges.holds(range));
     let ends = world.ranges.ends(range);

@@ -10,7 +10,7 @@ use std::alloc::{AllocError, Global};
 use std::process::Abort;
 
 /// A label with a name and no ids.
-pub fn named(alloc: Global, kind: Kind, name: &str) -> Result<Label, AllocError> {
+pub(crate) fn named(alloc: Global, kind: Kind, name: &str) -> Result<Label, AllocError> {
     Ok(Label {
         kind,
         name: String::from_str(alloc, name)?,
@@ -20,7 +20,7 @@ pub fn named(alloc: Global, kind: Kind, name: &str) -> Result<Label, AllocError>
 }
 
 /// A label with no name.
-pub fn nameless(alloc: Global, kind: Kind) -> Label {
+pub(crate) fn nameless(alloc: Global, kind: Kind) -> Label {
     Label {
         kind,
         name: String::new(alloc),
@@ -30,7 +30,7 @@ pub fn nameless(alloc: Global, kind: Kind) -> Label {
 }
 
 /// Makes a node in the document of a tree, or a document of its own.
-pub fn made<X: Drop>(
+pub(crate) fn made<X: Drop>(
     rt: &impl Abort,
     tree: &mut Tree<X>,
     label: Label,
@@ -50,7 +50,7 @@ fn is_kind<X>(tree: &Tree<X>, id: NodeId, kind: Kind) -> bool
 }
 
 /// Puts a root, which is an Element or a Text, into an Element: before one of its children, or last.
-pub fn put<X>(
+pub(crate) fn put<X>(
     rt: &impl Abort,
     tree: &mut Tree<X>,
     parent: NodeId,

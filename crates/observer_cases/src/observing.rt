@@ -7,7 +7,7 @@ use std::process::Abort;
 use std::test::Fail;
 
 /// No member is given.
-pub fn nothing() -> RawOptions {
+pub(crate) fn nothing() -> RawOptions {
     RawOptions {
         child_list: None,
         attributes: None,
@@ -20,7 +20,7 @@ pub fn nothing() -> RawOptions {
 }
 
 /// A label of a Text, which these tests ask nothing of.
-pub fn label(alloc: Global) -> Label {
+pub(crate) fn label(alloc: Global) -> Label {
     Label {
         kind: Kind::Text,
         name: String::new(alloc),
@@ -30,7 +30,7 @@ pub fn label(alloc: Global) -> Label {
 }
 
 /// An observer watches a node.
-pub fn watch(
+pub(crate) fn watch(
     rt: &impl Abort,
     observers: &mut Observers,
     observer: ObserverId,
@@ -48,7 +48,11 @@ pub fn watch(
 }
 
 /// Takes the records of an observer.
-pub fn take(rt: &impl Abort, observers: &mut Observers, observer: ObserverId) -> Vec<Record> {
+pub(crate) fn take(
+    rt: &impl Abort,
+    observers: &mut Observers,
+    observer: ObserverId,
+) -> Vec<Record> {
     assert!(rt; observers.holds(observer));
     observers.take(observer)
 }

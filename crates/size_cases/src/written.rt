@@ -64,7 +64,7 @@ fn written(alloc: Global, parts: &[Part]) -> Result<String, AllocError> {
 }
 
 /// That these lines, so many, are answered so.
-pub fn are_answered(
+pub(crate) fn are_answered(
     rt: &impl Abort,
     alloc: Global,
     given: &[Part],
