@@ -1,6 +1,6 @@
 //! The observers of a tree: their registrations, their queues and the pending list.
 
-ghost use Rattle.std.specs.Prelude.{◌≡◌, ℕ, ◌<◌, [], ◌∷◌, length, slice_get, IfOk, OnOk, OnErr, nat_lt, true};
+ghost use Rattle.std.specs.Prelude.{◌≡◌, ℕ, ◌+◌, ◌<◌, [], ◌∷◌, length, slice_get, IfOk, OnOk, OnErr, nat_lt, true};
 ghost use Rattle.dom_model.specs.Forests.Forest.{HasNode, ancestors, inclusive_descendants};
 ghost use Rattle.dom_model.specs.PlainLists.Lists.{among};
 ghost use Rattle.dom_model.specs.MutationAlgorithms.Discarding.{observed_nodes};
@@ -87,6 +87,7 @@ impl Observers {
     pub fn make(&mut self) -> Result<ObserverId, AllocError>
         requires room { length self.old.queues < 4294967295 }
         ensures number { IfOk result (λ id. id ≡ length self.old.queues) }
+        ensures held { OnOk result (length self.new.queues ≡ length self.old.queues + 1) }
         ensures ok { OnOk result ((x : Observing) → Watches self.old x → Watches self.new (with_observer x)) }
         ensures err { OnErr result (self.new ≡ self.old) }
         ensures names { NamesOnly [] self.old self.new }

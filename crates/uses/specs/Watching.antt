@@ -1,12 +1,6 @@
--- Observers that stand for an observing part of the definitions, and the options of one that watches what stands below a node.
+-- The options of an observer that watches what stands below a node.
 use Rattle.std.specs.Prelude.{true, false, None}
-use Rattle.dom_model.specs.Worlds.World.{Observing, Options}
-use Rattle.dom_observe.specs.Watchers.{Watchers, Watches}
-
--- there is an observing part that they stand for
-pub record IsWatching (o : Watchers) : Type 0 where
-  pub stands_for : Observing
-  pub watches : Watches o stands_for
+use Rattle.dom_model.specs.Worlds.World.{Options}
 
 -- children that come and go, of a node and of all nodes below it
 abbrev pub children_below : Options

@@ -6,7 +6,7 @@ ghost use Rattle.dom_model.specs.Worlds.World.{Observing};
 ghost use Rattle.dom_model.specs.MutationObservers.Observing.{standing_on, noted};
 ghost use Rattle.dom_model.specs.MutationObservers.Records.{with_observer, observed, queue_of};
 ghost use Rattle.dom_observe.specs.Watchers.{Watches};
-ghost use Rattle.uses.specs.Watching.{IsWatching, children_below};
+ghost use Rattle.uses.specs.Watching.{children_below};
 
 use dom_observe::{Mutation, ObserverId, Observers, Options, Record};
 use dom_tree::{NodeId, Tree};
@@ -15,7 +15,6 @@ use std::alloc::AllocError;
 /// Makes an observer that is told what changes among the children of a node, and of all nodes below it.
 pub fn watch_children(observers: &mut Observers, node: NodeId) -> Result<ObserverId, AllocError>
     requires room { length observers.old.queues < 4294967295 }
-    requires watching { IsWatching observers.old }
     ensures observes { IfOk result (λ id. (x : Observing) → Watches observers.old x → Watches observers.new (observed id node children_below (with_observer x))) }
 {
     let options = Options {
@@ -39,7 +38,6 @@ pub fn tell_and_take<X>(
     change: &Mutation<'_>,
     observer: ObserverId,
 ) -> Result<Vec<Record>, AllocError>
-    requires watching { IsWatching observers.old }
     requires held { observer < length observers.old.queues }
     requires target { HasNode tree.now.forest change.now.target }
     ensures records { IfOk result (λ records. (x : Observing) → Watches observers.old x → records.items ≡ queue_of observer (noted (record (change.now) { standing = standing_on (ancestors change.now.target tree.now.forest) x.registrations }) x)) }

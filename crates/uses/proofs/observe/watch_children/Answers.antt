@@ -1,14 +1,10 @@
-use Rattle.std.proofs.Common.{◌∷◌, [], length, arith, length-append}
+use Rattle.std.proofs.Common.{arith}
 use Rattle.dom_model.specs.MutationObservers.Records.{with_observer}
 use Rattle.uses.proofs.observe.watch_children.Goals as goal
 
 pub observe-requires : goal.observe-requires
 observe-requires c =
-    let w = c.requires.watching in
-    let x = w.stands_for in
-    let made = (c.in_ok-observer.ensures.ok x w.watches).made in
-    let more = length-append x.places (length x.mutations ∷ []) in
-    let old = w.watches.made in
+    let held = c.in_ok-observer.ensures.held in
     let number = c.in_ok-observer.ensures.number in
     omega arith
 

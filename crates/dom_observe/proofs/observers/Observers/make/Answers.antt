@@ -38,6 +38,12 @@ returns-clause-ok c = λ x w.
     let u : Watches (record { nodes = nodes_of a.table a.nodes.entries; queues = a.queues.items; pending = a.pending.keys }) x = subst (λ o. Watches o x) (sym c.self.view_is) w in
     subst (λ qs. Watches (record { nodes = nodes_of a.table a.nodes.entries; queues = qs; pending = a.pending.keys }) (with_observer x)) (sym grown) (watches-made _ x u)
 
+pub returns-clause-held : goal.returns-clause-held
+returns-clause-held c =
+    let a = c.self.inside in
+    let grown = queues-pushed a.queues.items c.push.new.self.items c.new.result c.in_ok-push.ensures.items c.new.ensures in
+    ap length grown ∙ length-append a.queues.items ([] ∷ []) ∙ ap (λ o. length o.queues + 1) c.self.view_is
+
 pub returns-clause-names : goal.returns-clause-names
 returns-clause-names c =
     let a = c.self.inside in
