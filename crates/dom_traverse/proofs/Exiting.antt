@@ -1,5 +1,5 @@
 -- An iterator with its reference inside a node that goes steps off to where the exits of its root lead.
-use Rattle.std.proofs.Common.{◌≡◌, ℕ, ◌==◌, Bool, true, false, not, ◌&&◌, if◌then◌else◌, List, Option, refl, sym, ap, ◌∙◌, subst}
+use Rattle.std.proofs.Common.{◌≡◌, ℕ, ◌==◌, Bool, true, false, not, ◌&&◌, if◌then◌else◌, List, refl, sym, ap, ◌∙◌, subst}
 use Rattle.std.proofs.lemmas.Bool.{and_parts}
 use Rattle.dom_model.specs.PlainLists.Lists.{among, head_of, before}
 use Rattle.dom_model.specs.Forests.Forest.{Forest, ancestors, inclusive_descendants}

@@ -1,6 +1,5 @@
 -- What an iterator's place tells, and when a root loses its reference.
-use Rattle.std.proofs.Common.{◌≡◌, ℕ, ◌==◌, Bool, true, not, ◌&&◌, sym, ◌∙◌, ◌<◌, subst}
-use Rattle.std.proofs.lemmas.Bool.{and_parts}
+use Rattle.std.proofs.Common.{◌≡◌, ℕ, true, ◌∙◌, ◌<◌, subst}
 use Rattle.dom_model.specs.PlainLists.Lists.{hits, among}
 use Rattle.dom_model.specs.Forests.Forest.{Forest, HasNode, ancestors, inclusive_descendants}
 use Rattle.dom_model.specs.Worlds.World.{Content, Iterator, Walker}

@@ -1,5 +1,5 @@
 -- The rules of a filter, found by name.
-use Rattle.std.specs.Prelude.{◌≡◌, ℕ, List, String, Option, unwrap_or}
+use Rattle.std.specs.Prelude.{◌≡◌, ℕ, List, String, unwrap_or}
 use Rattle.std.specs.BTreeMap.{BTreeMap, get_by_text}
 use Rattle.dom_model.specs.declared.Verdict.{Verdict}
 use Rattle.dom_model.specs.Worlds.World.{FilterRule}

@@ -1,5 +1,5 @@
 -- A verdict that is known stays.
-use Rattle.std.proofs.Common.{◌≡◌, ℕ, List, sym, ap, ◌∙◌, string_bytes}
+use Rattle.std.proofs.Common.{ℕ, List, sym, ap, ◌∙◌, string_bytes}
 use Rattle.std.specs.Prelude.{is_some}
 use Rattle.std.specs.BTreeMap.{get_by_text}
 use Rattle.std.proofs.lemmas.Map.Text.{btree_map_updates_text}
