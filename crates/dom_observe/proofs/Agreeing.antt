@@ -5,7 +5,6 @@ use Rattle.std.specs.Option.{option_map_or}
 use Rattle.std.proofs.lemmas.Bool.{true≢false}
 use Rattle.dom_model.specs.PlainLists.Lists.{among, is_number}
 use Rattle.dom_model.specs.Worlds.World.{Options, Registration}
-use Rattle.dom_model.specs.MutationObservers.Observing.{transient_of}
 use Rattle.dom_model.specs.MutationObservers.Records.{is_registered, is_transient_from}
 use Rattle.dom_model.proofs.PlainLists.Numbers.{Same, same_or, same, apart}
 use Rattle.dom_observe.specs.declared.registration.Ended.{Ended}
@@ -169,7 +168,7 @@ agree-made u own node key r some a =
 
 -- Where an observer is not registered on a node, nothing comes from there.
 module _ (u : ℕ → Option Registration) (o n : ℕ) where
-  not_found : (keys : List ℕ) → find (own_at u o n) keys ≡ None → (k : ℕ) → among k keys ≡ true → own_at u o n k ≡ false
+  pub not_found : (keys : List ℕ) → find (own_at u o n) keys ≡ None → (k : ℕ) → among k keys ≡ true → own_at u o n k ≡ false
   not_found [] h k there = absurd (true≢false (sym there))
   not_found (j ∷ keys) h k there = go (own_at u o n j) refl h (same_or j k) (not_found keys)
     where

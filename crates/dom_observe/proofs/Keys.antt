@@ -1,5 +1,5 @@
 -- The keys that each node has, as the map from nodes to keys changes.
-use Rattle.std.proofs.Common.{◌≡◌, ℕ, ◌==◌, Bool, true, false, cond, not, if◌then◌else◌, List, [], ◌∷◌, ◌++◌, length, filter, Option, option_map, Some, None, refl, ap, sym, ◌∙◌, subst, nat_eq, append-nil, arith}
+use Rattle.std.proofs.Common.{◌≡◌, ℕ, ◌==◌, Bool, true, false, cond, if◌then◌else◌, List, [], ◌∷◌, ◌++◌, length, filter, Option, option_map, Some, None, refl, ap, sym, ◌∙◌, subst, nat_eq, append-nil, arith}
 use Rattle.std.specs.Prelude.{Vec, is_some}
 use Rattle.std.specs.Map.{lookup, set_value, keys_of}
 use Rattle.indexmap.specs.IndexMap.{insert_entry}
@@ -141,13 +141,13 @@ pub some_key : (xs ys : List ℕ) (key : ℕ) → ys ≡ xs ++ key ∷ [] → ys
 some_key [] ys key e none = let k : key ∷ [] ≡ [] = sym e ∙ none in cc k
 some_key (x ∷ xs) ys key e none = let k : x ∷ (xs ++ key ∷ []) ≡ [] = sym e ∙ none in cc k
 
--- a key is taken out of those of a node, which stays listed
-module _ {A : Type 0} (k key : ℕ) (es : List (ℕ × Vec ℕ A)) (v w : Vec ℕ A) (there : lookup (nat_eq k) es ≡ Some v) (taken : w.items ≡ filter (λ j. not (j == key)) v.items) where
-  pub taken-on : (n : ℕ) → on n (listed (set_value (nat_eq k) es w)) ≡ (if n == k then filter (λ j. not (j == key)) (on n (listed es)) else on n (listed es))
+-- keys are taken out of those of a node, which stays listed
+module _ {A : Type 0} (k : ℕ) (stays : ℕ → Bool) (es : List (ℕ × Vec ℕ A)) (v w : Vec ℕ A) (there : lookup (nat_eq k) es ≡ Some v) (taken : w.items ≡ filter stays v.items) where
+  pub taken-on : (n : ℕ) → on n (listed (set_value (nat_eq k) es w)) ≡ (if n == k then filter stays (on n (listed es)) else on n (listed es))
   taken-on n = on-looked n (listed (set_value (nat_eq k) es w)) ∙ ap keys_in (looked-set n k es v w there) ∙ go (same_or n k)
     where
-      go : Same n k → keys_in (if n == k then Some w.items else lookup (nat_eq n) (listed es)) ≡ (if n == k then filter (λ j. not (j == key)) (on n (listed es)) else on n (listed es))
-      go (same e t) = rw t (taken ∙ sym (ap (filter (λ j. not (j == key))) (ap (λ m. on m (listed es)) e ∙ on-lookup k es ∙ ap items_in there)))
+      go : Same n k → keys_in (if n == k then Some w.items else lookup (nat_eq n) (listed es)) ≡ (if n == k then filter stays (on n (listed es)) else on n (listed es))
+      go (same e t) = rw t (taken ∙ sym (ap (filter stays) (ap (λ m. on m (listed es)) e ∙ on-lookup k es ∙ ap items_in there)))
       go (apart ne t) = rw t (sym (on-looked n (listed es)))
 
   pub taken-others : (n : ℕ) → (n ≡ k → ⊥) → lookup (nat_eq n) (listed (set_value (nat_eq k) es w)) ≡ lookup (nat_eq n) (listed es)
@@ -170,11 +170,11 @@ module _ {A : Type 0} (k key : ℕ) (es : List (ℕ × Vec ℕ A)) (v w : Vec �
       cc e
 
 -- a node without an entry
-pub taken-absent : {A : Type 0} (k key : ℕ) (es : List (ℕ × Vec ℕ A)) → lookup (nat_eq k) es ≡ None → (n : ℕ) → on n (listed es) ≡ (if n == k then filter (λ j. not (j == key)) (on n (listed es)) else on n (listed es))
-taken-absent k key es none n = elim (same_or n k) [
+pub taken-absent : {A : Type 0} (k : ℕ) (stays : ℕ → Bool) (es : List (ℕ × Vec ℕ A)) → lookup (nat_eq k) es ≡ None → (n : ℕ) → on n (listed es) ≡ (if n == k then filter stays (on n (listed es)) else on n (listed es))
+taken-absent k stays es none n = elim (same_or n k) [
   | same e t ↦
       let bare : on n (listed es) ≡ [] = ap (λ m. on m (listed es)) e ∙ on-lookup k es ∙ ap items_in none in
-      rw t (bare ∙ sym (ap (filter (λ j. not (j == key))) bare))
+      rw t (bare ∙ sym (ap (filter stays) bare))
   | apart ne t ↦ rw t refl
 ]
 

@@ -3,6 +3,7 @@ pub mod Agreeing
 pub mod Asked
 pub mod Counting
 pub mod EndedOnes
+pub mod NodeByNode
 pub mod Finding
 pub mod Gathered
 pub mod Hearing
@@ -16,6 +17,7 @@ pub mod Named
 pub mod NamedRecords
 pub mod Once
 pub mod Outcomes
+pub mod OwnKeys
 pub mod Owning
 pub mod Queued
 pub mod Sources

@@ -9,7 +9,7 @@ use Rattle.dom_model.specs.PlainLists.Lists.{among}
 use Rattle.dom_model.specs.Worlds.World.{Registration, Mutation}
 use Rattle.dom_model.specs.MutationObservers.Observing.{registered_on, standing_on}
 use Rattle.dom_model.specs.MutationObservers.Record.{Record}
-use Rattle.dom_model.specs.MutationObservers.Records.{interests, interested, observers_of, asks_old_value, record_for}
+use Rattle.dom_model.specs.MutationObservers.Records.{interests, observers_of, asks_old_value, record_for}
 use Rattle.dom_model.specs.PlainLists.LastOnce.{with_last, with_all_last}
 use Rattle.dom_observe.specs.declared.registration.Registration as held
 use Rattle.dom_observe.specs.Once.{once}

@@ -14,7 +14,7 @@ use Rattle.dom_observe.specs.Watchers.{on}
 use Rattle.dom_observe.specs.Registrations.{origin, deep_at, StandsOn, AllStand, Agree, with_transient, with_transients_of, with_added_transients}
 use Rattle.dom_observe.proofs.Once.{same-is, same-itself, with_once, with_all_once, once-append, walk, walk-standing}
 use Rattle.dom_observe.proofs.Keeping.{found_deep}
-use Rattle.dom_observe.proofs.Tables.{all_append, all_imply}
+use Rattle.dom_observe.proofs.Tables.{all_append}
 
 abbrev is_deep : Registration → Bool
 is_deep r = r.options.subtree

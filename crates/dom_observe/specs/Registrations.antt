@@ -1,5 +1,5 @@
 -- The registrations in the code's table, as those of the definitions.
-use Rattle.std.specs.Prelude.{◌≡◌, ◌≢◌, ◌<◌, [], ◌∷◌, ◌++◌, filter, ℕ, ◌==◌, Bool, not, ◌&&◌, ◌||◌, List, map, filter_map, Option, option_map, None, Some, is_none, is_some, slice_index_or, unwrap_or, nat_eq, Vec, if◌then◌else◌, false, true}
+use Rattle.std.specs.Prelude.{◌≡◌, ◌≢◌, ◌<◌, [], ◌∷◌, ◌++◌, ℕ, ◌==◌, Bool, not, ◌&&◌, ◌||◌, List, map, filter_map, Option, option_map, None, Some, is_none, is_some, slice_index_or, unwrap_or, nat_eq, Vec, if◌then◌else◌, false, true}
 use Rattle.std.specs.Option.{option_map_or}
 use Rattle.std.specs.List.{AllByRecursion, list_any}
 use Rattle.std.specs.Map.{lookup}
@@ -13,6 +13,9 @@ use Rattle.dom_observe.specs.Watchers.{on}
 use Rattle.dom_observe.specs.declared.registration.Registration.{Registration}
 use Rattle.dom_observe.specs.declared.registration.Ended.{Ended}
 use Rattle.dom_observe.specs.declared.registration.Ended.TheVariants.{Transient, Of, From}
+use Rattle.dom_observe.specs.declared.registration.Lifetime.{Lifetime}
+use Rattle.dom_observe.specs.declared.registration.Lifetime.TheVariants.{Lasting, Passing}
+use Rattle.dom_observe.specs.declared.registration.Ending.{Ending}
 
 abbrev pub plain : Registration → model.Registration
 plain r = record { node = r.node; observer = r.observer; options = r.options; source = r.source }
@@ -108,10 +111,23 @@ pub record Observes (under : ℕ → Option model.Registration) (o n : ℕ) : Ty
 abbrev pub HaveSources : (ℕ → Option model.Registration) → Type 0
 HaveSources under = (key : ℕ) (r : model.Registration) (n : ℕ) → under key ≡ Some r → r.source ≡ Some n → Observes under r.observer n
 
--- the node of a registration that a step ends
-abbrev pub ended_node : Ended → Option model.Registration → Option ℕ
-ended_node ended None = None
-ended_node ended (Some r) = if spares ended r then None else Some r.node
+-- of an observer those that last, or its transient ones
+abbrev pub of_kind : Lifetime → ℕ → Option model.Registration → Bool
+of_kind Lasting i o = lasts_for i o
+of_kind Passing i o = passes_for i o
+
+-- what stands under a key ends: it is one of these, and the step does not leave it
+abbrev pub goes : Ending → Option model.Registration → Bool
+goes e None = false
+goes e (Some r) = of_kind e.lifetime e.observer (Some r) && not (spares e.ended r)
+
+abbrev pub left_after : Ending → Option model.Registration → Option model.Registration
+left_after e o = if goes e o then None else o
+
+-- the node of a registration that ends
+abbrev pub ending_node : Ending → Option model.Registration → Option ℕ
+ending_node e None = None
+ending_node e (Some r) = if goes e (Some r) then Some r.node else None
 
 -- the registration under the key has subtree
 abbrev pub deep_at : (ℕ → Option model.Registration) → ℕ → Bool

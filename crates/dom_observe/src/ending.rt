@@ -6,107 +6,114 @@ ghost use Rattle.std.specs.Map.{lookup};
 ghost use Rattle.indexmap.specs.IndexMap.{IsUnique};
 ghost use Rattle.dom_model.specs.PlainLists.Lists.{among};
 ghost use Rattle.dom_observe.specs.Watchers.{on};
-ghost use Rattle.dom_observe.specs.Registrations.{at, listed, is_live, left_by, ended_node, passes_for, Placed, Owned, HaveKeys};
+ghost use Rattle.dom_observe.specs.Registrations.{at, listed, is_live, left_by, left_after, of_kind, ending_node, passes_for, Placed, Owned, HaveKeys};
 ghost use Rattle.dom_observe.specs.Kept.{keys_by, HaveNone};
 
 use crate::observer_id::ObserverId;
-use crate::registration::{Ended, Registration};
+use crate::registration::{Ended, Ending, Lifetime, Registration};
 use crate::table::prune;
 use dom_tree::NodeId;
 use indexmap::{IndexMap, IndexSet};
 use slab::Slab;
 
-// The node of the registration under a key, where the step ends it.
-fn ended_node(table: &Slab<Registration>, key: usize, ended: &Ended) -> Option<NodeId>
-    ensures { result ≡ ended_node ended.now (at table.now key) }
+// The node of the registration under a key, where it ends.
+fn ending_node(table: &Slab<Registration>, key: usize, ending: &Ending) -> Option<NodeId>
+    ensures { result ≡ ending_node ending.now (at table.now key) }
 {
     match table.get(key) {
-        Some(registration) if !ended.spares(registration) => Some(registration.node),
+        Some(registration) if ending.ends(registration) => Some(registration.node),
         _ => None,
     }
 }
 
-// Whether a key is another.
-fn is_other(key: usize, other: usize) -> bool
-    ensures { result ≡ not (other == key) }
+// Takes out the registration under a key, where it ends.
+fn take_out(table: &mut Slab<Registration>, key: usize, ending: &Ending)
+    ensures { (k : ℕ) → at table.new k ≡ (if k == key then left_after ending.now (at table.old k) else at table.old k) }
 {
-    other != key
+    if ending_node(table, key, ending).is_some() {
+        let _ = table.try_remove(key);
+    }
 }
 
-// Takes a key out of several, and answers whether none is left.
-fn take_key(keys: &mut Vec<usize>, key: usize) -> bool
-    ensures kept { keys.new.items ≡ filter (λ k. not (k == key)) keys.old.items }
+// Takes out those under several keys that end.
+fn take_out_each(table: &mut Slab<Registration>, keys: &[usize], ending: &Ending)
+    ensures { (k : ℕ) → at table.new k ≡ (if among k keys.now then left_after ending.now (at table.old k) else at table.old k) }
+{
+    for key in keys {
+        take_out(table, *key, ending);
+    }
+}
+
+// Takes out those under a node's keys that end, with their keys, and answers whether none is left.
+fn end_keys(table: &mut Slab<Registration>, keys: &mut Vec<usize>, ending: &Ending) -> bool
+    ensures left { (k : ℕ) → at table.new k ≡ (if among k keys.old.items then left_after ending.now (at table.old k) else at table.old k) }
+    ensures kept { keys.new.items ≡ filter (is_live (at table.new)) keys.old.items }
     ensures bare { result ≡ (length keys.new.items == 0) }
 {
-    keys.retain(|other| is_other(key, *other));
+    take_out_each(table, keys.as_slice(), ending);
+    prune(table, keys);
     keys.is_empty()
 }
 
-// Takes a key out of those of a node, and answers whether none is left there.
-fn take_key_on(nodes: &mut IndexMap<u32, Vec<usize>>, node: NodeId, key: usize) -> bool
+// The same of a node.
+fn end_keys_on(
+    table: &mut Slab<Registration>,
+    nodes: &mut IndexMap<u32, Vec<usize>>,
+    node: NodeId,
+    ending: &Ending,
+) -> bool
     requires { IsUnique nat_eq nodes.old }
-    ensures kept { (n : ℕ) → on n (listed nodes.new.entries) ≡ (if n == node then filter (λ k. not (k == key)) (on n (listed nodes.old.entries)) else on n (listed nodes.old.entries)) }
+    ensures left { (k : ℕ) → at table.new k ≡ (if among k (on node (listed nodes.old.entries)) then left_after ending.now (at table.old k) else at table.old k) }
+    ensures kept { (n : ℕ) → on n (listed nodes.new.entries) ≡ (if n == node then filter (is_live (at table.new)) (on n (listed nodes.old.entries)) else on n (listed nodes.old.entries)) }
     ensures others { (n : ℕ) → n ≢ node → lookup (nat_eq n) (listed nodes.new.entries) ≡ lookup (nat_eq n) (listed nodes.old.entries) }
     ensures bare { result ≡ true → on node (listed nodes.new.entries) ≡ [] }
     ensures some { result ≡ false → (keys : List ℕ) → lookup (nat_eq node) (listed nodes.new.entries) ≡ Some keys → keys ≢ [] }
     ensures unique { IsUnique nat_eq nodes.new }
 {
     match nodes.get_mut(&node.number()) {
-        Some(keys) => take_key(keys, key),
+        Some(keys) => end_keys(table, keys, ending),
         None => false,
     }
 }
 
-// Takes a key out of those of a node, and the node with the last.
-fn drop_key(nodes: &mut IndexMap<u32, Vec<usize>>, node: NodeId, key: usize)
+// Takes out the registrations on a node that end, with their keys, and the node with the last.
+fn end_on(
+    table: &mut Slab<Registration>,
+    nodes: &mut IndexMap<u32, Vec<usize>>,
+    node: NodeId,
+    ending: &Ending,
+)
     requires { IsUnique nat_eq nodes.old }
-    ensures kept { (n : ℕ) → on n (listed nodes.new.entries) ≡ (if n == node then filter (λ k. not (k == key)) (on n (listed nodes.old.entries)) else on n (listed nodes.old.entries)) }
+    ensures left { (k : ℕ) → at table.new k ≡ (if among k (on node (listed nodes.old.entries)) then left_after ending.now (at table.old k) else at table.old k) }
+    ensures kept { (n : ℕ) → on n (listed nodes.new.entries) ≡ (if n == node then filter (is_live (at table.new)) (on n (listed nodes.old.entries)) else on n (listed nodes.old.entries)) }
     ensures full { HaveKeys (listed nodes.old.entries) → HaveKeys (listed nodes.new.entries) }
     ensures unique { IsUnique nat_eq nodes.new }
 {
-    if take_key_on(nodes, node, key) {
+    if end_keys_on(table, nodes, node, ending) {
         let _ = nodes.swap_remove(&node.number());
     }
 }
 
-// Takes out the registration under a key, where the step ends it.
-fn end_one(
-    table: &mut Slab<Registration>,
-    nodes: &mut IndexMap<u32, Vec<usize>>,
-    key: usize,
-    ended: &Ended,
-)
-    requires unique { IsUnique nat_eq nodes.old }
-    requires placed { Placed (at table.old) (listed nodes.old.entries) }
-    ensures left { (k : ℕ) → at table.new k ≡ (if k == key then left_by ended.now (at table.old k) else at table.old k) }
-    ensures swept { (n : ℕ) → on n (listed nodes.new.entries) ≡ filter (is_live (at table.new)) (on n (listed nodes.old.entries)) }
-    ensures placed { Placed (at table.new) (listed nodes.new.entries) }
-    ensures full { HaveKeys (listed nodes.old.entries) → HaveKeys (listed nodes.new.entries) }
-    ensures unique { IsUnique nat_eq nodes.new }
-{
-    if let Some(node) = ended_node(table, key, ended) {
-        let _ = table.try_remove(key);
-        drop_key(nodes, node, key);
-    }
-}
-
-// Takes out the registrations under several keys, where the step ends them.
-pub(crate) fn end_among(
+// Takes out the registrations under several keys that end. Each node's keys are gone through once.
+fn end_among(
     table: &mut Slab<Registration>,
     nodes: &mut IndexMap<u32, Vec<usize>>,
     keys: &[usize],
-    ended: &Ended,
+    ending: &Ending,
 )
     requires unique { IsUnique nat_eq nodes.old }
     requires placed { Placed (at table.old) (listed nodes.old.entries) }
-    ensures left { (k : ℕ) → at table.new k ≡ (if among k keys.now then left_by ended.now (at table.old k) else at table.old k) }
+    requires owned { (k : ℕ) → among k keys.now ≡ of_kind ending.now.lifetime ending.now.observer (at table.old k) }
+    ensures left { (k : ℕ) → at table.new k ≡ (if among k keys.now then left_by ending.now.ended (at table.old k) else at table.old k) }
     ensures swept { (n : ℕ) → on n (listed nodes.new.entries) ≡ filter (is_live (at table.new)) (on n (listed nodes.old.entries)) }
     ensures placed { Placed (at table.new) (listed nodes.new.entries) }
     ensures full { HaveKeys (listed nodes.old.entries) → HaveKeys (listed nodes.new.entries) }
     ensures unique { IsUnique nat_eq nodes.new }
 {
     for key in keys {
-        end_one(table, nodes, *key, ended);
+        if let Some(node) = ending_node(table, *key, ending) {
+            end_on(table, nodes, node, ending);
+        }
     }
 }
 
@@ -115,21 +122,21 @@ pub(crate) fn end_own(
     table: &mut Slab<Registration>,
     nodes: &mut IndexMap<u32, Vec<usize>>,
     lists: &mut Vec<Vec<usize>>,
-    observer: ObserverId,
-    ended: &Ended,
+    ending: &Ending,
 )
     requires unique { IsUnique nat_eq nodes.old }
     requires placed { Placed (at table.old) (listed nodes.old.entries) }
-    requires made { observer < length lists.old.items }
-    ensures left { (k : ℕ) → at table.new k ≡ (if among k (slice_index_or (keys_by lists.old.items) observer []) then left_by ended.now (at table.old k) else at table.old k) }
+    requires made { ending.now.observer < length lists.old.items }
+    requires owned { (k : ℕ) → among k (slice_index_or (keys_by lists.old.items) ending.now.observer []) ≡ of_kind ending.now.lifetime ending.now.observer (at table.old k) }
+    ensures left { (k : ℕ) → at table.new k ≡ (if among k (slice_index_or (keys_by lists.old.items) ending.now.observer []) then left_by ending.now.ended (at table.old k) else at table.old k) }
     ensures swept { (n : ℕ) → on n (listed nodes.new.entries) ≡ filter (is_live (at table.new)) (on n (listed nodes.old.entries)) }
-    ensures keys { keys_by lists.new.items ≡ slice_set (keys_by lists.old.items) observer (filter (is_live (at table.new)) (slice_index_or (keys_by lists.old.items) observer [])) }
+    ensures keys { keys_by lists.new.items ≡ slice_set (keys_by lists.old.items) ending.now.observer (filter (is_live (at table.new)) (slice_index_or (keys_by lists.old.items) ending.now.observer [])) }
     ensures placed { Placed (at table.new) (listed nodes.new.entries) }
     ensures full { HaveKeys (listed nodes.old.entries) → HaveKeys (listed nodes.new.entries) }
     ensures unique { IsUnique nat_eq nodes.new }
 {
-    let keys = &mut lists[observer.number() as usize];
-    end_among(table, nodes, keys.as_slice(), ended);
+    let keys = &mut lists[ending.observer.number() as usize];
+    end_among(table, nodes, keys.as_slice(), ending);
     prune(table, keys);
 }
 
@@ -156,7 +163,12 @@ pub(crate) fn end_transients(
 {
     for index in 0..fleeting.len() {
         if let Some(observer) = fleeting.get_index(index) {
-            end_own(table, nodes, passing, *observer, &Ended::Transient);
+            let ending = Ending {
+                observer: *observer,
+                lifetime: Lifetime::Passing,
+                ended: Ended::Transient,
+            };
+            end_own(table, nodes, passing, &ending);
         }
     }
 }

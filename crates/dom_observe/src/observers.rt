@@ -21,7 +21,7 @@ use crate::options::Options;
 use crate::queue::Queue;
 use crate::queues::take_from;
 use crate::record::{Mutation, Record};
-use crate::registration::{Ended, Registration};
+use crate::registration::{Ended, Ending, Lifetime, Registration};
 use crate::table::{keys_on, own_key, seat, set_options};
 use crate::telling::{listen, tell};
 use dom_tree::{NodeId, Tree};
@@ -142,15 +142,24 @@ impl Observers {
         ensures names { NamesOnly (node ∷ []) self.old self.new }
         ensures made { length self.new.queues ≡ length self.old.queues }
     {
-        let own = own_key(&self.table, keys_on(&self.nodes, node), observer, node);
+        let own = own_key(
+            &self.table,
+            keys_on(&self.nodes, node),
+            self.lasting[observer.number() as usize].as_slice(),
+            observer,
+            node,
+        );
         match own {
             Some(key) => {
                 end_own(
                     &mut self.table,
                     &mut self.nodes,
                     &mut self.passing,
-                    observer,
-                    &Ended::From(observer, node),
+                    &Ending {
+                        observer,
+                        lifetime: Lifetime::Passing,
+                        ended: Ended::From(observer, node),
+                    },
                 );
                 set_options(&mut self.table, key, options);
                 Ok(())
@@ -185,15 +194,21 @@ impl Observers {
             &mut self.table,
             &mut self.nodes,
             &mut self.lasting,
-            observer,
-            &Ended::Of(observer),
+            &Ending {
+                observer,
+                lifetime: Lifetime::Lasting,
+                ended: Ended::Of(observer),
+            },
         );
         end_own(
             &mut self.table,
             &mut self.nodes,
             &mut self.passing,
-            observer,
-            &Ended::Of(observer),
+            &Ending {
+                observer,
+                lifetime: Lifetime::Passing,
+                ended: Ended::Of(observer),
+            },
         );
         let _ = take_from(&mut self.queues, observer, self.alloc);
     }

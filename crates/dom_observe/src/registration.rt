@@ -1,6 +1,6 @@
 //! Registered observers, and which of them a step ends (DOM Standard, "registered observer", "transient registered observer").
 
-ghost use Rattle.std.specs.Prelude.{◌≡◌, IfOk, option_map, is_none, not, ◌==◌, ◌||◌, ◌&&◌};
+ghost use Rattle.std.specs.Prelude.{◌≡◌, Some, IfOk, option_map, is_none, is_some, not, ◌==◌, ◌||◌, ◌&&◌};
 ghost use Rattle.dom_model.specs.PlainLists.Lists.{is_number};
 ghost use Rattle.dom_model.specs.MutationObservers.Records.{type_passes, asks_old_value};
 ghost use Rattle.dom_observe.specs.Names.{text_of};
@@ -29,6 +29,21 @@ pub enum Ended {
     Of(ObserverId),
     // the transient ones of an observer that come from its registration on a node
     From(ObserverId, NodeId),
+}
+
+// Whether registrations last, or are transient ones.
+#[derive(Clone, Copy, Debug)]
+pub enum Lifetime {
+    Lasting,
+    Passing,
+}
+
+// Which registrations of an observer end: those of a lifetime that a step does not leave.
+#[derive(Clone, Copy, Debug)]
+pub struct Ending {
+    pub observer: ObserverId,
+    pub lifetime: Lifetime,
+    pub ended: Ended,
 }
 
 // What is asked of the registrations that stand above a target.
@@ -99,5 +114,34 @@ impl Ended {
             Ended::Of(observer) => registration.observer != observer,
             Ended::From(observer, node) => !registration.is_from(observer, node),
         }
+    }
+}
+
+impl Lifetime {
+    ghost use Rattle.dom_observe.specs.Registrations.{plain, of_kind};
+
+    // Whether the registration is the observer's, and of this lifetime.
+    fn is_of(self, observer: ObserverId, registration: &Registration) -> bool
+        ensures { result ≡ of_kind self observer (Some (plain registration.now)) }
+    {
+        match self {
+            Lifetime::Lasting => {
+                registration.observer == observer && registration.source.is_none()
+            }
+            Lifetime::Passing => {
+                registration.observer == observer && registration.source.is_some()
+            }
+        }
+    }
+}
+
+impl Ending {
+    ghost use Rattle.dom_observe.specs.Registrations.{plain, goes};
+
+    // Whether the registration ends.
+    pub fn ends(&self, registration: &Registration) -> bool
+        ensures { result ≡ goes self.now (Some (plain registration.now)) }
+    {
+        self.lifetime.is_of(self.observer, registration) && !self.ended.spares(registration)
     }
 }

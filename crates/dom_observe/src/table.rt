@@ -1,7 +1,8 @@
 //! The table of registrations, and the keys that each node has in it.
 
-ghost use Rattle.std.specs.Prelude.{◌≡◌, ◌≢◌, ◌≤◌, ◌<◌, ℕ, ◌==◌, ◌++◌, slice_index_or, [], ◌∷◌, not, length, filter, find, IfOk, OnOk, OnErr, is_some, option_map, nat_eq, if◌then◌else◌, false};
+ghost use Rattle.std.specs.Prelude.{◌≡◌, ◌≢◌, ◌≤◌, ◌<◌, ℕ, ◌==◌, ◌++◌, slice_index_or, [], ◌∷◌, not, length, filter, find, IfOk, OnOk, OnErr, is_some, option_map, nat_eq, if◌then◌else◌, false, true};
 ghost use Rattle.indexmap.specs.IndexMap.{IsUnique};
+ghost use Rattle.dom_model.specs.PlainLists.Lists.{among};
 ghost use Rattle.slab.specs.Slab.{get};
 ghost use Rattle.dom_observe.specs.Watchers.{on};
 ghost use Rattle.dom_observe.specs.Registrations.{plain, spares, at, found, listed, AllStand, HaveKeys, is_live, left_by, own_at, from_at, with_new_options};
@@ -92,7 +93,7 @@ pub(crate) fn is_from(
 }
 
 // The first of the keys under which the observer's registration on the node is.
-pub(crate) fn own_key(
+fn first_own(
     table: &Slab<Registration>,
     keys: &[usize],
     observer: ObserverId,
@@ -103,6 +104,25 @@ pub(crate) fn own_key(
     keys.iter()
         .copied()
         .find(|key| is_own(table, *key, observer, node))
+}
+
+// The key of the observer's registration on the node, by the keys of the node and those of the observer that last: it goes through the fewer.
+pub(crate) fn own_key(
+    table: &Slab<Registration>,
+    keys: &[usize],
+    lasting: &[usize],
+    observer: ObserverId,
+    node: NodeId,
+) -> Option<usize>
+    requires either { (key : ℕ) → own_at (at table.now) observer node key ≡ true → among key keys.now ≡ among key lasting.now }
+    requires one { (key other : ℕ) → own_at (at table.now) observer node key ≡ true → own_at (at table.now) observer node other ≡ true → other ≡ key }
+    ensures { result ≡ find (own_at (at table.now) observer node) keys.now }
+{
+    if lasting.len() < keys.len() {
+        first_own(table, lasting, observer, node)
+    } else {
+        first_own(table, keys, observer, node)
+    }
 }
 
 // Puts other options in place of those of a registration.

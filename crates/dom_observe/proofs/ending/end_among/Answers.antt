@@ -1,14 +1,20 @@
--- One more key is gone through.
-use Rattle.std.proofs.Common.{refl}
-use Rattle.dom_observe.specs.Registrations.{at, listed}
-use Rattle.dom_observe.proofs.EndedOnes.{swept-none, left-next, swept-next}
+-- One more key is gone through, with all that end on its node.
+use Rattle.std.proofs.Common.{◌≡◌, None, Some, refl, ap, sym, ◌∙◌, inl, arith}
+use Rattle.std.specs.Prelude.{slice_index_or}
+use Rattle.dom_model.specs.PlainLists.Lists.{among}
+use Rattle.dom_observe.specs.Watchers.{on}
+use Rattle.dom_observe.specs.Registrations.{at, listed, ending_node}
+use Rattle.dom_observe.proofs.EndedOnes.{swept-none, swept-two, placed-left}
+use Rattle.dom_observe.proofs.NodeByNode.{between-two, done-now, ends-none, done-next, on-between, on-or_gone, on-done, on-swept, take-whole, all-done}
 use Rattle.dom_observe.proofs.ending.end_among.Goals as goal
+use Rattle.dom_observe.proofs.ending.end_among.Goals.{in-Some, in_default}
 
 pub loop-key-init : goal.loop-key-init
 loop-key-init c = record {
   unique = c.requires.unique;
-  left = λ k. refl;
-  swept = swept-none (at c.args.table.now) (at c.args.table.now) (listed c.args.nodes.now.entries) (listed c.args.nodes.now.entries) 0 c.args.ended.now c.requires.placed;
+  between = λ k. inl refl;
+  done = λ k h. let d : ⊥ = cc h in absurd d;
+  swept = swept-none (at c.args.table.now) (listed c.args.nodes.now.entries) c.requires.placed;
   placed = c.requires.placed;
   full = λ full. full;
 }
@@ -16,16 +22,48 @@ loop-key-init c = record {
 pub loop-key-preserved : goal.loop-key-preserved
 loop-key-preserved c =
     let inv = c.loop-key.invariant in
+    let e = c.args.ending.now in
+    let keys = c.args.keys.now in
+    let i = c.loop-key.key-index in
     let u0 = at c.args.table.now in
     let u = at c.loop-key.table in
-    let v = at c.end_one.new.table in
     let lists0 = listed c.args.nodes.now.entries in
     let lists = listed c.loop-key.nodes.entries in
-    let lists' = listed c.end_one.new.nodes.entries in
-    record {
-      unique = c.end_one.ensures.unique;
-      left = left-next u0 u v lists0 lists lists' c.args.keys.now c.loop-key.key-index 0 c.loop-key-test.true c.args.ended.now inv.left inv.swept c.end_one.ensures.left c.end_one.ensures.swept;
-      swept = swept-next u0 u v lists0 lists lists' c.args.keys.now c.loop-key.key-index 0 c.loop-key-test.true c.args.ended.now inv.left inv.swept c.end_one.ensures.left c.end_one.ensures.swept;
-      placed = c.end_one.ensures.placed;
-      full = λ full. c.end_one.ensures.full (inv.full full);
-    }
+    let key = slice_index_or keys i 0 in
+    elim c.match-ending_node.branch [
+      | in-Some w ↦
+          let node = w.in-Some.node in
+          let some : ending_node e (u key) ≡ Some node = sym c.ending_node.ensures ∙ w.in-Some.is in
+          let v = at w.end_on.new.table in
+          let lists' = listed w.end_on.new.nodes.entries in
+          let more = on-between e u v lists lists' node inv.placed w.end_on.ensures.left w.end_on.ensures.kept in
+          let or_gone = on-or_gone e u v lists lists' node inv.placed w.end_on.ensures.left w.end_on.ensures.kept in
+          let swept = on-swept e u v lists lists' node inv.placed w.end_on.ensures.left w.end_on.ensures.kept in
+          let now = on-done e u v lists lists' node inv.placed w.end_on.ensures.left w.end_on.ensures.kept key some ∙ done-now e (inv.between key) in
+          rw (w.table-is, w.nodes-is) (record {
+            unique = w.end_on.ensures.unique;
+            between = λ k. between-two e (inv.between k) (more k);
+            done = done-next e u0 u v keys i 0 c.loop-key-test.true inv.done more now;
+            swept = λ n. swept-two u v (on n lists0) (on n lists) (on n lists') or_gone (inv.swept n) (swept n);
+            placed = placed-left u v lists lists' or_gone swept inv.placed;
+            full = λ full. w.end_on.ensures.full (inv.full full);
+          })
+      | in_default w ↦
+          let none : ending_node e (u key) ≡ None = sym c.ending_node.ensures ∙ w.in_default.is in
+          rw (w.table-is, w.nodes-is) (record {
+            unique = inv.unique;
+            between = inv.between;
+            done = done-next e u0 u u keys i 0 c.loop-key-test.true inv.done (λ k. inl refl) (sym (ends-none e (u key) none) ∙ done-now e (inv.between key));
+            swept = inv.swept;
+            placed = inv.placed;
+            full = inv.full;
+          })
+    ]
+
+pub returns-clause-left : goal.returns-clause-left
+returns-clause-left c =
+    let inv = c.loop-key.invariant in
+    let keys = c.args.keys.now in
+    let i = c.loop-key.key-index in
+    let whole = take-whole keys i (omega (arith, c.loop-key-test.false)) in
+    all-done c.args.ending.now (at c.args.table.now) (at c.loop-key.table) keys c.requires.owned inv.between (λ k m. inv.done k (ap (among k) whole ∙ m))

@@ -22,11 +22,14 @@ end_own-requires-clause-made c =
     let lt = at-get (λ o. o < length c.args.passing.now.items) c.args.fleeting.now.keys c.loop-index.index c.in-Some.observer.now c.requires.made next in
     subst (λ l. c.in-Some.observer.now < l) (sym c.loop-index.invariant.len) lt
 
+pub end_own-requires-clause-owned : goal.end_own-requires-clause-owned
+end_own-requires-clause-owned c = λ k. c.loop-index.invariant.owned c.in-Some.observer.now k
+
 pub loop-index-init : goal.loop-index-init
 loop-index-init c = record {
   unique = c.requires.unique;
   left = λ k. refl;
-  swept = swept-none (at c.args.table.now) (at c.args.table.now) (listed c.args.nodes.now.entries) (listed c.args.nodes.now.entries) 0 Transient c.requires.placed;
+  swept = swept-none (at c.args.table.now) (listed c.args.nodes.now.entries) c.requires.placed;
   ended = λ o h. let d : ⊥ = cc h in absurd d;
   none = λ o h. h;
   len = refl;

@@ -7,7 +7,7 @@ use Rattle.dom_observe.specs.declared.registration.Ended.TheVariants.{Of}
 use Rattle.dom_observe.specs.Watchers.{Watchers, Watches, on}
 use Rattle.dom_observe.specs.Registrations.{at, listed, spares}
 use Rattle.dom_observe.specs.Kept.{nodes_of, keys_by, IsKept, IsIndexed}
-use Rattle.dom_observe.proofs.Indexing.{disconnected-left, disconnected-swept, disconnected-indexed}
+use Rattle.dom_observe.proofs.Indexing.{indexed-lasting_ended, disconnected-left, disconnected-swept, disconnected-indexed}
 use Rattle.dom_observe.specs.Naming.{TellsNone}
 use Rattle.dom_observe.proofs.Holding.{names-only, none-ended, tells-emptied}
 use Rattle.dom_observe.proofs.Keeping.{on-nodes_of, kept-emptied, kept_table, found-ended, stand-ended}
@@ -20,6 +20,18 @@ pub take_from-requires : goal.take_from-requires
 take_from-requires c =
     let lt = subst (λ (o : Watchers). c.args.observer < length o.queues) (sym c.self.view_is) c.requires.held in
     omega (arith, lt)
+
+pub end_own-requires-clause-owned : goal.end_own-requires-clause-owned
+end_own-requires-clause-owned c = λ k. c.self.invariant.1.lasting c.args.observer k
+
+pub end_own-requires-2-clause-owned : goal.end_own-requires-2-clause-owned
+end_own-requires-2-clause-owned c =
+    let a = c.self.inside in
+    let o = c.args.observer in
+    let within = subst (λ (w : Watchers). o < length w.queues) (sym c.self.view_is) c.requires.held in
+    let first = indexed-lasting_ended (at a.table) (at c.end_own.new.table) (listed a.nodes.entries) (listed c.end_own.new.nodes.entries) (keys_by a.lasting.items) (keys_by a.passing.items) a.fleeting.keys (length a.queues.items) o (Of o) c.self.invariant.1
+    c.end_own.ensures.placed (keys_by c.end_own.new.lists.items) (let r = c.self.invariant.1.lasting_room in omega (arith, r, within)) c.end_own.ensures.left c.end_own.ensures.keys in
+    λ k. first.passing o k
 
 pub invariant_of-self : goal.invariant_of-self
 invariant_of-self c =

@@ -1,5 +1,5 @@
 -- Nothing stands under any key.
-use Rattle.std.proofs.Common.{◌≡◌, ℕ, zero, suc, true, false, [], Option, option_map, None, Some, refl, ap, sym, ◌∙◌, tests, rules}
+use Rattle.std.proofs.Common.{◌≡◌, ℕ, zero, suc, false, [], Option, option_map, None, Some, refl, ap, sym, ◌∙◌, tests, rules}
 use Rattle.std.specs.Prelude.{slice_index_or}
 use Rattle.std.specs.Option.{option_map_or}
 use Rattle.std.proofs.lemmas.Bool.{true≢false}
@@ -7,7 +7,7 @@ use Rattle.slab.specs.Slab.{Slab}
 use Rattle.dom_model.specs.Worlds.World as model
 use Rattle.dom_model.specs.MutationObservers.Records.{is_registered}
 use Rattle.dom_observe.specs.declared.registration.Registration as held
-use Rattle.dom_observe.specs.Registrations.{plain, at, own_at, Agree}
+use Rattle.dom_observe.specs.Registrations.{plain, at, Agree}
 use Rattle.dom_observe.proofs.observers.Observers.new.Goals as goal
 
 abbrev no_options : model.Options

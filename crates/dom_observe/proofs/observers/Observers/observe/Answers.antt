@@ -2,6 +2,7 @@
 use Rattle.std.proofs.Common.{◌≡◌, ◌≤◌, ◌<◌, ℕ, not, List, [], ◌∷◌, ◌++◌, if◌then◌else◌, ◌==◌, length, map, filter, find, Some, None, Global, option_map, refl, ap, sym, ◌∙◌, subst, arith}
 use Rattle.std.specs.Prelude.{Vec, filter_map, slice_index_or, slice_set}
 use Rattle.std.specs.List.{list_any}
+use Rattle.dom_model.specs.PlainLists.Lists.{among}
 use Rattle.dom_model.specs.Worlds.World.{Registration}
 use Rattle.dom_model.specs.MutationObservers.Observing.{registered_on}
 use Rattle.dom_model.specs.MutationObservers.Records.{is_registered, is_transient_from, with_options, new_registration}
@@ -12,6 +13,7 @@ use Rattle.dom_observe.specs.Kept.{nodes_of, keys_by, IsIndexed}
 use Rattle.dom_observe.proofs.Indexing.{from-left, indexed-changed, indexed-passing_ended, indexed-lasting}
 use Rattle.dom_observe.proofs.Agreeing.{agree-again, agree-lasting, nothing-comes}
 use Rattle.dom_observe.proofs.Once.{count-once}
+use Rattle.dom_observe.proofs.OwnKeys.{on-lasts}
 use Rattle.dom_observe.proofs.Outcomes.{on_ok, by_one, by_outcome, by_two}
 use Rattle.dom_observe.proofs.Sources.{sources-ended, sources-changed, sources-added}
 use Rattle.dom_observe.proofs.Counting.{tally, count-filter}
@@ -23,6 +25,22 @@ use Rattle.dom_observe.proofs.Holding.{names-only, none-ended, none-changed, non
 use Rattle.dom_observe.proofs.Again.{any_own, stand-again, found-again}
 use Rattle.dom_observe.proofs.Watching.{watches-observed, watches-observed_again}
 use Rattle.dom_observe.proofs.observers.Observers.observe.Goals as goal
+
+pub own_key-own-requires-clause-either : goal.own_key-own-requires-clause-either
+own_key-own-requires-clause-either c = λ key own.
+    let a = c.self.inside in
+    let o = c.args.observer in
+    let ls = a.lasting.items in
+    let lt = subst (λ (w : Watchers). o < length w.queues) (sym c.self.view_is) c.requires.held in
+    let room : o < length ls = (let r = c.self.invariant.1.lasting_room in omega (arith, lt, r, keys_by-length ls)) in
+    let had = c.as_slice.ensures.value ∙ ap (λ (l : Vec ℕ Global). l.items) c.index.ensures ∙ ap (λ i. (slice_index_or ls i c.index.result.now).items) c.number.ensures ∙ sym (keys_by-at ls o c.index.result.now room) in
+    ap (among key) c.keys_on.ensures ∙ c.self.invariant.1.placed c.args.node key ∙ on-lasts o c.args.node (at a.table key) own ∙ sym (c.self.invariant.1.lasting o key) ∙ ap (among key) (sym had)
+
+pub own_key-own-requires-clause-one : goal.own_key-own-requires-clause-one
+own_key-own-requires-clause-one c = c.self.invariant.3.one c.args.observer c.args.node
+
+pub end_own-requires-clause-owned : goal.end_own-requires-clause-owned
+end_own-requires-clause-owned c = λ k. c.self.invariant.1.passing c.args.observer k
 
 pub invariant_of-self : goal.invariant_of-self
 invariant_of-self c =
@@ -81,7 +99,7 @@ invariant_of-self-in-None c =
     (subst (AllStand (at a.table) made) (sym keys) c.self.invariant.0.stand)) in
     let ls = a.lasting.items in
     let room : c.args.observer < length ls = (let r = c.self.invariant.1.lasting_room in omega (arith, lt, r, keys_by-length ls)) in
-    let had = ap (λ (l : Vec ℕ Global). l.items) c.index_mut-keys.ensures.value ∙ ap (λ i. (slice_index_or ls i c.index_mut-keys.result.now).items) c.number.ensures ∙ sym (keys_by-at ls c.args.observer c.index_mut-keys.result.now room) in
+    let had = ap (λ (l : Vec ℕ Global). l.items) c.index_mut-keys.ensures.value ∙ ap (λ i. (slice_index_or ls i c.index_mut-keys.result.now).items) c.number-in-None.ensures ∙ sym (keys_by-at ls c.args.observer c.index_mut-keys.result.now room) in
     let indexed : IsIndexed (at c.add.new.table) lists' (keys_by (slice_set ls c.args.observer c.add.new.keys)) (keys_by a.passing.items) a.fleeting.keys made =
     by_two c.add.result c.add.ensures.ok c.add.ensures.own c.add.ensures.err_table c.add.ensures.err_nodes c.add.ensures.err_own
     (λ added key. indexed-lasting (at a.table) (listed a.nodes.entries) _ (at c.add.new.table) lists' added c.index_mut-keys.result.now.items c.add.new.keys.items key (keys_by ls) (keys_by a.passing.items) a.fleeting.keys made c.self.invariant.1 refl (keys_by (slice_set ls c.args.observer c.add.new.keys))
@@ -92,7 +110,7 @@ invariant_of-self-in-None c =
     (subst (λ l. IsIndexed (at a.table) l (keys_by (slice_set ls c.args.observer c.add.new.keys)) (keys_by a.passing.items) a.fleeting.keys made) (sym keys)
     (subst (λ l. IsIndexed (at a.table) (listed a.nodes.entries) l (keys_by a.passing.items) a.fleeting.keys made) (sym same_keys) c.self.invariant.1))) in (
       kept_table a.table a.nodes.entries a.queues.items a.pending.keys c.self.invariant.0 c.add.new.table c.add.new.nodes.entries c.add.ensures.unique stand (c.add.ensures.full c.self.invariant.0.full),
-      subst (λ i. IsIndexed (at c.add.new.table) lists' (keys_by (slice_set ls i c.add.new.keys)) (keys_by a.passing.items) a.fleeting.keys made) (sym c.number.ensures) indexed,
+      subst (λ i. IsIndexed (at c.add.new.table) lists' (keys_by (slice_set ls i c.add.new.keys)) (keys_by a.passing.items) a.fleeting.keys made) (sym c.number-in-None.ensures) indexed,
       by_one c.add.result c.add.ensures.ok c.add.ensures.err_table
           (λ added. sources-added (at a.table) (at c.add.new.table) (listed a.nodes.entries) _ lists' added (λ n source. let none : None ≡ Some n = source in cc none) c.self.invariant.2)
           (λ slots. subst (λ ss. HaveSources (λ k. option_map plain (slice_index_or ss k None))) (sym slots) c.self.invariant.2),

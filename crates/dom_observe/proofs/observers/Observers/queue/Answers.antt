@@ -5,7 +5,6 @@ use Rattle.dom_model.specs.Forests.Forest.{ancestors}
 use Rattle.dom_model.specs.Worlds.World.{Mutation}
 use Rattle.dom_model.specs.MutationObservers.Observing.{standing_on, registered_on}
 use Rattle.dom_model.specs.MutationObservers.Records.{interests}
-use Rattle.dom_model.specs.PlainLists.LastOnce.{with_all_last}
 use Rattle.dom_observe.specs.Names.{text_of}
 use Rattle.dom_observe.specs.Once.{once}
 use Rattle.dom_observe.specs.Watchers.{Watchers, Watches, on}
