@@ -5,7 +5,7 @@ use Rattle.std.specs.List.{AllByRecursion, IsDistinct, list_any, list_all}
 use Rattle.std.proofs.lemmas.Slice.Eq.{bytes_eq-Decides}
 use Rattle.std.proofs.lemmas.List.Folds.{list_all_more}
 use Rattle.std.proofs.lemmas.Option.{slice_get_within, get_or_from_slice_get}
-use Rattle.dom_model.specs.Forests.Attributes.{Attribute, attribute_value, attribute_names, with_attribute, is_attribute}
+use Rattle.dom_model.specs.Forests.Attributes.{Attribute, attribute_value, attribute_names, with_attribute, is_attribute, are_among, same_attributes}
 
 -- whether a value is there, and is that one
 abbrev pub has_value : List ℕ → Option (List ℕ) → Bool
@@ -78,3 +78,28 @@ module _ {X : Type 0} (p : X → Bool) where
 pub IsDistinct-nil : {X : Type 0} (eq : X → X → Bool) → IsDistinct eq []
 unfolding IsDistinct
 IsDistinct-nil eq = tt
+
+is_itself : (a : Attribute) → is_attribute a a ≡ true
+is_itself a = rw ((bytes_eq-Decides a.name a.name).1 refl, (bytes_eq-Decides a.value a.value).1 refl) refl
+
+-- among more attributes there are no fewer
+among_more : (x : Attribute) (many few : List Attribute) → are_among few many ≡ true → are_among few (x ∷ many) ≡ true
+among_more x many [] h = refl
+among_more x many (a ∷ few) h = go (list_any (is_attribute a) many) (are_among few many) refl refl h (among_more x many few)
+  where
+    or_true : (b : Bool) → (b || true) ≡ true
+    or_true true = refl
+    or_true false = refl
+
+    go : (b c : Bool) → list_any (is_attribute a) many ≡ b → are_among few many ≡ c → (b && c) ≡ true → (are_among few many ≡ true → are_among few (x ∷ many) ≡ true) → are_among (a ∷ few) (x ∷ many) ≡ true
+    go true true e f g more = let rest = more f in rw (e, rest, or_true (is_attribute a x)) refl
+    go true false e f g more = absurd (true≢false (sym g))
+    go false c e f g more = absurd (true≢false (sym g))
+
+all_among : (xs : List Attribute) → are_among xs xs ≡ true
+all_among [] = refl
+all_among (x ∷ xs) = let rest = among_more x xs xs (all_among xs) in rw (is_itself x, rest) refl
+
+-- the same list has the same attributes
+pub same-list : (xs ys : List Attribute) → xs ≡ ys → same_attributes xs ys ≡ true
+same-list xs ys e = ap (same_attributes xs) (sym e) ∙ (rw (all_among xs) refl)

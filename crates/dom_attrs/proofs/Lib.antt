@@ -1,2 +1,3 @@
 pub mod EntriesLemmas
+pub mod InOrder
 pub mod AttributeLemmas

@@ -1,7 +1,7 @@
 //! The attributes of an element: names to values, in the order in which the names came.
 #![tactic(auto)]
 
-ghost use Rattle.std.specs.Prelude.{◌≡◌, ◌<◌, [], length, slice_get, option_map, option_copied, string_bytes, bytes_eq, IsTrue, ◌↔◌, IfOk, OnOk, OnErr};
+ghost use Rattle.std.specs.Prelude.{◌≡◌, ◌<◌, [], length, slice_get, option_map, option_copied, string_bytes, bytes_eq, IsTrue, ◌↔◌, IfOk, OnOk, OnErr, true};
 ghost use Rattle.dom_model.specs.Forests.Attributes.{Attribute, attribute_value, attribute_names, with_attribute, without_attribute, is_attribute, are_among, same_attributes};
 ghost use Rattle.dom_attrs.specs.Entries.{attribute_at};
 ghost use Rattle.std.specs.List.{IsDistinct, list_any};
@@ -109,11 +109,11 @@ impl Attrs {
         value
     }
 
-    /// Whether both have the same attributes, in whatever order.
+    /// Whether both have the same attributes, in whatever order. Where they have them in one order no name is looked for.
     pub fn same(&self, other: &Attrs) -> bool
         ensures { result ≡ same_attributes self.now other.now }
     {
-        self.are_among(other) && other.are_among(self)
+        self.is_in_order_of(other) || (self.are_among(other) && other.are_among(self))
     }
 
     /// A copy, in memory of its own.
@@ -137,6 +137,32 @@ impl Attrs {
         let value = value.try_clone(alloc)?;
         let _ = self.set(name, value)?;
         Ok(())
+    }
+
+    // Whether both have the same attributes in one order.
+    fn is_in_order_of(&self, other: &Attrs) -> bool
+        ensures { result ≡ true → self.now ≡ other.now }
+    {
+        if self.len() != other.len() {
+            return false;
+        }
+        for index in 0..self.len() {
+            if !self.is_alike_at(other, index) {
+                return false;
+            }
+        }
+        true
+    }
+
+    // Whether both have the same attribute at an index that is below the length of both.
+    fn is_alike_at(&self, other: &Attrs, index: usize) -> bool
+        requires within { index < length self.now }
+        requires other_within { index < length other.now }
+        ensures { result ≡ true → slice_get self.now index ≡ slice_get other.now index }
+    {
+        let (name, value) = self.pair_at(index);
+        let (other_name, other_value) = other.pair_at(index);
+        name == other_name && value.units() == other_value.units()
     }
 
     // Whether each of these attributes is one of the others.
