@@ -1,6 +1,6 @@
 -- What reads gave and what was written for them, one more read at a time.
 use Rattle.std.proofs.Common.{◌≡◌, ℕ, ◌+◌, ◌*◌, ◌<◌, true, false, List, [], ◌∷◌, ◌++◌, length, Option, Result, Ok, Err, IfOk, OnOk, IfSome, refl, sym, ap, ◌∙◌, subst, arith, take, ◌≤◌, append-nil, length-append, length-take, inr}
-use Rattle.std.specs.List.{All}
+use Rattle.std.specs.List.{All, AllByRecursion}
 use Rattle.std.proofs.lemmas.List.Elements.{All-push}
 use Rattle.std.specs.Io.KnownBytes.{Appends, Consumes, IsAtEnd, Keeps}
 use Rattle.std.proofs.KnownBytes.{Appends-trans, Appends-nil, Consumes-nil, Consumes-trans, Consumes-kept, Consumes-whole}
@@ -15,7 +15,7 @@ use Rattle.dom_serve.specs.declared.fault.Summary.{Summary}
 use Rattle.dom_serve.specs.declared.server.Server.{Server}
 use Rattle.dom_serve.specs.Writes.{IsPrefix}
 use Rattle.dom_serve.specs.Calls.{EndsWith}
-use Rattle.dom_serve.specs.Pieces.{Reads, AreWithin, is_nothing, has_end, before_last}
+use Rattle.dom_serve.specs.Pieces.{Reads, AreWithin, EndsOnce, is_nothing, has_end, before_last}
 use Rattle.dom_serve.specs.Tells.{is_read_fault, SaysOutOfMemory, IsCutShort, AnswersEarlier, Tells}
 use Rattle.dom_serve.specs.Server.{Stands, Grows, IsBroken, Breaks, Concludes, SaysWant, IsSoFar, IsTold}
 use Rattle.dom_serve.proofs.Lines.{joined-single}
@@ -41,6 +41,18 @@ before_last-last (first ∷ second ∷ pieces) piece = ap (λ ls. first ∷ ls) 
 pub is_nothing-some : (piece : List ℕ) → 0 < length piece → is_nothing piece ≡ false
 is_nothing-some [] h = absurd (omega arith)
 is_nothing-some (b ∷ bytes) h = refl
+
+some-more : (pieces : List (List ℕ)) (piece : List ℕ) → AllByRecursion (λ l. is_nothing l ≡ false) pieces → is_nothing piece ≡ false → AllByRecursion (λ l. is_nothing l ≡ false) (pieces ++ piece ∷ [])
+some-more [] piece p q = (q, tt)
+some-more (first ∷ pieces) piece p q = (p.0, some-more pieces piece p.1 q)
+
+once-more : (pieces : List (List ℕ)) (piece : List ℕ) → AllByRecursion (λ l. is_nothing l ≡ false) pieces → EndsOnce (pieces ++ piece ∷ [])
+once-more pieces piece p = subst (AllByRecursion (λ l. is_nothing l ≡ false)) (sym (before_last-last pieces piece)) p
+
+once-all : (pieces : List (List ℕ)) → AllByRecursion (λ l. is_nothing l ≡ false) pieces → EndsOnce pieces
+once-all [] p = tt
+once-all (first ∷ []) p = tt
+once-all (first ∷ second ∷ pieces) p = (p.0, once-all (second ∷ pieces) p.1)
 
 Consumes-more : {R : Type 0} (left : R → Option (List ℕ)) (old mid new : R) (pieces : List (List ℕ)) (piece : List ℕ) → Consumes (left old) (left mid) (joined pieces)
     → Consumes (left mid) (left new) piece → Consumes (left old) (left new) (joined (pieces ++ piece ∷ []))
@@ -72,6 +84,7 @@ so_far-none gives left b old s taken h = record {
   count = refl;
   sizes = Sizes-none;
   open_ended = refl;
+  some = tt;
   consumed = Consumes-nil (left old);
   stands = h;
   written = subst (λ l. Appends taken taken l) (sym (due-nothing b)) (Appends-nil taken);
@@ -90,6 +103,7 @@ so_far-more gives left b turn old mid new s s' taken taken' taken'' piece p give
       count = length-append p.pieces (piece ∷ []) ∙ ap (λ n. n + 1) p.count;
       sizes = Sizes-more p.pieces piece p.sizes size;
       open_ended = has_end-last p.pieces piece ∙ is_nothing-some piece some;
+      some = some-more p.pieces piece p.some (is_nothing-some piece some);
       consumed = Consumes-more left old mid new p.pieces piece p.consumed consumed;
       stands = subst (λ l. Stands b l s') e fed.0;
       written = subst (λ l. Appends taken taken'' (joined (due whole_table b l false))) e
@@ -109,9 +123,10 @@ told-read gives fails left b turns turn old mid new s taken taken' p room kept f
   reads = p.reads;
   ends = failed;
   within = (omega (arith, p.count), p.sizes);
+  once = once-all p.pieces p.some;
   consumed = Consumes-kept (left old) (left mid) (left new) (joined p.pieces) p.consumed kept;
   written = p.written;
-  tells = refl;
+  tells = (p.open_ended, refl);
 }
 
 -- no read is left
@@ -124,6 +139,7 @@ told-too_long gives fails left b turns old new s taken taken' p = record {
   reads = p.reads;
   ends = refl;
   within = (omega (arith, p.count), p.sizes);
+  once = once-all p.pieces p.some;
   consumed = p.consumed;
   written = p.written;
   tells = (p.count, p.open_ended, refl);
@@ -163,6 +179,7 @@ pub told-broken : {R : Type 0} (gives : R → List ℕ → R → Type 0) (fails 
     → IsTold gives fails left b turns old new taken taken'' (Err fault)
 told-broken gives fails left b turns turn old mid new s taken taken' taken'' piece fault p room size given consumed q = record {
   within = AreWithin-more turns turn p.pieces piece p.count room p.sizes size;
+  once = once-more p.pieces piece p.some;
   pieces = p.pieces ++ piece ∷ [];
   text = joined (due whole_table b (joined p.pieces) false) ++ q.text;
   last = new;
@@ -193,6 +210,7 @@ told-ok gives fails left b turns turn old mid new s taken taken' taken'' summary
     let e : joined p.pieces ≡ joined (p.pieces ++ [] ∷ []) = sym (joined-single p.pieces [] ∙ append-nil (joined p.pieces)) in
     record {
       within = AreWithin-more turns turn p.pieces [] p.count room p.sizes (omega arith);
+      once = once-more p.pieces [] p.some;
       pieces = p.pieces ++ [] ∷ [];
       text = joined (due whole_table b (joined p.pieces) true);
       last = new;
@@ -252,6 +270,7 @@ told-none gives fails left b turns old taken taken' Read s = absurd s
 told-none gives fails left b turns old taken taken' Write s = record {
   pieces = [];
   within = (omega arith, Sizes-none);
+  once = tt;
   text = s.0;
   last = old;
   reads = refl;
@@ -263,6 +282,7 @@ told-none gives fails left b turns old taken taken' Write s = record {
 told-none gives fails left b turns old taken taken' Memory s = record {
   pieces = [];
   within = (omega arith, Sizes-none);
+  once = tt;
   text = out_of_memory_line;
   last = old;
   reads = refl;

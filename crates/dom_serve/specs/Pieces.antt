@@ -1,6 +1,6 @@
 -- The pieces that reads gave, one for each read.
 use Rattle.std.specs.Prelude.{◌≡◌, ℕ, ◌≤◌, Bool, true, false, List, [], ◌∷◌, length}
-use Rattle.std.specs.List.{All}
+use Rattle.std.specs.List.{All, AllByRecursion}
 
 -- reads, one after the other, gave these pieces
 abbrev pub Reads : {R : Type 0} → (R → List ℕ → R → Type 0) → R → List (List ℕ) → R → Type 0
@@ -22,6 +22,10 @@ abbrev pub before_last : List (List ℕ) → List (List ℕ)
 before_last [] = []
 before_last (piece ∷ []) = []
 before_last (piece ∷ next ∷ pieces) = piece ∷ before_last (next ∷ pieces)
+
+-- no piece ahead of the last is empty: once the input has ended, nothing more is read
+abbrev pub EndsOnce : List (List ℕ) → Type 0
+EndsOnce pieces = AllByRecursion (λ piece. is_nothing piece ≡ false) (before_last pieces)
 
 -- at most so many reads, of at most 65,536 bytes each
 abbrev pub AreWithin : ℕ → List (List ℕ) → Type 0

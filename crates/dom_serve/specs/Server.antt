@@ -1,6 +1,6 @@
 -- What a server holds, and what it writes when bytes come.
 use Rattle.std.specs.Prelude.{◌≡◌, ◌≢◌, ℕ, ◌<◌, ◌≤◌, Bool, true, false, List, ◌++◌, length, Option, Result, Ok, Err, ◌⊎◌}
-use Rattle.std.specs.List.{All}
+use Rattle.std.specs.List.{All, AllByRecursion}
 use Rattle.std.specs.Io.KnownBytes.{Appends, Consumes}
 use Rattle.dom_model.specs.declared.OwnError.{OwnError}
 use Rattle.dom_model.specs.declared.OwnError.TheVariants.{LineTooLong}
@@ -18,7 +18,7 @@ use Rattle.dom_serve.specs.declared.fault.Fault.TheVariants.{Read, Write, Memory
 use Rattle.dom_serve.specs.declared.server.Server.{Server}
 use Rattle.dom_serve.specs.declared.fault.Summary.{Summary}
 use Rattle.dom_serve.specs.Writes.{AppendsFront}
-use Rattle.dom_serve.specs.Pieces.{Reads, AreWithin, has_end}
+use Rattle.dom_serve.specs.Pieces.{Reads, AreWithin, EndsOnce, is_nothing, has_end}
 use Rattle.dom_serve.specs.Calls.{EndsWith}
 use Rattle.dom_serve.specs.Tells.{is_read_fault, IsCutShort, SaysOutOfMemory, Tells}
 
@@ -123,6 +123,7 @@ pub record IsSoFar {R : Type 0} (gives : R → List ℕ → R → Type 0) (left 
   pub count : length pieces ≡ turn
   pub sizes : All (λ piece. length piece ≤ 65536) pieces
   pub open_ended : has_end pieces ≡ false
+  pub some : AllByRecursion (λ piece. is_nothing piece ≡ false) pieces
   pub consumed : Consumes (left old) (left new) (joined pieces)
   pub stands : Stands b (joined pieces) s
   pub written : Appends taken taken' (joined (due whole_table b (joined pieces) false))
@@ -136,6 +137,7 @@ pub record IsTold {R : Type 0} (gives : R → List ℕ → R → Type 0) (fails 
   pub reads : Reads gives old pieces last
   pub ends : EndsWith fails (is_read_fault result) last new
   pub within : AreWithin turns pieces
+  pub once : EndsOnce pieces
   pub consumed : Consumes (left old) (left new) (joined pieces)
   pub written : Appends taken taken' text
   pub tells : Tells b turns pieces text result

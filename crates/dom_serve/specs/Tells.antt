@@ -43,7 +43,7 @@ AnswersEarlier b pieces text = IsPrefix (joined (due whole_table b (joined (befo
 abbrev pub Tells : Bounds → ℕ → List (List ℕ) → List ℕ → Result Summary Fault → Type 0
 Tells b turns pieces text (Ok summary) =
     (has_end pieces ≡ true) × (text ≡ output_of whole_table b (joined pieces)) × (summary.lines ≡ length (lines_of (joined pieces)))
-Tells b turns pieces text (Err Read) = text ≡ joined (due whole_table b (joined pieces) false)
+Tells b turns pieces text (Err Read) = (has_end pieces ≡ false) × (text ≡ joined (due whole_table b (joined pieces) false))
 Tells b turns pieces text (Err InputTooLong) =
     (length pieces ≡ turns) × (has_end pieces ≡ false) × (text ≡ joined (due whole_table b (joined pieces) false))
 Tells b turns pieces text (Err Write) =

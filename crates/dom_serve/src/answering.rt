@@ -6,7 +6,7 @@ ghost use Rattle.dom_model.specs.Commands.Answer.{Bounds};
 ghost use Rattle.dom_model.specs.Commands.Table.{whole_table};
 ghost use Rattle.dom_model.specs.Commands.Output.{joined, whole_lines, last_piece, lines_of, output_of};
 ghost use Rattle.dom_wire.specs.Sessions.{bounds_of};
-ghost use Rattle.dom_serve.specs.Pieces.{Reads, AreWithin};
+ghost use Rattle.dom_serve.specs.Pieces.{Reads, AreWithin, EndsOnce};
 ghost use Rattle.dom_serve.specs.Calls.{EndsWith, IsRead, IsWritten, HasPassedOn, HasAnswered};
 ghost use Rattle.dom_serve.specs.Tells.{is_read_fault, is_write_fault, Tells};
 ghost use Rattle.dom_serve.specs.Server.{Stands, Concludes, IsTold};
@@ -134,7 +134,7 @@ pub fn serve_within<R: Source, W: Sink>(
     // For each outcome: the pieces that reads gave, and the text that was written.
     ensures tells { (pieces : List (List ℕ)) × (text : List ℕ) × (last : _)
         × Reads R.gives reader.old pieces last × EndsWith R.fails (is_read_fault result) last reader.new
-        × AreWithin turns pieces
+        × AreWithin turns pieces × EndsOnce pieces
         × Consumes (R.left reader.old) (R.left reader.new) (joined pieces)
         × Appends (W.taken writer.old) (W.taken writer.new) text
         × Tells (bounds_of limits) turns pieces text result }
@@ -177,7 +177,7 @@ pub fn serve<R: Source, W: Sink>(
     // For each outcome: the pieces that reads gave, and the text that was written.
     ensures tells { (pieces : List (List ℕ)) × (text : List ℕ) × (last : _)
         × Reads R.gives reader.old pieces last × EndsWith R.fails (is_read_fault result) last reader.new
-        × AreWithin (2 ^ 40) pieces
+        × AreWithin (2 ^ 40) pieces × EndsOnce pieces
         × Consumes (R.left reader.old) (R.left reader.new) (joined pieces)
         × Appends (W.taken writer.old) (W.taken writer.new) text
         × Tells (bounds_of limits) (2 ^ 40) pieces text result }

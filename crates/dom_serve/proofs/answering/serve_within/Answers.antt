@@ -20,7 +20,7 @@ returns-in-Ok-clause-one_each g c =
 pub returns-in-Ok-clause-tells : goal.returns-in-Ok-clause-tells
 returns-in-Ok-clause-tells g c =
     let t = c.serve_all.ensures.told (bounds_of c.args.limits) c.in-Ok.ensures.stands in
-    (t.pieces, t.text, t.last, t.reads, t.ends, t.within, t.consumed, t.written, t.tells)
+    (t.pieces, t.text, t.last, t.reads, t.ends, t.within, t.once, t.consumed, t.written, t.tells)
 
 pub returns-in-Ok-clause-reader : goal.returns-in-Ok-clause-reader
 returns-in-Ok-clause-reader g c =
@@ -31,7 +31,7 @@ pub returns-in-Err-clause-tells : goal.returns-in-Err-clause-tells
 returns-in-Err-clause-tells g c =
     let t = told-none g.R.Source.gives g.R.Source.fails g.R.Source.left (bounds_of c.args.limits) c.args.turns c.args.reader.now (g.W.Sink.taken c.args.writer.now)
     (g.W.Sink.taken c.write_out_of_memory.new.writer) c.write_out_of_memory.result c.write_out_of_memory.ensures.written in
-    (t.pieces, t.text, t.last, t.reads, t.ends, t.within, t.consumed, t.written, t.tells)
+    (t.pieces, t.text, t.last, t.reads, t.ends, t.within, t.once, t.consumed, t.written, t.tells)
 
 pub returns-in-Err-clause-reader : goal.returns-in-Err-clause-reader
 returns-in-Err-clause-reader g c =
