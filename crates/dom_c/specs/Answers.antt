@@ -32,6 +32,7 @@ pub record Steps (step : Result (World → Step) ℕ) (old new : Kept) (status :
   pub ends : Ends new.ended step old new status
   pub bounds : new.session.bounds ≡ old.session.bounds
   pub limit : new.limit ≡ old.limit
+  pub line : new.line ≡ old.line
 
 -- the step of a command, or the status of arguments that make none
 abbrev pub step_for : Kept → Result Command ℕ → Result (World → Step) ℕ

@@ -9,7 +9,7 @@ use Rattle.dom_model.specs.Commands.Output.{step_of}
 use Rattle.dom_model.specs.Commands.Printed.{reply_line}
 use Rattle.dom_wire.specs.Sessions.{Held, StandsFor, reply_view}
 use Rattle.dom_c.specs.Statuses.{out_of_memory, closed, not_there}
-use Rattle.dom_c.specs.Answers.{StepsIn}
+use Rattle.dom_c.specs.Answers.{Ends}
 use Rattle.dom_c.specs.declared.kept.Kept.{Kept}
 use Rattle.dom_c.specs.declared.handle.Handle.{Handle}
 
@@ -33,8 +33,20 @@ abbrev pub IsPrintedIn : Option Kept → Type 0
 IsPrintedIn None = Unit {0}
 IsPrintedIn (Some k) = IsPrinted k
 
+-- the step of a line is taken, as that of a command, but for the line that is kept
+pub record TakesLine (line : List ℕ) (old new : Kept) (status : ℕ) : Type 0 where
+  pub ends : Ends new.ended (step_for_line line old) old new status
+  pub bounds : new.session.bounds ≡ old.session.bounds
+  pub limit : new.limit ≡ old.limit
+
+-- a closed handle says so
+abbrev pub TakesLineIn : List ℕ → Option Kept → Option Kept → ℕ → Type 0
+TakesLineIn line None new status = (new ≡ None) × (status ≡ closed)
+TakesLineIn line (Some old) None status = ⊥
+TakesLineIn line (Some old) (Some new) status = TakesLine line old new status
+
 pub record AnswersLine (old new : Handle) (line : List ℕ) (status : ℕ) : Type 0 where
-  pub steps : StepsIn (step_for_line line) old.slot.kept new.slot.kept status
+  pub steps : TakesLineIn line old.slot.kept new.slot.kept status
   pub printed : IsPrintedIn new.slot.kept
 
 -- the reply to a line is the one of the step, and the session took it

@@ -1,5 +1,5 @@
 -- What opening and closing do.
-use Rattle.std.specs.Prelude.{◌≡◌, ℕ, nat_le, ◌&&◌, true, false, Option, Some, None, is_some, if◌then◌else◌}
+use Rattle.std.specs.Prelude.{◌≡◌, ℕ, nat_le, ◌&&◌, true, false, [], Option, Some, None, is_some, if◌then◌else◌}
 use Rattle.dom_model.specs.Worlds.World.{first_world}
 use Rattle.dom_model.specs.Commands.Answer.{Bounds}
 use Rattle.dom_wire.specs.Sessions.{StandsFor}
@@ -7,13 +7,14 @@ use Rattle.dom_c.specs.Statuses.{out_of_memory, closed, already_open, bad_limits
 use Rattle.dom_c.specs.declared.kept.Kept.{Kept}
 use Rattle.dom_c.specs.declared.handle.Handle.{Handle}
 
--- a session of these bounds over the first world, with no reply yet
+-- a session of these bounds over the first world, with no reply and no line yet
 pub record IsNew (b : Bounds) (k : Kept) : Type 0 where
   pub world : StandsFor k.session first_world
   pub bounds : k.session.bounds ≡ b
   pub limit : k.limit ≡ b.line
   pub goes_on : k.ended ≡ false
   pub no_reply : k.reply ≡ None
+  pub no_line : k.line.items ≡ []
 
 -- the status of what could not be opened
 abbrev pub unopened : Bounds → ℕ

@@ -6,8 +6,7 @@ ghost use Rattle.dom_model.specs.Commands.Table.{whole_table};
 ghost use Rattle.dom_model.specs.Commands.Line.{command_within};
 ghost use Rattle.dom_wire.specs.Sessions.{reply_view};
 ghost use Rattle.dom_wire.specs.Reads.{Reads};
-ghost use Rattle.dom_c.specs.Answers.{Steps};
-ghost use Rattle.dom_c.specs.Lines.{AnswersLine, IsPrinted, IsReply, PrintsLast, PrintsLastIn, step_in, step_for_line};
+ghost use Rattle.dom_c.specs.Lines.{AnswersLine, TakesLine, IsPrinted, IsReply, PrintsLast, PrintsLastIn, step_in};
 
 use crate::handle::Handle;
 use crate::kept::Kept;
@@ -51,7 +50,7 @@ fn reply_to(
 impl Kept {
     // Answers a line, and keeps its reply and the line of that.
     fn answer_line(&mut self, line: &[u8]) -> u8
-        ensures steps { Steps (step_for_line line.now self.old) self.old self.new result }
+        ensures steps { TakesLine line.now self.old self.new result }
         ensures printed { IsPrinted self.new }
     {
         if self.ended {

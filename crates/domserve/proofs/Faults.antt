@@ -1,5 +1,5 @@
 -- What a fault's status says of the reader and of the writer.
-use Rattle.std.proofs.Common.{◌≡◌, ◌≢◌, ℕ, Bool, false, Err, refl, inl, inr}
+use Rattle.std.proofs.Common.{◌≡◌, ◌≢◌, ℕ, Bool, false, Err, refl, inl, inr, arith}
 use Rattle.dom_serve.specs.declared.fault.Fault.{Fault}
 use Rattle.dom_serve.specs.declared.fault.Fault.TheVariants.{Read, Write, Memory, InputTooLong}
 use Rattle.dom_serve.specs.declared.fault.Summary.{Summary}
@@ -24,3 +24,10 @@ passed-told Read status P e p other = p refl
 passed-told Write status P e p other = absurd (other e)
 passed-told Memory status P e p other = p refl
 passed-told InputTooLong status P e p other = p refl
+
+-- no fault has the status of success
+pub not-zero : (f : Fault) → status_of f ≡ 0 → ⊥
+not-zero Read h = let e : 3 ≡ 0 = h in omega (arith, e)
+not-zero Write h = let e : 3 ≡ 0 = h in omega (arith, e)
+not-zero Memory h = let e : 1 ≡ 0 = h in omega (arith, e)
+not-zero InputTooLong h = let e : 3 ≡ 0 = h in omega (arith, e)

@@ -66,6 +66,7 @@ fn served<R: Source, W: Sink, E: Write>(
     requires limits { IsInRange (bounds_of limits) }
     ensures range { (result ≤ 1) ⊎ (result ≡ 3) }
     ensures served { result ≡ 0 → IfSome (R.left reader.old) (IsServed (bounds_of limits) (W.taken writer.old) (W.taken writer.new)) }
+    ensures silent { result ≡ 0 → errors.new ≡ errors.old }
     ensures passed { result ≢ 3 → HasPassedOn W.is_passed_on writer.old writer.new }
     ensures reader { TellsFailure result (λ failed. IsRead R.gives R.fails failed reader.old reader.new) }
     ensures writer { TellsFailure result (λ failed. IsWritten W.works W.fails failed writer.old writer.new) }
@@ -79,6 +80,7 @@ fn served<R: Source, W: Sink, E: Write>(
 fn helped<W: Sink, E: Write>(text: &str, writer: &mut W, errors: &mut E) -> u8
     ensures range { (result ≡ 0) ⊎ (result ≡ 3) }
     ensures helped { result ≡ 0 → Appends (W.taken writer.old) (W.taken writer.new) text.now }
+    ensures silent { result ≡ 0 → errors.new ≡ errors.old }
     ensures passed { result ≢ 3 → HasPassedOn W.is_passed_on writer.old writer.new }
     ensures writer { TellsFailure result (λ failed. IsWritten W.works W.fails failed writer.old writer.new) }
 {
@@ -110,6 +112,12 @@ pub fn run<S: AsStr, R: Source, W: Sink, E: Write>(
     // At status 2 clap finds a mistake in the words, and nothing was read or written.
     ensures refused { result ≡ 2 → (has_mistake (faults_in (map S.text words.now)) ≡ true)
         × (reader.new ≡ reader.old) × (writer.new ≡ writer.old) }
+
+    // At status 3 clap finds no fault in the words, or they ask for help: a mistake is no failure of a stream.
+    ensures failed { result ≡ 3 → (faults_in (map S.text words.now) ≡ []) ⊎ (asks_for_help (faults_in (map S.text words.now)) ≡ true) }
+
+    // At status 0 nothing was said on `errors`.
+    ensures silent { result ≡ 0 → errors.new ≡ errors.old }
 
     // Unless the status is 3, all that was written has been passed on.
     ensures passed { result ≢ 3 → HasPassedOn W.is_passed_on writer.old writer.new }

@@ -1,4 +1,5 @@
-use Rattle.std.proofs.Common.{inl, inr}
+use Rattle.std.proofs.Common.{inl, inr, sym, ◌∙◌}
+use Rattle.domserve.proofs.Faults.{not-zero}
 use Rattle.domserve.proofs.running.helped.Goals as goal
 
 pub returns-in-Ok-clause-writer : goal.returns-in-Ok-clause-writer
@@ -6,3 +7,6 @@ returns-in-Ok-clause-writer g c = inl c.in-Ok.ensures.writer
 
 pub returns-in-Err-clause-writer : goal.returns-in-Err-clause-writer
 returns-in-Err-clause-writer g c = inr (c.faulted.ensures, c.in-Err.ensures.writer)
+
+pub returns-in-Err-clause-silent : goal.returns-in-Err-clause-silent
+returns-in-Err-clause-silent g c = λ zero. absurd (not-zero _ (sym c.faulted.ensures ∙ zero))

@@ -1,6 +1,6 @@
-use Rattle.std.proofs.Common.{inl}
+use Rattle.std.proofs.Common.{inl, sym, ◌∙◌}
 use Rattle.dom_serve.specs.Calls.{HasPassedOn, IsRead, IsWritten}
-use Rattle.domserve.proofs.Faults.{reader-told, writer-told, passed-told}
+use Rattle.domserve.proofs.Faults.{reader-told, writer-told, passed-told, not-zero}
 use Rattle.domserve.proofs.running.served.Goals as goal
 
 pub returns-in-Err-clause-passed : goal.returns-in-Err-clause-passed
@@ -22,3 +22,6 @@ pub returns-in-Err-clause-writer : goal.returns-in-Err-clause-writer
 returns-in-Err-clause-writer g c =
     writer-told c.in-Err.fault c.faulted.result (λ failed. IsWritten g.W.Sink.works g.W.Sink.fails failed c.args.writer.now c.serve.new.writer) c.faulted.ensures
     c.in-Err.ensures.writer
+
+pub returns-in-Err-clause-silent : goal.returns-in-Err-clause-silent
+returns-in-Err-clause-silent g c = λ zero. absurd (not-zero c.in-Err.fault (sym c.faulted.ensures ∙ zero))
