@@ -130,19 +130,19 @@ told-read gives fails left b turns turn old mid new s taken taken' p room kept f
 }
 
 -- no read is left
-pub told-too_long : {R : Type 0} (gives : R → List ℕ → R → Type 0) (fails : R → R → Type 0) (left : R → Option (List ℕ)) (b : Bounds) (turns : ℕ) (old new : R) (s : Server) (taken taken' : Option (List ℕ))
-    → IsSoFar gives left b turns old new s taken taken' → IsTold gives fails left b turns old new taken taken' (Err InputTooLong)
-told-too_long gives fails left b turns old new s taken taken' p = record {
+pub told-too_long : {R : Type 0} (gives : R → List ℕ → R → Type 0) (fails : R → R → Type 0) (left : R → Option (List ℕ)) (b : Bounds) (turn turns : ℕ) (old new : R) (s : Server) (taken taken' : Option (List ℕ))
+    → IsSoFar gives left b turn old new s taken taken' → turn ≡ turns → IsTold gives fails left b turns old new taken taken' (Err InputTooLong)
+told-too_long gives fails left b turn turns old new s taken taken' p all = record {
   pieces = p.pieces;
   text = joined (due whole_table b (joined p.pieces) false);
   last = new;
   reads = p.reads;
   ends = refl;
-  within = (omega (arith, p.count), p.sizes);
+  within = (omega (arith, p.count, all), p.sizes);
   once = once-all p.pieces p.some;
   consumed = p.consumed;
   written = p.written;
-  tells = (p.count, p.open_ended, refl);
+  tells = (p.count ∙ all, p.open_ended, refl);
 }
 
 Tells-broken : (b : Bounds) (turns : ℕ) (pieces : List (List ℕ)) (piece text : List ℕ) (fault : Fault)

@@ -1,7 +1,7 @@
 use Rattle.std.proofs.Common.{◌≡◌, false, length, arith, refl, tests, rules}
 use Rattle.dom_serve.specs.Tells.{is_write, is_write_fault}
 use Rattle.dom_serve.proofs.Calls.{IsWritten-none, IsWritten-more, HasAnswered-none, HasAnswered-more, HasAnswered-passed, HasAnswered-asked}
-use Rattle.dom_serve.proofs.Told.{so_far-none, so_far-more, told-concluded, told-fed, some-read, most-read, lines-more}
+use Rattle.dom_serve.proofs.Told.{so_far-none, so_far-more, told-read, told-too_long, told-concluded, told-fed, some-read, most-read, lines-more}
 use Rattle.dom_serve.proofs.answering.serve_all.Goals as goal
 
 pub loop-turn-init : goal.loop-turn-init
@@ -83,7 +83,9 @@ pub returns-in-Err-feed_all-clause-at_end : goal.returns-in-Err-feed_all-clause-
 returns-in-Err-feed_all-clause-at_end g c = search (tests, rules)
 
 pub returns-in-Err-clause-told : goal.returns-in-Err-clause-told
-returns-in-Err-clause-told g c = search (tests, rules)
+returns-in-Err-clause-told g c = λ b h.
+    let p = c.loop-turn.invariant.so_far b h in
+    told-read _ g.R.Source.fails _ b c.args.turns c.loop-turn._turn _ _ _ c.loop-turn.server _ _ p c.loop-turn-test.true c.in-Err.ensures.bytes c.in-Err.ensures.fails
 
 pub returns-in-Err-clause-at_end : goal.returns-in-Err-clause-at_end
 returns-in-Err-clause-at_end g c = search (tests, rules)
@@ -92,7 +94,9 @@ pub returns-in-Err-clause-writer : goal.returns-in-Err-clause-writer
 returns-in-Err-clause-writer g c = search (tests, rules)
 
 pub returns-clause-told : goal.returns-clause-told
-returns-clause-told g c = search (tests, rules)
+returns-clause-told g c = λ b h.
+    let p = c.loop-turn.invariant.so_far b h in
+    told-too_long _ g.R.Source.fails _ b c.loop-turn._turn c.args.turns _ _ c.loop-turn.server _ _ p (omega (arith, c.loop-turn-test.false, c.loop-turn.auto._turn-end))
 
 pub returns-clause-at_end : goal.returns-clause-at_end
 returns-clause-at_end g c = search (tests, rules)
