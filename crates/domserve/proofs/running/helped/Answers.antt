@@ -1,4 +1,5 @@
 use Rattle.std.proofs.Common.{inl, inr, sym, ◌∙◌}
+use Rattle.dom_serve.specs.declared.fault.Fault.TheVariants.{Write}
 use Rattle.domserve.proofs.Faults.{not-zero}
 use Rattle.domserve.proofs.running.helped.Goals as goal
 
@@ -9,4 +10,4 @@ pub returns-in-Err-clause-writer : goal.returns-in-Err-clause-writer
 returns-in-Err-clause-writer g c = inr (c.faulted.ensures, c.in-Err.ensures.writer)
 
 pub returns-in-Err-clause-silent : goal.returns-in-Err-clause-silent
-returns-in-Err-clause-silent g c = λ zero. absurd (not-zero _ (sym c.faulted.ensures ∙ zero))
+returns-in-Err-clause-silent g c = λ zero. absurd (not-zero Write (sym c.faulted.ensures ∙ zero))
