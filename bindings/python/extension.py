@@ -2,7 +2,7 @@
 """Writes core/calls.h, the part of the extension module that follows from the exports of crates/dom_c and the table of members.py; and builds the module.
 
 With --check nothing is written, and it fails where the file is not what the sources give. With --build the module is compiled and linked
-with libhuckleport.a, as huckleport/_core.abi3.so, which any CPython from 3.9 on can load.
+with libhuckleport.a, as huckleport/_core.abi3.so, which any CPython from 3.8 on can load.
 """
 import argparse
 import os
@@ -44,10 +44,16 @@ def upper(name):
 # ---- structs
 
 
+def quoted(text):
+    """A text as C has it; its quotes are the only signs that C reads in another way."""
+    return '"' + text.replace('"', '\\"') + '"'
+
+
 def struct(it):
     fields = ", ".join(f'{{ "{part.name}", NULL }}' for part in it.fields)
     text = f"\nstatic PyTypeObject *{it.name}_type;\nstatic PyStructSequence_Field {it.name}_fields[] = {{ {fields}, {{ NULL, NULL }} }};\n"
-    text += f'static PyStructSequence_Desc {it.name}_form = {{ "huckleport._core.{it.name}", NULL, {it.name}_fields, {len(it.fields)} }};\n'
+    # (3.8 ends with a crash where such a class has no docstring)
+    text += f'static PyStructSequence_Desc {it.name}_form = {{ "huckleport._core.{it.name}", {quoted(it.doc)}, {it.name}_fields, {len(it.fields)} }};\n'
     text += f"\nstatic PyObject *{it.name}_from(const {it.name} *it)\n{{\n    PyObject *found = PyStructSequence_New({it.name}_type);\n"
     text += "    if (!found)\n        return NULL;\n"
     for at, part in enumerate(it.fields):

@@ -1,4 +1,4 @@
-"""Builds the package: with the extension module where libhuckleport.a and huckleport.h are there, for any CPython from 3.9 on, and else without.
+"""Builds the package: with the extension module where libhuckleport.a and huckleport.h are there, for any CPython from 3.8 on, and else without.
 
 They are looked for in the folder that the variable HUCKLEPORT_STATIC names, and else in bindings/c/out.
 """
@@ -33,4 +33,4 @@ MODULE = Extension(
     py_limited_api=True,
 )
 
-setup(ext_modules=[MODULE] if HAS_ALL else [], options={"bdist_wheel": {"py_limited_api": "cp39"}} if HAS_ALL else {})
+setup(ext_modules=[MODULE] if HAS_ALL else [], options={"bdist_wheel": {"py_limited_api": "cp38"}} if HAS_ALL else {})

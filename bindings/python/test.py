@@ -2,9 +2,10 @@
 """Tests the Python package: that its made sources are those of the library, its types by mypy where that is there, and all under tests.
 
 The extension module is built first, and the tests run over it and over ctypes; where it can't be built, they run over ctypes alone. Where this
-Python has no html5lib and Debian's has, they run over that one too.
+Python has no html5lib and Debian's has, they run over that one too; and over the oldest that the module is for, where that is there.
 """
 import argparse
+import glob
 import importlib.util
 import os
 import shutil
@@ -17,6 +18,9 @@ LIBRARY = os.path.join(os.path.dirname(HERE), "c", "out")
 SHARED = os.path.join(LIBRARY, "libhuckleport.so")
 VARIABLE = "HUCKLEPORT_LIBRARY"
 DEBIAN = "/usr/bin/python3"
+# The oldest Python that the module is for: as a program, or as pyenv keeps it.
+OLDEST = "3.8"
+KEPT = "~/.pyenv/versions/{}*/bin/python"
 sys.dont_write_bytecode = True
 sys.path.insert(0, HERE)
 
@@ -59,6 +63,24 @@ def run_all(python, about, seconds, **environment):
     return fails(python, os.path.abspath(__file__), "--within", env={**kept, "HUCKLEPORT_SECONDS": str(seconds), **environment})
 
 
+def oldest():
+    """The oldest Python that the module is for, or nothing."""
+    found = [shutil.which(f"python{OLDEST}") or "", *sorted(glob.glob(os.path.expanduser(KEPT.format(OLDEST))))]
+    # (what stands for a Python of pyenv may refuse to run)
+    return next((it for it in found if it and not fails(it, "-c", "", stderr=subprocess.DEVNULL)), "")
+
+
+def others():
+    """The other Pythons that the module is tried with."""
+    if not has(sys.executable, "html5lib") and has(DEBIAN, "html5lib"):
+        yield DEBIAN
+    found = oldest()
+    if found:
+        yield found
+    else:
+        print(f"left out: Python {OLDEST}, which is not here")
+
+
 def within():
     """The tests, in this process."""
     found = unittest.defaultTestLoader.discover(os.path.join(HERE, "tests"), top_level_dir=HERE)
@@ -78,8 +100,8 @@ def main():
     has_built = has_extension()
     if has_built:
         faults |= run_all(sys.executable, "by the extension module", seconds, **more)
-    if has_built and not has(sys.executable, "html5lib") and has(DEBIAN, "html5lib"):
-        faults |= run_all(DEBIAN, f"by the extension module and {DEBIAN}", 2)
+    for python in others() if has_built else ():
+        faults |= run_all(python, f"by the extension module and {python}", 2)
     if named:
         faults |= run_all(sys.executable, "by ctypes", 3, **{VARIABLE: named})
     else:

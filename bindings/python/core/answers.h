@@ -37,7 +37,7 @@ static bool numbers_push(Numbers *it, uint32_t number)
 /* Asks for the kind of each node that has no object yet. This takes the place of the last answer, which has been copied. */
 static bool numbers_ask(Numbers *it, Calls *calls)
 {
-    it->kinds = PyMem_Calloc(it->length + 1, 1);
+    it->kinds = zeroed(it->length + 1, 1);
     if (!it->kinds)
         return PyErr_NoMemory() != NULL;
     for (size_t at = 0; at < it->length; at++) {
@@ -120,7 +120,7 @@ static PyObject *names_answer(hp_session *session)
 {
     size_t count = 0, made_count = 0;
     hp_count(session, &count);
-    PyObject **parts = PyMem_Calloc(count + 1, sizeof(PyObject *)), *found = NULL;
+    PyObject **parts = zeroed(count + 1, sizeof(PyObject *)), *found = NULL;
     if (!parts)
         return PyErr_NoMemory();
     for (size_t at = 0; at < count; at++) {
@@ -228,7 +228,7 @@ static bool rows_copy(Rows *to, hp_session *session, size_t most)
     size_t count = 0;
     hp_count(session, &count);
     to->count = count < most ? count : most;
-    to->rows = PyMem_Calloc(to->count + 1, sizeof(Copied));
+    to->rows = zeroed(to->count + 1, sizeof(Copied));
     if (!to->rows)
         return PyErr_NoMemory() != NULL;
     for (size_t at = 0; at < to->count; at++) {
@@ -410,7 +410,7 @@ static bool record_copy(Records *to, hp_session *session, size_t notice, size_t 
 /* Copies the records of a notice. */
 static bool records_copy(Records *to, hp_session *session, size_t notice, size_t count)
 {
-    to->records = PyMem_Calloc(count + 1, sizeof(Noted));
+    to->records = zeroed(count + 1, sizeof(Noted));
     if (!to->records)
         return PyErr_NoMemory() != NULL;
     to->count = count;
@@ -487,8 +487,8 @@ static bool notices_copy(Notices *to, Calls *calls)
 {
     hp_session *session = &calls->session;
     hp_count(session, &to->count);
-    to->notices = PyMem_Calloc(to->count + 1, sizeof(hp_notice));
-    to->records = PyMem_Calloc(to->count + 1, sizeof(Records));
+    to->notices = zeroed(to->count + 1, sizeof(hp_notice));
+    to->records = zeroed(to->count + 1, sizeof(Records));
     if (!to->notices || !to->records)
         return PyErr_NoMemory() != NULL;
     for (size_t at = 0; at < to->count; at++) {

@@ -2,7 +2,7 @@
 
 static PyTypeObject *hp_row_type;
 static PyStructSequence_Field hp_row_fields[] = { { "depth", NULL }, { "node", NULL }, { "type", NULL }, { "attributes", NULL }, { NULL, NULL } };
-static PyStructSequence_Desc hp_row_form = { "huckleport._core.hp_row", NULL, hp_row_fields, 4 };
+static PyStructSequence_Desc hp_row_form = { "huckleport._core.hp_row", "A row of a tree: how deep the node stands below the one that was asked for, its number, the standard's number of its kind (`nodeType`), and how many attributes it has.", hp_row_fields, 4 };
 
 static PyObject *hp_row_from(const hp_row *it)
 {
@@ -18,7 +18,7 @@ static PyObject *hp_row_from(const hp_row *it)
 
 static PyTypeObject *hp_notice_type;
 static PyStructSequence_Field hp_notice_fields[] = { { "observer", NULL }, { "records", NULL }, { NULL, NULL } };
-static PyStructSequence_Desc hp_notice_form = { "huckleport._core.hp_notice", NULL, hp_notice_fields, 2 };
+static PyStructSequence_Desc hp_notice_form = { "huckleport._core.hp_notice", "What an observer is told: its number, and how many records.", hp_notice_fields, 2 };
 
 static PyObject *hp_notice_from(const hp_notice *it)
 {
@@ -32,7 +32,7 @@ static PyObject *hp_notice_from(const hp_notice *it)
 
 static PyTypeObject *hp_record_type;
 static PyStructSequence_Field hp_record_fields[] = { { "type", NULL }, { "target", NULL }, { "added", NULL }, { "removed", NULL }, { "previous", NULL }, { "next", NULL }, { NULL, NULL } };
-static PyStructSequence_Desc hp_record_form = { "huckleport._core.hp_record", NULL, hp_record_fields, 6 };
+static PyStructSequence_Desc hp_record_form = { "huckleport._core.hp_record", "A record: its type (`HP_ATTRIBUTES`, `HP_CHARACTER_DATA` or `HP_CHILD_LIST`), its target, how many nodes were added and removed, and the siblings beside them, or `HP_NONE`.", hp_record_fields, 6 };
 
 static PyObject *hp_record_from(const hp_record *it)
 {
@@ -50,7 +50,7 @@ static PyObject *hp_record_from(const hp_record *it)
 
 static PyTypeObject *hp_ends_type;
 static PyStructSequence_Field hp_ends_fields[] = { { "start", NULL }, { "start_offset", NULL }, { "end", NULL }, { "end_offset", NULL }, { NULL, NULL } };
-static PyStructSequence_Desc hp_ends_form = { "huckleport._core.hp_ends", NULL, hp_ends_fields, 4 };
+static PyStructSequence_Desc hp_ends_form = { "huckleport._core.hp_ends", "The start and the end of a live range.", hp_ends_fields, 4 };
 
 static PyObject *hp_ends_from(const hp_ends *it)
 {
@@ -66,7 +66,7 @@ static PyObject *hp_ends_from(const hp_ends *it)
 
 static PyTypeObject *hp_static_ends_type;
 static PyStructSequence_Field hp_static_ends_fields[] = { { "start", NULL }, { "start_offset", NULL }, { "end", NULL }, { "end_offset", NULL }, { "is_valid", NULL }, { NULL, NULL } };
-static PyStructSequence_Desc hp_static_ends_form = { "huckleport._core.hp_static_ends", NULL, hp_static_ends_fields, 5 };
+static PyStructSequence_Desc hp_static_ends_form = { "huckleport._core.hp_static_ends", "The start and the end of a static range, and whether it is valid: 0 or 1.", hp_static_ends_fields, 5 };
 
 static PyObject *hp_static_ends_from(const hp_static_ends *it)
 {
@@ -83,7 +83,7 @@ static PyObject *hp_static_ends_from(const hp_static_ends *it)
 
 static PyTypeObject *hp_iterator_at_type;
 static PyStructSequence_Field hp_iterator_at_fields[] = { { "root", NULL }, { "reference", NULL }, { "is_before", NULL }, { NULL, NULL } };
-static PyStructSequence_Desc hp_iterator_at_form = { "huckleport._core.hp_iterator_at", NULL, hp_iterator_at_fields, 3 };
+static PyStructSequence_Desc hp_iterator_at_form = { "huckleport._core.hp_iterator_at", "The root and the reference of an iterator, and whether it stands before the reference: 0 or 1.", hp_iterator_at_fields, 3 };
 
 static PyObject *hp_iterator_at_from(const hp_iterator_at *it)
 {
@@ -98,7 +98,7 @@ static PyObject *hp_iterator_at_from(const hp_iterator_at *it)
 
 static PyTypeObject *hp_walker_at_type;
 static PyStructSequence_Field hp_walker_at_fields[] = { { "root", NULL }, { "current", NULL }, { NULL, NULL } };
-static PyStructSequence_Desc hp_walker_at_form = { "huckleport._core.hp_walker_at", NULL, hp_walker_at_fields, 2 };
+static PyStructSequence_Desc hp_walker_at_form = { "huckleport._core.hp_walker_at", "The root and the current node of a walker.", hp_walker_at_fields, 2 };
 
 static PyObject *hp_walker_at_from(const hp_walker_at *it)
 {
@@ -112,7 +112,7 @@ static PyObject *hp_walker_at_from(const hp_walker_at *it)
 
 static PyTypeObject *hp_place_type;
 static PyStructSequence_Field hp_place_fields[] = { { "document", NULL }, { "kind", NULL }, { "next", NULL }, { "parent", NULL }, { "previous", NULL }, { NULL, NULL } };
-static PyStructSequence_Desc hp_place_form = { "huckleport._core.hp_place", NULL, hp_place_fields, 5 };
+static PyStructSequence_Desc hp_place_form = { "huckleport._core.hp_place", "The node document, the kind by the standard's number (`nodeType`), and the nodes beside and above, or `HP_NONE`.", hp_place_fields, 5 };
 
 static PyObject *hp_place_from(const hp_place *it)
 {

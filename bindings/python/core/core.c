@@ -195,6 +195,10 @@ static bool take_collector(void)
     return gc_is_enabled && gc_disable && gc_enable;
 }
 
+/* (What the sources show no name of stays hidden, and headers before 3.9 show none.) */
+#if defined(__GNUC__)
+__attribute__((visibility("default")))
+#endif
 PyMODINIT_FUNC PyInit__core(void)
 {
     PyObject *found = PyModule_Create(&module);

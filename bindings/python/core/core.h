@@ -39,6 +39,13 @@ enum {
 
 static PyObject *kinds[KINDS];
 
+/* Zeroed memory for so many of a size. (PyMem_Calloc is not of the stable ABI of 3.8.) */
+static void *zeroed(size_t count, size_t size)
+{
+    void *found = count <= PY_SSIZE_T_MAX / size ? PyMem_Malloc(count * size) : NULL;
+    return found ? memset(found, 0, count * size) : NULL;
+}
+
 /* Python's functions that the module calls: what raises a refusal, and what tells a name that has no part in the library's answer. */
 static PyObject *refuse_hook, *name_hook;
 

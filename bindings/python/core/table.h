@@ -47,7 +47,7 @@ static bool table_grow(Table *it)
 {
     int bits = it->entries ? it->bits + 1 : 6;
     Table wider = { NULL, ((size_t)1 << bits) - 1, it->used, bits };
-    wider.entries = PyMem_Calloc(wider.mask + 1, sizeof(Entry));
+    wider.entries = zeroed(wider.mask + 1, sizeof(Entry));
     if (!wider.entries)
         return false;
     for (size_t at = 0; it->entries && at <= it->mask; at++) {
