@@ -48,10 +48,16 @@ class State:
             self.pairs = list(cast(Element, node).attributes.items())
 
     def copy(self) -> State:
+        """The same once more, that changes by itself."""
         found = State()
         found.children = None if self.children is None else list(self.children)
         found.data, found.pairs = self.data, None if self.pairs is None else list(self.pairs)
         return found
+
+    def lose(self, child: Node) -> None:
+        """Takes a node from its children."""
+        if self.children is not None:
+            self.children = [it for it in self.children if it is not child]
 
     def is_like(self, other: State) -> bool:
         """Whether both are the same."""
@@ -70,6 +76,10 @@ class State:
 
 def place_of(children: List[Node], record: MutationRecord) -> int:
     """Where a record's nodes came in or went."""
+    end = len(children) - len(record.added_nodes)
+    if record.next_sibling is None and end > 0 and children[end - 1] is record.previous_sibling:
+        # (most come in at the end, which is found without a search)
+        return end
     if record.previous_sibling in children:
         return children.index(record.previous_sibling) + 1
     if record.next_sibling in children:
@@ -93,6 +103,21 @@ class Group(NamedTuple):
     after: Dict[Node, State]
     places_before: Dict[Range, Place]
     places_after: Dict[Range, Place]
+
+
+def back_from(after: Dict[Node, State], records: List[MutationRecord]) -> Dict[Node, State]:
+    """What nodes had before records, by what they have now."""
+    before = {node: state.copy() for node, state in after.items()}
+    holders = {child: node for node, state in after.items() for child in state.children or ()}
+    for it in reversed(records):
+        for node in it.removed_nodes:
+            # (it may have come to another node while that one stood outside, as no record tells)
+            holder = holders.get(node)
+            if holder is not None:
+                before[holder].lose(node)
+            holders[node] = it.target
+        before[it.target].take_back(it)
+    return before
 
 
 def parent_of(node: Node) -> Optional[Node]:
@@ -193,11 +218,13 @@ class History:
     """Undoes and redoes what changes below a node.
 
     It watches the node by an observer of its own. Ranges that it keeps go back with the changes, each where it stood before them, unless it
-    was set elsewhere since. Nodes that are taken out must not be discarded while it may have to put them back.
+    was set elsewhere since. Nodes that are taken out must not be discarded while it may have to put them back. It keeps at most so many
+    groups as ``limit`` says, and forgets the oldest then.
     """
 
-    def __init__(self, root: Node, ranges: Iterable[Range] = ()) -> None:
+    def __init__(self, root: Node, ranges: Iterable[Range] = (), limit: Optional[int] = None) -> None:
         self.root = root
+        self.limit = limit
         self._records: List[MutationRecord] = []
         self._done: List[Group] = []
         self._undone: List[Group] = []
@@ -206,8 +233,11 @@ class History:
         # In which order elements have their attributes, since no record tells where one stood that was taken out.
         self._orders: Dict[Node, List[str]] = {}
         self._learn(root)
+        # How many groups were forgotten since the orders were learned.
+        self._forgotten = 0
+        self._is_closed = False
         self._observer = root.session.create_mutation_observer(lambda records, observer: self._records.extend(records))
-        self._observer.observe(root, child_list=True, character_data_old_value=True, attribute_old_value=True, subtree=True)
+        self._watch()
         self._places = self._places_now()
 
     def keep(self, bookmark: Range) -> Range:
@@ -242,7 +272,7 @@ class History:
 
     def _close_group(self, has_moves: bool) -> bool:
         """Makes a group of what changed. That a range was moved and nothing else changed is a group where the program asked for one."""
-        records, self._records = self._records + self._observer.take_records(), []
+        records = self._take()
         places_before, self._places = self._places, self._places_now()
         if not records and not (has_moves and places_before != self._places):
             return False
@@ -251,6 +281,7 @@ class History:
             return False
         self._done.append(Group(before, after, places_before, self._places))
         self._undone.clear()
+        self._keep_to_limit()
         return True
 
     def undo(self) -> bool:
@@ -281,12 +312,52 @@ class History:
 
     def close(self) -> None:
         """Watches no longer, and forgets all groups."""
+        self._is_closed = True
         self._observer.disconnect()
+        self._observer.callback = None
         self._records.clear()
         self._done.clear()
         self._undone.clear()
 
     # how it is done
+
+    def _watch(self) -> None:
+        """Watches its node and what is below it."""
+        self._observer.observe(self.root, child_list=True, character_data_old_value=True, attribute_old_value=True, subtree=True)
+
+    def _take(self) -> List[MutationRecord]:
+        """Takes what changed."""
+        records, self._records = self._records + self._observer.take_records(), []
+        if records and not self._is_closed:
+            self._watch_anew()
+        return records
+
+    def _watch_anew(self) -> None:
+        """Watches nodes no longer that were taken out, for which more memory is taken at each change; until now their changes were seen."""
+        try:
+            self._watch()
+        except NoSuchObject:
+            # (its node was discarded: nothing changes in it any more)
+            pass
+
+    def _keep_to_limit(self) -> None:
+        """Forgets the oldest groups beyond the limit, and now and then the orders of attributes that no group can ask for."""
+        if self.limit is None or len(self._done) <= self.limit:
+            return
+        self._forgotten += len(self._done) - self.limit
+        del self._done[: len(self._done) - self.limit]
+        if self._forgotten > max(self.limit, 100):
+            self._forgotten = 0
+            self._orders.clear()
+            for node in {self.root, *self._nodes()}:
+                self._learn(node)
+
+    def _nodes(self) -> Iterator[Node]:
+        """The nodes of all groups."""
+        for states in (side for it in self._done for side in (it.before, it.after)):
+            for node, state in states.items():
+                yield node
+                yield from state.children or ()
 
     def _places_now(self) -> Dict[Range, Place]:
         found = ((it, place(it)) for it in self._ranges)
@@ -305,9 +376,7 @@ class History:
         after: Dict[Node, State] = {}
         for it in records:
             after.setdefault(it.target, State()).read(it.target, it.type)
-        before = {node: state.copy() for node, state in after.items()}
-        for it in reversed(records):
-            before[it.target].take_back(it)
+        before = back_from(after, records)
         lend(before, after)
         for node, state in before.items():
             if state.pairs is not None:
@@ -316,8 +385,9 @@ class History:
                 self._orders[node] = [name for name, _ in after[node].pairs or ()]
             if state.children is not None:
                 narrow(state, after[node])
-        for added in {node for it in records for node in it.added_nodes}:
-            self._learn(added)
+        added = {node for it in records for node in it.added_nodes}
+        for node in (it for it in added if parent_of(it) not in added):
+            self._learn(node)
         return before, after
 
     def _step(self, take: List[Group], give: List[Group], is_again: bool) -> bool:
@@ -349,8 +419,7 @@ class History:
 
     def _forget(self, states: Dict[Node, State]) -> None:
         """Takes its own changes from what it watches."""
-        self._observer.take_records()
-        self._records.clear()
+        self._take()
         self._places = self._places_now()
         for node, state in states.items():
             if state.pairs is not None:

@@ -1,4 +1,5 @@
 """Undo and redo: after each step tree and ranges are as they were then."""
+import os
 import random
 import unittest
 
@@ -11,6 +12,12 @@ def seen(document, ranges):
     rows = [(it.depth, it.node.number, it.name, it.attributes, it.data) for it in document.tree()]
     ends = [(it.start_container.number, it.start_offset, it.end_container.number, it.end_offset) for it in ranges]
     return rows, ends
+
+
+def resident():
+    """How many bytes of memory this process takes."""
+    with open("/proc/self/statm", encoding="ascii") as file:
+        return int(file.read().split()[1]) * os.sysconf("SC_PAGE_SIZE")
 
 
 class Editor:
@@ -68,6 +75,17 @@ class Editor:
             wrapper.append_child(node)
             parent.insert_before(wrapper, behind)
 
+    def surround(self):
+        """A node goes into a new element, and that pair into another, or the node alone."""
+        node = self.pick(h.Node)
+        if node is self.root:
+            return
+        found = self.document.create_range()
+        for _ in range(2):
+            found.select_node(self.picked.choice((node, node.parent_node)) if node.parent_node is not self.root else node)
+            found.surround_contents(self.document.create_element("s"))
+        found.release()
+
     def empty(self):
         found = self.pick(h.Element)
         if found is not self.root:
@@ -106,7 +124,7 @@ class Editor:
         self.edit()
 
 
-EDITS = "put put put_several remove move swap wrap empty text text split join attribute attribute cut mark mark both".split()
+EDITS = "put put put_several remove move swap wrap surround empty text text split join attribute attribute cut mark mark both".split()
 
 
 class Histories(unittest.TestCase):
@@ -145,26 +163,103 @@ class Histories(unittest.TestCase):
             editor = Editor(self.document, self.root, ranges, seed)
             history = h.History(self.document, ranges)
             states = [seen(self.document, ranges)]
-            for _ in range(count):
+            for at in range(count):
                 with history.group():
-                    editor.edit()
+                    for _ in range(1 + at % 3):
+                        editor.edit()
                 now = seen(self.document, ranges)
                 if now != states[-1]:
                     states.append(now)
             self.assertGreater(len(states), count // 2)
-            self.step(history, ranges, states)
+            self.steps(history.undo, ranges, states[::-1])
+            self.assertFalse(history.can_undo)
+            self.steps(history.redo, ranges, states)
+            self.assertFalse(history.can_redo)
 
-    def step(self, history, ranges, states):
-        """Undoes all, one by one, does all again, and undoes it once more."""
-        for at in range(len(states) - 2, -1, -1):
-            self.assertTrue(history.undo())
-            self.assertEqual(seen(self.document, ranges), states[at], at)
-        self.assertFalse(history.undo())
-        self.assertFalse(history.can_undo)
-        for at in range(1, len(states)):
-            self.assertTrue(history.redo())
-            self.assertEqual(seen(self.document, ranges), states[at], at)
-        self.assertFalse(history.redo())
+    def steps(self, step, ranges, states):
+        """Goes on from state to state. A step that shows nowhere (of a node that came and went within a group) leaves the state before."""
+        at = 0
+        while step():
+            now = seen(self.document, ranges)
+            at += now != states[at]
+            self.assertEqual(now, states[at], at)
+        self.assertEqual(at + 1, len(states))
+
+    def test_wrapped_twice(self):
+        """In an element that is put in its place when it has the node already, as no record tells."""
+        node = self.root.append_child(self.document.create_element("node"))
+        history = h.History(self.document)
+        due = seen(self.document, [])
+        with history.group():
+            for name in ("inner", "outer"):
+                wrapper, parent = self.document.create_element(name), node.parent_node
+                behind = node.next_sibling
+                wrapper.append_child(node)
+                parent.insert_before(wrapper, behind)
+        wrapped = seen(self.document, [])
+        self.assertEqual([it[2] for it in wrapped[0][1:]], ["root", "inner", "outer", "node"])
+        self.steps(history.undo, [], [wrapped, due])
+        self.steps(history.redo, [], [due, wrapped])
+
+    def test_surrounded_twice(self):
+        text = self.root.append_child(self.document.create_text_node("some text"))
+        history = h.History(self.document)
+        bookmark = history.keep(self.document.create_range())
+        bookmark.set_start(text, 5)
+        bookmark.set_end(text, 9)
+        due = seen(self.document, [bookmark])
+        with history.group():
+            found = self.document.create_range()
+            for name in ("inner", "outer"):
+                found.select_node(text)
+                found.surround_contents(self.document.create_element(name))
+        wrapped = seen(self.document, [bookmark])
+        self.steps(history.undo, [bookmark], [wrapped, due])
+        self.steps(history.redo, [bookmark], [due, wrapped])
+
+    def test_limit(self):
+        history = h.History(self.root, limit=3)
+        for at in range(200):
+            with history.group():
+                self.root.append(str(at % 10))
+                self.root.set_attribute("b" if at % 2 else "a", str(at))
+        self.assertEqual([history.undo() for _ in range(5)], [True, True, True, False, False])
+        self.assertEqual((self.root.text_content[-3:], self.root.get_attribute_names()), ("456", ["a", "b"]))
+        with history.group():
+            self.root.remove_attribute("a")
+            self.root.toggle_attribute("a")
+        self.assertEqual(self.root.get_attribute_names(), ["b", "a"])
+        history.undo()
+        self.assertEqual(dict(self.root.attributes), {"a": "196", "b": "195"})
+        self.assertEqual(self.root.get_attribute_names(), ["a", "b"])
+
+    @unittest.skipUnless(os.path.exists("/proc/self/statm"), "nothing tells here how much memory is taken")
+    def test_memory(self):
+        """Nodes that go out and come back, and what is discarded, take no more memory with time, where few groups are kept."""
+        history, parts = h.History(self.document, limit=20), [self.document.create_element(it) for it in "abcd"]
+        self.root.append(*parts)
+        taken = []
+
+        def edit(at):
+            part, other = parts[at % 4], parts[at * 7 % 4]
+            with history.group():
+                part.remove()
+                self.root.insert_before(part, self.root.first_child)
+                other.append(self.document.create_element("x"), str(at))
+                other.first_child.set_attribute("at", str(at))
+                taken.append(other.child_nodes)
+                other.replace_children()
+            for node in taken.pop(0) if len(taken) > 50 else ():
+                node.discard()
+
+        counts = (500, 4000) if core is not None else (100, 300)
+        for at in range(counts[0]):
+            edit(at)
+        before = resident()
+        for at in range(counts[1]):
+            edit(at)
+        self.assertLess(resident() - before, 4 << 20)
+        self.assertTrue(history.undo())
 
     def test_changes_outside_of_groups(self):
         history = h.History(self.root)
