@@ -81,9 +81,30 @@ KINDS: Dict[int, Type[Error]] = {
 }
 
 
+# What the calls of the library are called here, where it is another name.
+ASKED: Dict[str, str] = {
+    "new_document": "create_document",
+    "create_text": "create_text_node",
+    "create_pi": "create_processing_instruction",
+    "create_doctype": "create_document_type",
+    "create_fragment": "create_document_fragment",
+    "create_iterator": "create_node_iterator",
+    "create_walker": "create_tree_walker",
+    "create_observer": "create_mutation_observer",
+    "children": "child_nodes",
+    "root": "get_root_node",
+    "is_equal": "is_equal_node",
+    "compare_position": "compare_document_position",
+    "common_ancestor": "common_ancestor_container",
+    "attribute_names": "get_attribute_names",
+    "set_current": "current_node",
+    "release_range": "release",
+}
+
+
 def refusal(status: int, call: str, calls: Any = None, words: Sequence[Any] = ()) -> Error:
     """The exception for a status of a call with these words. Below 32 are the standard's codes."""
     from .reasons import reason
 
     kind = KINDS.get(status, DOMException if status < made.HP_TYPE_ERROR else Error)
-    return kind(status, call, None if calls is None else reason(status, call, calls, words))
+    return kind(status, ASKED.get(call, call), None if calls is None else reason(status, call, calls, words))

@@ -8,6 +8,9 @@ from typing import Any, Callable, Dict, List, Optional, Sequence
 
 from . import _signatures as made
 
+# The standard's numbers of kinds, and the kinds of which a Document has no two.
+DOCUMENT, DOCTYPE = 9, 10
+ONLY_ONCE = (1, DOCTYPE)
 # Parameters that are nodes, by their names; and what a parameter of another kind is called by.
 NODES = ("parent", "node", "child", "document", "element", "other", "root", "text", "start", "end")
 ASKED: Dict[str, str] = {"range": "range", "source": "range", "iterator": "iterator", "walker": "walker", "observer": "observer"}
@@ -26,6 +29,7 @@ class Refused:
         return [it for it in self.words if it in NODES and isinstance(self.words[it], int) and self.words[it] != made.HP_NONE]
 
     def place(self, name: str) -> Any:
+        """Where the node of a parameter stands."""
         return self.calls.node(self.words[name])
 
     def said(self, number: int) -> str:
@@ -33,6 +37,7 @@ class Refused:
         return f"{number} <{json.loads(self.calls.read_printed(number))['ok']['name']}>"
 
     def node(self, name: str) -> str:
+        """The node of a parameter in a sentence."""
         return self.said(self.words[name])
 
 
@@ -54,21 +59,36 @@ def misplaced(it: Refused) -> Optional[str]:
         return f"{it.node('node' if 'node' in it.words else 'parent')} can't come where range {it.words['range']} stands"
     if it.words["node"] == made.HP_NONE:
         return f"{it.node('parent')} has no children"
+    return f"{it.node('node')} can't stand under {it.node('parent')}{in_the_way(it)}"
+
+
+def in_the_way(it: Refused) -> str:
+    """What keeps a node from standing under another: it stands above that one, or a Document has one of its kind."""
     node, parent = it.words["node"], it.words["parent"]
-    detail = ", which it contains" if node == parent or it.calls.contains(node, parent) else ""
-    return f"{it.node('node')} can't stand under {it.node('parent')}{detail}"
+    if node == parent or it.calls.contains(node, parent):
+        return ", which it contains"
+    passed = (node, it.words["child"]) if it.call == "replace_child" else (node,)
+    if it.place("parent").kind != DOCUMENT or it.place("node").kind not in ONLY_ONCE:
+        return ""
+    for other in it.calls.read_children(parent):
+        if other not in passed and it.calls.node(other).kind == it.place("node").kind:
+            return f", which has {it.said(other)}"
+    return ""
 
 
 def not_a_child(it: Refused) -> str:
+    """Which node is no child."""
     return f"{it.node('child')} is no child of {it.node('parent')}"
 
 
 def bad_name(it: Refused) -> Optional[str]:
+    """Which name is none."""
     names = [repr(it.words[name]) for name in ("name", "target") if name in it.words]
     return f"{names[0]} is no name for it" if names else None
 
 
 def beyond(it: Refused) -> Optional[str]:
+    """Which offset is beyond which length."""
     found = next(iter(it.nodes()), None)
     if found is None or "offset" not in it.words:
         return None
@@ -76,29 +96,36 @@ def beyond(it: Refused) -> Optional[str]:
 
 
 def unsupported(it: Refused) -> Optional[str]:
+    """What is asked of a Document, or which number is no choice."""
     if "how" in it.words:
         return f"{it.words['how']} is no way to compare"
     return f"{it.node('node')} is a Document" if "node" in it.words else None
 
 
 def elsewhere(it: Refused) -> Optional[str]:
+    """What is of another tree."""
     found = [it.node(name) for name in it.nodes()] or [f"range {it.words[name]}" for name in ("source",) if name in it.words]
     return f"{found[-1]} is of another tree than range {it.words['range']}" if found and "range" in it.words else None
 
 
 def no_place(it: Refused) -> Optional[str]:
-    name = next(iter(it.nodes()), None)
-    if name is None:
-        return None
-    is_doctype = it.place(name).kind == 10
-    return f"{it.node(name)} {'is a doctype' if is_doctype else 'has no parent'}"
+    """Why no end of a range can stand there, or nothing can be surrounded."""
+    if it.call == "surround_contents":
+        return f"{it.node('parent')} is of no kind that can surround others"
+    kinds = {name: it.place(name).kind for name in it.nodes()}
+    doctype = next((name for name in kinds if kinds[name] == DOCTYPE), None)
+    if doctype is not None:
+        return f"{it.node(doctype)} is a doctype"
+    return f"{it.node(next(iter(kinds)))} has no parent" if kinds else None
 
 
 def partly(it: Refused) -> str:
+    """Which range holds a part of a node."""
     return f"range {it.words['range']} holds a part of a node that is no text"
 
 
 def wrong_kind(it: Refused) -> Optional[str]:
+    """What is of the wrong kind."""
     if it.call == "observe":
         return f"the options for {it.node('node')} name no type, or go not together"
     name = next(iter(it.nodes()), None)
@@ -106,6 +133,7 @@ def wrong_kind(it: Refused) -> Optional[str]:
 
 
 def in_use(it: Refused) -> str:
+    """Why a node can not be let go."""
     parent = it.place("node").parent
     return f"{it.node('node')} " + ("is still referred to" if parent == made.HP_NONE else f"stands under {it.said(parent)}")
 

@@ -19,6 +19,7 @@ Paint = Callable[[str, str], str]
 
 
 def plain(text: str, of: str) -> str:
+    """The text as it is."""
     return text
 
 

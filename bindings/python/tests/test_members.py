@@ -1,7 +1,9 @@
 """What Python's users expect beside the standard's members: mappings, iteration, several nodes at once, offsets, and reasons of refusals."""
 import inspect
+import pkgutil
 import random
 import unittest
+from importlib import import_module
 
 import huckleport as h
 
@@ -146,8 +148,14 @@ class Reasons(unittest.TestCase):
     def test_reasons(self):
         loose, document = self.document.create_element("c"), self.document
         found = document.create_range()
-        doctype = document.create_document_type("html")
+        doctype, fragment = document.create_document_type("html"), document.create_document_fragment()
+        found.select_node_contents(self.text)
         for use, due in (
+            (lambda: document.append_child(loose), "append_child: 4 <c> can't stand under 0 <#document>, which has 1 <a>: HierarchyRequestError"),
+            (lambda: document.replace_child(document, self.a), "replace_child: 0 <#document> can't stand under 0 <#document>, which it contains: HierarchyRequestError"),
+            (lambda: found.surround_contents(fragment), "surround_contents: 6 <#document-fragment> is of no kind that can surround others: InvalidNodeTypeError"),
+            (lambda: self.session.create_static_range(loose, 0, doctype, 0), "create_static_range: 5 <html> is a doctype: InvalidNodeTypeError"),
+            (lambda: document.create_processing_instruction("1", ""), "create_processing_instruction: '1' is no name for it: InvalidCharacterError"),
             (lambda: document.append_child(self.text), "append_child: 3 <#text> can't stand under 0 <#document>: HierarchyRequestError"),
             (lambda: self.b.append_child(self.a), "append_child: 1 <a> can't stand under 2 <b>, which it contains: HierarchyRequestError"),
             (lambda: self.a.remove_child(self.text), "remove_child: 3 <#text> is no child of 1 <a>: NotFoundError"),
@@ -186,20 +194,17 @@ class Reasons(unittest.TestCase):
 
 class Docstrings(unittest.TestCase):
     def test_all_public_names(self):
+        modules = [h, *(import_module(f"huckleport.{it.name}") for it in pkgutil.iter_modules(h.__path__) if not it.name.startswith("_"))]
+        self.assertGreater(len(modules), 10)
         lacking = []
-        for word in huckleport_names():
-            it = getattr(h, word)
-            if not (inspect.getdoc(it) or "").strip():
-                lacking.append(word)
-            if inspect.isclass(it):
-                lacking += [f"{word}.{name}" for name, member in vars(it).items() if is_bare(name, member)]
-        for module in (h.html, h.xml):
-            lacking += [name for name in module.__all__ if callable(getattr(module, name)) and not getattr(module, name).__doc__]
+        for module in modules:
+            lacking += [] if module.__doc__ else [module.__name__]
+            for name, it in vars(module).items():
+                if is_bare(name, it) and getattr(it, "__module__", "").startswith("huckleport"):
+                    lacking.append(f"{module.__name__}.{name}")
+                if inspect.isclass(it) and it.__module__ == module.__name__:
+                    lacking += [f"{name}.{part}" for part, member in vars(it).items() if is_bare(part, member)]
         self.assertEqual(lacking, [])
-
-
-def huckleport_names():
-    return h.__all__
 
 
 def is_bare(name, member):
