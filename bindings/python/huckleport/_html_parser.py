@@ -1,4 +1,6 @@
-"""Builds a tree by the standard library's parser, for where there is no html5lib: tags are taken as they stand, and no element is implied."""
+"""Builds a tree by the standard library's parser, for where there is no html5lib: tags are taken as they stand, and no element is implied but
+the one that holds a page.
+"""
 
 from __future__ import annotations
 
@@ -12,7 +14,10 @@ from .nodes import DocumentFragment, Element, Node, Text
 
 
 class Filling(HTMLParser):
-    """Fills a node. An end tag ends the nearest open element of its name; one without such an element does nothing."""
+    """Fills a node. An end tag ends the nearest open element of its name; one without such an element does nothing.
+
+    Of a Document the elements and texts stand in an element ``html``, which is made where the page begins with another.
+    """
 
     def __init__(self, root: Union[Document, DocumentFragment]) -> None:
         super().__init__(convert_charrefs=True)
@@ -21,16 +26,25 @@ class Filling(HTMLParser):
         # The Text that the next characters go on with.
         self.last: Optional[Text] = None
 
-    def put(self, node: Node) -> bool:
-        """Puts a node in; what can't stand there is left out."""
+    def put(self, node: Node) -> None:
+        """Puts a node in; what can't stand there (a second doctype) is left out."""
         try:
             self.open[-1].append_child(node)
         except DOMException:
-            return False
+            return
         self.last = node if isinstance(node, Text) else None
-        return True
+
+    def hold(self) -> None:
+        """Opens the element that holds a page, where what comes now would stand in the Document."""
+        above = self.open[-1]
+        if isinstance(above, Document):
+            root = above.document_element
+            self.open.append(above.append_child(self.made.create_element("html")) if root is None else root)
+            self.last = None
 
     def handle_starttag(self, tag: str, attrs: List[Tuple[str, Optional[str]]]) -> None:
+        if tag != "html" or self.made.document_element is not None:
+            self.hold()
         element = self.made.create_element(tag)
         for name, value in attrs:
             try:
@@ -38,7 +52,8 @@ class Filling(HTMLParser):
                     element.set_attribute(name, value or "")
             except DOMException:
                 pass
-        if self.put(element) and tag not in VOID:
+        self.put(element)
+        if tag not in VOID:
             self.open.append(element)
 
     def handle_startendtag(self, tag: str, attrs: List[Tuple[str, Optional[str]]]) -> None:
@@ -54,6 +69,8 @@ class Filling(HTMLParser):
                 return
 
     def handle_data(self, data: str) -> None:
+        if data.strip():
+            self.hold()
         if self.last is None:
             self.put(self.made.create_text_node(data))
         else:

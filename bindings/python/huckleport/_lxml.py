@@ -80,14 +80,24 @@ def from_lxml(tree: Any, session: Optional[Session] = None) -> Node:
     return made
 
 
+# What lxml says of a name whose prefix is not declared, or that has two: it keeps such a name as it is.
+KEPT_NAMES = ("NS_ERR_UNDEFINED_NAMESPACE", "NS_ERR_QNAME")
+
+
 def to_lxml(node: Node) -> Any:
     """A node and all below it in lxml: an ElementTree for a Document, an element for an Element. What XML can't hold raises ``ValueError``.
 
-    It is written as XML and parsed by lxml, which joins Texts that stand side by side and drops empty ones.
+    It is written as XML and parsed by lxml, which joins Texts that stand side by side and drops empty ones. A name with a prefix that is
+    not declared (``xlink:href`` in HTML) has no namespace there.
     """
     etree: Any = import_module("lxml.etree")
     if not isinstance(node, (Document, Element)):
         raise TypeError(f"lxml has no tree of a {type(node).__name__}")
-    parser = etree.XMLParser(huge_tree=True, resolve_entities=False, load_dtd=False, no_network=True, strip_cdata=False)
+    if isinstance(node, Document) and node.document_element is None:
+        raise ValueError("lxml has no tree without an element")
+    parser = etree.XMLParser(huge_tree=True, resolve_entities=False, load_dtd=False, no_network=True, strip_cdata=False, recover=True)
     found = etree.fromstring(xml.serialize(node).encode("utf-8"), parser)
+    for it in parser.error_log:
+        if it.level >= etree.ErrorLevels.ERROR and it.type_name not in KEPT_NAMES:
+            raise ValueError(f"lxml has no such tree: {it.message}")
     return found.getroottree() if isinstance(node, Document) else found

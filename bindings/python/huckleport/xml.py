@@ -43,12 +43,14 @@ class Filling:
         self.last: Optional[Text] = None
 
     def put(self, node: Node) -> None:
+        """Puts a node behind what is there."""
         # (what the doctype holds is no node of a tree)
         if not self.is_in_doctype:
             self.open[-1].append_child(node)
             self.last = node if isinstance(node, Text) else None
 
     def start(self, name: str, attributes: List[str]) -> None:
+        """A start tag."""
         element = self.made.create_element(name)
         for at in range(0, len(attributes), 2):
             element.set_attribute(attributes[at], attributes[at + 1])
@@ -56,26 +58,32 @@ class Filling:
         self.open.append(element)
 
     def end(self, name: str) -> None:
+        """An end tag."""
         self.open.pop()
         self.last = None
 
     def text(self, data: str) -> None:
+        """Characters, which expat hands on in pieces."""
         if self.last is None:
             self.put(self.made.create_text_node(data))
         else:
             self.last.append_data(data)
 
     def comment(self, data: str) -> None:
+        """A comment."""
         self.put(self.made.create_comment(data))
 
     def instruction(self, target: str, data: str) -> None:
+        """A processing instruction."""
         self.put(self.made.create_processing_instruction(target, data))
 
     def doctype(self, name: str, system_id: Optional[str], public_id: Optional[str], has_internal: int) -> None:
+        """The start of the doctype."""
         self.put(self.made.create_document_type(name, public_id or "", system_id or ""))
         self.is_in_doctype = True
 
     def end_doctype(self) -> None:
+        """The end of the doctype."""
         self.is_in_doctype = False
 
 
@@ -85,7 +93,13 @@ def parse(source: Union[str, bytes], session: Optional[Session] = None) -> Docum
     Entities of the document itself are put in; others, and what stands outside, are not read.
     """
     document = Session().document if session is None else session.create_document()
-    Filling(document).parser.Parse(source, True)
+    try:
+        Filling(document).parser.Parse(source, True)
+    except BaseException:
+        # (of what is refused nothing stays in the session)
+        if session is not None:
+            document.discard()
+        raise
     return document
 
 

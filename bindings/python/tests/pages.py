@@ -54,10 +54,22 @@ XML = {
     "white": "<a>\n  <b>\t</b>\n</a>",
     "lines": "<a>one&#13;two\nthree</a>",
     "names": "<\u00e9l\u00e9ment \u4e2d='1' _a.b-c='2'/>",
+    "nested": "<!DOCTYPE a [<!ENTITY i 'in'><!ENTITY o 'out &i; side'>]><a b='&o;'>&o;</a>",
+    "empty ones": "<a b=''><c></c><d/>\n</a>",
+    "marks": "<a b=\"'\" c='\"' d='&lt;&gt;'>]]&gt; ' \"</a>",
+    "language": "<a xml:lang='en' xml:space='preserve'> x </a>",
+    "references": "<a>&#x1F600;&#xE9;&#x2028;&#xA0;&amp;amp;</a>",
+    "around": "<?one?><!-- a --><!DOCTYPE a><!-- b --><?two x?><a/><!-- c --><?three?>",
+    "long": f"<a b='{'x' * 70000}'>{'y&amp;' * 30000}</a>",
+    "deep": "<a>" * 500 + "x" + "</a>" * 500,
+    "list": f"<a>{'<b/>' * 300}{'<c>t</c>u' * 300}</a>",
 }
 
 # What expat refuses.
-BROKEN = ["", "<a>", "<a></b>", "<a b=1/>", "<a>&none;</a>", "text", "<a/><b/>", "<a b='1' b='2'/>", "<a>\x01</a>"]
+BROKEN = [
+    *("", "<a>", "<a></b>", "<a b=1/>", "<a>&none;</a>", "text", "<a/><b/>", "<a b='1' b='2'/>", "<a>\x01</a>", "<a b='<'/>", "<a>]]></a>"),
+    *("<1/>", "<a/>x", "<a", "<a>&#0;</a>", "<a><!-- -- --></a>", "<a><?xml x?></a>", "<!DOCTYPE a><!DOCTYPE a><a/>", "<a b>"),
+]
 
 
 def large(count=10000):

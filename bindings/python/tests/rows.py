@@ -1,5 +1,11 @@
 """Trees as plain rows, so that those of several libraries can be compared: depth, kind, name, attributes, data or ids."""
 import importlib.util
+from html.parser import HTMLParser
+
+try:
+    from lxml import etree
+except ImportError:
+    pass
 
 
 def ours(node):
@@ -43,6 +49,75 @@ def of_minidom(node, depth=0):
         found.append(_row(it, at))
         waiting += [(child, at + 1) for child in reversed(it.childNodes)] if it.nodeType == 1 else []
     return joined(found)
+
+
+class Events(HTMLParser):
+    """What the standard library's parser tells of a page, in order: start tags, comments, and the text between them as one."""
+
+    def __init__(self, text):
+        super().__init__(convert_charrefs=True)
+        self.found = []
+        self.feed(text)
+        self.close()
+
+    def handle_starttag(self, tag, attrs):
+        # (of attributes of one name the first counts)
+        first = {name: value or "" for name, value in reversed(attrs)}
+        self.found.append((1, tag, tuple((name, first.pop(name)) for name, _ in attrs if name in first)))
+
+    def handle_data(self, data):
+        if self.found and self.found[-1][0] == 3:
+            data = self.found.pop()[1] + data
+        self.found.append((3, data))
+
+    def handle_comment(self, data):
+        self.found.append((8, data))
+
+    def handle_pi(self, data):
+        self.handle_comment("?" + data)
+
+
+def held(events):
+    """The same in the element that holds a page where it names none. Blank text ahead of it is left out."""
+    first = next((at for at, it in enumerate(events) if it[0] == 1 or it[0] == 3 and it[1].strip()), len(events))
+    made = [] if first == len(events) or events[first][1] == "html" else [(1, "html", ())]
+    return [it for it in events[:first] if it[0] != 3] + made + events[first:]
+
+
+def told(rows):
+    """Rows as that parser tells them: how deep they stand, and where Texts end, is left out."""
+    found = []
+    for _, kind, name, pairs, data in rows:
+        if kind == 3 and found and found[-1][0] == 3:
+            data = found.pop()[1] + data
+        if kind in (1, 3, 8):
+            found.append((1, name, pairs) if kind == 1 else (kind, data))
+    return found
+
+
+def _texts_of_lxml(depth, text):
+    return [(depth, 3, None, None, text)] if text else []
+
+
+def _of_element(it, depth):
+    """The rows of an element of lxml, or of a comment or an instruction."""
+    if it.tag is etree.Comment:
+        return [(depth, 8, None, None, it.text)]
+    if it.tag is etree.PI:
+        return [(depth, 7, it.target, None, it.text or "")]
+    found = [(depth, 1, it.tag, tuple(it.attrib.items()), None), *_texts_of_lxml(depth + 1, it.text)]
+    for child in it:
+        found += [*_of_element(child, depth + 1), *_texts_of_lxml(depth + 1, child.tail)]
+    return found
+
+
+def of_lxml(tree):
+    """The rows of a page that lxml has parsed: names without namespaces."""
+    about, root = tree.docinfo, tree.getroot()
+    found = [(1, 10, about.root_name, (about.public_id or "", about.system_url or ""), None)] if about.doctype else []
+    for it in (*reversed(list(root.itersiblings(preceding=True))), root, *root.itersiblings()):
+        found += _of_element(it, 1)
+    return found
 
 
 def is_there(name):

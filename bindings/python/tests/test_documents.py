@@ -6,10 +6,14 @@ from xml.parsers.expat import ExpatError
 
 import huckleport as h
 from tests import pages
-from tests.rows import is_there, joined, of_minidom, ours
+from tests.rows import Events, held, is_there, joined, of_lxml, of_minidom, ours, told
 
 HTML5LIB = unittest.skipUnless(is_there("html5lib"), "there is no html5lib")
 LXML = unittest.skipUnless(is_there("lxml"), "there is no lxml")
+
+
+# Pages of which html5lib and lxml make what no XML can hold: comments with two strokes, an instruction of the name xml.
+NO_XML_OF_HTML5LIB, NO_XML_OF_LXML = ["comments"], ["comments", "pi"]
 
 
 def their_page(text):
@@ -67,12 +71,6 @@ class Pages(unittest.TestCase):
         document = h.html.parse("<p =a b=c>x")
         self.assertEqual(document.get_elements_by_tag_name("p")[0].get_attribute_names(), ["b"])
 
-    def test_without_html5lib(self):
-        with mock.patch.object(h.html, "PARSER", "html.parser"):
-            document = h.html.parse("<!DOCTYPE html><p class=a>x<br>y<b>z</p><!--c--></i>&amp;")
-            fragment = h.html.parse_fragment("<li>a</li>b")
-        self.assertEqual(h.html.serialize(document), '<!DOCTYPE html><p class="a">x<br>y<b>z</b></p><!--c-->')
-        self.assertEqual(h.html.serialize(fragment), "<li>a</li>b")
 
     def test_written(self):
         document = h.Session().document
@@ -106,8 +104,43 @@ class Pages(unittest.TestCase):
         self.assertEqual(h.html.serialize(root), "<p><br>seen</p>")
 
 
+@mock.patch.object(h.html, "PARSER", "html.parser")
+class PagesByTheStandardLibrary(unittest.TestCase):
+    def test_pages(self):
+        for name, text in pages.PAGES.items():
+            with self.subTest(name):
+                document = h.html.parse(text)
+                self.assertEqual(told(ours(document)), held(Events(text).found))
+                again = h.html.serialize(document)
+                self.assertEqual(ours(h.html.parse(again)), written(ours(document)), again)
+
+    def test_large_page(self):
+        text = pages.large()
+        document = h.html.parse(text)
+        rows = ours(document)
+        self.assertGreaterEqual(sum(it[1] == 1 for it in rows), 10000)
+        self.assertEqual(told(rows), Events(text).found)
+        self.assertEqual(ours(h.html.parse(h.html.serialize(document))), rows)
+
+    @HTML5LIB
+    def test_where_nothing_is_implied(self):
+        """The large page has each end tag, so that both parsers make the same tree."""
+        self.assertEqual(ours(h.html.parse(pages.large())), their_page(pages.large()))
+
+    def test_tree(self):
+        document = h.html.parse("<!DOCTYPE html><p class=a>x<br>y<b>z</p><!--c--></i>&amp;")
+        self.assertEqual(h.html.serialize(document), '<!DOCTYPE html><html><p class="a">x<br>y<b>z</b></p><!--c-->&amp;</html>')
+        document = h.html.parse("\n<html lang=en><p>a</html>\n<!--c--><!DOCTYPE late>b<i>d")
+        self.assertEqual(h.html.serialize(document), '<html lang="en"><p>a</p>b<i>d</i></html><!--c-->')
+        document = h.html.parse("<p>a</p> <p>b</p>")
+        self.assertEqual(h.html.serialize(document), "<html><p>a</p> <p>b</p></html>")
+        self.assertEqual(h.html.serialize(h.html.parse_fragment("<li>a</li>b<html>")), "<li>a</li>b<html></html>")
+        self.assertEqual(h.html.serialize(h.html.parse("<p>\u00e9".encode())), "<html><p>\u00e9</p></html>")
+
+
 class Xml(unittest.TestCase):
     def test_documents(self):
+        self.assertGreaterEqual(len(pages.XML), 20)
         for name, text in pages.XML.items():
             with self.subTest(name):
                 theirs = of_minidom(minidom.parseString(text.encode()))
@@ -123,6 +156,9 @@ class Xml(unittest.TestCase):
                     minidom.parseString(text.encode())
                 with self.assertRaises(ExpatError):
                     h.xml.parse(text)
+                with h.Session() as session:
+                    self.assertRaises(ExpatError, h.xml.parse, text, session)
+                    self.assertRaises(h.NoSuchObject, session.node, 1)
 
     def test_large(self):
         text = f"<r>{''.join(f'<e a=' + chr(39) + str(at) + chr(39) + f'>t{at}<f/></e>' for at in range(5000))}</r>"
@@ -152,7 +188,7 @@ class Lxml(unittest.TestCase):
     def test_there_and_back(self):
         from lxml import etree
 
-        parser = etree.XMLParser(strip_cdata=False)
+        parser = etree.XMLParser(strip_cdata=False, huge_tree=True)
         for name, text in pages.XML.items():
             with self.subTest(name):
                 tree = etree.fromstring(text.encode(), parser).getroottree()
@@ -176,6 +212,46 @@ class Lxml(unittest.TestCase):
     def test_pages(self):
         from lxml import html
 
+        for name, text in pages.PAGES.items():
+            if not text:
+                # (lxml refuses it)
+                continue
+            with self.subTest(name):
+                tree = html.document_fromstring(text).getroottree()
+                document = h.from_lxml(tree)
+                self.assertEqual(ours(document), of_lxml(tree))
+                self.there_and_back(document, name in NO_XML_OF_LXML)
+
+    def there_and_back(self, document, is_held_by_none):
+        """lxml has the same tree, where XML can hold it."""
+        if is_held_by_none:
+            self.assertRaises(ValueError, h.to_lxml, document)
+        else:
+            self.assertEqual(of_lxml(h.to_lxml(document)), joined(ours(document)))
+
+    @HTML5LIB
+    def test_pages_by_html5lib(self):
+        for name, text in pages.PAGES.items():
+            with self.subTest(name):
+                self.there_and_back(h.html.parse(text), name in NO_XML_OF_HTML5LIB)
+
+    def test_what_lxml_has_not(self):
+        document = h.Session().document
+        with self.assertRaises(ValueError):
+            h.to_lxml(document)
+        root = document.append_child(document.create_element("x:a"))
+        root.set_attribute("y:b", "1")
+        self.assertEqual(of_lxml(h.to_lxml(document)), [(1, 1, "x:a", (("y:b", "1"),), None)])
+        root.set_attribute("xmlns:p", "urn:u")
+        root.set_attribute("xmlns:q", "urn:u")
+        root.set_attribute("p:x", "1")
+        root.set_attribute("q:x", "2")
+        with self.assertRaises(ValueError):
+            h.to_lxml(document)
+
+    def test_large_page(self):
+        from lxml import html
+
         tree = html.document_fromstring(pages.large())
         document = h.from_lxml(tree)
         self.assertGreaterEqual(len(document.get_elements_by_tag_name("*")), 9990)
@@ -183,8 +259,9 @@ class Lxml(unittest.TestCase):
 
 
 def sorted_rows(rows):
-    """Rows with attributes by their names: lxml has declarations of namespaces apart from other attributes."""
-    return [(*row[:3], tuple(sorted(row[3])) if row[1] == 1 else row[3], row[4]) for row in rows]
+    """Rows with attributes by their names, since lxml has declarations of namespaces apart, and the doctype first, since it tells no place."""
+    found = [(*row[:3], tuple(sorted(row[3])) if row[1] == 1 else row[3], row[4]) for row in rows]
+    return sorted(found, key=lambda it: it[1] != 10)
 
 
 if __name__ == "__main__":
