@@ -209,9 +209,11 @@ def put(now: Dict[Node, State], due: Dict[Node, State]) -> None:
 def place(of: Range) -> Optional[Place]:
     """Where a range stands, or None where it was released."""
     try:
-        return of.start_container, of.start_offset, of.end_container, of.end_offset
+        ends = of._ends()
     except NoSuchObject:
         return None
+    node = of.session._node
+    return node(ends.start), ends.start_offset, node(ends.end), ends.end_offset
 
 
 class History:
