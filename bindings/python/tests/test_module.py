@@ -44,7 +44,8 @@ class Module(unittest.TestCase):
 
     def test_classes_of_answers_have_docstrings(self):
         # (3.8 ends with a crash where one without is made)
-        self.assertIn("node document", type(h.Session()._calls.node(0)).__doc__)
+        with h.Session() as session:
+            self.assertIn("node document", type(session._calls.node(0)).__doc__)
 
 
 if __name__ == "__main__":
