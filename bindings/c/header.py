@@ -11,8 +11,10 @@ from exports import SOURCES, modules, status_word
 from sections import section
 from version import VERSION
 
+# (the comments are doxygen's)
 HEAD = """\
-/* huckleport.h: documents by the DOM Standard. Made by bindings/c/header.py from the exports of the library; not to be edited.
+/** @file huckleport.h
+ * Documents by the DOM Standard. Made by bindings/c/header.py from the exports of the library; not to be edited.
  *
  * Every call answers a status: HP_OK, or why it was refused. A refused call changes nothing of the session, and leaves what its out
  * pointers point at. Every call with a session can also answer HP_CLOSED and HP_OUT_OF_MEMORY; after the latter the session answers
@@ -42,20 +44,21 @@ extern "C" {
 """
 
 LITERALS = """\
-/* The version of this header: its name, and a number that is greater in a later one. */
+/** The version of this header. */
 #define HP_VERSION "{version}"
+/** The version as a number, which is greater in a later one: 1000000 for each major, 1000 for each minor one. */
 #define HP_VERSION_NUMBER ({number})
 
-/* A session before its first hp_open. */
+/** A session before its first hp_open. */
 #define HP_SESSION_INIT { { NULL }, false }
 
-/* The options of an observer, each of them absent. */
+/** The options of an observer, each of them absent. */
 #define HP_OPTIONS_INIT { 2, 2, 2, 2, 2, 2, 0 }
 
-/* A name that is a literal: two arguments of a call, the bytes and their count. */
+/** A name that is a literal: two arguments of a call, the bytes and their count. */
 #define hp_name(literal) ((const uint8_t *)("" literal)), (sizeof(literal) - 1)
 
-/* A text that is a literal: two arguments of a call, the units and their count. C99 has no such literals; C11 and C++11 have. */
+/** A text that is a literal: two arguments of a call, the units and their count. C99 has no such literals; C11 and C++11 have. */
 #if (defined(__STDC_VERSION__) && __STDC_VERSION__ >= 201112L) || (defined(__cplusplus) && __cplusplus >= 201103L)
 #define hp_text_literal(literal) ((const uint16_t *)(u"" literal)), (sizeof(u"" literal) / sizeof(uint16_t) - 1)
 #endif
@@ -78,21 +81,21 @@ def literals():
     return LITERALS.replace("{version}", VERSION).replace("{number}", f"{major} * 1000000 + {minor} * 1000 + {patch}")
 
 
-def comment(text, indent=""):
-    """A text as a comment. Rust's marks of code have none in C."""
-    lines = textwrap.wrap(text.replace("`", ""), WIDTH - 6 - len(indent))
+def comment(*texts, indent=""):
+    """Texts as a comment of doxygen's, each on lines of its own. Rust's marks of code have none in C."""
+    lines = [line for text in texts for line in textwrap.wrap(text.replace("`", ""), WIDTH - 7 - len(indent))]
     if len(lines) == 1:
-        return f"{indent}/* {lines[0]} */\n"
-    return f"{indent}/* " + f"\n{indent} * ".join(lines) + " */\n"
+        return f"{indent}/** {lines[0]} */\n"
+    return f"{indent}/** " + f"\n{indent} * ".join(lines) + " */\n"
 
 
 def constant(it):
     value = f"((uint32_t){it.value}u)" if it.type == "uint32_t" else str(it.value)
-    return (comment(it.doc) if it.doc else "") + f"#define {it.name} {value}\n"
+    return comment(it.doc or f"Printed as {status_word(it.name)}.") + f"#define {it.name} {value}\n"
 
 
 def field(it, is_alone):
-    said = comment(it.doc, "    ") if it.doc else ""
+    said = comment(it.doc, indent="    ") if it.doc else ""
     if it.kind == "slice":
         length = "length" if is_alone else it.name + "_length"
         return f"{said}    const {it.type} *{it.name};\n    size_t {length};\n"
@@ -118,8 +121,8 @@ def prototype(name, parameters):
     return f"uint8_t {name}({', '.join(map(declared, parameters)) or 'void'})"
 
 
-def call_beside(export):
-    """What a call answers beside those statuses that each can answer."""
+def answered(export):
+    """What a call answers, with what is beside those statuses that each can answer."""
     forms = {(it.kind, it.type) for it in export.parameters}
     has_names = ("slice", "uint8_t") in forms and export.name != "hp_line"
     has_lengths = ("slice", "uint32_t") in forms
@@ -127,7 +130,7 @@ def call_beside(export):
     # (a part that is none of them is not there)
     has_choice = any(it.kind == "scalar" and it.type == "uint8_t" and it.name != "part" for it in export.parameters)
     found += ["HP_BAD_CHOICE"] * (has_lengths or has_choice)
-    return f" Also {', '.join(found)}." if found else ""
+    return f"@return HP_OK, or why it was refused{'; also ' if found else ''}{', '.join(found)}."
 
 
 def lends(structs):
@@ -211,12 +214,14 @@ def header(found):
     text = HEAD + "\n" + "".join(map(constant, constants)) + "\n" + "\n".join(map(struct, structs)) + "\n" + literals()
     for module in found:
         if module.exports:
-            text += "\n" + comment("---- " + module.doc)
+            text += f"\n/** @name {module.doc.rstrip('.')}\n * @{{ */\n"
         for it in module.exports:
-            text += "\n" + comment(it.doc + section(it.name) + call_beside(it)) + prototype(it.name, it.parameters) + ";\n"
-    text += "\n/* ---- What stands in for null and for what is not set yet: the calls below are reached by the names of those above. */\n\n"
+            text += "\n" + comment(it.doc + section(it.name), answered(it)) + prototype(it.name, it.parameters) + ";\n"
+        if module.exports:
+            text += "\n/** @} */\n"
+    text += "\n/** @cond */\n/* What stands in for null and for what is not set yet: the calls below are reached by the names of those above. */\n\n"
     text += "static const uint64_t hp_nothing[1] = { 0 };\n\n"
-    text += "\n".join(filter(None, (mended(it, lent) for it in exports))) + "\n" + words(it for module in found if module.name == "status" for it in module.constants)
+    text += "\n".join(filter(None, (mended(it, lent) for it in exports))) + "\n/** @endcond */\n\n" + words(it for module in found if module.name == "status" for it in module.constants)
     return text + TAIL
 
 
