@@ -58,7 +58,8 @@ def wheel(work, to):
 def crate(work, to):
     """The crate, with the archive in its folder lib."""
     folder = os.path.join(BINDINGS, "rust")
-    found = {it: files.of(os.path.join(folder, it)) for it in ("Cargo.toml", "Cargo.lock", "build.rs")}
+    found = {it: files.of(os.path.join(folder, it)) for it in ("Cargo.toml", "Cargo.lock", "build.rs", ".cargo/config.toml")}
+    found.update(files.under(os.path.join(folder, "stand-in"), (".toml", ".json", ".rs"), "stand-in"))
     for it in ("src", "examples"):
         found.update(files.under(os.path.join(folder, it), (".rs",), it))
     found[f"lib/{ARCHIVE}"] = files.of(os.path.join(work, ARCHIVE))

@@ -2,7 +2,8 @@
 """Builds and tests the library for Rust, without a network; says what it leaves out where cargo, or a part of it, is missing.
 
 - src/ffi.rs says what the exports say;
-- all tests and doc tests, the example, the documentation without a warning, and clippy.
+- all tests and doc tests, the example, the documentation without a warning, and clippy;
+- the feature html5ever in tests/parsing, with the crates of Debian.
 The library for C is in bindings/c/out, or in the folder that HUCKLEPORT_LIB_DIR names.
 """
 import argparse
@@ -10,8 +11,13 @@ import os
 import shutil
 import subprocess
 import sys
+import tempfile
 
 HERE = os.path.dirname(os.path.abspath(__file__))
+PARSING = os.path.join(HERE, "tests/parsing")
+# Where Debian's packages put the sources of crates.
+REGISTRY = "/usr/share/cargo/registry"
+PACKAGES = {"html5ever-0.26.0": "librust-html5ever-dev", "markup5ever_rcdom-0.2.0": "librust-markup5ever-rcdom-dev"}
 
 STEPS = (
     ("the tests", ["test", "--quiet"]),
@@ -19,29 +25,70 @@ STEPS = (
     ("the documentation", ["doc", "--quiet", "--no-deps"]),
     ("clippy", ["clippy", "--quiet", "--all-targets", "--", "-D", "warnings"]),
 )
+PARSING_STEPS = (
+    ("parsing", ["test", "--quiet"]),
+    ("the documentation with parsing", ["doc", "--quiet", "--no-deps", "--package", "huckleport"]),
+    ("clippy with parsing", ["clippy", "--quiet", "--all-targets", "--", "-D", "warnings"]),
+)
 
 
 def has(part):
     return subprocess.run(["cargo", part, "--version"], stdout=subprocess.DEVNULL, stderr=subprocess.DEVNULL).returncode == 0
 
 
+def run(steps, folder, environment, *words):
+    """Runs steps of cargo in a folder. Answers whether each passed."""
+    failed = False
+    for what, (name, *rest) in steps:
+        if name == "clippy" and not has("clippy"):
+            print(f"left out: {what}, since there is no clippy")
+            continue
+        ran = subprocess.run(["cargo", name, "--offline", *words, *rest], cwd=folder, env=environment)
+        print(f"{'FAILED ' if ran.returncode else ''}{what}", flush=True)
+        failed = failed or ran.returncode != 0
+    return not failed
+
+
+def mended(folder):
+    """Debian's crates in another folder. One of them gets a line as its later versions have it: Rust since 1.69 takes no reference into a packed
+    struct, and the tendril of Debian 12 does so."""
+    for name in os.listdir(REGISTRY):
+        os.symlink(os.path.join(REGISTRY, name), os.path.join(folder, name))
+    tendril = os.path.join(folder, "tendril-0.4.0")
+    if not os.path.islink(tendril):
+        return
+    os.remove(tendril)
+    shutil.copytree(os.path.join(REGISTRY, "tendril-0.4.0"), tendril)
+    path = os.path.join(tendril, "src/tendril.rs")
+    with open(path, encoding="utf-8") as file:
+        text = file.read()
+    with open(path, "w", encoding="utf-8") as file:
+        file.write(text.replace("#[repr(packed)]\nstruct Header", "#[repr(C)]\nstruct Header"))
+
+
+def parsing(environment):
+    """Tests the feature, where Debian's packages are there; answers whether that passed."""
+    missing = [package for name, package in PACKAGES.items() if not os.path.isdir(os.path.join(REGISTRY, name))]
+    if missing:
+        print(f"left out: the feature html5ever, since there is no {' and no '.join(missing)}")
+        return True
+    with tempfile.TemporaryDirectory() as folder:
+        mended(folder)
+        return run(PARSING_STEPS, PARSING, environment, "--config", f'source.debian.directory="{folder}"')
+
+
 def main():
     argparse.ArgumentParser(description=__doc__, formatter_class=argparse.RawDescriptionHelpFormatter).parse_args()
-    faults = subprocess.run([sys.executable, os.path.join(HERE, "declare.py"), "--check"]).returncode != 0
+    passed = subprocess.run([sys.executable, os.path.join(HERE, "declare.py"), "--check"]).returncode == 0
     if not shutil.which("cargo"):
         print("left out: the library for Rust, since there is no cargo")
-        return int(faults)
+        return int(not passed)
     # (what is tested is the library beside it, also where another is installed)
     made = os.path.join(os.path.dirname(HERE), "c/out")
     environment = {"HUCKLEPORT_LIB_DIR": made, **os.environ, "RUSTDOCFLAGS": "-D warnings"}
-    for what, words in STEPS:
-        if words[0] == "clippy" and not has("clippy"):
-            print("left out: clippy, since it is not there")
-            continue
-        ran = subprocess.run(["cargo", words[0], "--offline", *words[1:]], cwd=HERE, env=environment)
-        print(f"{'FAILED ' if ran.returncode else ''}{what}", flush=True)
-        faults = faults or ran.returncode != 0
-    return int(faults)
+    passed = run(STEPS, HERE, environment) and passed
+    passed = parsing(environment) and passed
+    return int(not passed)
 
 
 if __name__ == "__main__":

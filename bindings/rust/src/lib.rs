@@ -25,6 +25,8 @@
 //! # }
 //! ```
 //!
+//! [`html`] and [`xml`] write nodes as HTML and XML; with the feature `html5ever`, [`html`] also parses. A [`History`] undoes changes.
+//!
 //! What a session answers in many parts (children, names, rows, records) or as a text is borrowed from it until its next command:
 //!
 //! ```compile_fail,E0505
@@ -56,9 +58,12 @@ mod exception;
 mod ffi;
 mod filters;
 mod history;
+pub mod html;
 mod making;
 mod numbers;
 mod observers;
+#[cfg(feature = "html5ever")]
+mod parsing;
 mod points;
 mod questions;
 mod ranges;
@@ -67,6 +72,8 @@ mod rows;
 mod session;
 mod traversal;
 mod trees;
+mod writing;
+pub mod xml;
 
 pub use answers::{Names, Nodes, Observers};
 pub use attributes::Force;
@@ -82,7 +89,7 @@ pub use rows::{Attributes, Row, Rows};
 pub use session::{utf16, Session};
 pub use traversal::{IteratorPlace, Move, WalkerPlace};
 
-// The lines that the crate's page shows are tried as well.
+// The lines that the crate's page shows are tried as well. (In the repository it is a link to that of the documents.)
 #[cfg(doctest)]
-#[doc = include_str!("../../../docs/rust.md")]
+#[doc = include_str!("../README.md")]
 struct Page;

@@ -1,0 +1,82 @@
+//! What writing HTML and XML has in common: rows of a tree are written one after the other, and what is open is closed in time.
+use crate::exception::Result;
+use crate::numbers::Node;
+use crate::questions::Kind;
+use crate::rows::Row;
+use crate::session::Session;
+
+/// How the nodes of one language are written.
+pub(crate) trait Markup {
+    /// Writes the start tag of an element. Answers whether what is below it and an end tag are to follow.
+    fn start(&self, element: &Row<'_>, is_empty: bool, to: &mut String) -> Result<bool>;
+
+    /// Writes a text that stands in an element of that name, or in none.
+    fn text(&self, data: &[u16], parent: Option<&str>, to: &mut String) -> Result<()>;
+
+    /// Writes a node that is neither an element nor a text.
+    fn other(&self, node: &Row<'_>, to: &mut String) -> Result<()>;
+}
+
+/// Elements that were opened, from the outermost on: how deep each stands, and its name.
+struct Open<'a>(Vec<(usize, &'a str)>);
+
+impl Open<'_> {
+    /// Ends each element that does not stand above this depth.
+    fn end(&mut self, depth: usize, to: &mut String) {
+        while let Some((_, name)) = self.0.pop_if(|it| it.0 >= depth) {
+            to.extend(["</", name, ">"]);
+        }
+    }
+}
+
+/// Writes rows, of which the first ones stand in an element of that name, or in none.
+fn write<'a>(rows: impl Iterator<Item = Row<'a>>, parent: Option<&str>, markup: &impl Markup) -> Result<String> {
+    let (mut to, mut open, mut rows) = (String::new(), Open(Vec::new()), rows.peekable());
+    // What stands deeper than this is not written.
+    let mut shown = usize::MAX;
+    while let Some(row) = rows.next() {
+        if row.depth > shown {
+            continue;
+        }
+        shown = usize::MAX;
+        open.end(row.depth, &mut to);
+        match row.kind {
+            Kind::Text => markup.text(row.data().unwrap_or_default(), open.0.last().map(|it| it.1).or(parent), &mut to)?,
+            Kind::Element => {
+                let is_empty = rows.peek().is_none_or(|next| next.depth <= row.depth);
+                if markup.start(&row, is_empty, &mut to)? {
+                    open.0.push((row.depth, row.name().unwrap_or_default()));
+                } else {
+                    shown = row.depth;
+                }
+            }
+            _ => markup.other(&row, &mut to)?,
+        }
+    }
+    open.end(0, &mut to);
+    Ok(to)
+}
+
+/// The name of the element that a node stands in, if any.
+fn name_of_parent(session: &mut Session, node: Node) -> Result<Option<String>> {
+    let Some(parent) = session.node(node)?.parent else { return Ok(None) };
+    Ok(session.node(parent)?.name().map(str::to_owned))
+}
+
+/// A node and all below it.
+pub(crate) fn whole(session: &mut Session, node: Node, markup: &impl Markup) -> Result<String> {
+    let parent = name_of_parent(session, node)?;
+    write(session.tree(node)?, parent.as_deref(), markup)
+}
+
+/// What is below a node.
+pub(crate) fn inside(session: &mut Session, node: Node, markup: &impl Markup) -> Result<String> {
+    let mut rows = session.tree(node)?;
+    let parent = rows.next().and_then(|it| it.name());
+    write(rows, parent, markup)
+}
+
+/// The characters of a text. A surrogate that stands alone is none.
+pub(crate) fn characters(text: &[u16]) -> impl Iterator<Item = Option<char>> + '_ {
+    char::decode_utf16(text.iter().copied()).map(|it| it.ok())
+}
