@@ -16,7 +16,7 @@ def documents():
     names = {os.path.basename(it) for it in PAGES} | {"LICENSE"}
     found = {os.path.basename(it): page(it, names) for it in PAGES}
     found["LICENSE"] = files.text(text_of("LICENSE"))
-    found["examples/editor.c"] = files.of(os.path.join(BINDINGS, "c/examples/editor.c"))
+    found.update(files.under(os.path.join(BINDINGS, "c/examples"), (".c",), "examples"))
     return found
 
 

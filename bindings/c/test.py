@@ -6,7 +6,7 @@
 - each call with a closed session, and what is handed in wrongly;
 - each allocation refused in turn over all dialogues, and over one of the calls that copy names and texts;
 - two sessions on two threads;
-- the example, as docs/c-library.md shows it;
+- the examples, as docs/c-library.md shows them; of the one that loads HTML also that libxml2's own tree of what it writes is that of what it read;
 - that page's table of structs, which has the members of the header;
 - the programs above under valgrind: no bad access, nothing in use at the end.
 """
@@ -24,6 +24,7 @@ from make import HERE, make, words_of
 
 sys.path.insert(0, os.path.join(ROOT, "tools"))
 from running import content, dialogues
+from tests.pages import PAGES
 
 TESTS = os.path.join(HERE, "tests")
 STRICT = ["-Wall", "-Wextra", "-Werror", "-pedantic"]
@@ -192,6 +193,37 @@ class Tests:
             if self.must("the example over the shared object", program) == out:
                 self.say("editor: the same over the shared object")
 
+    def loading(self):
+        """The example over libxml2, where that is there."""
+        flags = shutil.which("pkg-config") and self.run("pkg-config", "--cflags", "--libs", "libxml-2.0")
+        if not flags or flags[0]:
+            self.say("left out: the example that loads HTML, since there is no libxml2 (libxml2-dev)")
+            return
+        source = os.path.join(HERE, "examples/load_html.c")
+        flags = flags[1].decode().split()
+        out = self.alone("load_html", source[:-2] + ".html", source=source, link=flags)
+        if out is not None and out != content(source[:-2] + ".out"):
+            self.faults.append("load_html.out")
+            self.say("FAILED the example wrote other bytes than examples/load_html.out")
+        if out is not None:
+            self.there_and_back(os.path.join(self.work, "load_html"))
+
+    def own_tree(self, page):
+        """The tree that libxml2 makes of a page by itself, as text."""
+        return self.run("xmllint", "--html", "--nowarning", "--encode", "UTF-8", "--xmlout", "-", given=page)[1]
+
+    def there_and_back(self, program):
+        """Whether libxml2's own tree of what the example writes is that of what it read."""
+        if not shutil.which("xmllint"):
+            self.say("left out: pages there and back, since there is no xmllint (libxml2-utils)")
+            return
+        for name, page in PAGES.items():
+            status, out, said = self.run(program, given=page.encode())
+            if status or self.own_tree(out.rstrip(b"\n")) != self.own_tree(page.encode()):
+                self.faults.append(f"there and back: {name}")
+                self.say(f"FAILED there and back: {name}: status {status} {said[-500:]}")
+        self.say(f"load_html: {len(PAGES)} pages there and back, one of ten thousand elements")
+
     def page(self):
         said = content(os.path.join(ROOT, "docs/c-library.md")).decode()
         rows = re.findall(r"^\| `(hp_\w+)`[^|]*\| (`.*`) \|$", said, re.M)
@@ -212,7 +244,7 @@ class Tests:
         return 1 if self.faults else 0
 
 
-PARTS = ("header", "lines", "typed", "closed", "misuse", "refused", "threads", "example", "page")
+PARTS = ("header", "lines", "typed", "closed", "misuse", "refused", "threads", "example", "loading", "page")
 
 
 def main():
