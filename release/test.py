@@ -2,9 +2,9 @@
 """Makes a release, and installs and uses each of its files where nothing knows of the repository.
 
 - the archive: by pkg-config, as it was unpacked and after it was moved; its program; by cmake;
-- the package for Debian: unpacked, its fields, its program, and by pkg-config;
+- the package for Debian: unpacked, its fields, its program, and by pkg-config; and installed by apt, where a copy of the system's folders can be had;
 - the wheel, by pip in an empty environment;
-- the crate, in a project of cargo: with the archive beside it, by pkg-config, and by HUCKLEPORT_LIB_DIR;
+- the crate, in a project of cargo: with the archive beside it, by pkg-config, and by HUCKLEPORT_LIB_DIR; and what its page and its comments show;
 - the package for npm, in an empty project.
 
 Nothing is fetched. What this machine has no tool for is left out, and said to be. The libraries are those of bindings/c/out, and the program that of
@@ -35,6 +35,8 @@ LINES, REPLIES = '["createElement",0,"p"]\n["appendChild",0,1]\n["tree",0]\n', '
 # What the tests may tell a program of their own surroundings.
 KNOWN = ("PATH", "HOME", "LANG", "CARGO_HOME", "RUSTUP_HOME", "TMPDIR")
 MULTIARCH = "usr/lib/x86_64-linux-gnu"
+# Whether a folder can be mounted as a copy of another one.
+OVERLAY = "mount -t tmpfs none /mnt && mkdir /mnt/a /mnt/b && mount -t overlay overlay -o lowerdir=/usr,upperdir=/mnt/a,workdir=/mnt/b /usr"
 
 
 def needs(*tools):
@@ -79,9 +81,9 @@ class Release(unittest.TestCase):
         for it in names:
             shutil.copy(os.path.join(PROGRAMS, it), self.folder)
 
-    def tries_editor(self, program, **variables):
+    def tries_editor(self, *program, **variables):
         with open(EDITOR[:-2] + ".out", encoding="utf-8") as file:
-            self.assertEqual(self.run_in(program, **variables), file.read())
+            self.assertEqual(self.run_in(*program, **variables), file.read())
 
     def tries_c(self, libraries, **places):
         """Compiles by what pkg-config says, against the shared object and against the archive."""
@@ -149,6 +151,14 @@ class Debian(Release):
         libraries = self.at("root", MULTIARCH)
         self.tries_c(libraries, PKG_CONFIG_LIBDIR=f"{libraries}/pkgconfig", PKG_CONFIG_SYSROOT_DIR=self.at("root"))
 
+    @needs("gcc", "pkg-config", "apt-get", "unshare")
+    def test_by_apt(self):
+        if os.geteuid() != 0 or subprocess.run(["unshare", "--mount", "sh", "-c", OVERLAY], stderr=subprocess.DEVNULL).returncode:
+            self.skipTest("left out, since there is no root who may mount a copy of the system's folders")
+        self.copied("installed.sh")
+        self.tries_editor("unshare", "--mount", "sh", "installed.sh", os.path.abspath(self.file("*.deb")), EDITOR)
+        self.assertFalse(os.path.exists("/usr/bin/domserve"))
+
 
 class Wheel(Release):
     def installed(self, wheel):
@@ -192,6 +202,11 @@ class Crate(Release):
             self.skipTest("left out, the last way, since there is no pkg-config")
         top = self.unpacked(self.file("*-x86_64-linux.tar.gz"))
         self.tries(PKG_CONFIG_LIBDIR=f"{top}/lib/pkgconfig")
+
+    def test_what_its_page_shows(self):
+        top = self.unpacked(self.file("*.crate"))
+        words = ["cargo", "test", "--quiet", "--offline", "--doc", "--manifest-path", f"{top}/Cargo.toml"]
+        self.assertIn("test result: ok", self.run_in(*words, PKG_CONFIG_LIBDIR=self.at("nowhere")))
 
 
 @needs("node")
