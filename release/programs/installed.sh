@@ -6,7 +6,7 @@ for it in usr var etc; do
     mkdir "/mnt/$it" "/mnt/$it.work"
     mount -t overlay overlay -o "lowerdir=/$it,upperdir=/mnt/$it,workdir=/mnt/$it.work" "/$it"
 done
-apt-get install --yes --no-download --quiet "$1" >apt.log 2>&1 || { cat apt.log >&2; exit 1; }
+apt-get install --yes --quiet "$1" >apt.log 2>&1 || { cat apt.log >&2; exit 1; }
 gcc "$2" $(pkg-config --cflags --libs huckleport) -o editor
 ./editor
 domserve </dev/null
