@@ -1,5 +1,6 @@
 """The words of the command line, and what each subcommand does."""
 import argparse
+import itertools
 import json
 import os
 import sys
@@ -65,6 +66,7 @@ def parser_of():
     play.add_argument("--group", action="append", choices=list(GROUPS), help="only streams of this group; may be given more than once")
     play.add_argument("--weight", action="append", type=weight, metavar="COMMAND=WEIGHT", help="how often a command is drawn; 0 leaves it out")
     play.add_argument("--seed", default="1", help="the seed of the streams (1)")
+    play.add_argument("--first", type=int, default=0, metavar="N", help="begins with the stream of that number (0)")
     play.add_argument("--length", type=int, default=80, metavar="N", help="how long a stream gets (80)")
     play.add_argument("--save", metavar="FILE", help="keeps the streams with the core's replies, for other players")
     play.add_argument("--from", dest="saved", metavar="FILE", help="plays the streams that a file keeps, and draws none")
@@ -99,11 +101,9 @@ def drawn(given, player):
         yield from saved(given.saved)
         return
     groups = given.group or list(GROUPS)
-    at = 0
-    while True:
+    for at in itertools.count(given.first):
         group, seed = groups[at % len(groups)], f"{given.seed}/{groups[at % len(groups)]}/{at}"
         yield group, seed, lambda core, group=group, seed=seed: drawn_stream(core, seed, group, given.length, player, dict(given.weight or ()))
-        at += 1
 
 
 def exhausted(given, player):
@@ -117,10 +117,10 @@ def exhausted(given, player):
 
 
 def run_of(given, streams):
-    player = player_of(given)
+    known, player = read_known(given.known), player_of(given)
     limits = Limits(given.time, given.lines, getattr(given, "streams", None), given.new)
     cores = Cores(given.program)
-    run = Run(cores, player, read_known(given.known), given.out, limits, given.quiet, getattr(given, "save", None))
+    run = Run(cores, player, known, given.out, limits, given.quiet, getattr(given, "save", None))
     try:
         told = run.play(streams(given, player))
     finally:

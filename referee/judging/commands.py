@@ -118,6 +118,9 @@ FLAGS = ("childList", "attributes", "characterData", "subtree", "attributeOldVal
 ELEMENT, TEXT, PI, COMMENT, DOCUMENT, DOCTYPE, FRAGMENT = 1, 3, 7, 8, 9, 10, 11
 PARENTS = (ELEMENT, FRAGMENT, DOCUMENT)
 WITH_DATA = (TEXT, PI, COMMENT)
+# What makes a node of a kind, and which kind each maker makes.
+MAKERS = {ELEMENT: "createElement", TEXT: "createText", COMMENT: "createComment", PI: "createPI", DOCTYPE: "createDoctype", FRAGMENT: "createFragment"}
+MADE = {**{name: kind for kind, name in MAKERS.items()}, "newDocument": DOCUMENT}
 
 
 def command(row):

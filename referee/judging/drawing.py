@@ -6,21 +6,25 @@ refused command changes nothing, so most of those that were refused are left out
 import random
 from collections import namedtuple
 
-from judging.commands import COMMANDS, COMMENT, DOCTYPE, DOCUMENT, ELEMENT, FLAGS, FRAGMENT, MOVES, PARENTS, PI, TEXT, WITH_DATA, kind_of
+from judging.commands import COMMANDS, COMMENT, DOCTYPE, DOCUMENT, ELEMENT, FLAGS, FRAGMENT, MADE, MAKERS, MOVES, PARENTS, PI, TEXT, WITH_DATA, kind_of
 
-# What is there ahead of the drawn commands, and how often each of these is drawn.
-Group = namedtuple("Group", "ranges iterators walkers observers weights")
+# What is there ahead of the drawn commands, how often each of these is drawn, and whether it is about Texts side by side.
+Group = namedtuple("Group", "ranges iterators walkers observers weights texts", defaults=(False,))
 
 KEEPS_REFUSED = 0.3
+# So many ranges are asked for after a change.
+MOST_RANGES = 8
+# How often one of them is set anew in a stream about Texts.
+CROSSES = 0.15
 UNITS = ("", "a", "ab", "abc", "abcd", "\u00e9", "\U0001f600", "a\U0001f600b", [55357], [56832, 97], "]]>", " \n", "0")
+# Data whose offsets go beyond the places among some siblings.
+LONG_UNITS = ("abcd", "abcdef", "abcdefgh", "abc", "a", "")
 NAMES = ("a", "b", "p", "b")
 ODD_NAMES = ("", "1a", "a b", "\u00e9", ":a", "a=b", "a>b", "-a", "A", "a:b", "a\u00b7", "xmlns", "\U0001f600")
 ATTRIBUTES = ("x", "y", "x", "k")
 SHOWS = (4294967295, 4294967295, 4294967295, 1, 4, 5, 128, 1024, 0)
 FILTERS = ([], [], [["b", "skip"]], [["b", "reject"]], [["#text", "reject"]], [["#text", "skip"]], [["a", "skip"], ["*", "accept"]], [["*", "skip"]])
 STEPPING = {"nextNode", "previousNode", "walk"}
-MAKERS = {ELEMENT: "createElement", TEXT: "createText", COMMENT: "createComment", PI: "createPI", DOCTYPE: "createDoctype", FRAGMENT: "createFragment"}
-MADE = {**{name: kind for kind, name in MAKERS.items()}, "newDocument": DOCUMENT}
 
 MAKING = {"createElement": 2, "createText": 3, "createComment": 1, "createPI": 1, "createFragment": 1, "createDoctype": 0.3, "newDocument": 0.2}
 EDITS = {"insertBefore": 5, "appendChild": 5, "removeChild": 3, "remove": 3, "replaceChild": 3, "replaceChildren": 2, "normalize": 2, "adoptNode": 1}
@@ -32,6 +36,7 @@ ATTRIBUTE = {"setAttribute": 5, "getAttribute": 2, "hasAttribute": 1, "removeAtt
 ENDS = {"setStart": 4, "setEnd": 4, "setStartBefore": 1, "setStartAfter": 1, "setEndBefore": 1, "setEndAfter": 1, "collapse": 1, "selectNode": 1}
 MORE_ENDS = {"selectNodeContents": 1, "createRange": 0.3, "cloneRange": 0.5, "releaseRange": 0.1, "createStaticRange": 0.5, "staticRange": 0.5}
 ASKED = {"compareBoundaryPoints": 2, "comparePoint": 5, "isPointInRange": 3, "intersectsNode": 2, "commonAncestor": 1, "rangeText": 4}
+JOINS = {"splitText": 12, "normalize": 4, "deleteData": 2, "insertData": 2, "replaceData": 1, "createText": 1, "remove": 1, "insertNode": 0.5}
 CONTENTS = {"deleteContents": 3, "extractContents": 3, "cloneContents": 3, "insertNode": 4, "surroundContents": 3, "rangeText": 3}
 STEPS = {"nextNode": 14, "previousNode": 12, "walk": 30, "setCurrent": 6, "createIterator": 0.5, "createWalker": 0.5}
 WATCHING = {"observe": 2, "disconnect": 0.3, "takeRecords": 1, "notify": 3, "pending": 0.5, "createObserver": 0.1}
@@ -46,6 +51,7 @@ GROUPS = {
     "data": Group(2, 0, 0, 1, weights(DATA, PARTS, EDITS, createText=2, normalize=4)),
     "attributes": Group(0, 0, 0, 1, weights(ATTRIBUTE, COPIES, isEqual=1, createElement=1, adoptNode=0.5)),
     "ranges": Group(3, 0, 0, 0, weights(ENDS, MORE_ENDS, ASKED, EDITS, DATA, createText=1, createElement=1)),
+    "texts": Group(4, 0, 0, 1, weights(JOINS, appendChild=1, insertBefore=1, setStart=1, setEnd=1), texts=True),
     "contents": Group(2, 0, 0, 1, weights(CONTENTS, ENDS, MAKING, appendChild=3, insertBefore=2)),
     "traversal": Group(0, 2, 2, 0, weights(STEPS, EDITS, createElement=1, createText=1, splitText=0.5)),
     "observers": Group(1, 0, 0, 2, weights(WATCHING, EDITS, DATA, ATTRIBUTE, MAKING, COPIES, insertNode=1, extractContents=0.5)),
@@ -224,6 +230,26 @@ class Scene:
                 parents = [row[1] for row in self.core.ask("tree", self.main) if row[2] == ELEMENT]
                 self.say("appendChild", self.chance.choice(parents), made)
 
+    def plant_texts(self):
+        """A parent in which Texts stand side by side, now and then with something else between them."""
+        self.main = self.say("createElement", 0, "a")
+        for _ in range(self.chance.randint(3, 6)):
+            kind = self.chance.choice((*(TEXT,) * 8, ELEMENT, COMMENT))
+            made = self.say("createText", 0, self.chance.choice(LONG_UNITS)) if kind == TEXT and self.may_say("createText") else self.make(kind)
+            if made is not None:
+                self.say("appendChild", self.main, made)
+
+    def cross(self, number):
+        """Sets one end of a range among the children of the main node, and the other into one of them."""
+        children = self.core.ask("children", self.main)
+        if not children:
+            return
+        at = self.chance.randrange(len(children))
+        within = children[at], self.chance.randint(0, self.core.ask("length", children[at]))
+        ahead, behind = (self.main, self.chance.randint(0, at)), (self.main, self.chance.randint(at + 1, len(children)))
+        for name, point in zip(("setStart", "setEnd"), self.chance.choice(((ahead, within), (within, behind)))):
+            self.say(name, number, *point)
+
     def plant_fragment(self):
         """A fragment that has a child or two."""
         made = self.make(FRAGMENT)
@@ -234,6 +260,9 @@ class Scene:
     def watch(self, group):
         for _ in range(group.ranges if self.may_say("createRange") else 0):
             made = self.say("createRange", 0)
+            if group.texts:
+                self.cross(made)
+                continue
             for name in ("setStart", "setEnd"):
                 node = self.inside()
                 self.say(name, made, node, self.offset([node]))
@@ -254,7 +283,7 @@ class Scene:
 
     def probe(self):
         """Questions that show what a change did."""
-        for number in self.objects["range"][:4]:
+        for number in self.objects["range"][:MOST_RANGES]:
             self.say("range", number)
         for kind in ("iterator", "walker"):
             for number in self.objects[kind][:3]:
@@ -292,11 +321,16 @@ def drawn_stream(core, seed, group, length, player, given=None):
     scene, plan = Scene(core, chance, player), GROUPS[group]
     found = {**plan.weights, **(given or {})}
     names = [name for name, weight in found.items() if weight > 0 and scene.may_say(name)]
-    scene.plant()
+    if plan.texts:
+        scene.plant_texts()
+    else:
+        scene.plant()
     scene.watch(plan)
-    tries = 4 * length
+    tries = 4 * length if names else 0
     while len(scene.turns) < length and tries:
         tries -= 1
+        if plan.texts and scene.objects["range"] and chance.random() < CROSSES:
+            scene.cross(chance.choice(scene.objects["range"]))
         scene.step(scene.drawn(chance.choices(names, [found[it] for it in names])[0]))
     if scene.may_say("tree"):
         scene.close()

@@ -58,15 +58,16 @@ class Lines:
 
     def receive(self, seconds=None):
         """The next line."""
-        limit = time.monotonic() + (seconds or self.seconds)
+        seconds = seconds or self.seconds
+        limit = time.monotonic() + seconds
         while not self.lines:
-            self.read(limit)
+            self.read(limit, seconds)
         return self.lines.pop(0)
 
-    def read(self, limit):
+    def read(self, limit, seconds):
         left = limit - time.monotonic()
         if left <= 0 or not self.ready.select(left):
-            raise Hung(f"no reply within {self.seconds:g} seconds")
+            raise Hung(f"no reply within {seconds:g} seconds")
         data = os.read(self.process.stdout.fileno(), 1 << 16)
         if not data:
             raise Died(self.ending())

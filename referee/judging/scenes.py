@@ -61,11 +61,20 @@ class Stage:
         """All boundary points in the nodes of the scene."""
         return [(node, offset) for node in self.nodes for offset in range(self.core.ask("length", node) + 1)]
 
-    def mark(self):
-        """A range at each point."""
-        for node, offset in self.points():
+    def points_in(self, top):
+        """The boundary points in a node and below it, as they follow one another in the document."""
+        children = self.core.ask("children", top)
+        for offset in range(self.core.ask("length", top) + 1):
+            yield top, offset
+            if offset < len(children):
+                yield from self.points_in(children[offset])
+
+    def mark(self, top):
+        """A range at each point in a node and below it, and one between every two of them."""
+        for start, end in itertools.combinations_with_replacement(self.points_in(top), 2):
             self.ranges.append(self.say("createRange", 0))
-            self.say("setStart", self.ranges[-1], node, offset)
+            self.say("setStart", self.ranges[-1], *start)
+            self.say("setEnd", self.ranges[-1], *end)
 
     def observe(self, node):
         """One observer told of all, one that is told no more than what happens to children of the node."""
@@ -130,14 +139,14 @@ def points_of(tree):
 
 
 def normalize_scenes(_):
-    """All lists of up to three Texts, elements and Comments, with a range at each point."""
+    """All lists of up to three Texts, elements and Comments, with a range between every two points."""
     for length in range(4):
         for at, siblings in enumerate(itertools.product(SIBLINGS, repeat=length)):
 
             def played(core, siblings=siblings):
                 stage = Stage(core)
                 top = stage.grow(("a", list(siblings)))
-                stage.mark()
+                stage.mark(top)
                 stage.observe(top)
                 stage.say("normalize", top)
                 return stage.show(top)
@@ -146,14 +155,14 @@ def normalize_scenes(_):
 
 
 def split_scenes(_):
-    """A Text split at each offset and beyond, alone and among siblings, with a range at each point."""
+    """A Text split at each offset and beyond, alone and among siblings, with a range between every two points."""
     places = [("a", list(siblings)) for siblings in itertools.product((("b", []), "x", "yz"), repeat=2)] + ["xyz", ""]
     for at, (tree, node, offset) in enumerate(itertools.product(places, range(3), range(4))):
 
         def played(core, tree=tree, node=node, offset=offset):
             stage = Stage(core)
             top = stage.grow(tree)
-            stage.mark()
+            stage.mark(top)
             stage.observe(top)
             stage.say("splitText", stage.nodes[node % len(stage.nodes)], offset)
             return stage.show(top)
@@ -162,13 +171,13 @@ def split_scenes(_):
 
 
 def edit_scenes(tree):
-    """Each node of a tree removed, inserted before each other, and in the place of each other, with a range at each point."""
+    """Each node of a tree removed, inserted before each other, and in the place of each other, with a range between every two points."""
     names = ("remove", "insertBefore", "replaceChild", "replaceChildren", "setTextContent")
     for at, (name, first, second) in enumerate(itertools.product(names, range(size_of(tree)), range(size_of(tree)))):
 
         def played(core, name=name, first=first, second=second):
             stage = planted(tree)(core)
-            stage.mark()
+            stage.mark(stage.nodes[0])
             stage.observe(stage.nodes[0])
             node, other = stage.nodes[first], stage.nodes[second]
             parent = stage.core.ask("node", other)["parent"]
