@@ -2,7 +2,7 @@
 import copy
 
 from lxml import etree
-from speaking import Refused, Skip, commands_of, serve, walk
+from speaking import Refused, Skip, commands_of, serve, text_in, walk
 
 KINDS = {etree.Comment: (8, "#comment"), etree.ProcessingInstruction: (7, None)}
 
@@ -51,10 +51,10 @@ class World:
         return self._made(etree.Element(name))
 
     def createComment(self, document, text):
-        return self._made(etree.Comment(text))
+        return self._made(etree.Comment(text_in(text)))
 
     def createPI(self, document, target, text):
-        return self._made(etree.ProcessingInstruction(target, text))
+        return self._made(etree.ProcessingInstruction(target, text_in(text)))
 
     def appendChild(self, parent, node):
         self._n(parent).append(self._n(node))
@@ -99,10 +99,10 @@ class World:
         return self._n(node).text or ""
 
     def setData(self, node, text):
-        self._n(node).text = text
+        self._n(node).text = text_in(text)
 
     def setAttribute(self, element, name, value):
-        self._n(element).set(name, value)
+        self._n(element).set(name, text_in(value))
 
     def getAttribute(self, element, name):
         return self._n(element).get(name)

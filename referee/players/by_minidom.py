@@ -3,18 +3,12 @@ import sys
 import xml.dom
 from xml.dom import minidom
 
-from speaking import Refused, Skip, commands_of, serve, walk
+from speaking import Refused, Skip, commands_of, serve, text_in, walk
 
 NAMES = {1: "IndexSizeError", 3: "HierarchyRequestError", 4: "WrongDocumentError", 5: "InvalidCharacterError", 8: "NotFoundError"}
 NAMES.update({9: "NotSupportedError", 11: "InvalidStateError", 15: "InvalidAccessError", 16: "ValidationError"})
 ELEMENT, DOCUMENT, DOCTYPE = 1, 9, 10
 WITH_DATA = (3, 7, 8)
-
-
-def text_in(value):
-    if isinstance(value, list):
-        return b"".join(it.to_bytes(2, "little") for it in value).decode("utf-16-le", "surrogatepass")
-    return value
 
 
 def text_out(value):

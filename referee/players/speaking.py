@@ -41,6 +41,13 @@ def known_by_place(speaker, trees, last):
                 speaker.nodes[number], speaker.number[speaker._key(node)] = node, number
 
 
+def text_in(value):
+    """A text of a line as Python has it."""
+    if isinstance(value, list):
+        return b"".join(it.to_bytes(2, "little") for it in value).decode("utf-16-le", "surrogatepass")
+    return value
+
+
 def reply_of(speaker, name, values):
     """The reply of a speaker, whose methods have the names of the commands."""
     method = getattr(speaker, name, None) if name[:1] != "_" else None
