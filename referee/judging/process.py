@@ -31,6 +31,7 @@ class Rubbish(Fault):
 
 # How long a process may take to start.
 STARTS = 60.0
+WRITTEN = json.JSONEncoder(separators=(",", ":")).encode
 
 
 class Lines:
@@ -118,7 +119,7 @@ class Lines:
 def read_reply(line):
     """A reply: an object with ok, error or skip."""
     try:
-        reply = json.loads(line)
+        reply = json.loads(line.decode())
     except ValueError:
         reply = None
     if not isinstance(reply, dict) or not reply.keys() & {"ok", "error", "skip", "player"}:
@@ -127,4 +128,4 @@ def read_reply(line):
 
 
 def line_of(value):
-    return json.dumps(value, separators=(",", ":")).encode()
+    return WRITTEN(value).encode()

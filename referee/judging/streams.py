@@ -17,13 +17,15 @@ class Owners:
         self.found = {}
 
     def add(self, key, name, turn):
+        """Adds what a step made; returns the number of each."""
         makes = COMMANDS[name].makes if name in COMMANDS else None
         if not makes or "ok" not in turn.reply:
-            return
+            return {}
         made = turn.made if makes in ("node", "nodes") else [turn.reply["ok"]]
         kind = "node" if makes == "nodes" else makes
-        for place, number in enumerate(made):
-            self.found[kind, number] = Made(kind, key, place)
+        numbers = {Made(kind, key, place): number for place, number in enumerate(made)}
+        self.found.update(((kind, number), it) for it, number in numbers.items())
+        return numbers
 
     def of(self, form, value):
         kind = kind_of(form)
@@ -51,8 +53,7 @@ def play_steps(core, steps):
         if any(isinstance(it, Made) and it not in numbers for it in step.values):
             continue
         turn = core.play([step.name, *(numbers[it] if isinstance(it, Made) else it for it in step.values)])
-        owners.add(step.key, step.name, turn)
-        numbers.update((made, number) for (_, number), made in owners.found.items())
+        numbers.update(owners.add(step.key, step.name, turn))
         played.append(step)
         turns.append(turn)
     return played, turns
