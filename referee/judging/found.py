@@ -29,14 +29,19 @@ class Case:
         return Difference(turns, self.told)
 
     def name(self):
-        return json.dumps(self.commands)
+        return name_of(self.commands)
 
 
-def case_of(difference, player, group, seed, entry):
+def name_of(commands):
+    """Streams that shrink to the same commands are one case, which has this name."""
+    return json.dumps(list(commands))
+
+
+def case_of(difference, player, group, seed, entry, states):
     turns = difference.turns
     parts = {"commands": [it.command for it in turns], "replies": [it.reply for it in turns], "places": [it.places for it in turns]}
     key = key_of(difference)._asdict()
-    return Case(player.name, player.version, told=difference.told, key=key, group=group, seed=seed, known=entry and entry["name"], **parts)
+    return Case(player.name, player.version, told=difference.told, key=key, group=group, seed=seed, known=entry and entry["name"], states=states, **parts)
 
 
 class Found:
@@ -50,16 +55,16 @@ class Found:
             if name.startswith("case-") and name.endswith(".json"):
                 os.remove(os.path.join(folder, name))
 
-    def add(self, case):
-        """Adds a case, or counts it where it is there; returns whether it is new here."""
-        kept = self.cases.setdefault(case.name(), case)
-        if kept is not case:
-            kept.count += 1
-            return False
-        return True
+    def again(self, difference):
+        """Counts a difference whose case is there; returns whether it is."""
+        case = self.cases.get(name_of(it.command for it in difference.turns))
+        if case:
+            case.count += 1
+        return case is not None
 
     def keep(self, case):
-        """Writes a case at once, so that it stays whatever becomes of the run."""
+        """Adds a case, and writes it at once, so that it stays whatever becomes of the run."""
+        self.cases[case.name()] = case
         self.write("case-%03d.json" % len(self.cases), asdict(case))
 
     def write(self, name, value):

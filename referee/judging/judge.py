@@ -33,12 +33,17 @@ def changes(turn):
     return known is not None and known.changes and "ok" in turn.reply and turn.command[0] not in TELLS_ITSELF
 
 
+def cause_place(turns, told):
+    """The place of the command that the difference comes from, as far as can be told: the last one that changed something."""
+    last = len(turns) - 1
+    if changes(turns[last]) or form_of(turns[last].reply) != form_of(told):
+        return last
+    return next((at for at in reversed(range(last)) if changes(turns[at])), last)
+
+
 def cause_of(turns, told):
-    """The command that the difference comes from, as far as can be told: the last one that changed something."""
-    last = turns[-1]
-    if changes(last) or form_of(last.reply) != form_of(told):
-        return last.command[0]
-    return next((it.command[0] for it in reversed(turns) if changes(it)), last.command[0])
+    """The name of that command."""
+    return turns[cause_place(turns, told)].command[0]
 
 
 def key_of(difference):

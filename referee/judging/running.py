@@ -119,11 +119,11 @@ class Run:
             return
         apart = Judge(self.judge.cores, self.player)
         least = shrunk(apart, difference).difference
-        entry = entry_of(self.known, self.player.name, least)
-        case = case_of(least, self.player, group, seed, entry)
-        if not self.found.add(case):
+        if self.found.again(least):
             return
-        case.states = states_of(apart, least)
+        states = states_of(apart, least)
+        entry = entry_of(self.known, self.player.name, least, apart, states)
+        case = case_of(least, self.player, group, seed, entry, states)
         self.found.keep(case)
         if not self.quiet and not entry:
             print(f"new: {case.key['cause']} shown by {case.key['shows']}, {len(case.commands)} commands", file=sys.stderr, flush=True)

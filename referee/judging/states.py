@@ -1,7 +1,7 @@
 """What the trees and ranges of a case are: before the command that it comes from, after it by the core, and after it by the player."""
 from judging.commands import DOCUMENT, FRAGMENT
 from judging.core import Turn
-from judging.judge import cause_of
+from judging.judge import cause_place
 from judging.streams import play_commands
 
 
@@ -38,8 +38,8 @@ def state_by_player(judge, turns, questions):
 def states_of(judge, difference):
     """The three states."""
     commands = [it.command for it in difference.turns]
-    cause = cause_of(difference.turns, difference.told)
-    at = max(place for place, command in enumerate(commands) if command[0] == cause)
+    at = cause_place(difference.turns, difference.told)
     _, _, before = state_by_core(judge, commands[:at])
     turns, questions, due = state_by_core(judge, commands[: at + 1])
-    return {"before": before, "due": due, "told": state_by_player(judge, turns, questions)}
+    told = {} if "fault" in difference.told else state_by_player(judge, turns, questions)
+    return {"before": before, "due": due, "told": told}
