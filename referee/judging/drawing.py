@@ -47,14 +47,14 @@ def weights(*parts, **few):
 
 
 GROUPS = {
-    "trees": Group(0, 0, 0, 0, weights(MAKING, EDITS, QUESTIONS, COPIES, setTextContent=1, discard=0.2)),
+    "trees": Group(0, 0, 0, 0, weights(MAKING, EDITS, QUESTIONS, COPIES, setTextContent=1, discard=0.6)),
     "data": Group(2, 0, 0, 1, weights(DATA, PARTS, EDITS, createText=2, normalize=4)),
     "attributes": Group(0, 0, 0, 1, weights(ATTRIBUTE, COPIES, isEqual=1, createElement=1, adoptNode=0.5)),
     "ranges": Group(3, 0, 0, 0, weights(ENDS, MORE_ENDS, ASKED, EDITS, DATA, createText=1, createElement=1)),
     "texts": Group(4, 0, 0, 1, weights(JOINS, appendChild=1, insertBefore=1, setStart=1, setEnd=1), texts=True),
     "contents": Group(2, 0, 0, 1, weights(CONTENTS, ENDS, MAKING, appendChild=3, insertBefore=2)),
     "traversal": Group(0, 2, 2, 0, weights(STEPS, EDITS, createElement=1, createText=1, splitText=0.5)),
-    "observers": Group(1, 0, 0, 2, weights(WATCHING, EDITS, DATA, ATTRIBUTE, MAKING, COPIES, insertNode=1, extractContents=0.5)),
+    "observers": Group(1, 0, 0, 2, weights(WATCHING, EDITS, DATA, ATTRIBUTE, MAKING, COPIES, insertNode=1, extractContents=0.5, discard=0.5)),
     "everything": Group(2, 1, 1, 1, {name: 1 for name in COMMANDS}),
 }
 
@@ -66,7 +66,7 @@ class Scene:
         self.core, self.chance, self.serves, self.documents = core, chance, player.serves, player.documents
         self.kinds = {0: DOCUMENT} if player.documents else {}
         self.objects = {"range": [], "iterator": [], "walker": [], "observer": [], "static": []}
-        self.turns = []
+        self.turns, self.gone = [], []
         self.main, self.rows = 0, None
 
     # saying commands
@@ -97,7 +97,8 @@ class Scene:
         if name == "releaseRange":
             self.objects["range"].remove(values[0])
         if name == "discard":
-            self.kinds = {number: kind for number, kind in self.kinds.items() if self.core.ask("node", number)}
+            self.gone = [it for it in self.kinds if not self.core.ask("node", it)]
+            self.kinds = {number: kind for number, kind in self.kinds.items() if number not in self.gone}
 
     # drawing what stands in a command; None where there is no such thing
 
@@ -292,8 +293,9 @@ class Scene:
             self.say("rangeText", self.chance.choice(self.objects["range"]))
         if self.objects["observer"] and self.chance.random() < 0.6:
             self.say("takeRecords", self.chance.choice(self.objects["observer"]))
-        if self.may_say("tree") and self.chance.random() < 0.3:
-            self.say("tree", self.inside())
+        for name, often in (("tree", 0.3), ("node", 0.2), ("index", 0.2)):
+            if self.may_say(name) and self.chance.random() < often:
+                self.say(name, self.inside())
 
     def step(self, command):
         """Says a command and asks what it did. What an iterator or a walker came to is often taken out next."""
@@ -303,6 +305,8 @@ class Scene:
             return
         if COMMANDS[command[0]].changes:
             self.probe()
+        if command[0] == "discard":
+            self.say("node", self.chance.choice(self.gone))
         if command[0] in STEPPING and answer is not None and self.may_say("remove") and self.chance.random() < 0.2:
             self.step(["remove", answer])
 
