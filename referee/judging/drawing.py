@@ -16,6 +16,8 @@ KEEPS_REFUSED = 0.3
 MOST_RANGES = 8
 # How often one of them is set anew in a stream about Texts.
 CROSSES = 0.15
+# How often what was removed is changed next, with no observer, one, and more.
+CHANGES_REMOVED = (0, 0.05, 0.3)
 UNITS = ("", "a", "ab", "abc", "abcd", "\u00e9", "\U0001f600", "a\U0001f600b", [55357], [56832, 97], "]]>", " \n", "0")
 # Data whose offsets go beyond the places among some siblings.
 LONG_UNITS = ("abcd", "abcdef", "abcdefgh", "abc", "a", "")
@@ -24,7 +26,10 @@ ODD_NAMES = ("", "1a", "a b", "\u00e9", ":a", "a=b", "a>b", "-a", "A", "a:b", "a
 ATTRIBUTES = ("x", "y", "x", "k")
 SHOWS = (4294967295, 4294967295, 4294967295, 1, 4, 5, 128, 1024, 0)
 FILTERS = ([], [], [["b", "skip"]], [["b", "reject"]], [["#text", "reject"]], [["#text", "skip"]], [["a", "skip"], ["*", "accept"]], [["*", "skip"]])
-STEPPING = {"nextNode", "previousNode", "walk"}
+# Steps, and the question that tells where they came to.
+STEPPING = {"nextNode": "iterator", "previousNode": "iterator", "walk": "walker"}
+# Where these name the node that they take out.
+REMOVING = {"remove": 1, "removeChild": 2}
 
 MAKING = {"createElement": 2, "createText": 3, "createComment": 1, "createPI": 1, "createFragment": 1, "createDoctype": 0.3, "newDocument": 0.2}
 EDITS = {"insertBefore": 5, "appendChild": 5, "removeChild": 3, "remove": 3, "replaceChild": 3, "replaceChildren": 2, "normalize": 2, "adoptNode": 1}
@@ -52,7 +57,7 @@ GROUPS = {
     "attributes": Group(0, 0, 0, 1, weights(ATTRIBUTE, COPIES, isEqual=1, createElement=1, adoptNode=0.5)),
     "ranges": Group(3, 0, 0, 0, weights(ENDS, MORE_ENDS, ASKED, EDITS, DATA, createText=1, createElement=1)),
     "texts": Group(4, 0, 0, 1, weights(JOINS, appendChild=1, insertBefore=1, setStart=1, setEnd=1), texts=True),
-    "contents": Group(2, 0, 0, 1, weights(CONTENTS, ENDS, MAKING, appendChild=3, insertBefore=2)),
+    "contents": Group(2, 0, 0, 1, weights(CONTENTS, ENDS, MAKING, selectNodeContents=2, appendChild=3, insertBefore=2)),
     "traversal": Group(0, 2, 2, 0, weights(STEPS, EDITS, createElement=1, createText=1, splitText=0.5)),
     "observers": Group(1, 0, 0, 2, weights(WATCHING, EDITS, DATA, ATTRIBUTE, MAKING, COPIES, insertNode=1, extractContents=0.5, discard=0.5)),
     "everything": Group(2, 1, 1, 1, {name: 1 for name in COMMANDS}),
@@ -226,7 +231,7 @@ class Scene:
         if self.documents and self.chance.random() < (0.3 if with_doctype else 0.6):
             self.say("appendChild", 0, self.main)
         for _ in range(self.chance.randint(2, 7)):
-            made = self.make(self.chance.choice((ELEMENT, ELEMENT, TEXT, TEXT, TEXT, TEXT, COMMENT, PI)))
+            made = self.make(self.chance.choice((ELEMENT, ELEMENT, TEXT, TEXT, TEXT, TEXT, COMMENT, COMMENT, PI)))
             if made is not None:
                 parents = [row[1] for row in self.core.ask("tree", self.main) if row[2] == ELEMENT]
                 self.say("appendChild", self.chance.choice(parents), made)
@@ -269,7 +274,7 @@ class Scene:
                 self.say(name, made, node, self.offset([node]))
         for name in ["createIterator"] * group.iterators + ["createWalker"] * group.walkers:
             if self.may_say(name):
-                self.say(name, self.inside(), self.show([]), self.filter([]))
+                self.say(name, self.main if self.chance.random() < 0.7 else self.inside(), self.show([]), self.filter([]))
         for _ in range(group.observers if self.may_say("createObserver") else 0):
             self.observe(self.say("createObserver"))
 
@@ -289,7 +294,7 @@ class Scene:
         for kind in ("iterator", "walker"):
             for number in self.objects[kind][:3]:
                 self.say(kind, number)
-        if self.objects["range"] and self.chance.random() < 0.1:
+        if self.objects["range"] and self.chance.random() < 0.2:
             self.say("rangeText", self.chance.choice(self.objects["range"]))
         if self.objects["observer"] and self.chance.random() < 0.6:
             self.say("takeRecords", self.chance.choice(self.objects["observer"]))
@@ -303,12 +308,27 @@ class Scene:
         answer = self.say(*command, keeps=KEEPS_REFUSED) if command else None
         if len(self.turns) == count or "ok" not in self.turns[-1].reply:
             return
-        if COMMANDS[command[0]].changes:
+        if command[0] in STEPPING:
+            self.say(STEPPING[command[0]], command[1])
+        elif COMMANDS[command[0]].changes:
             self.probe()
         if command[0] == "discard":
             self.say("node", self.chance.choice(self.gone))
+        if command[0] in REMOVING and self.chance.random() < CHANGES_REMOVED[min(len(self.objects["observer"]), 2)]:
+            self.change_removed(command[REMOVING[command[0]]])
         if command[0] in STEPPING and answer is not None and self.may_say("remove") and self.chance.random() < 0.2:
             self.step(["remove", answer])
+
+    def change_removed(self, node):
+        """Changes a node that was removed, of which observers may still be told; it may be observed by itself first, or all are notified."""
+        if self.chance.random() < 0.5:
+            self.say("observe", self.chance.choice(self.objects["observer"]), node, {**self.options([]), "childList": True, "attributes": True})
+        if self.may_say("notify") and self.chance.random() < 0.5:
+            self.say("notify")
+        kind = self.kinds.get(node)
+        change = ["toggleAttribute", node, "x", None] if kind == ELEMENT else ["appendData", node, "a"] if kind in WITH_DATA else None
+        if change and self.may_say(change[0]):
+            self.step(change)
 
     def close(self):
         """All trees, and what every observer is still to be told."""
