@@ -7,7 +7,7 @@ import re
 
 from judging.commands import DOCUMENT, FRAGMENT, TEXT
 from judging.judge import changes
-from judging.shown import left_out
+from judging.shown import left_out, records_of
 
 # XML's production Name.
 BEGINS = (
@@ -139,10 +139,19 @@ def something(records):
     return [it for it in records if it.type != "childList" or it.added or it.removed]
 
 
-def records_outside(shown):
-    """What is not told are records of nodes that stand where nothing above them is observed."""
-    observed = {it[2] for it in shown.of("observe")}
-    return all_left_out(shown, lambda it: not any(shown.before.within(it.target, top) for top in observed))
+def no_transients(shown):
+    """What is told is what comes where all observe anew ahead of the command, or lacks what the command did in nodes that it took out itself."""
+    observing = [it.command for it in shown.turns[: shown.at] if it.command[0] == "observe" and "ok" in it.reply]
+    anew = [["disconnect", it] for it in {it[1] for it in observing}] + observing
+    ahead, since = (records_of(shown.asked(it)["ok"]) for it in ([], [*anew, shown.cause]))
+    observed = lambda it, state: any(state.within(it.target, top) for top in {top for _, _, top, _ in observing})
+    taken_out = lambda it: observed(it, shown.before) and not observed(it, shown.after)
+    return by_observer(ahead + since) == by_observer(shown.records[1]) or all_left_out(shown, taken_out)
+
+
+def by_observer(records):
+    """The records of each observer in turn."""
+    return sorted(records, key=lambda it: it.observer or 0)
 
 
 def records_of_equal_data(shown):
@@ -253,7 +262,7 @@ LISTED = (
     (name_that_xml_has_not, name_beyond_ascii, name_with_a_colon, text_not_well_formed, offset_at_the_end),
     (node_above_or_document, node_above_the_parent, node_is_the_child, node_beside_itself, fragment_is_answered, text_beside_text),
     (replacement_was_refused, surrounded_half, filter_was_given, reference_outside_the_root),
-    (records_of_nothing, records_outside, records_of_equal_data, taken_out_first, data_ahead_of_the_new_text, children_one_by_one, data_sooner),
+    (records_of_nothing, no_transients, records_of_equal_data, taken_out_first, data_ahead_of_the_new_text, children_one_by_one, data_sooner),
     (sent_into_the_parent, joined_end_in_the_parent, end_in_an_empty_text, text_is_normalized, end_in_the_new_text, sibling_from_ahead, end_one_too_far),
 )
 CONDITIONS = {it.__name__.replace("_", " "): it for its in LISTED for it in its}
