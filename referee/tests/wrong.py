@@ -1,5 +1,6 @@
 #!/usr/bin/env python3
-"""A wrapper around the program that answers as one wrong body would, to try the referee: `wrong.py PROGRAM FAULT`.
+"""A wrapper around the core that answers as one wrong body would, to try the referee: `wrong.py CORE FAULT`, where CORE is the program or a
+libhuckleport.so. With more than one fault it answers as a core that has all of them.
 
 Most faults change the world behind the program's reply by commands of their own (they set range ends anew, or take out what should stay), so that
 all later replies are those of a core with that body. Others alter the reply alone.
@@ -12,22 +13,22 @@ from collections import namedtuple
 
 HERE = os.path.dirname(os.path.abspath(__file__))
 sys.path.insert(0, os.path.dirname(HERE))
-from judging.process import Lines, line_of
+from judging.core import Cores
 
 REMOVALS = {"remove": 0, "removeChild": 1}
 FRAGMENT, DOCTYPE, DOCUMENT, COMMENT, TEXT, ELEMENT = 11, 10, 9, 8, 3, 1
 
 
 class World:
-    """A process of the program, and what was made in it."""
+    """A world of the core, and what was made in it."""
 
-    def __init__(self, program):
-        self.process = Lines([program])
+    def __init__(self, cores):
+        self.core = cores.open()
         self.made = {"range": 0, "iterator": 0}
-        self.kept, self.later = {}, []
+        self.kept, self.later, self.over = {}, [], {}
 
     def reply(self, *command):
-        return json.loads(self.process.ask(line_of(list(command))))
+        return self.core.reply(command)
 
     def ask(self, *command):
         return self.reply(*command).get("ok")
@@ -56,7 +57,7 @@ class World:
                 self.set_ends(number, wanted)
 
     def end(self):
-        self.process.end()
+        self.core.end()
 
 
 # Each fault answers a command, with the world that stands ahead of it.
@@ -125,6 +126,16 @@ def split_leaves_parent_ends(world, command):
             if any(wanted):
                 now = world.ask("range", number)
                 world.set_ends(number, (ends[:2] if wanted[0] else now[:2]) + (ends[2:] if wanted[1] else now[2:]))
+    return reply
+
+
+def ends_sent_into_parent(world, command):
+    """Insertion moves an end in another node too, into the parent, where the start of its range stands there."""
+    before = world.ends() if command[0] == "insertBefore" and command[3] is not None else {}
+    reply = world.pass_on(command)
+    for number, (start, i, end, j) in before.items() if "ok" in reply else ():
+        if start == command[1] != end and max(i, world.ask("index", command[2])) < j < world.ask("length", start):
+            world.set_ends(number, [*world.ask("range", number)[:2], start, j + 1])
     return reply
 
 
@@ -305,6 +316,132 @@ def always_in_use(world, command):
     return {"error": "in-use"} if command[0] == "discard" and "ok" in world.pass_on(command) else world.pass_on(command)
 
 
+def normalize_keeps_empty(world, command):
+    """Normalizing leaves an empty Text that has no Text beside it."""
+    rows = world.ask("tree", command[1]) or [] if command[0] == "normalize" else []
+    empty = [row[1] for row in rows if row[0] and row[2] == TEXT and row[4] == ""]
+    places = {it: world.ask("node", it) for it in empty}
+    kind = lambda it: it is not None and world.ask("node", it)["type"]
+    alone = {it: place for it, place in places.items() if TEXT not in (kind(place["previous"]), kind(place["next"]))}
+    reply = world.pass_on(command)
+    for it, place in alone.items() if "ok" in reply else ():
+        world.reply("insertBefore", place["parent"], it, place["next"])
+    return reply
+
+
+def previous_ahead_of_removal(world, command):
+    """The record of an insertion tells the previous sibling as it was ahead of the node's own removal."""
+    if command[0] in ("insertBefore", "appendChild"):
+        _, parent, node, child = (*command, None)[:4]
+        place = world.ask("node", node)
+        if place and place["parent"] == parent and place["next"] == child:
+            world.later.append((parent, node))
+    told = lambda it: [*it[:4], it[2][0], *it[5:]] if it[2] and not it[3] and (it[1], it[2][0]) in world.later else it
+    return records_in(world.pass_on(command), command, told)
+
+
+def registrations(world, command):
+    """Keeps what is observed, with all options."""
+    if command[0] == "observe":
+        world.kept[command[1], command[2]] = command[3]
+    if command[0] == "disconnect":
+        world.kept = {it: options for it, options in world.kept.items() if it[0] != command[1]}
+
+
+def two_records_of_one(world, command):
+    """An observer of a node and of one above it gets a record for each."""
+    reply = world.pass_on(command)
+    registrations(world, command)
+    if command[0] != "takeRecords" or "ok" not in reply:
+        return reply
+    above = lambda node, options, target: node == target or options.get("subtree") and world.ask("contains", node, target)
+    of_kind = lambda it, target: [node for (who, node), options in world.kept.items() if who == command[1] and options.get(it) and above(node, options, target)]
+    return {"ok": [it for record in reply["ok"] for it in [record] * max(len(of_kind(record[0], record[1])), 1)]}
+
+
+def replaced_without_transients(world, command):
+    """What goes by a replacement is observed no longer."""
+    gone = [command[3]] if command[0] == "replaceChild" else world.ask("children", command[1]) or [] if command[0] == "replaceChildren" else []
+    reply = world.pass_on(command)
+    if "ok" in reply:
+        world.later = [] if command[0] == "notify" else world.later + gone
+    below = lambda it: any(world.ask("root", it[1]) == top for top in world.later)
+    return records_in(reply, command, lambda it: None if below(it) else it)
+
+
+def transient_counts(world, command):
+    """Observing a node that has just been removed below an observed one adds nothing that outlives notify."""
+    registrations(world, command)
+    gone = removed(world, command)
+    observers = {who for (who, node), options in world.kept.items() if gone and options.get("subtree") and world.ask("contains", node, gone[1])}
+    reply = world.pass_on(command)
+    world.later += [(it, gone[0]) for it in observers] if gone and "ok" in reply else []
+    if command[0] == "observe" and "ok" in reply and (command[1], command[2]) in world.later:
+        world.over[command[1], command[2]] = False
+    told = {it[0] for it in reply["ok"]} if command[0] == "notify" else set()
+    world.later = [it for it in world.later if it[0] not in told]
+    world.over.update((it, True) for it in world.over if it[0] in told)
+    return records_in(reply, command, lambda it: None if world.over.get((command[1], it[1])) else it)
+
+
+def back_pointer_stays(world, command):
+    """What follows a removed node still has it as its previous sibling."""
+    gone = removed(world, command)
+    place = world.ask("node", gone[0]) if gone else None
+    reply = world.pass_on(command)
+    if place and place["next"] is not None and "ok" in reply:
+        world.kept[place["next"]] = (place["previous"], gone[0])
+    previous, stays = world.kept.get(command[1], (None, None)) if command[0] == "node" else (None, None)
+    if stays is not None and "ok" in reply and reply["ok"]["parent"] is not None and reply["ok"]["previous"] == previous:
+        reply["ok"]["previous"] = stays
+    return reply
+
+
+def index_stays(world, command):
+    """An index that was asked for stays after an insertion in front of it."""
+    if command[0] == "index":
+        place = (world.ask("node", command[1]) or {}).get("parent")
+        reply = world.pass_on(command)
+        kept = world.kept.setdefault(command[1], (place, reply))
+        return kept[1] if kept[0] == place else reply
+    reply = world.pass_on(command)
+    if command[0] in REMOVALS or command[0] in ("replaceChild", "replaceChildren", "normalize", "setTextContent", "adoptNode"):
+        world.kept = {}
+    if command[0] in ("insertBefore", "appendChild"):
+        world.kept.pop(command[2], None)
+    return reply
+
+
+def limit_soon(world, command):
+    """A copy of more than three nodes is refused for the limit of numbers."""
+    deep = command[0] in ("cloneNode", "importNode") and command[-1]
+    if deep and len(world.ask("tree", command[-2]) or []) > 3:
+        return {"error": "limit"}
+    return world.pass_on(command)
+
+
+def discard_leaves_children(world, command):
+    """Discarding a node leaves what is below it."""
+    rows = world.ask("tree", command[1]) or [] if command[0] == "discard" else []
+    below = {row[1]: world.reply("node", row[1]) for row in rows[1:]}
+    reply = world.pass_on(command)
+    if below and "ok" in reply:
+        world.kept.update(below)
+    return world.kept.get(command[1], reply) if command[0] == "node" else reply
+
+
+def discard_overlooks_records(world, command):
+    """What queued records name can be discarded."""
+    registrations(world, command)
+    reply = world.pass_on(command)
+    if command[0] != "discard" or reply.get("error") != "in-use":
+        return reply
+    rows = {row[1] for row in world.ask("tree", command[1])}
+    named = {it for ends in world.ends().values() for it in ends[::2]} | {node for _, node in world.kept} | {0}
+    alone = world.ask("node", command[1])["parent"] is None and not rows & named and not world.made["iterator"]
+    return {"ok": None} if alone else reply
+
+
 # What is wrong with the player itself.
 
 
@@ -330,28 +467,50 @@ def prints_rubbish(world, command):
 # The faults by the group of streams that has their commands.
 GROUPS = {
     "ranges": (removal_past_the_node, removal_leaves_ends, insertion_shifts_equal, split_leaves_parent_ends, shifted_ahead_of_removal, offset_ahead_of_root,),
-    "data": (split_off_by_one, equal_data_record_lost, dies, hangs, prints_rubbish,),
-    "observers": (fragment_record_lost, old_value_of_nearest, transients_outlive_notify, observer_replaces_another,),
+    "texts": (ends_sent_into_parent,),
+    "data": (split_off_by_one, equal_data_record_lost, normalize_keeps_empty, dies, hangs, prints_rubbish,),
+    "observers": (fragment_record_lost, old_value_of_nearest, transients_outlive_notify, observer_replaces_another, previous_ahead_of_removal,
+        two_records_of_one, replaced_without_transients, transient_counts, discard_overlooks_records,),
     "contents": (surround_half_done, extract_without_empty, range_text_with_comments,),
     "traversal": (iterator_steps_back, walker_shuts_out_root,),
-    "trees": (child_ahead_of_ancestor, doctype_may_follow, length_in_characters, refusal_spends_number, always_in_use,),
+    "trees": (child_ahead_of_ancestor, doctype_may_follow, length_in_characters, refusal_spends_number, always_in_use, back_pointer_stays,
+        index_stays, limit_soon, discard_leaves_children,),
 }
 Fault = namedtuple("Fault", "group answer")
 FAULTS = {it.__name__: Fault(group, it) for group, its in GROUPS.items() for it in its}
 
 
+class Over:
+    """A world whose commands are answered with one more fault."""
+
+    def __init__(self, world, answer):
+        self.world, self.pass_on = world, lambda command: answer(world, command)
+
+    def __getattr__(self, name):
+        return getattr(self.world, name)
+
+
+def world_of(cores, faults):
+    """A world in which all faults are."""
+    world = World(cores)
+    for it in faults:
+        world = Over(world, FAULTS[it].answer)
+    return world
+
+
 def main():
-    program, name = sys.argv[1:]
-    world = World(program)
+    core, *faults = sys.argv[1:]
+    cores = Cores(core)
+    world = world_of(cores, faults)
     for line in sys.stdin:
         given = json.loads(line)
         if isinstance(given, list):
-            reply = FAULTS[name].answer(world, given)
+            reply = world.pass_on(given)
         elif "hello" in given:
-            reply = {"player": {"name": name}}
+            reply = {"player": {"name": "+".join(faults)}}
         else:
             world.end()
-            world, reply = World(program), {"ok": None}
+            world, reply = world_of(cores, faults), {"ok": None}
         sys.stdout.write((reply if isinstance(reply, str) else json.dumps(reply)) + "\n")
         sys.stdout.flush()
 
