@@ -5,7 +5,7 @@
 const itself = [
   "reads and writes JSON, and tells a text that is not well-formed by its units",
   "numbers what a command makes: the node that a call answers takes the next number, and those made with it take the core's, place by place",
-  "answers root by getRootNode, index and length by counting childNodes, and tree by a walk over firstChild and nextSibling",
+  "answers root by getRootNode, index and length by counting childNodes, and tree by a walk over firstChild and nextSibling, with attributes by getAttributeNames",
   "makes a function of a filter's list, which asks nodeName alone",
   "answers notify by letting the callbacks run, and has nothing for pending, discard, releaseRange and staticRange",
   "has no answer where comparePosition is asked of two trees, since the standard leaves the order open",
@@ -60,7 +60,7 @@ function answering(open, named) {
 
   function row(depth, node) {
     const found = [depth, numberOf(node), node.nodeType, node.nodeName];
-    if (node.nodeType === 1) found.push(Array.from(node.attributes, (it) => [it.name, textOut(it.value)]));
+    if (node.nodeType === 1) found.push(node.getAttributeNames().map((name) => [name, textOut(node.getAttribute(name))]));
     if (node.nodeType === 10) found.push(node.publicId, node.systemId);
     if ([3, 7, 8].includes(node.nodeType)) found.push(textOut(node.data));
     return found;
