@@ -7,48 +7,38 @@ import {
   arrive,
   childrenOf,
   documentIs,
+  documentNumber,
+  firstChildOf,
+  hasChild,
+  heldBelow,
+  holdBelow,
   isNode,
   keptOf,
   kindOf,
-  moving,
+  lastChildOf,
+  nextOf,
   numberIn,
   numberInOrNone,
   numberOf,
+  parentOf,
+  previousOf,
   realmOf,
   sessionOf,
   settle,
   wrap,
   wrapDocument,
   wrapMade,
-  wrapOrNull,
+  wrapNear,
 } from "./wrappers.js";
 
 // ---- Questions: each is a call of the library.
 
-/** Asks where a node stands: its document, kind, next sibling, parent and previous sibling are in `out`, in this order. */
-const ask = (node) => check(native.hp_node(sessionOf(node).index, numberOf(node)));
-const DOCUMENT_AT = 0;
-const NEXT_AT = 2;
-const PARENT_AT = 3;
-const PREVIOUS_AT = 4;
-
-function beside(node, at) {
-  ask(node);
-  return wrapOrNull(sessionOf(node), out[at]);
-}
-
-export const parentOf = (node) => beside(node, PARENT_AT);
-export const nextOf = (node) => beside(node, NEXT_AT);
-export const previousOf = (node) => beside(node, PREVIOUS_AT);
-export const documentOf = (node) => (kindOf(node) === DOCUMENT ? node : beside(node, DOCUMENT_AT));
+export const documentOf = (node) => (kindOf(node) === DOCUMENT ? node : wrap(sessionOf(node), documentNumber(node)));
 
 function stepped(node, show, move) {
-  const session = sessionOf(node);
-  return wrapOrNull(session, session.step(show, numberOf(node), move));
+  const number = sessionOf(node).step(show, numberOf(node), move);
+  return number === NONE ? null : wrapNear(node, number);
 }
-
-export const firstChildOf = (node) => stepped(node, "all", "firstChild");
-export const lastChildOf = (node) => stepped(node, "all", "lastChild");
 
 /** The children of a node by their numbers. */
 export function childNumbers(node) {
@@ -62,8 +52,9 @@ export function namePart(node, part) {
   const kept = keptOf(node);
   kept.names ??= [];
   if (kept.names[part] === undefined) {
-    ask(node);
-    kept.names[part] = lent(native.hp_node_name(sessionOf(node).index, part));
+    const { index } = sessionOf(node);
+    check(native.hp_node(index, numberOf(node)));
+    kept.names[part] = lent(native.hp_node_name(index, part));
   }
   return kept.names[part];
 }
@@ -76,8 +67,7 @@ export function nameOf(element) {
 
 /** What the session knows of a node's Document. */
 export function isOfDocument(node) {
-  ask(node);
-  return documentIs(sessionOf(node), out[DOCUMENT_AT]);
+  return documentIs(sessionOf(node), documentNumber(node));
 }
 
 function nodeName(node) {
@@ -109,9 +99,7 @@ export function dataOf(node) {
 }
 
 export function setData(node, text) {
-  const session = sessionOf(node);
-  check(native.hp_set_data(session.index, numberOf(node), text));
-  session.changed();
+  sessionOf(node).change(native.hp_set_data, numberOf(node), text);
 }
 
 function textContent(node) {
@@ -121,11 +109,9 @@ function textContent(node) {
 }
 
 function setTextContent(node, text) {
-  const session = sessionOf(node);
   const gone = hasData(node) ? [] : childrenOf(node);
-  check(native.hp_set_text_content(session.index, numberOf(node), text ?? ""));
+  sessionOf(node).change(native.hp_set_text_content, numberOf(node), text ?? "");
   gone.forEach(settle);
-  session.changed();
 }
 
 /** A call that answers a number about two nodes of one session. */
@@ -152,63 +138,51 @@ function rootOf(node) {
 
 export function insertBefore(parent, node, child) {
   const session = sessionOf(parent);
-  check(native.hp_insert_before(session.index, numberOf(parent), numberIn(session, node), numberInOrNone(session, child)));
-  arrive(moving(node), parent);
-  session.changed();
+  session.change(native.hp_insert_before, numberOf(parent), numberIn(session, node), numberInOrNone(session, child));
+  arrive(node, parent);
   return node;
 }
 
 export function appendChild(parent, node) {
   const session = sessionOf(parent);
-  check(native.hp_append_child(session.index, numberOf(parent), numberIn(session, node)));
-  arrive(moving(node), parent);
-  session.changed();
+  session.change(native.hp_append_child, numberOf(parent), numberIn(session, node));
+  arrive(node, parent);
   return node;
 }
 
 export function replaceChild(parent, node, child) {
   const session = sessionOf(parent);
-  check(native.hp_replace_child(session.index, numberOf(parent), numberIn(session, node), numberIn(session, child)));
-  const come = moving(node);
+  session.change(native.hp_replace_child, numberOf(parent), numberIn(session, node), numberIn(session, child));
   settle(child);
-  arrive(come, parent);
-  session.changed();
+  arrive(node, parent);
   return child;
-}
-
-function removed(node) {
-  const session = sessionOf(node);
-  settle(node);
-  session.changed();
-  return node;
 }
 
 export function removeChild(parent, child) {
   const session = sessionOf(parent);
-  check(native.hp_remove_child(session.index, numberOf(parent), numberIn(session, child)));
-  return removed(child);
+  session.change(native.hp_remove_child, numberOf(parent), numberIn(session, child));
+  settle(child);
+  return child;
 }
 
 export function remove(node) {
-  check(native.hp_remove(sessionOf(node).index, numberOf(node)));
-  removed(node);
+  sessionOf(node).change(native.hp_remove, numberOf(node));
+  settle(node);
 }
 
 function replaceAll(parent, node) {
   const session = sessionOf(parent);
   const gone = childrenOf(parent);
-  const come = node === null ? [] : moving(node);
-  check(native.hp_replace_children(session.index, numberOf(parent), numberInOrNone(session, node)));
+  session.change(native.hp_replace_children, numberOf(parent), numberInOrNone(session, node));
   gone.forEach(settle);
-  arrive(come, parent);
-  session.changed();
+  if (node !== null) arrive(node, parent);
 }
 
 const NO_FILTER = new Uint32Array(0);
 const NO_NAMES = new Uint8Array(0);
 const CHILDREN_BELOW = Uint8Array.of(1, 2, 2, 1, 2, 2, 0);
 
-/** The numbers of those that leave their parents while a change is made under a node, as an observer of the facade's own tells them. */
+/** Those that leave their parents while a change is made under a node, each with that parent, as an observer of the facade's own tells them. */
 function leaving(session, number, change) {
   const probe = session.probe();
   check(native.hp_observe(session.index, probe, number, CHILDREN_BELOW, NO_NAMES, NO_FILTER));
@@ -225,26 +199,29 @@ function leaving(session, number, change) {
 function removedIn(told) {
   const found = [];
   for (let at = 0; at < told.length; ) {
-    const [, , added, removed] = told.subarray(at, at + 4);
-    found.push(...told.subarray(at + 6 + added, at + 6 + added + removed));
-    at += 6 + added + removed;
+    const from = at + 6 + told[at + 2];
+    const end = from + told[at + 3];
+    for (let it = from; it < end; it++) found.push({ number: told[it], parent: told[at + 1] });
+    at = end;
   }
   return found;
 }
 
-/** Makes a change under a node, after which the wrappers of what left its parent follow. */
+/**
+ * Makes a change under a node, after which the wrappers of what left its parent follow. All that may lose children has to be held: what has moved is
+ * looked for among the children of where it was.
+ */
 export function following(session, number, change) {
-  const gone = leaving(session, number, change);
-  for (const it of gone) {
-    const wrapper = session.nodes.get(it)?.deref();
-    if (wrapper) settle(wrapper);
+  for (const { number: its, parent } of leaving(session, number, change)) {
+    const wrapper = heldBelow(session, parent, its);
+    if (wrapper !== undefined) settle(wrapper);
   }
-  session.changed();
 }
 
 function normalize(node) {
   const session = sessionOf(node);
-  following(session, numberOf(node), () => check(native.hp_normalize(session.index, numberOf(node))));
+  holdBelow(node);
+  following(session, numberOf(node), () => session.change(native.hp_normalize, numberOf(node)));
 }
 
 /** A copy, made by a call that answers its number. */
@@ -261,8 +238,9 @@ export const importNode = (document, node, deep) =>
 
 export function adoptNode(document, node) {
   const session = sessionOf(document);
-  check(native.hp_adopt_node(session.index, numberOf(document), numberIn(session, node)));
-  return removed(node);
+  session.change(native.hp_adopt_node, numberOf(document), numberIn(session, node));
+  settle(node);
+  return node;
 }
 
 // ---- Making nodes in a Document.
@@ -349,9 +327,8 @@ export const siblings = {
 /** The children of a node that are elements, by their numbers. */
 function elementNumbers(node) {
   const session = sessionOf(node);
-  const found = [];
-  for (let at = session.step("elements", numberOf(node), "firstChild"); at !== NONE; at = session.step("elements", at, "nextSibling")) found.push(at);
-  return found;
+  const first = session.step("elements", numberOf(node), "firstChild");
+  return first === NONE ? [] : [first, ...session.steps("elements", first, "nextSibling")];
 }
 
 /** What Documents, fragments and elements have. */
@@ -372,6 +349,9 @@ export const parentNode = {
 
 const childNodes = (node) =>
   (keptOf(node).childNodes ??= liveNodeList(realmOf(node), node, () => childNumbers(node)));
+
+// A node's fields are its own, so what reads one fails for anything else.
+const branded = (get) => ({ get, isBranded: true });
 
 export const Node = known({
   name: "Node",
@@ -397,21 +377,21 @@ export const Node = known({
     DOCUMENT_POSITION_IMPLEMENTATION_SPECIFIC: 32,
   },
   attributes: {
-    nodeType: kindOf,
+    nodeType: branded(kindOf),
     nodeName,
     baseURI: (node) => isOfDocument(node).url,
     isConnected: (node) => kindOf(rootOf(node)) === DOCUMENT,
     ownerDocument: (node) => (kindOf(node) === DOCUMENT ? null : documentOf(node)),
-    parentNode: parentOf,
+    parentNode: branded(parentOf),
     parentElement: (node) => {
       const parent = parentOf(node);
       return parent && kindOf(parent) === ELEMENT ? parent : null;
     },
     childNodes,
-    firstChild: firstChildOf,
-    lastChild: lastChildOf,
-    previousSibling: previousOf,
-    nextSibling: nextOf,
+    firstChild: branded(firstChildOf),
+    lastChild: branded(lastChildOf),
+    previousSibling: branded(previousOf),
+    nextSibling: branded(nextOf),
     nodeValue: {
       type: "DOMString?",
       get: (node) => (hasData(node) ? dataOf(node) : null),
@@ -421,7 +401,7 @@ export const Node = known({
   },
   operations: {
     getRootNode: [["any = undefined"], rootOf],
-    hasChildNodes: [[], (node) => firstChildOf(node) !== null],
+    hasChildNodes: [[], hasChild],
     normalize: [[], normalize],
     cloneNode: [["boolean = false"], cloneNode],
     isEqualNode: [["Node?"], (node, other) => isBeside(node, other) && compared("hp_is_equal", node, other) === 1],
