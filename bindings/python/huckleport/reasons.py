@@ -22,7 +22,9 @@ class Refused:
     def __init__(self, call: str, calls: Any, words: Sequence[Any]) -> None:
         self.call, self.calls = call, calls
         values = [made.HP_NONE if it is None else getattr(it, "number", it) for it in words]
-        self.words: Dict[str, Any] = dict(zip(made.PARAMETERS.get(call, ()), values))
+        # (to look an observer up is no call of the library)
+        names = made.PARAMETERS.get(call, ("observer",) if call == "mutation_observer" else ())
+        self.words: Dict[str, Any] = dict(zip(names, values))
 
     def nodes(self) -> List[str]:
         """The parameters that name a node."""
@@ -54,6 +56,8 @@ def missing(it: Refused) -> Optional[str]:
 
 def misplaced(it: Refused) -> Optional[str]:
     """Why a node can't come where it should."""
+    if it.call in ("extract_contents", "clone_contents"):
+        return f"range {it.words['range']} holds a doctype"
     over = "parent" if "parent" in it.words and it.call != "surround_contents" else "range"
     if over == "range":
         return f"{it.node('node' if 'node' in it.words else 'parent')} can't come where range {it.words['range']} stands"

@@ -124,7 +124,7 @@ class Session:
             self._calls.observe(number, node, hp_options(2, 2, 2, 2, 2, 2, 0), b"", [])
         except Error as fault:
             if fault.status == HP_NO_SUCH_OBJECT:
-                raise refusal(HP_NO_SUCH_OBJECT, "mutation_observer") from None
+                raise refusal(HP_NO_SUCH_OBJECT, "mutation_observer", self._calls, (number,)) from None
         finally:
             if node:
                 self._calls.discard(node)

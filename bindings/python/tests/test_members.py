@@ -181,10 +181,17 @@ class Reasons(unittest.TestCase):
         due = "data: there is no node 3, it was discarded or never made: no-such-object"
         self.assertEqual(self.said(lambda: self.text.data), due)
         self.assertEqual(self.said(lambda: self.a.append_child(self.text)), due.replace("data", "append_child"))
+        self.assertEqual(self.said(lambda: self.session.mutation_observer(9)), "mutation_observer: there is no observer 9, it was released or never made: no-such-object")
         found = self.document.create_range()
         found.release()
         self.assertEqual(self.said(lambda: found.start_offset), "range: there is no range 0, it was released or never made: no-such-object")
         self.assertIn("closed", self.said(lambda: (self.session.close(), self.a.tag_name)))
+
+    def test_doctypes_in_ranges(self):
+        doctype, found = self.document.create_document_type("html"), self.document.create_range()
+        self.document.insert_before(doctype, self.a)
+        found.select_node_contents(self.document)
+        self.assertEqual(self.said(found.extract_contents), "extract_contents: range 0 holds a doctype: HierarchyRequestError")
 
     def test_nothing_changes(self):
         before = self.document.tree()
