@@ -320,7 +320,10 @@ class Scene:
             self.step(["remove", answer])
 
     def change_removed(self, node):
-        """Changes a node that was removed, of which observers may still be told; it may be observed by itself first, or all are notified."""
+        """Changes a node that was removed, of which observers may still be told, or discards it; it may be observed first, or all are notified."""
+        if self.may_say("discard") and self.chance.random() < 0.2:
+            self.say("discard", node)
+            return
         if self.chance.random() < 0.5:
             self.say("observe", self.chance.choice(self.objects["observer"]), node, {**self.options([]), "childList": True, "attributes": True})
         if self.may_say("notify") and self.chance.random() < 0.5:
