@@ -249,8 +249,8 @@ class Players(unittest.TestCase):
     def test_jsdom(self):
         """The faults of jsdom are found, each by ten commands or fewer, and stand on the page."""
         with tempfile.TemporaryDirectory() as folder:
-            drawn = [word for it in ("texts", "observers", "traversal") for word in ("--group", it)]
-            status, out, err = said("play", *core(), "--out", folder, "--quiet", "--player", "jsdom", *drawn, "--seed", "21", "--streams", "18", "--for", "60")
+            drawn = [word for it in ("texts", "observers", "observers", "traversal") for word in ("--group", it)]
+            status, out, err = said("play", *core(), "--out", folder, "--quiet", "--player", "jsdom", *drawn, "--seed", "21", "--streams", "48", "--for", "60")
             cases, told = cases_of(folder)
             if status == 3 or told["version"] != "20.0.3":
                 print(f"left out: jsdom: {(out + err).strip()}")

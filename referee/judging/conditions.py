@@ -214,8 +214,17 @@ def data_sooner(shown):
 
 
 def sent_into_the_parent(shown):
-    """Ends in other nodes are told in the parent of what came in, in which the other end stood, as if their offsets were places there."""
-    return shown.all_moved(lambda it: it.before[0] != it.told[0] == it.other[0] and shown.after.kind(it.told[0]) != TEXT and it.told[1] > it.before[1])
+    """Ends in other nodes are told in the parent of what came in, in which the other end stood, as if their offsets were places there. Where a range
+    for insertNode seems to be collapsed by that, its end is told behind the node.
+    """
+    sent = lambda it: it.before[0] != it.told[0] == it.other[0] and shown.after.kind(it.told[0]) != TEXT and it.told[1] > it.before[1]
+    collapsed = lambda it: shown.cause[0] == "insertNode" and it.told == shown.player.behind(last_in(shown, shown.cause[2]))
+    return shown.all_moved(lambda it: sent(it) or collapsed(it)) and any(map(sent, shown.moved))
+
+
+def last_in(shown, node):
+    """The last node that comes in with a node: a fragment's last child, or itself."""
+    return shown.before.children[node][-1] if shown.kind(node) == FRAGMENT else node
 
 
 def joined_end_in_the_parent(shown):

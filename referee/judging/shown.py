@@ -53,6 +53,11 @@ class State:
         at = around.index(number) + step if number in around else -1
         return around[at] if 0 <= at < len(around) else None
 
+    def behind(self, number):
+        """The point right behind a node in its parent; none where it has none."""
+        parent = self.parent.get(number)
+        return None if parent is None else (parent, self.children[parent].index(number) + 1)
+
 
 class Shown:
     """A difference as conditions ask about it: its turns, `cause`, which is the command that it comes from, and the states around that one."""
