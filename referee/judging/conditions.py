@@ -95,9 +95,9 @@ def text_beside_text(shown):
     return node == child or any(shown.after.kind(one) == shown.after.kind(other) == TEXT for one, other in zip(around, around[1:]))
 
 
-def replacement_was_refused(shown):
-    """A replacement was refused, nothing was changed after it, and what is told is what comes where its node was removed."""
-    at = shown.refused("replaceChild")
+def refused_and_taken_out(shown):
+    """An edit was refused, nothing was changed after it, and what is told is what comes where its node was removed."""
+    at = shown.refused("replaceChild", "insertBefore")
     return at is not None and not any(map(changes, shown.turns[at:])) and shown.tells(shown.asked([["remove", shown.turns[at].command[2]]], at))
 
 
@@ -270,7 +270,7 @@ def end_one_too_far(shown):
 LISTED = (
     (name_that_xml_has_not, name_beyond_ascii, name_with_a_colon, text_not_well_formed, offset_at_the_end),
     (node_above_or_document, node_above_the_parent, node_is_the_child, node_beside_itself, fragment_is_answered, text_beside_text),
-    (replacement_was_refused, surrounded_half, filter_was_given, reference_outside_the_root),
+    (refused_and_taken_out, surrounded_half, filter_was_given, reference_outside_the_root),
     (records_of_nothing, no_transients, records_of_equal_data, taken_out_first, data_ahead_of_the_new_text, children_one_by_one, data_sooner),
     (sent_into_the_parent, joined_end_in_the_parent, end_in_an_empty_text, text_is_normalized, end_in_the_new_text, sibling_from_ahead, end_one_too_far),
 )

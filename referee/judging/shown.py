@@ -72,10 +72,10 @@ class Shown:
     after = cached_property(lambda self: State(self.states.get("due") or {}))
     player = cached_property(lambda self: State(self.states.get("told") or {}))
 
-    def refused(self, name):
-        """The place of the last command that was refused, if it has that name."""
+    def refused(self, *names):
+        """The place of the last command that was refused, if it has one of these names."""
         found = next((at for at in reversed(range(len(self.turns))) if "error" in self.turns[at].reply), None)
-        return found if found is not None and self.turns[found].command[0] == name else None
+        return found if found is not None and self.turns[found].command[0] in names else None
 
     def of(self, name):
         """The commands of that name."""
