@@ -25,6 +25,12 @@ def name_that_xml_has_not(shown):
     return not XML_NAME.fullmatch(name_of(shown))
 
 
+def name_that_is_no_qname(shown):
+    """The name that the command gives is none by XML's production QName: one or two names without a colon, with a colon between."""
+    parts = name_of(shown).split(":")
+    return len(parts) > 2 or not all(map(XML_NAME.fullmatch, parts))
+
+
 def name_beyond_ascii(shown):
     """The name that the command gives is one by XML's production, and has a character beyond ASCII."""
     return bool(XML_NAME.fullmatch(name_of(shown))) and not name_of(shown).isascii()
@@ -268,7 +274,7 @@ def end_one_too_far(shown):
 
 
 LISTED = (
-    (name_that_xml_has_not, name_beyond_ascii, name_with_a_colon, text_not_well_formed, offset_at_the_end),
+    (name_that_xml_has_not, name_that_is_no_qname, name_beyond_ascii, name_with_a_colon, text_not_well_formed, offset_at_the_end),
     (node_above_or_document, node_above_the_parent, node_is_the_child, node_beside_itself, fragment_is_answered, text_beside_text),
     (refused_and_taken_out, surrounded_half, filter_was_given, reference_outside_the_root),
     (records_of_nothing, no_transients, records_of_equal_data, taken_out_first, data_ahead_of_the_new_text, children_one_by_one, data_sooner),
