@@ -10,7 +10,7 @@ import tomllib
 import files
 from given import ARCHIVE, BINDINGS, LICENSE, NAME, VERSION, has_header, node_headers, page, run, text_of
 
-TAG = "cp39-abi3-linux_x86_64"
+TAG = "cp38-abi3-linux_x86_64"
 
 
 def license_file():
@@ -35,7 +35,7 @@ def record(found, at):
 
 
 def wheel(work, to):
-    """The wheel for each CPython from 3.9 on, with the extension module. It is a zip whose form is settled, and needs no tool of its own."""
+    """The wheel for each CPython from 3.8 on, with the extension module. It is a zip whose form is settled, and needs no tool of its own."""
     if not shutil.which("gcc") or not has_header(sysconfig.get_path("include"), "Python.h"):
         return "there is no gcc, or no Python.h"
     module = os.path.join(work, "_core.abi3.so")
