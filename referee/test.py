@@ -287,7 +287,7 @@ def main():
     names = given.only or [it.__name__ for it in (Words, Itself, Kept, Bodies, Players)]
     found = unittest.defaultTestLoader.loadTestsFromNames(names, sys.modules[__name__])
     ran = unittest.TextTestRunner(verbosity=1).run(found)
-    wrong_ones = len({test.id() for test, _ in [*ran.failures, *ran.errors]})
+    wrong_ones = len({getattr(test, "test_case", test).id() for test, _ in [*ran.failures, *ran.errors]})
     print(f"{passed + ran.testsRun - wrong_ones} passed, {failed + wrong_ones} failed")
     return 0 if ran.wasSuccessful() else 1
 

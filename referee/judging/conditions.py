@@ -223,7 +223,8 @@ def sent_into_the_parent(shown):
     """Ends in other nodes are told in the parent of what came in, in which the other end stood, as if their offsets were places there. Where a range
     for insertNode seems to be collapsed by that, its end is told behind the node.
     """
-    sent = lambda it: it.before[0] != it.told[0] == it.other[0] and shown.after.kind(it.told[0]) != TEXT and it.told[1] > it.before[1]
+    offset = lambda it: it.due[1] if it.due[0] == it.before[0] else it.before[1]
+    sent = lambda it: it.before[0] != it.told[0] == it.other[0] and shown.after.kind(it.told[0]) != TEXT and it.told[1] > offset(it)
     collapsed = lambda it: shown.cause[0] == "insertNode" and it.told == shown.player.behind(last_in(shown, shown.cause[2]))
     return shown.all_moved(lambda it: sent(it) or collapsed(it)) and any(map(sent, shown.moved))
 
