@@ -1,11 +1,9 @@
 // Nanoseconds of processor time a step of scenes, by this package and by jsdom where that is there, with NODE_PATH at the folder that has jsdom
 // (Debian's node-jsdom: /usr/share/nodejs): `node bench/run.js [--count N] [--times N] [--scene NAME]`.
 //
-// Each scene is run a few times by each, each time in a process of its own, and the quickest run is told. The ratio is jsdom's over ours. A scene is
-// made ready in a turn of the event loop of its own, and what it leaves to the end of its turn is counted.
+// Each scene is run a few times by each, each time in a process of its own, and the quickest run is told. The ratio is jsdom's over ours.
 import { spawnSync } from "node:child_process";
 import { createRequire } from "node:module";
-import { setImmediate as turn } from "node:timers/promises";
 import { fileURLToPath } from "node:url";
 import { parseArgs } from "node:util";
 
@@ -52,10 +50,8 @@ const taken = () => {
 async function once(by, scene, count) {
   const window = await WINDOWS[by]();
   const does = SCENES[scene].ready(window, countOf(scene, count));
-  await turn();
   const before = taken();
   does();
-  await turn();
   process.stdout.write(`${(taken() - before) * 1000}\n`);
   process.exit(0);
 }

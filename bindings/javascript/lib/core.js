@@ -4,22 +4,59 @@
  * Nothing here tells what a document is; each question goes to the addon, which answers a status. A refusal is thrown as a Refusal, which is no
  * Error: an interface's method turns it into an exception of its own realm.
  */
-import { setImmediate } from "node:timers";
+import { has, native, out } from "./native.js";
 
-import { check, has, lent, native, NONE, OK, out } from "./calls.js";
-import { Objects } from "./objects.js";
-import { turnOver } from "./wrappers.js";
+export { has, native, out };
 
-export * from "./calls.js";
+export const NONE = native.HP_NONE;
+export const OK = native.HP_OK;
+
+/** The standard's numbers of the kinds of nodes. */
+export const ELEMENT = 1;
+export const TEXT = 3;
+export const INSTRUCTION = 7;
+export const COMMENT = 8;
+export const DOCUMENT = 9;
+export const DOCTYPE = 10;
+export const FRAGMENT = 11;
+
+/** Why a call was refused: the library's status, and words where the status does not say it. */
+export class Refusal {
+  constructor(status, message = "") {
+    this.status = status;
+    this.message = message;
+  }
+}
+
+/** Refuses what the status refuses. */
+export function check(status) {
+  if (status !== OK) throw new Refusal(status);
+}
+
+/** A text that a call lends, or null where it is not there. */
+export function lent(answer) {
+  if (typeof answer === "string") return answer;
+  if (answer === native.HP_NOT_THERE) return null;
+  throw new Refusal(answer);
+}
+
+/** The numbers of the last answer of a session. */
+export function listed(session) {
+  const found = [];
+  let count = 1;
+  while (found.length < count) {
+    check(native.listed(session.index, found.length));
+    count = out[0];
+    const here = Math.min(count - found.length, out.length - 1);
+    for (let at = 1; at <= here; at++) found.push(out[at]);
+  }
+  return found;
+}
 
 const NO_BYTES = new Uint8Array(0);
 const NO_NUMBERS = new Uint32Array(0);
 const ROOT_DOCUMENT = 0;
 const CLOSED = NONE;
-// How many steps of a walker are made at once at most.
-const AT_ONCE = 4096;
-// After a change, so much has to be earned before anything is read ahead.
-const NO_CREDIT = -256;
 const SHOW = { all: 0xffffffff, elements: 1 };
 
 /** The moves of a walker, by the library's numbers. */
@@ -31,14 +68,10 @@ const sessions = new FinalizationRegistry((index) => native.close(index));
 export class Session {
   /** The addon's index, where it is open. */
   index;
-  /** Another number, but 0, after each change that the facade asks for, so that what was read of a tree is known to be old. */
-  version = 1;
-  /** How many numbers of nodes may be read ahead: it grows with each question since the last change. */
-  credit = 0;
-  /** The iterator that the core has moved further than the program, held weakly, or null. */
-  ahead = null;
-  /** The wrapper of each node that has one, by number. */
-  nodes = new Objects(turnOver);
+  /** Grows with each change that the facade asks for, so that what was read of a tree is known to be old. */
+  version = 0;
+  /** The wrapper of each node that has one, held weakly, by number. */
+  nodes = new Map();
   /** What the facade knows of each Document: its type, its content type, its realm. */
   documents = new Map();
   /** What marks and names mean, by the name that the core has. */
@@ -76,34 +109,14 @@ export class Session {
   /** Answers a line of JSON, as bytes or as a string, with the line of its reply. */
   line(line) {
     // (what the line refuses stands in the reply)
-    this.attempt(native.hp_line, typeof line === "string" ? Buffer.from(line) : line);
+    native.hp_line(this.index, typeof line === "string" ? Buffer.from(line) : line);
+    this.changed();
     return lent(native.hp_reply_line(this.index));
   }
 
-  /** Makes a change by a call of the library, or throws why it was refused. What was known of trees is old then. */
-  change(call, first, second, third, fourth) {
-    check(this.attempt(call, first, second, third, fourth));
-  }
-
-  /** The same, but answers the status. */
-  attempt(call, first, second, third, fourth) {
-    if (this.ahead !== null) this.giveBack();
-    const status = call(this.index, first, second, third, fourth);
-    this.#changed();
-    return status;
-  }
-
-  /** Has the core bring an iterator back that it moved further than the program. */
-  giveBack() {
-    const iterator = this.ahead?.deref();
-    this.ahead = null;
-    iterator?.giveBack();
-  }
-
   /** Says that something has changed: observers are told once the program is done. */
-  #changed() {
-    this.version = (this.version + 1) | 0 || 1;
-    this.credit = NO_CREDIT;
+  changed() {
+    this.version++;
     if (this.isWatched && !this.#isTelling) {
       this.#isTelling = true;
       queueMicrotask(() => {
@@ -132,19 +145,8 @@ export class Session {
 
   /** The number of the node where such a walker comes from a node, or NONE. */
   step(show, number, move) {
-    check(native.walk(this.index, this.walker(SHOW[show]), number, ROOT_DOCUMENT, MOVES[move], 1));
-    return out[0] === 0 ? NONE : out[1];
-  }
-
-  /** The numbers of all nodes that it comes to by a move that is made again and again. */
-  steps(show, number, move) {
-    const found = [];
-    for (let from = number, more = true; more; from = found.at(-1)) {
-      check(native.walk(this.index, this.walker(SHOW[show]), from, ROOT_DOCUMENT, MOVES[move], AT_ONCE));
-      for (let at = 1; at <= out[0]; at++) found.push(out[at]);
-      more = out[0] === AT_ONCE;
-    }
-    return found;
+    check(native.step(this.index, this.walker(SHOW[show]), number, MOVES[move]));
+    return out[0];
   }
 
   /** An observer of the facade's own, which is never told anything. */
@@ -158,8 +160,9 @@ export class Session {
 
   // ---- What is let go.
 
-  /** Wants to be told when the wrapper of a root is gone; those below it go together with it. */
-  watchRoot(wrapper, number) {
+  /** Keeps a node's wrapper, weakly. */
+  keep(wrapper, number) {
+    this.nodes.set(number, new WeakRef(wrapper));
     this.#wrappers.register(wrapper, number);
   }
 
@@ -184,7 +187,8 @@ export class Session {
   }
 
   #lose(number) {
-    if (this.nodes.get(number) !== undefined) return;
+    const found = this.nodes.get(number);
+    if (found === undefined || found.deref() !== undefined) return;
     this.nodes.delete(number);
     this.#leaving.add(number);
     this.#sweepSoon();
@@ -211,7 +215,7 @@ export class Session {
   #discard(number) {
     const root = native.hp_root(this.index, number) === OK ? out[0] : NONE;
     this.#leaving.delete(number);
-    if (root === NONE || root === ROOT_DOCUMENT || this.nodes.get(root) !== undefined) return;
+    if (root === NONE || root === ROOT_DOCUMENT || this.nodes.get(root)?.deref() !== undefined) return;
     if (native.hp_discard(this.index, root) === OK) this.documents.delete(root);
     // One number stands for all of a tree that is in use.
     else this.#leaving.add(root);

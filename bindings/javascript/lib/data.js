@@ -1,14 +1,16 @@
 /** CharacterData, Text, Comment and ProcessingInstruction. */
 import { check, COMMENT, INSTRUCTION, lent, native, out, TEXT } from "./core.js";
-import { childNode, createComment, createText, dataOf, namePart, setData, siblings } from "./nodes.js";
+import { childNode, createComment, createText, dataOf, namePart, nextOf, previousOf, setData, siblings } from "./nodes.js";
 import { known } from "./webidl.js";
-import { isNode, kindOf, nextOf, numberOf, previousOf, sessionOf, wrap } from "./wrappers.js";
+import { isNode, kindOf, numberOf, sessionOf, wrap } from "./wrappers.js";
 
 /** A call that changes the data of a node. */
 const changing =
   (call) =>
   (node, ...words) => {
-    sessionOf(node).change(call, numberOf(node), ...words);
+    const session = sessionOf(node);
+    check(native[call](session.index, numberOf(node), ...words));
+    session.changed();
   };
 
 function length(node) {
@@ -35,10 +37,10 @@ export const CharacterData = known({
   },
   operations: {
     substringData: [[OFFSET, OFFSET], substringData],
-    appendData: [["DOMString"], changing(native.hp_append_data)],
-    insertData: [[OFFSET, "DOMString"], changing(native.hp_insert_data)],
-    deleteData: [[OFFSET, OFFSET], changing(native.hp_delete_data)],
-    replaceData: [[OFFSET, OFFSET, "DOMString"], changing(native.hp_replace_data)],
+    appendData: [["DOMString"], changing("hp_append_data")],
+    insertData: [[OFFSET, "DOMString"], changing("hp_insert_data")],
+    deleteData: [[OFFSET, OFFSET], changing("hp_delete_data")],
+    replaceData: [[OFFSET, OFFSET, "DOMString"], changing("hp_replace_data")],
     ...childNode.operations,
   },
   hidden: childNode.hidden,
@@ -48,8 +50,10 @@ const isText = (it) => isNode(it) && kindOf(it) === TEXT;
 
 function splitText(text, offset) {
   const session = sessionOf(text);
-  session.change(native.hp_split_text, numberOf(text), offset);
-  return wrap(session, out[0]);
+  check(native.hp_split_text(session.index, numberOf(text), offset));
+  const rest = out[0];
+  session.changed();
+  return wrap(session, rest);
 }
 
 /** The data of a Text and of the Texts right beside it. */

@@ -12,37 +12,25 @@ import {
   createFragment,
   createInstruction,
   createText,
+  firstChildOf,
   importNode,
   namePart,
+  nextOf,
   parentNode,
 } from "./nodes.js";
 import { createRange } from "./ranges.js";
 import { createNodeIterator, createTreeWalker } from "./traversal.js";
 import { known } from "./webidl.js";
-import {
-  documentIs,
-  firstChildOf,
-  isNode,
-  keptOf,
-  kindOf,
-  makeThing,
-  nextOf,
-  numberOf,
-  realmOf,
-  sessionOf,
-  thingOf,
-  wrap,
-  wrapDocument,
-} from "./wrappers.js";
+import { documentIs, isNode, keptOf, kindOf, makeThing, numberOf, realmOf, sessionOf, thingOf, wrap, wrapDocument } from "./wrappers.js";
 
 // ---- New Documents.
 
 const XML_TYPE = "application/xml";
 const TYPES = { [HTML]: "application/xhtml+xml", [SVG]: "image/svg+xml" };
 
-/** What the facade knows of a Document of HTML, or of XML; the core's names of its elements by those that `createElement` was given. */
-export const htmlIs = (realm) => ({ realm, isHtml: true, contentType: "text/html", url: "about:blank", coreNames: new Map() });
-export const xmlIs = (realm, contentType = XML_TYPE) => ({ realm, isHtml: false, contentType, url: "about:blank", coreNames: new Map() });
+/** What the facade knows of a Document of HTML, or of XML. */
+export const htmlIs = (realm) => ({ realm, isHtml: true, contentType: "text/html", url: "about:blank" });
+export const xmlIs = (realm, contentType = XML_TYPE) => ({ realm, isHtml: false, contentType, url: "about:blank" });
 
 /** A further Document of a session. */
 export function newDocument(session, its) {
@@ -53,17 +41,9 @@ export function newDocument(session, its) {
 const isOf = (document) => documentIs(sessionOf(document), numberOf(document));
 
 function createElement(document, name) {
-  const { coreNames } = isOf(document);
-  let marked = coreNames.get(name);
-  if (marked === undefined) coreNames.set(name, (marked = markedFor(document, name)));
-  return createElementMarked(document, marked);
-}
-
-/** The name that the core has of an element that `createElement` makes. */
-function markedFor(document, name) {
   const { isHtml, contentType } = isOf(document);
   const namespace = isHtml || contentType === TYPES[HTML] ? HTML : null;
-  return markedElement(sessionOf(document), { namespace, local: isHtml ? small(name) : name });
+  return createElementMarked(document, markedElement(sessionOf(document), { namespace, local: isHtml ? small(name) : name }));
 }
 
 export function createElementNS(document, namespace, qualified) {

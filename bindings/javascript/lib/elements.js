@@ -2,9 +2,22 @@
 import { check, ELEMENT, lent, native, out, Refusal } from "./core.js";
 import { htmlCollection } from "./lists.js";
 import { attributeName, elementName, extractedAttribute, HTML, markedAttribute, plainAttribute, small } from "./names.js";
-import { childNode, createText, documentOf, insertBefore, isOfDocument, nameOf, parentNode, siblings, tagName } from "./nodes.js";
+import {
+  childNode,
+  createText,
+  documentOf,
+  firstChildOf,
+  insertBefore,
+  isOfDocument,
+  nameOf,
+  nextOf,
+  parentNode,
+  parentOf,
+  siblings,
+  tagName,
+} from "./nodes.js";
 import { known } from "./webidl.js";
-import { firstChildOf, isNode, kindOf, nextOf, numberOf, parentOf, realmOf, sessionOf } from "./wrappers.js";
+import { isNode, kindOf, numberOf, realmOf, sessionOf } from "./wrappers.js";
 
 export const isElement = (it) => isNode(it) && kindOf(it) === ELEMENT;
 
@@ -49,11 +62,14 @@ function hasOf(element, core) {
 
 /** A call that changes attributes of an element. */
 function change(element, call, ...words) {
-  sessionOf(element).change(call, numberOf(element), ...words);
-  return out[0];
+  const session = sessionOf(element);
+  check(native[call](session.index, numberOf(element), ...words));
+  const answer = out[0];
+  session.changed();
+  return answer;
 }
 
-export const setAttributeMarked = (element, core, value) => change(element, native.hp_set_attribute, core, value);
+export const setAttributeMarked = (element, core, value) => change(element, "hp_set_attribute", core, value);
 
 function setAttributeNS(element, namespace, qualified, value) {
   const session = sessionOf(element);
@@ -63,13 +79,13 @@ function setAttributeNS(element, namespace, qualified, value) {
 }
 
 function removeAttribute(element, core) {
-  change(element, native.hp_remove_attribute, core);
+  change(element, "hp_remove_attribute", core);
 }
 
 const FORCE = { false: 0, true: 1, undefined: 2 };
 
 function toggleAttribute(element, name, force) {
-  return change(element, native.hp_toggle_attribute, byQualified(element, sought(element, name)), FORCE[force === undefined ? force : Boolean(force)]) === 1;
+  return change(element, "hp_toggle_attribute", byQualified(element, sought(element, name)), FORCE[force === undefined ? force : Boolean(force)]) === 1;
 }
 
 /** An attribute that stands for a property of text. */

@@ -1,7 +1,7 @@
 /** NodeList and HTMLCollection: lists of nodes by index, live ones and those of a moment. */
 import { check, DOCUMENT, ELEMENT, FRAGMENT, native, out } from "./core.js";
 import { known } from "./webidl.js";
-import { firstChildOf, kindOf, numberOf, sessionOf, wrap, wrapNear } from "./wrappers.js";
+import { kindOf, numberOf, sessionOf, wrap } from "./wrappers.js";
 
 /** The kinds whose length counts children; that of others counts units. */
 const MAY_HAVE_CHILDREN = new Set([ELEMENT, DOCUMENT, FRAGMENT]);
@@ -17,13 +17,8 @@ class LiveIs {
     this.#read = read;
   }
 
-  /** Whether they were read since the last change. */
-  get isRead() {
-    return this.#version === this.session.version;
-  }
-
   get numbers() {
-    if (!this.isRead) {
+    if (this.#version !== this.session.version) {
       this.#numbers = this.#read();
       this.#version = this.session.version;
     }
@@ -49,15 +44,14 @@ class ChildrenIs extends LiveIs {
 
   get length() {
     if (!MAY_HAVE_CHILDREN.has(kindOf(this.node))) return 0;
-    if (this.isRead) return this.numbers.length;
     check(native.hp_length(this.session.index, numberOf(this.node)));
     return out[0];
   }
 
   at(index) {
-    if (index === 0) return firstChildOf(this.node);
-    const { numbers } = this;
-    return index < numbers.length ? wrapNear(this.node, numbers[index]) : null;
+    if (index > 0) return super.at(index);
+    const first = this.session.step("all", numberOf(this.node), "firstChild");
+    return first === native.HP_NONE ? null : wrap(this.session, first);
   }
 }
 

@@ -2,8 +2,8 @@
 import { DOCTYPE, DOCUMENT, ELEMENT, FRAGMENT } from "./core.js";
 import { attributesOf } from "./elements.js";
 import { XML, XMLNS } from "./names.js";
-import { nameOf } from "./nodes.js";
-import { kindOf, parentOf } from "./wrappers.js";
+import { nameOf, parentOf } from "./nodes.js";
+import { kindOf } from "./wrappers.js";
 
 const orNull = (text) => (text === "" ? null : text);
 const isElement = (node) => node !== null && kindOf(node) === ELEMENT;

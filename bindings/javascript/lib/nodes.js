@@ -7,38 +7,48 @@ import {
   arrive,
   childrenOf,
   documentIs,
-  documentNumber,
-  firstChildOf,
-  hasChild,
-  heldBelow,
-  holdBelow,
   isNode,
   keptOf,
   kindOf,
-  lastChildOf,
-  nextOf,
+  moving,
   numberIn,
   numberInOrNone,
   numberOf,
-  parentOf,
-  previousOf,
   realmOf,
   sessionOf,
   settle,
   wrap,
   wrapDocument,
   wrapMade,
-  wrapNear,
+  wrapOrNull,
 } from "./wrappers.js";
 
 // ---- Questions: each is a call of the library.
 
-export const documentOf = (node) => (kindOf(node) === DOCUMENT ? node : wrap(sessionOf(node), documentNumber(node)));
+/** Asks where a node stands: its document, kind, next sibling, parent and previous sibling are in `out`, in this order. */
+const ask = (node) => check(native.hp_node(sessionOf(node).index, numberOf(node)));
+const DOCUMENT_AT = 0;
+const NEXT_AT = 2;
+const PARENT_AT = 3;
+const PREVIOUS_AT = 4;
+
+function beside(node, at) {
+  ask(node);
+  return wrapOrNull(sessionOf(node), out[at]);
+}
+
+export const parentOf = (node) => beside(node, PARENT_AT);
+export const nextOf = (node) => beside(node, NEXT_AT);
+export const previousOf = (node) => beside(node, PREVIOUS_AT);
+export const documentOf = (node) => (kindOf(node) === DOCUMENT ? node : beside(node, DOCUMENT_AT));
 
 function stepped(node, show, move) {
-  const number = sessionOf(node).step(show, numberOf(node), move);
-  return number === NONE ? null : wrapNear(node, number);
+  const session = sessionOf(node);
+  return wrapOrNull(session, session.step(show, numberOf(node), move));
 }
+
+export const firstChildOf = (node) => stepped(node, "all", "firstChild");
+export const lastChildOf = (node) => stepped(node, "all", "lastChild");
 
 /** The children of a node by their numbers. */
 export function childNumbers(node) {
@@ -52,9 +62,8 @@ export function namePart(node, part) {
   const kept = keptOf(node);
   kept.names ??= [];
   if (kept.names[part] === undefined) {
-    const { index } = sessionOf(node);
-    check(native.hp_node(index, numberOf(node)));
-    kept.names[part] = lent(native.hp_node_name(index, part));
+    ask(node);
+    kept.names[part] = lent(native.hp_node_name(sessionOf(node).index, part));
   }
   return kept.names[part];
 }
@@ -67,7 +76,8 @@ export function nameOf(element) {
 
 /** What the session knows of a node's Document. */
 export function isOfDocument(node) {
-  return documentIs(sessionOf(node), documentNumber(node));
+  ask(node);
+  return documentIs(sessionOf(node), out[DOCUMENT_AT]);
 }
 
 function nodeName(node) {
@@ -99,7 +109,9 @@ export function dataOf(node) {
 }
 
 export function setData(node, text) {
-  sessionOf(node).change(native.hp_set_data, numberOf(node), text);
+  const session = sessionOf(node);
+  check(native.hp_set_data(session.index, numberOf(node), text));
+  session.changed();
 }
 
 function textContent(node) {
@@ -109,9 +121,11 @@ function textContent(node) {
 }
 
 function setTextContent(node, text) {
+  const session = sessionOf(node);
   const gone = hasData(node) ? [] : childrenOf(node);
-  sessionOf(node).change(native.hp_set_text_content, numberOf(node), text ?? "");
+  check(native.hp_set_text_content(session.index, numberOf(node), text ?? ""));
   gone.forEach(settle);
+  session.changed();
 }
 
 /** A call that answers a number about two nodes of one session. */
@@ -138,51 +152,63 @@ function rootOf(node) {
 
 export function insertBefore(parent, node, child) {
   const session = sessionOf(parent);
-  session.change(native.hp_insert_before, numberOf(parent), numberIn(session, node), numberInOrNone(session, child));
-  arrive(node, parent);
+  check(native.hp_insert_before(session.index, numberOf(parent), numberIn(session, node), numberInOrNone(session, child)));
+  arrive(moving(node), parent);
+  session.changed();
   return node;
 }
 
 export function appendChild(parent, node) {
   const session = sessionOf(parent);
-  session.change(native.hp_append_child, numberOf(parent), numberIn(session, node));
-  arrive(node, parent);
+  check(native.hp_append_child(session.index, numberOf(parent), numberIn(session, node)));
+  arrive(moving(node), parent);
+  session.changed();
   return node;
 }
 
 export function replaceChild(parent, node, child) {
   const session = sessionOf(parent);
-  session.change(native.hp_replace_child, numberOf(parent), numberIn(session, node), numberIn(session, child));
+  check(native.hp_replace_child(session.index, numberOf(parent), numberIn(session, node), numberIn(session, child)));
+  const come = moving(node);
   settle(child);
-  arrive(node, parent);
+  arrive(come, parent);
+  session.changed();
   return child;
+}
+
+function removed(node) {
+  const session = sessionOf(node);
+  settle(node);
+  session.changed();
+  return node;
 }
 
 export function removeChild(parent, child) {
   const session = sessionOf(parent);
-  session.change(native.hp_remove_child, numberOf(parent), numberIn(session, child));
-  settle(child);
-  return child;
+  check(native.hp_remove_child(session.index, numberOf(parent), numberIn(session, child)));
+  return removed(child);
 }
 
 export function remove(node) {
-  sessionOf(node).change(native.hp_remove, numberOf(node));
-  settle(node);
+  check(native.hp_remove(sessionOf(node).index, numberOf(node)));
+  removed(node);
 }
 
 function replaceAll(parent, node) {
   const session = sessionOf(parent);
   const gone = childrenOf(parent);
-  session.change(native.hp_replace_children, numberOf(parent), numberInOrNone(session, node));
+  const come = node === null ? [] : moving(node);
+  check(native.hp_replace_children(session.index, numberOf(parent), numberInOrNone(session, node)));
   gone.forEach(settle);
-  if (node !== null) arrive(node, parent);
+  arrive(come, parent);
+  session.changed();
 }
 
 const NO_FILTER = new Uint32Array(0);
 const NO_NAMES = new Uint8Array(0);
 const CHILDREN_BELOW = Uint8Array.of(1, 2, 2, 1, 2, 2, 0);
 
-/** Those that leave their parents while a change is made under a node, each with that parent, as an observer of the facade's own tells them. */
+/** The numbers of those that leave their parents while a change is made under a node, as an observer of the facade's own tells them. */
 function leaving(session, number, change) {
   const probe = session.probe();
   check(native.hp_observe(session.index, probe, number, CHILDREN_BELOW, NO_NAMES, NO_FILTER));
@@ -199,29 +225,26 @@ function leaving(session, number, change) {
 function removedIn(told) {
   const found = [];
   for (let at = 0; at < told.length; ) {
-    const from = at + 6 + told[at + 2];
-    const end = from + told[at + 3];
-    for (let it = from; it < end; it++) found.push({ number: told[it], parent: told[at + 1] });
-    at = end;
+    const [, , added, removed] = told.subarray(at, at + 4);
+    found.push(...told.subarray(at + 6 + added, at + 6 + added + removed));
+    at += 6 + added + removed;
   }
   return found;
 }
 
-/**
- * Makes a change under a node, after which the wrappers of what left its parent follow. All that may lose children has to be held: what has moved is
- * looked for among the children of where it was.
- */
+/** Makes a change under a node, after which the wrappers of what left its parent follow. */
 export function following(session, number, change) {
-  for (const { number: its, parent } of leaving(session, number, change)) {
-    const wrapper = heldBelow(session, parent, its);
-    if (wrapper !== undefined) settle(wrapper);
+  const gone = leaving(session, number, change);
+  for (const it of gone) {
+    const wrapper = session.nodes.get(it)?.deref();
+    if (wrapper) settle(wrapper);
   }
+  session.changed();
 }
 
 function normalize(node) {
   const session = sessionOf(node);
-  holdBelow(node);
-  following(session, numberOf(node), () => session.change(native.hp_normalize, numberOf(node)));
+  following(session, numberOf(node), () => check(native.hp_normalize(session.index, numberOf(node))));
 }
 
 /** A copy, made by a call that answers its number. */
@@ -238,9 +261,8 @@ export const importNode = (document, node, deep) =>
 
 export function adoptNode(document, node) {
   const session = sessionOf(document);
-  session.change(native.hp_adopt_node, numberOf(document), numberIn(session, node));
-  settle(node);
-  return node;
+  check(native.hp_adopt_node(session.index, numberOf(document), numberIn(session, node)));
+  return removed(node);
 }
 
 // ---- Making nodes in a Document.
@@ -327,8 +349,9 @@ export const siblings = {
 /** The children of a node that are elements, by their numbers. */
 function elementNumbers(node) {
   const session = sessionOf(node);
-  const first = session.step("elements", numberOf(node), "firstChild");
-  return first === NONE ? [] : [first, ...session.steps("elements", first, "nextSibling")];
+  const found = [];
+  for (let at = session.step("elements", numberOf(node), "firstChild"); at !== NONE; at = session.step("elements", at, "nextSibling")) found.push(at);
+  return found;
 }
 
 /** What Documents, fragments and elements have. */
@@ -349,9 +372,6 @@ export const parentNode = {
 
 const childNodes = (node) =>
   (keptOf(node).childNodes ??= liveNodeList(realmOf(node), node, () => childNumbers(node)));
-
-// A node's fields are its own, so what reads one fails for anything else.
-const branded = (get) => ({ get, isBranded: true });
 
 export const Node = known({
   name: "Node",
@@ -377,21 +397,21 @@ export const Node = known({
     DOCUMENT_POSITION_IMPLEMENTATION_SPECIFIC: 32,
   },
   attributes: {
-    nodeType: branded(kindOf),
+    nodeType: kindOf,
     nodeName,
     baseURI: (node) => isOfDocument(node).url,
     isConnected: (node) => kindOf(rootOf(node)) === DOCUMENT,
     ownerDocument: (node) => (kindOf(node) === DOCUMENT ? null : documentOf(node)),
-    parentNode: branded(parentOf),
+    parentNode: parentOf,
     parentElement: (node) => {
       const parent = parentOf(node);
       return parent && kindOf(parent) === ELEMENT ? parent : null;
     },
     childNodes,
-    firstChild: branded(firstChildOf),
-    lastChild: branded(lastChildOf),
-    previousSibling: branded(previousOf),
-    nextSibling: branded(nextOf),
+    firstChild: firstChildOf,
+    lastChild: lastChildOf,
+    previousSibling: previousOf,
+    nextSibling: nextOf,
     nodeValue: {
       type: "DOMString?",
       get: (node) => (hasData(node) ? dataOf(node) : null),
@@ -401,7 +421,7 @@ export const Node = known({
   },
   operations: {
     getRootNode: [["any = undefined"], rootOf],
-    hasChildNodes: [[], hasChild],
+    hasChildNodes: [[], (node) => firstChildOf(node) !== null],
     normalize: [[], normalize],
     cloneNode: [["boolean = false"], cloneNode],
     isEqualNode: [["Node?"], (node, other) => isBeside(node, other) && compared("hp_is_equal", node, other) === 1],

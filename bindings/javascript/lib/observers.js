@@ -8,110 +8,73 @@ import { keptOf, makeThing, numberOf, sessionOf, thingOf, wrap, wrapOrNull } fro
 const TYPES = ["attributes", "characterData", "childList"];
 const ATTRIBUTES = TYPES.indexOf("attributes");
 const CHILD_LIST = TYPES.indexOf("childList");
-// What the numbers of a record are, in their order; the nodes that were added and removed follow.
-const TARGET = 1;
-const ADDED = 2;
-const REMOVED = 3;
-const PREVIOUS = 4;
-const NEXT = 5;
 const HEAD = 6;
 
-// ---- Reading: all that is told comes as one array of numbers, and the texts beside it, since an answer is lent only until the next call.
+// ---- Reading: first all that is told, by numbers, since the answer is lent only until the next call; then the objects.
 
-/** What was told in one notice: numbers, the nodes that they stand for, and the texts of records that have some. */
-class Told {
-  texts = new Map();
+/** The records of a notice as plain objects of numbers and texts. */
+function read(session, notice, count) {
+  const told = native.records(session.index, notice, count);
+  if (typeof told === "number") check(told);
+  const found = [];
+  for (let at = 0; at < told.length; ) {
+    const [type, target, added, removed, previous, next] = told.subarray(at, at + HEAD);
+    at += HEAD;
+    const record = { type, target, previous, next, added: told.subarray(at, at + added), removed: told.subarray(at + added, at + added + removed) };
+    at += added + removed;
+    if (type !== CHILD_LIST) record.oldValue = lent(native.hp_record_old_value(session.index, notice, found.length));
+    if (type === ATTRIBUTES) record.name = lent(native.hp_record_name(session.index, notice, found.length));
+    found.push(record);
+  }
+  return found;
+}
 
-  constructor(session, notice, count) {
-    this.session = session;
-    this.numbers = native.records(session.index, notice, count);
-    if (typeof this.numbers === "number") check(this.numbers);
-    this.starts = this.#startsOf(count);
-    this.#readTexts(notice);
+/** Nodes that are held from now on, and made a list of when that is asked for. */
+class Held {
+  #realm;
+  #nodes;
+  #list;
+
+  constructor(realm, session, numbers) {
+    this.#realm = realm;
+    this.#nodes = Array.from(numbers, (number) => wrap(session, number));
   }
 
-  #startsOf(count) {
-    const { numbers } = this;
-    const starts = [];
-    for (let at = 0; starts.length < count; at += HEAD + numbers[at + ADDED] + numbers[at + REMOVED]) starts.push(at);
-    return starts;
-  }
-
-  #readTexts(notice) {
-    const { index } = this.session;
-    this.starts.forEach((at, record) => {
-      const type = this.numbers[at];
-      if (type === CHILD_LIST) return;
-      const oldValue = lent(native.hp_record_old_value(index, notice, record));
-      this.texts.set(at, { oldValue, name: type === ATTRIBUTES ? lent(native.hp_record_name(index, notice, record)) : null });
-    });
-  }
-
-  /** Some nodes in a row, each of them as an object from now on. */
-  nodes(from, count) {
-    if (count === 0) return NONE_OF_THEM;
-    const found = [];
-    for (let at = from; at < from + count; at++) found.push(wrap(this.session, this.numbers[at]));
-    return found;
-  }
-
-  node(at) {
-    return wrapOrNull(this.session, this.numbers[at]);
+  get list() {
+    return (this.#list ??= stillNodeList(this.#realm, this.#nodes));
   }
 }
 
-const NONE_OF_THEM = [];
-
-/** What a record says, of the numbers from one on. Its nodes are held from now on. */
 class RecordIs {
-  #realm;
   #added;
   #removed;
-  #addedList = null;
-  #removedList = null;
 
-  constructor(realm, told, at) {
-    const { numbers } = told;
-    const added = numbers[at + ADDED];
-    this.#realm = realm;
-    this.type = TYPES[numbers[at]];
-    this.target = told.node(at + TARGET);
-    this.#added = told.nodes(at + HEAD, added);
-    this.#removed = told.nodes(at + HEAD + added, numbers[at + REMOVED]);
-    this.previousSibling = told.node(at + PREVIOUS);
-    this.nextSibling = told.node(at + NEXT);
-    this.attributeName = this.attributeNamespace = this.oldValue = null;
-  }
-
-  /** Takes the texts of a record that has some. */
-  tell(session, { name, oldValue }) {
-    const its = name === null ? null : attributeName(session, name);
-    this.attributeName = its && its.local;
-    this.attributeNamespace = its && its.namespace;
-    this.oldValue = oldValue;
+  constructor(realm, session, told) {
+    const name = told.name === undefined ? null : attributeName(session, told.name);
+    this.type = TYPES[told.type];
+    this.target = wrap(session, told.target);
+    this.#added = new Held(realm, session, told.added);
+    this.#removed = new Held(realm, session, told.removed);
+    this.previousSibling = wrapOrNull(session, told.previous);
+    this.nextSibling = wrapOrNull(session, told.next);
+    this.attributeName = name && name.local;
+    this.attributeNamespace = name && name.namespace;
+    this.oldValue = told.oldValue ?? null;
   }
 
   get addedNodes() {
-    return (this.#addedList ??= stillNodeList(this.#realm, this.#added));
+    return this.#added.list;
   }
 
   get removedNodes() {
-    return (this.#removedList ??= stillNodeList(this.#realm, this.#removed));
+    return this.#removed.list;
   }
 }
 
 const recordOf = (it) => thingOf(it, RecordIs);
 
-function recordsOf(realm, told) {
-  const found = [];
-  for (const at of told.starts) {
-    const its = new RecordIs(realm, told, at);
-    const texts = told.texts.get(at);
-    if (texts !== undefined) its.tell(told.session, texts);
-    found.push(makeThing(realm, "MutationRecord", its));
-  }
-  return realm.array(found);
-}
+const recordsOf = (realm, session, told) =>
+  realm.array(told.map((it) => makeThing(realm, "MutationRecord", new RecordIs(realm, session, it))));
 
 const MEMBERS = "type target addedNodes removedNodes previousSibling nextSibling attributeName attributeNamespace oldValue".split(" ");
 
@@ -196,7 +159,7 @@ function takeRecords(observer) {
   for (const [session, number] of numbers) {
     check(native.hp_take_records(session.index, number));
     check(native.hp_count(session.index));
-    for (const record of recordsOf(realm, new Told(session, 0, out[0]))) found.push(record);
+    found.push(...recordsOf(realm, session, read(session, 0, out[0])));
   }
   return realm.array(found);
 }
@@ -210,7 +173,7 @@ function notices(session) {
   for (let at = 0; at < count; at++) {
     check(native.hp_notice_at(session.index, at));
     const [number, records] = out;
-    found.push({ number, told: new Told(session, at, records) });
+    found.push({ number, told: read(session, at, records) });
   }
   return found;
 }
@@ -219,7 +182,7 @@ function notices(session) {
 function notify(session) {
   const all = notices(session).map(({ number, told }) => {
     const observer = session.observers.get(number)?.deref();
-    return observer && { observer, records: recordsOf(observerOf(observer).realm, told) };
+    return observer && { observer, records: recordsOf(observerOf(observer).realm, session, told) };
   });
   for (const it of all) if (it) call(it.observer, it.records);
 }

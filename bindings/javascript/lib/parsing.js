@@ -14,12 +14,16 @@ import {
   createText,
   dataOf,
   documentOf,
+  firstChildOf,
   insertBefore,
+  lastChildOf,
   nameOf,
   namePart,
+  parentOf,
+  previousOf,
   remove,
 } from "./nodes.js";
-import { documentIs, firstChildOf, isNode, keptOf, kindOf, lastChildOf, numberOf, parentOf, previousOf, sessionOf, wrapNear } from "./wrappers.js";
+import { documentIs, isNode, keptOf, kindOf, numberOf, sessionOf, wrap } from "./wrappers.js";
 
 /** A package that is looked for beside this one and where the program runs. */
 function wanted(name, what) {
@@ -39,13 +43,15 @@ function wanted(name, what) {
 const isText = (node) => node !== null && kindOf(node) === TEXT;
 
 function appendData(text, data) {
-  sessionOf(text).change(native.hp_append_data, numberOf(text), data);
+  const session = sessionOf(text);
+  native.hp_append_data(session.index, numberOf(text), data);
+  session.changed();
 }
 
 /** An attribute of the parser's on an element. A name that the core does not take is left out. */
 function addAttribute(element, { name, value, namespace = null, prefix }) {
   const session = sessionOf(element);
-  session.attempt(native.hp_set_attribute, numberOf(element), markedAttribute(session, { namespace, prefix: prefix || null, local: name }), value);
+  native.hp_set_attribute(session.index, numberOf(element), markedAttribute(session, { namespace, prefix: prefix || null, local: name }), value);
 }
 
 function createElement(document, name, namespace, attributes) {
@@ -90,7 +96,7 @@ export function treeAdapter(document) {
     setTemplateContent: (element, content) => void (keptOf(element).content = content),
     getTemplateContent: (element) => keptOf(element).content ?? createFragment(documentOf(element)),
     getFirstChild: firstChildOf,
-    getChildNodes: (node) => childNumbers(node).map((number) => wrapNear(node, number)),
+    getChildNodes: (node) => childNumbers(node).map((number) => wrap(sessionOf(node), number)),
     getParentNode: parentOf,
     getAttrList: (element) => attributesOf(element).map(parserAttribute),
     getTagName: (element) => nameOf(element).qualified,

@@ -2,7 +2,7 @@
 import { check, lent, native, out } from "./core.js";
 import { following } from "./nodes.js";
 import { convertible, dictionary, known } from "./webidl.js";
-import { childrenOf, holdAbove, holdBelow, makeThing, numberIn, numberOf, realmOf, sessionOf, settle, thingOf, wrap } from "./wrappers.js";
+import { childrenOf, makeThing, numberIn, numberOf, realmOf, sessionOf, settle, thingOf, wrap } from "./wrappers.js";
 
 /** What a range knows: its number in its session, and the containers that it was last seen with, which it holds. */
 class EndsAre {
@@ -121,26 +121,22 @@ function text(range) {
 
 /** Makes a change of what is in a range; wrappers follow those that left their parents. */
 function within(range, call, ...words) {
-  const its = rangeOf(range);
-  const { session, number } = its;
-  hold(its);
-  holdAbove(its.start);
-  holdAbove(its.end);
+  const { session, number } = rangeOf(range);
   const ancestor = asked(range, "hp_common_ancestor");
   let answer;
   following(session, ancestor, () => {
-    session.change(call, number, ...words);
+    check(native[call](session.index, number, ...words));
     answer = out[0];
   });
-  hold(its);
+  hold(rangeOf(range));
   return answer;
 }
 
 function deleteContents(range) {
-  within(range, native.hp_delete_contents);
+  within(range, "hp_delete_contents");
 }
 
-const extractContents = (range) => wrap(rangeOf(range).session, within(range, native.hp_extract_contents));
+const extractContents = (range) => wrap(rangeOf(range).session, within(range, "hp_extract_contents"));
 
 function cloneContents(range) {
   const number = asked(range, "hp_clone_contents");
@@ -150,16 +146,16 @@ function cloneContents(range) {
 function insertNode(range, node) {
   const its = rangeOf(range);
   const come = [node, ...childrenOf(node)];
-  its.session.change(native.hp_insert_node, its.number, numberIn(its.session, node));
+  check(native.hp_insert_node(its.session.index, its.number, numberIn(its.session, node)));
   come.forEach(settle);
   hold(its);
+  its.session.changed();
 }
 
 function surroundContents(range, parent) {
   const { session } = rangeOf(range);
   const children = childrenOf(parent);
-  holdBelow(parent);
-  within(range, native.hp_surround_contents, numberIn(session, parent));
+  within(range, "hp_surround_contents", numberIn(session, parent));
   [...children, parent].forEach(settle);
 }
 

@@ -6,24 +6,9 @@
  * the filter took, so that it still gives way before removals.
  */
 import { check, MOVES, native, NONE, out, Refusal } from "./core.js";
-import { BRANDED, known, refuseType } from "./webidl.js";
-import {
-  firstChildOf,
-  kindOf,
-  lastChildOf,
-  makeThing,
-  nextOf,
-  numberIn,
-  numberOf,
-  parentOf,
-  previousOf,
-  realmOf,
-  sessionOf,
-  thingOf,
-  wrap,
-  wrapNear,
-  wrapOrNull,
-} from "./wrappers.js";
+import { firstChildOf, lastChildOf, nextOf, parentOf, previousOf } from "./nodes.js";
+import { known, refuseType } from "./webidl.js";
+import { kindOf, makeThing, numberIn, numberOf, realmOf, sessionOf, thingOf, wrap, wrapOrNull } from "./wrappers.js";
 
 const NO_BYTES = new Uint8Array(0);
 const NO_NUMBERS = new Uint32Array(0);
@@ -33,8 +18,6 @@ const REJECT = 2;
 const SKIP = 3;
 // The bit of a position that says a node follows another.
 const FOLLOWING = 4;
-// How many steps are made ahead of the program at most.
-const MOST_AHEAD = 256;
 
 function createdBy(call, root, show) {
   const session = sessionOf(root);
@@ -75,86 +58,16 @@ class Traversal {
   }
 }
 
-/**
- * Steps onwards that the core has made ahead of the program: one at first, and twice as many each time, as long as nothing changes.
- */
-class Ahead {
-  numbers = [];
-  at = 0;
-  version = 0;
-  #count = 0;
-
-  /** How many steps are to be made at once now. */
-  wanted(version) {
-    this.#count = this.version === version ? Math.min(2 * this.#count, MOST_AHEAD) : 1;
-    this.version = version;
-    return this.#count;
-  }
-
-  /** Takes the steps that were just made. The first is the program's; it is NONE where there was no step. */
-  take() {
-    this.numbers = Array.from(out.subarray(2, 1 + out[0]));
-    this.at = 0;
-    return out[0] === 0 ? NONE : out[1];
-  }
-
-  /** Whether there is a step that the program has not asked for, and still holds. */
-  has(version) {
-    return this.at < this.numbers.length && this.version === version;
-  }
-
-  drop() {
-    this.version = this.at = 0;
-    this.numbers = [];
-  }
-}
-
 // ---- Iterators.
 
 class IteratorIs extends Traversal {
-  #ahead = new Ahead();
-  #self = new WeakRef(this);
-  #found;
-
   constructor(root, show, filter) {
     super(root, show, filter);
-    this.#found = numberOf(root);
     this.number = createdBy("hp_create_iterator", root, filter === null ? show : ALL);
     this.probe = filter === null ? NONE : createdBy("hp_create_walker", root, show);
   }
 
-  /** The number of the next node, where the core may have gone already. */
-  next() {
-    const ahead = this.#ahead;
-    return ahead.has(this.session.version) ? ahead.numbers[ahead.at++] : this.#goAhead();
-  }
-
-  #goAhead() {
-    const { session } = this;
-    if (session.ahead !== this.#self) session.giveBack();
-    check(native.iterate(session.index, this.number, this.#ahead.wanted(session.version)));
-    const found = this.#ahead.take();
-    session.ahead = this.#ahead.numbers.length > 0 ? this.#self : null;
-    return found;
-  }
-
-  /** The object of the node that was found, which is near the one that was found before. */
-  to(number) {
-    if (number === NONE) return null;
-    const before = this.session.nodes.get(this.#found) ?? this.root;
-    this.#found = number;
-    return wrapNear(before, number);
-  }
-
-  /** Has the core go back to where the program is. */
-  giveBack() {
-    const left = this.#ahead.numbers.length - this.#ahead.at;
-    this.#ahead.drop();
-    if (left > 0) check(native.give_back(this.session.index, this.number, left));
-  }
-
   ask() {
-    if (this.session.ahead === this.#self) this.session.giveBack();
     check(native.hp_iterator(this.session.index, this.number));
   }
 
@@ -170,7 +83,6 @@ class IteratorIs extends Traversal {
 
   /** Moves in the core by a call. */
   move(call) {
-    if (this.session.ahead === this.#self) this.session.giveBack();
     check(native[call](this.session.index, this.number));
     return out[0];
   }
@@ -217,7 +129,7 @@ const BACK = { call: "hp_previous_node", move: "previousNode", isFirst: (its) =>
 function traverse(iterator, course) {
   const its = iteratorOf(iterator);
   if (its.isAsking) throw new Refusal(native.HP_INVALID_STATE_ERROR, "the filter is being asked");
-  if (its.filter === null) return its.to(course === FORTH ? its.next() : its.move(course.call));
+  if (its.filter === null) return wrapOrNull(its.session, its.move(course.call));
   const reference = its.reference;
   let node = course.isFirst(its) ? reference : shown(its, reference, course.move);
   while (node && its.verdict(node) !== ACCEPT) node = shown(its, node, course.move);
@@ -243,8 +155,8 @@ export const NodeIterator = known({
     filter: (it) => iteratorOf(it).filter,
   },
   operations: {
-    nextNode: [[], (it) => traverse(it, FORTH), BRANDED],
-    previousNode: [[], (it) => traverse(it, BACK), BRANDED],
+    nextNode: [[], (it) => traverse(it, FORTH)],
+    previousNode: [[], (it) => traverse(it, BACK)],
     detach: [[], () => undefined],
   },
 });
@@ -252,8 +164,6 @@ export const NodeIterator = known({
 // ---- Walkers.
 
 class WalkerIs extends Traversal {
-  #ahead = new Ahead();
-
   constructor(root, show, filter) {
     super(root, show, filter);
     this.current = root;
@@ -261,36 +171,18 @@ class WalkerIs extends Traversal {
   }
 
   set(node) {
-    numberIn(this.session, node);
-    this.#ahead.drop();
+    const number = numberIn(this.session, node);
+    if (this.number !== NONE) check(native.hp_set_current(this.session.index, this.number, number));
     this.current = node;
     return node;
   }
 
   /** Moves in the core. */
   walk(move) {
-    this.#ahead.drop();
-    this.#ask(move, 1);
-    return this.#to(out[0] === 0 ? NONE : out[1]);
-  }
-
-  /** Moves on to the next node, where the core may have gone already. */
-  next() {
-    const ahead = this.#ahead;
-    return this.#to(ahead.has(this.session.version) ? ahead.numbers[ahead.at++] : this.#goAhead());
-  }
-
-  #goAhead() {
-    this.#ask("nextNode", this.#ahead.wanted(this.session.version));
-    return this.#ahead.take();
-  }
-
-  #ask(move, count) {
-    check(native.walk(this.session.index, this.number, numberOf(this.current), numberOf(this.root), MOVES[move], count));
-  }
-
-  #to(number) {
-    return number === NONE ? null : (this.current = wrapNear(this.current, number));
+    check(native.hp_walk(this.session.index, this.number, MOVES[move]));
+    const found = wrapOrNull(this.session, out[0]);
+    if (found) this.current = found;
+    return found;
   }
 }
 
@@ -432,10 +324,8 @@ function walked(move) {
     [],
     (walker) => {
       const its = walkerOf(walker);
-      if (its.number === NONE) return BY_FILTER[move](its);
-      return move === "nextNode" ? its.next() : its.walk(move);
+      return its.number === NONE ? BY_FILTER[move](its) : its.walk(move);
     },
-    BRANDED,
   ];
 }
 

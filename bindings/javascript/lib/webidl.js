@@ -2,8 +2,8 @@
  * Interfaces from tables, as Web IDL binds them: conversions of what comes in, brands, argument counts, constants, constructors.
  *
  * An interface is an object with `name`, `parent`, `is` (its brand), and `constants`, `attributes`, `operations`, `construct`, `hidden` (names that a `with`
- * does not see). An attribute is a getter or `{ type, get, set, isBranded }`; an operation is a list of its arguments' types and a function of the object and
- * what came in, and BRANDED where that is so. The types are those of Web IDL in its words; `= value` gives what stands for an absent one, and `...` takes all that come.
+ * does not see). An attribute is a getter or `{ type, get, set }`; an operation is a list of its arguments' types and a function of the object and
+ * what came in. The types are those of Web IDL in its words; `= value` gives what stands for an absent one, and `...` takes all that come.
  */
 import { native, Refusal } from "./core.js";
 
@@ -166,32 +166,16 @@ function general(realm, test, does, required, types) {
   };
 }
 
-/** Says of an operation without arguments that it fails by itself for what is not of its interface, before it does anything. */
-export const BRANDED = Symbol("branded");
-
-/** A getter or an operation that does so: the brand is asked only where it failed. */
-const branded = (realm, test, does) => ({
-  operation() {
-    try {
-      return does(this);
-    } catch (fault) {
-      throw test(this) ? realm.thrown(fault) : realm.wrongThis();
-    }
-  },
-});
-
-function operation(realm, test, types, does, brand) {
+function operation(realm, test, types, does) {
   const all = types.map(argument);
   const required = requiredOf(types);
   const isPlain = all.length < FORMS.length && !all.some((it) => it.isVariadic);
-  if (brand === BRANDED) return { operation: branded(realm, test, does).operation, required };
   const made = isPlain ? FORMS[all.length](realm, test, does, required, all) : general(realm, test, does, required, types);
   return { operation: made.operation, required };
 }
 
-function getter(realm, test, { get, isBranded }, name) {
-  const form = isBranded ? branded : FORMS[0];
-  return named(form(realm, test, get).operation, `get ${name}`, 0);
+function getter(realm, test, get, name) {
+  return named(FORMS[0](realm, test, get).operation, `get ${name}`, 0);
 }
 
 function setter(realm, test, type, set, name) {
@@ -208,10 +192,9 @@ function addConstants(table, made) {
 
 function addAttributes(realm, table, prototype) {
   for (const [name, its] of Object.entries(table.attributes ?? {})) {
-    const attribute = typeof its === "function" ? { get: its } : its;
-    const { set, type } = attribute;
+    const { get, set, type } = typeof its === "function" ? { get: its } : its;
     Object.defineProperty(prototype, name, {
-      get: getter(realm, table.is, attribute, name),
+      get: getter(realm, table.is, get, name),
       set: set && setter(realm, table.is, type, set, name),
       enumerable: true,
       configurable: true,
@@ -220,8 +203,8 @@ function addAttributes(realm, table, prototype) {
 }
 
 function addOperations(realm, table, prototype) {
-  for (const [name, [types, does, brand]] of Object.entries(table.operations ?? {})) {
-    const made = operation(realm, table.is, types, does, brand);
+  for (const [name, [types, does]] of Object.entries(table.operations ?? {})) {
+    const made = operation(realm, table.is, types, does);
     const value = named(made.operation, name, made.required);
     Object.defineProperty(prototype, name, { value, enumerable: true, writable: true, configurable: true });
   }

@@ -303,155 +303,21 @@ static napi_value call_listed(napi_env env, napi_callback_info info)
     return plain(env, status);
 }
 
-/* A list of children that is being gone through: which of the shared numbers comes next, and where the list ends. */
-typedef struct level {
-    uint32_t at, end;
-} level;
-
-/* How many nodes lists are read below, and how deep. */
-#define ROOTS 16
-#define LEVELS 64
-
-/* Writes the list of a node: it, how many children it has, and these. Where there is no room for it, it is left out. (Of a Text the length counts
- * units, and the list is empty.) */
-static uint8_t write_list(call *it, uint32_t node, uint32_t *at, uint32_t end)
-{
-    size_t count = 0;
-    uint8_t status = hp_length(it->session, node, &count);
-    if (status != HP_OK || count > end || *at + 2 + count > end)
-        return status;
-    if (count) {
-        status = hp_children(it->session, node);
-        if (status == HP_OK)
-            status = hp_count(it->session, &count);
-    }
-    uint32_t *to = it->numbers + *at;
-    to[0] = node;
-    to[1] = (uint32_t)count;
-    for (size_t child = 0; child < count && status == HP_OK; child++)
-        status = hp_number_at(it->session, child, &to[2 + child]);
-    *at += 2 + (uint32_t)count;
-    return status;
-}
-
-/* Writes the list of a node and, in tree order, the lists of those below it, as long as there is room. */
-static uint8_t write_lists(call *it, uint32_t root, uint32_t *at, uint32_t end)
-{
-    level levels[LEVELS];
-    uint32_t deep = 0, from = *at;
-    uint8_t status = write_list(it, root, at, end);
-    if (*at > from + 2)
-        levels[deep++] = (level){ from + 2, *at };
-    while (deep && status == HP_OK && *at + 2 <= end) {
-        level *here = &levels[deep - 1];
-        if (here->at == here->end) {
-            deep--;
-            continue;
-        }
-        from = *at;
-        status = write_list(it, it->numbers[here->at++], at, end);
-        if (*at > from + 2 && deep < LEVELS)
-            levels[deep++] = (level){ from + 2, *at };
-    }
-    return status;
-}
-
-/* place(session, node, room): what hp_node tells; behind it where the list ends that follows, of the node's siblings, where there is room for it. */
-static napi_value call_place(napi_env env, napi_callback_info info)
+/* step(session, walker, node, move): where a walker comes from a node. It stands on node 0 else, so that no other node is in use by it. */
+static napi_value call_step(napi_env env, napi_callback_info info)
 {
     call it;
-    uint32_t node, room, at = 6;
-    hp_place place;
-    uint8_t status = begin(env, info, &it, 2);
-    if (status == HP_OK && !(number_of(&it, 1, &node) && number_of(&it, 2, &room) && room < SHARED - 6))
+    uint32_t walker, node, move, found = HP_NONE;
+    uint8_t status = begin(env, info, &it, 3);
+    if (status == HP_OK && !(number_of(&it, 1, &walker) && number_of(&it, 2, &node) && number_of(&it, 3, &move)))
         status = HP_BAD_ARGUMENTS;
     if (status == HP_OK)
-        status = hp_node(it.session, node, &place);
+        status = hp_set_current(it.session, walker, node);
     if (status != HP_OK)
         return plain(env, status);
-    uint32_t told[] = { place.document, place.kind, place.next, place.parent, place.previous };
-    memcpy(it.numbers, told, sizeof(told));
-    if (room && place.parent != HP_NONE)
-        status = write_list(&it, place.parent, &at, 6 + room);
-    it.numbers[5] = at;
-    return answered(&it, status);
-}
-
-/* lists(session, roots, room): the first shared numbers are so many nodes; after the call the first tells where the lists end that follow it. */
-static napi_value call_lists(napi_env env, napi_callback_info info)
-{
-    call it;
-    uint32_t count, room, at = 1, roots[ROOTS];
-    uint8_t status = begin(env, info, &it, 2);
-    if (status == HP_OK && !(number_of(&it, 1, &count) && number_of(&it, 2, &room) && count <= ROOTS && room < SHARED))
-        status = HP_BAD_ARGUMENTS;
-    if (status != HP_OK)
-        return plain(env, status);
-    memcpy(roots, it.numbers, count * sizeof(*roots));
-    for (uint32_t root = 0; root < count && status == HP_OK; root++)
-        status = write_lists(&it, roots[root], &at, room);
-    it.numbers[0] = at;
-    return answered(&it, status);
-}
-
-/* walk(session, walker, from, home, move, count): where a walker comes from a node by a move that is made so many times: the first number is how often
- * it found a node, and these follow. It stands at home else, so that no other node is in use by it. */
-static napi_value call_walk(napi_env env, napi_callback_info info)
-{
-    call it;
-    uint32_t walker, from, home, move, count, found = 0;
-    uint8_t status = begin(env, info, &it, 5);
-    if (status == HP_OK && !(number_of(&it, 1, &walker) && number_of(&it, 2, &from) && number_of(&it, 3, &home) && number_of(&it, 4, &move)))
-        status = HP_BAD_ARGUMENTS;
-    if (status == HP_OK && !(number_of(&it, 5, &count) && count < SHARED))
-        status = HP_BAD_ARGUMENTS;
-    if (status == HP_OK)
-        status = hp_set_current(it.session, walker, from);
-    if (status != HP_OK)
-        return plain(env, status);
-    while (found < count && status == HP_OK) {
-        status = hp_walk(it.session, walker, (uint8_t)move, &it.numbers[found + 1]);
-        if (status != HP_OK || it.numbers[found + 1] == HP_NONE)
-            break;
-        found++;
-    }
-    hp_set_current(it.session, walker, home);
+    status = hp_walk(it.session, walker, (uint8_t)move, &found);
+    hp_set_current(it.session, walker, 0);
     it.numbers[0] = found;
-    return plain(env, status);
-}
-
-/* iterate(session, iterator, count): moves an iterator on so many times: the first number is how often it found a node, and these follow. */
-static napi_value call_iterate(napi_env env, napi_callback_info info)
-{
-    call it;
-    uint32_t iterator, count, found = 0;
-    uint8_t status = begin(env, info, &it, 2);
-    if (status == HP_OK && !(number_of(&it, 1, &iterator) && number_of(&it, 2, &count) && count < SHARED))
-        status = HP_BAD_ARGUMENTS;
-    if (status != HP_OK)
-        return plain(env, status);
-    while (found < count && status == HP_OK) {
-        status = hp_next_node(it.session, iterator, &it.numbers[found + 1]);
-        if (status != HP_OK || it.numbers[found + 1] == HP_NONE)
-            break;
-        found++;
-    }
-    it.numbers[0] = found;
-    return plain(env, status);
-}
-
-/* give_back(session, iterator, count): moves an iterator back to where it was so many steps before: behind a node that it found then. */
-static napi_value call_give_back(napi_env env, napi_callback_info info)
-{
-    call it;
-    uint32_t iterator, count, node;
-    uint8_t status = begin(env, info, &it, 2);
-    if (status == HP_OK && !(number_of(&it, 1, &iterator) && number_of(&it, 2, &count)))
-        status = HP_BAD_ARGUMENTS;
-    for (uint32_t at = 0; at <= count && status == HP_OK; at++)
-        status = hp_previous_node(it.session, iterator, &node);
-    if (status == HP_OK)
-        status = hp_next_node(it.session, iterator, &node);
     return plain(env, status);
 }
 
@@ -544,11 +410,7 @@ static const entry OWN[] = {
     { "open", call_open },
     { "close", call_close },
     { "listed", call_listed },
-    { "walk", call_walk },
-    { "iterate", call_iterate },
-    { "give_back", call_give_back },
-    { "place", call_place },
-    { "lists", call_lists },
+    { "step", call_step },
     { "records", call_records },
     { "held", call_held },
 };
