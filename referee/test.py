@@ -35,7 +35,7 @@ FAILING = {"dies": "died", "hangs": "hung", "prints_rubbish": "rubbish"}
 LIBRARIES = ("c-lines", "c-calls", "python", "rust", "javascript")
 OTHERS = ("minidom", "lxml", "libxml2", "chromium", "firefox")
 # A stream that was seen to show a wrong body, which saves the time of drawing those before it. Others show it too.
-FIRST = {}
+FIRST = {"transient_counts": 237}
 # Which known differences a wrong body is, where a player has the same.
 KNOWN_AS = {
     "surround_half_done": {"surround all or nothing"},

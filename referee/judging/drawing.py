@@ -325,7 +325,8 @@ class Scene:
             self.say("discard", node)
             return
         if self.chance.random() < 0.5:
-            self.say("observe", self.chance.choice(self.objects["observer"]), node, {**self.options([]), "childList": True, "attributes": True})
+            options = {**self.options([]), "childList": True, "attributes": True, "characterData": True}
+            self.say("observe", self.chance.choice(self.objects["observer"]), node, options)
         if self.may_say("notify") and self.chance.random() < 0.5:
             self.say("notify")
         kind = self.kinds.get(node)
