@@ -222,12 +222,17 @@ class Scene:
         values = self.drawn(maker)
         return self.say(*values) if self.may_say(maker) else None
 
+    def append(self, parent, made):
+        """Appends what was made, unless its maker was refused."""
+        if made is not None:
+            self.say("appendChild", parent, made)
+
     def plant(self):
         """A small tree, in which Texts often stand side by side."""
         self.main = self.say("createElement", 0, "a")
         with_doctype = self.documents and self.may_say("createDoctype") and self.chance.random() < 0.25
         if with_doctype:
-            self.say("appendChild", 0, self.make(DOCTYPE))
+            self.append(0, self.make(DOCTYPE))
         if self.documents and self.chance.random() < (0.3 if with_doctype else 0.6):
             self.say("appendChild", 0, self.main)
         for _ in range(self.chance.randint(2, 7)):
@@ -260,7 +265,7 @@ class Scene:
         """A fragment that has a child or two."""
         made = self.make(FRAGMENT)
         for kind in (TEXT, self.chance.choice((ELEMENT, TEXT, COMMENT))) if made is not None else ():
-            self.say("appendChild", made, self.make(kind))
+            self.append(made, self.make(kind))
         return made
 
     def watch(self, group):
