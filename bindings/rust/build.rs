@@ -32,7 +32,19 @@ fn folder() -> PathBuf {
     by_pkg_config().or_else(beside).unwrap_or_else(|| here.join("../c/out"))
 }
 
+/// The crate's page: beside the crate, as a release has it, or among the documents of the repository.
+fn page() -> PathBuf {
+    let here = PathBuf::from(env::var_os("CARGO_MANIFEST_DIR").expect("cargo sets CARGO_MANIFEST_DIR"));
+    let beside = here.join("README.md");
+    if beside.is_file() {
+        beside
+    } else {
+        here.join("../../docs/rust.md")
+    }
+}
+
 fn main() {
+    println!("cargo:rustc-env=HUCKLEPORT_PAGE={}", page().display());
     for it in SETTINGS {
         println!("cargo:rerun-if-env-changed={it}");
     }

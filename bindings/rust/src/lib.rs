@@ -89,7 +89,7 @@ pub use rows::{Attributes, Row, Rows};
 pub use session::{utf16, Session};
 pub use traversal::{IteratorPlace, Move, WalkerPlace};
 
-// The lines that the crate's page shows are tried as well. (In the repository it is a link to that of the documents.)
+// The lines that the crate's page shows are tried as well; the build script says where it is.
 #[cfg(doctest)]
-#[doc = include_str!("../README.md")]
+#[doc = include_str!(env!("HUCKLEPORT_PAGE"))]
 struct Page;
