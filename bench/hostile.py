@@ -51,9 +51,23 @@ def iterators_on_a_text(count):
     return making, [["remove", count + 1]]
 
 
+def leaves_of_one_place(count):
+    """Leaves go whose numbers leave the same remainder as that of the node, deep in a chain, at which iterators stand."""
+    places = 2 ** count.bit_length() - 1
+    leaves = [count + places * at for at in range(1, 9)]
+    making = chain(count) + [["createElement", 0, "e"]] * (8 * places) + [["appendChild", 1, it] for it in leaves]
+    return making + [["createIterator", count, 1, []]] * count, [["remove", it] for it in leaves]
+
+
 def transients_of_one_observer(count):
     making = chain(count) + [["createObserver"], *(["observe", 0, it, SUBTREE] for it in range(1, count)), ["remove", count]]
     return making, [["notify"]]
+
+
+def transients_of_as_many_observers(count):
+    """A node leaves again, below as many observers as it has transient registrations of."""
+    making = chain(2) + [line for at in range(count) for line in (["createObserver"], ["observe", at, 1, {"attributes": True, "subtree": True}])]
+    return making + [["remove", 2], ["appendChild", 1, 2]], [["remove", 2]]
 
 
 def observers_of_a_node(count):
@@ -93,7 +107,9 @@ SCENES = (
     ("the same beside static ranges", watchers_at_depth(lambda at, node: [["createStaticRange", node, 0, node, 0]]), 300),
     ("the same beside observed nodes", watchers_at_depth(lambda at, node: [["createObserver"], ["observe", at, node, {"attributes": True}]]), 300),
     ("removal of a Text at depth on which iterators stand", iterators_on_a_text, 300),
+    ("removals of leaves that share the place of iterators at depth", leaves_of_one_place, 300),
     ("notify with transient registrations of one observer on one node", transients_of_one_observer, 500),
+    ("removal of a node that has transient registrations of as many observers as are above", transients_of_as_many_observers, 300),
     ("observers that come to observe one node", observers_of_a_node, 500),
     ("one step of a walker with as many rules as nodes", rules_of_a_filter, 300),
     ("removals under an observer of many attributes", removals_under_a_long_filter, 200),

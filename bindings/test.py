@@ -23,6 +23,13 @@ REPEATED = {
 }
 
 
+# Where it stands as a number: 1000000 for each major version, 1000 for each minor one.
+NUMBERED = {
+    "../crates/dom_c/src/version.rt": r"^const NUMBER: u32 = (.*);$",
+    "../crates/dom_c/specs/Version.antt": r"^version_number = (.*)$",
+}
+
+
 def parts():
     """The folders that have tests."""
     found = [name for name in os.listdir(HERE) if os.path.isfile(os.path.join(HERE, name, "test.py"))]
@@ -37,8 +44,10 @@ def text_of(file):
 def versions():
     """Whether each file that repeats the version has that of bindings/VERSION; says where one has not."""
     version = text_of("VERSION").strip()
-    found = {file: re.search(pattern, text_of(file), re.M | re.S if file.endswith(".md") else re.M) for file, pattern in REPEATED.items()}
-    others = [file for file, it in found.items() if not it or it[1] != version]
+    found = {file: re.search(pattern, text_of(file), re.M | re.S if file.endswith(".md") else re.M) for file, pattern in {**REPEATED, **NUMBERED}.items()}
+    major, minor, patch = map(int, version.split("."))
+    number = str(major * 1000000 + minor * 1000 + patch)
+    others = [file for file, it in found.items() if not it or it[1] != (number if file in NUMBERED else version)]
     for file in others:
         print(f"FAILED bindings/{file}: its version is not {version}, as bindings/VERSION has it")
     print(f"version {version} in {len(found) - len(others)} of {len(found)} files that repeat it", flush=True)

@@ -12,7 +12,7 @@ SOURCES = os.path.join(ROOT, "crates/dom_c/src")
 
 # The modules in the order in which a header is read. Others come behind them.
 ORDER = (
-    "status opening lines lending parts labels rows notices records telling places making editing copying asking texts attributes ranges "
+    "status version opening lines lending parts labels rows notices records telling places making editing copying asking nearby texts attributes ranges "
     "points statics contents traversing observing"
 ).split()
 
@@ -38,7 +38,7 @@ KEYWORDS = set(
 HANDLE = "Handle"
 
 Module = namedtuple("Module", "name doc exports structs constants")
-# kind: session, scalar, slice, in (a struct that is read), out (a number or struct that is written)
+# kind: session, scalar, slice, in (a struct that is read), out (a number or struct that is written), array (of those, which is written into)
 Parameter = namedtuple("Parameter", "kind name type")
 Export = namedtuple("Export", "name doc parameters")
 # kind: scalar, slice, pointer, struct
@@ -117,6 +117,8 @@ class Reader:
         reach, is_slice, base = whole[1], whole[2], whole[3]
         if is_slice and reach == "&" and base in SCALARS:
             return Parameter("slice", name, SCALARS[base])
+        if is_slice and reach == "&mut " and (base in SCALARS or base in self.names and base != HANDLE):
+            return Parameter("array", name, SCALARS.get(base) or self.names[base])
         if not is_slice and reach is None and base in SCALARS:
             return Parameter("scalar", name, SCALARS[base])
         if not is_slice and reach == "&mut " and (base in SCALARS or base in self.names and base != HANDLE):

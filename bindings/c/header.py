@@ -26,7 +26,8 @@ HEAD = """\
  *
  * C has to keep, since no call can test it:
  * - a session is HP_SESSION_INIT, all zero bytes, before its first hp_open; only calls change it, and no two copies of it are used;
- * - pointers point at what their type says, and a count is how many units or bytes stand at the pointer before it;
+ * - pointers point at what their type says, and a count is how many units or bytes stand at the pointer before it, a capacity
+ *   how many may be written there;
  * - what a call is handed stands apart: no two out pointers at one place, and nothing that the same session lent (copy it first);
  * - a session is used by one thread at a time. Different sessions may be used by different threads at once;
  * - no call is made in a signal handler, nor in the forked child of a process with threads; malloc, realloc and free are one allocator's.
@@ -114,6 +115,8 @@ def declared(it):
         return f"{it.type} {it.name}"
     if it.kind == "slice":
         return f"const {it.type} *{it.name}, size_t {it.name}_length"
+    if it.kind == "array":
+        return f"{it.type} *{it.name}, size_t {it.name}_capacity"
     return f"{'const ' if it.kind == 'in' else ''}{it.type} *{it.name}"
 
 
@@ -153,18 +156,25 @@ def handed(it):
     """A parameter as the inline form of a call hands it on."""
     if it.kind == "slice":
         return f"{it.name} ? {it.name} : (const {it.type} *)hp_nothing, {it.name}_length"
+    if it.kind == "array":
+        return f"{it.name} ? {it.name} : ({it.type} *)hp_nothing, {it.name}_capacity"
     return it.name
+
+
+def count_of(it):
+    """The parameter that tells how much stands at a pointer, or how much there is room for."""
+    return f"{it.name}_{'capacity' if it.kind == 'array' else 'length'}"
 
 
 def mended(export, lent):
     """The inline form of a call, which asks less than the export: null for nothing, and any value where something is lent."""
-    slices = [it for it in export.parameters if it.kind == "slice"]
+    slices = [it for it in export.parameters if it.kind in ("slice", "array")]
     outs = [it for it in export.parameters if it.kind == "out" and it.type in lent]
     if not slices and not outs:
         return ""
     text = f"static inline {prototype(export.name + '_mended', export.parameters)}\n{{\n"
     if slices:
-        text += f"    if ({' || '.join(f'(!{it.name} && {it.name}_length)' for it in slices)})\n        return HP_BAD_LENGTHS;\n"
+        text += f"    if ({' || '.join(f'(!{it.name} && {count_of(it)})' for it in slices)})\n        return HP_BAD_LENGTHS;\n"
     for it in outs:
         text += "".join(f"    {it.name}->{line};\n" for line in lent[it.type])
     text += f"    return {export.name}({', '.join(handed(it) for it in export.parameters)});\n}}\n"

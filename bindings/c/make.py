@@ -34,6 +34,7 @@ Cflags: -I${{includedir}}
 
 
 def pkgconfig(prefix, lib="", include=""):
+    """The text of huckleport.pc. A prefix that begins with ${pcfiledir} is told from where the file lies, so that its folder may be moved."""
     return PKGCONFIG.format(prefix=prefix, lib=lib, include=include, version=VERSION, license=LICENSE)
 
 
@@ -133,7 +134,7 @@ def install(folder, prefix):
         os.remove(link)
     os.symlink(SONAME, link)
     shutil.copy(os.path.join(folder, "huckleport.h"), os.path.join(prefix, "include"))
-    write(os.path.join(prefix, "lib/pkgconfig/huckleport.pc"), pkgconfig(prefix, "/lib", "/include"))
+    write(os.path.join(prefix, "lib/pkgconfig/huckleport.pc"), pkgconfig("${pcfiledir}/../..", "/lib", "/include"))
 
 
 def make(given):
@@ -152,7 +153,7 @@ def make(given):
     merge([archive, c_part], merged)
     check(share(given.compiler, merged, names, folder), names)
     write(os.path.join(folder, "huckleport.h"), text)
-    write(os.path.join(folder, "huckleport.pc"), pkgconfig(folder))
+    write(os.path.join(folder, "huckleport.pc"), pkgconfig("${pcfiledir}"))
     return folder, len(names)
 
 

@@ -4,6 +4,7 @@
 - the header compiles as C99 and as C++, and the shared object shows its calls alone;
 - each dialogue of dialogues through hp_line, byte for byte, and again through the calls of the header, from Python and from C;
 - each call with a closed session, and what is handed in wrongly;
+- what is read around a node, which takes no memory, and a hundred thousand children removed one by one;
 - each allocation refused in turn over all dialogues, and over one of the calls that copy names and texts;
 - two sessions on two threads;
 - the examples, as docs/c-library.md shows them; of the one that loads HTML also that libxml2's own tree of what it writes is that of what it read;
@@ -177,6 +178,10 @@ class Tests:
     def misuse(self):
         self.alone("misuse", standard="-std=c99")
 
+    def nearby(self):
+        if self.alone("nearby", link=WRAPPED) is not None:
+            self.must("a hundred thousand children removed, by the clock", os.path.join(self.work, "nearby"), "timed")
+
     def threads(self):
         self.alone("threads", "2", *self.words_of_dialogues(), link=["-pthread"])
 
@@ -244,7 +249,7 @@ class Tests:
         return 1 if self.faults else 0
 
 
-PARTS = ("header", "lines", "typed", "closed", "misuse", "refused", "threads", "example", "loading", "page")
+PARTS = ("header", "lines", "typed", "closed", "misuse", "nearby", "refused", "threads", "example", "loading", "page")
 
 
 def main():

@@ -19,7 +19,8 @@ MODULE = os.path.join(HERE, "huckleport", "_core.abi3.so")
 sys.dont_write_bytecode = True
 sys.path[:0] = [HERE, os.path.join(ROOT, "bindings/c")]
 from exports import SOURCES, modules
-from members import OUTER_CHILDREN, READS, members
+from members import READS, members
+from signatures import is_plain
 
 HEAD = """\
 /* The calls of the library, and the members that are one call each. Made by bindings/python/extension.py; not to be edited. */
@@ -213,8 +214,9 @@ def made(found):
     taken = {part.type for it in exports.values() for part in it.parameters if part.kind == "in"}
     outs = [it for it in structs if it.name in written]
     text = HEAD + "".join(map(struct, outs)) + structs_made(outs) + "".join(struct_in(it) for it in structs if it.name in taken)
-    text += "".join(map(call, exports.values())) + "".join(call(exports["hp_" + name], read) for name, read in READS.items())
-    rows = "".join(f'    {{ "{name[3:]}", call_{name[3:]}, METH_VARARGS, NULL }}, \\\n' for name in exports)
+    calls = {name: it for name, it in exports.items() if is_plain(it)}
+    text += "".join(map(call, calls.values())) + "".join(call(exports["hp_" + name], read) for name, read in READS.items())
+    rows = "".join(f'    {{ "{name[3:]}", call_{name[3:]}, METH_VARARGS, NULL }}, \\\n' for name in calls)
     rows += "".join(f'    {{ "read_{name}", call_read_{name}, METH_VARARGS, NULL }}, \\\n' for name in READS)
     text += f"\n#define CALLS_MADE \\\n{rows.rstrip().rstrip(chr(92)).rstrip()}\n"
     table = ""
@@ -222,13 +224,6 @@ def made(found):
         text += member(name, exports["hp_" + to], words, answer)
         table += member_row(name, words)
     return text + f"\nstatic PyMethodDef members_made[] = {{\n{table}    {{ NULL, NULL, 0, NULL }},\n}};\n"
-
-
-def defines(library):
-    """What the sources are told of the library whose header is in a folder."""
-    with open(os.path.join(library, "huckleport.h"), encoding="utf-8") as file:
-        text = file.read()
-    return ["HAS_OUTER_CHILDREN"] if all(f"{it}(" in text for it in OUTER_CHILDREN) else []
 
 
 def what_is_missing(given):
@@ -248,7 +243,6 @@ def build(given):
     if missing:
         sys.exit(f"the extension module can't be built: {missing}")
     words = [given.compiler, "-std=c99", "-O2", "-fPIC", "-shared", "-Wall", "-Wextra", "-Wno-missing-field-initializers", "-fvisibility=hidden"]
-    words += [f"-D{it}" for it in defines(given.library)]
     words += [f"-I{sysconfig.get_path('include')}", f"-I{given.library}", f"-I{CORE}", os.path.join(CORE, "core.c")]
     words += [os.path.join(given.library, "libhuckleport.a"), "-Wl,--exclude-libs,ALL", "-Wl,-z,noexecstack"]
     if subprocess.run([*words, "-o", given.to + ".new"]).returncode:

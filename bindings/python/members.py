@@ -12,19 +12,18 @@ READS = {
     "get_attribute": "text?",
 }
 
-# Calls that later libraries have, which are used where they are there.
-OUTER_CHILDREN = ("hp_first_child", "hp_last_child")
-
 # Members that the extension has as one function each: class and name (with = for what sets it), call, arguments, answer.
 # An argument is NAME:FORM, and one with ? may be None; it may be left out where ?? stands. An answer can be a member of what the call writes.
 MEMBERS = """
-Node.node_type                   | node                    |                          | int kind
-Node.node_document               | node                    |                          | Document document
-Node.parent_node                 | node                    |                          | node? parent
-Node.previous_sibling            | node                    |                          | node? previous
-Node.next_sibling                | node                    |                          | node? next
+Node.node_type                   | links                   |                          | int kind
+Node.node_document               | links                   |                          | Document document
+Node.parent_node                 | links                   |                          | node? parent
+Node.previous_sibling            | links                   |                          | node? previous
+Node.next_sibling                | links                   |                          | node? next
+Node.first_child                 | first_child             |                          | node?
+Node.last_child                  | last_child              |                          | node?
 Node.index                       | index                   |                          | int
-Node.length                      | length                  |                          | int
+Node.length                      | links                   |                          | int length
 Node.get_root_node               | root                    |                          | node
 Node.contains                    | contains                | other:node?              | bool
 Node.is_equal_node               | is_equal                | other:node?              | bool

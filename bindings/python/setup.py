@@ -10,23 +10,12 @@ HERE = os.path.dirname(os.path.abspath(__file__))
 STATIC = os.environ.get("HUCKLEPORT_STATIC") or os.path.join(os.path.dirname(HERE), "c", "out")
 ARCHIVE = os.path.join(STATIC, "libhuckleport.a")
 HAS_ALL = all(os.path.exists(os.path.join(STATIC, it)) for it in ("libhuckleport.a", "huckleport.h"))
-# Calls that later libraries have.
-LATER = ("hp_first_child", "hp_last_child")
-
-
-def has_later():
-    """Whether the library has these calls."""
-    with open(os.path.join(STATIC, "huckleport.h"), encoding="utf-8") as file:
-        text = file.read()
-    return all(f"{it}(" in text for it in LATER)
-
 
 MODULE = Extension(
     "huckleport._core",
     ["core/core.c"],
     depends=[os.path.join("core", it) for it in sorted(os.listdir(os.path.join(HERE, "core")))],
     include_dirs=[STATIC, "core"],
-    define_macros=[("HAS_OUTER_CHILDREN", "1")] if HAS_ALL and has_later() else [],
     extra_objects=[ARCHIVE],
     extra_compile_args=["-std=c99", "-O2", "-fvisibility=hidden"],
     extra_link_args=["-Wl,--exclude-libs,ALL", "-Wl,-z,noexecstack"],

@@ -84,6 +84,8 @@ def forms(it):
         return [FORMS[it.type]]
     if it.kind == "slice":
         return ["c_char_p", "c_size_t"]
+    if it.kind == "array":
+        return [f"POINTER({FORMS.get(it.type, it.type)})", "c_size_t"]
     return [f"POINTER({FORMS.get(it.type, it.type)})"]
 
 
@@ -100,7 +102,7 @@ def signatures(found):
     text += "}\n\n# The names of what each call is handed beside the session.\nPARAMETERS: Dict[str, Tuple[str, ...]] = {\n"
     for module in found:
         for it in module.exports:
-            words = "".join(f'"{part.name}", ' for part in it.parameters if part.kind not in ("session", "out"))
+            words = "".join(f'"{part.name}", ' for part in it.parameters if part.kind not in ("session", "out", "array"))
             text += f'    "{it.name[3:]}": ({words.rstrip()}),\n'
     return text + "}\n"
 
@@ -140,10 +142,16 @@ def reading(export):
     return f'    def read_{export.name[3:]}(self{takes}) -> {answer}:\n        return self._whole(self.{how}, "{export.name}"{words})\n'
 
 
+def is_plain(export):
+    """Whether a call is a method by itself: it has a session, and writes into no array."""
+    kinds = [it.kind for it in export.parameters]
+    return "session" in kinds and "array" not in kinds
+
+
 def method(export):
     outs = [it for it in export.parameters if it.kind == "out"]
     handed = [(it, *given(it)) for it in export.parameters if it.kind not in ("out", "session")]
-    if len(outs) > 1 or not any(it.kind == "session" for it in export.parameters):
+    if len(outs) > 1:
         sys.exit(f"{export.name}: there is no form in Python for it")
     words = "".join(f", {word}" for _, _, word in handed)
     takes = "".join(f", {it.name}: {form}" for it, form, _ in handed)
@@ -165,7 +173,7 @@ def method(export):
 
 def calls(found):
     text = f'"""Each call of the library, in Python\'s types. {MADE}"""\n\nfrom __future__ import annotations\n\n'
-    exports = [it for module in found for it in module.exports]
+    exports = [it for module in found for it in module.exports if is_plain(it)]
     methods = [method(it) for it in exports] + [reading(it) for it in exports if it.name[3:] in READS]
     used = sorted({name for name in FORMS.values() if any(f"({name}()" in it for it in methods)})
     text += f"from ctypes import byref, {', '.join(used)}\nfrom typing import List, Optional, Sequence\n\nfrom . import _signatures\n"

@@ -29,7 +29,7 @@ TYPES = {
 KEYWORDS = {"type": "type_", "move": "move_", "ref": "ref_"}
 
 # Modules whose calls read the last answer and leave it there: several of what they lend may be held at once.
-READING = {"lending", "parts", "labels", "rows", "notices", "records"}
+READING = {"lending", "parts", "labels", "rows", "notices", "records", "nearby", "version"}
 # These two are the handle's own opening and closing.
 OWN = {"hp_open", "hp_close"}
 
@@ -120,6 +120,8 @@ def declared(it):
         return f"{named(it.name)}: {rust(it.type)}"
     if it.kind == "slice":
         return f"{named(it.name)}: *const {rust(it.type)}, {it.name}_length: usize"
+    if it.kind == "array":
+        return f"{named(it.name)}: *mut {rust(it.type)}, {it.name}_capacity: usize"
     return f"{named(it.name)}: *{'const' if it.kind == 'in' else 'mut'} {rust(it.type)}"
 
 
@@ -130,13 +132,14 @@ def external(it):
 def given(it):
     """A parameter of the safe method."""
     form = rust(it.type)
-    return f"{named(it.name)}: " + {"scalar": form, "slice": f"&[{form}]", "in": f"&{form}"}[it.kind]
+    return f"{named(it.name)}: " + {"scalar": form, "slice": f"&[{form}]", "array": f"&mut [{form}]", "in": f"&{form}"}[it.kind]
 
 
 def handed(it):
     """A parameter as the safe method hands it on."""
     name = named(it.name)
     forms = {"session": "self.session.get()", "scalar": name, "slice": f"{name}.as_ptr(), {name}.len()", "in": name, "out": "&mut out"}
+    forms["array"] = f"{name}.as_mut_ptr(), {name}.len()"
     return forms[it.kind]
 
 

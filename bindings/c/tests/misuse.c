@@ -80,6 +80,10 @@ static void parts(hp_session *session)
         faults++;
     WANT(HP_NOT_THERE, hp_number_at(session, 0, &number));
     WANT(HP_NOT_THERE, hp_number_at(session, (size_t)-1, &number));
+    count = 77;
+    WANT(HP_OK, hp_numbers_into(session, &number, 1, &count));
+    if (count != 0 || number != 77)
+        faults++;
     WANT(HP_NOT_THERE, hp_name_at(session, 0, &bytes));
     WANT(HP_NOT_THERE, hp_text(session, &text));
     WANT(HP_OK, hp_attribute_names(session, 1));
@@ -93,6 +97,7 @@ static void parts(hp_session *session)
     WANT(HP_OK, hp_get_attribute(session, 1, hp_name("a")));
     WANT(HP_OK, hp_text(session, &text));
     WANT(HP_NOT_THERE, hp_count(session, &count));
+    WANT(HP_NOT_THERE, hp_numbers_into(session, &number, 1, &count));
     if (number != 77 || text.length != 0)
         faults++;
 }
@@ -133,6 +138,25 @@ static void rows(hp_session *session)
     WANT(HP_NOT_THERE, hp_row_at(session, 0, &row));
 }
 
+/* All records of a notice at once: those that there is room for, and how many there are. */
+static void copied(hp_session *session, const hp_record *due)
+{
+    hp_record records[2] = { { 7, 7, 7, 7, 7, 7 }, { 7, 7, 7, 7, 7, 7 } };
+    size_t count = 77;
+    WANT(HP_NOT_THERE, hp_records_into(session, 1, records, 2, &count));
+    WANT(HP_BAD_LENGTHS, hp_records_into(session, 0, NULL, 2, &count));
+    if (count != 77 || records[0].target != 7)
+        faults++;
+    WANT(HP_OK, hp_records_into(session, 0, NULL, 0, &count));
+    if (count != 1 || records[0].target != 7)
+        faults++;
+    WANT(HP_OK, hp_records_into(session, 0, records, 2, &count));
+    if (count != 1 || records[0].type != due->type || records[0].target != due->target || records[0].added != due->added)
+        faults++;
+    if (records[0].previous != due->previous || records[0].next != due->next || records[1].target != 7)
+        faults++;
+}
+
 /* Records, by the same rule; those that were taken are those of notice 0 alone. Observer 0 watches the children of node 0. */
 static void records(hp_session *session)
 {
@@ -155,6 +179,7 @@ static void records(hp_session *session)
         faults++;
     if (record.previous != HP_NONE || record.next != HP_NONE)
         faults++;
+    copied(session, &record);
     WANT(HP_NOT_THERE, hp_record_added_at(session, 0, 0, 1, &node));
     WANT(HP_NOT_THERE, hp_record_added_at(session, 1, 0, 0, &node));
     WANT(HP_NOT_THERE, hp_record_removed_at(session, 0, 0, 0, &node));
@@ -181,6 +206,10 @@ int main(void)
 {
     hp_session session = HP_SESSION_INIT;
     hp_bytes line;
+    uint32_t version = 7;
+    WANT(HP_OK, hp_version(&version));
+    if (version != HP_VERSION_NUMBER)
+        faults++;
     limits(&session);
     WANT(HP_OK, hp_reply_line(&session, &line));
     if (line.length != 0)

@@ -79,6 +79,12 @@ class Session(Reader):
         self.program.say(name, words, status)
         return status
 
+    def silently(self, name, *words):
+        """A call of two out pointers, which the program in C does not make."""
+        self.seen.add(name)
+        status = getattr(self.library, name)(ctypes.byref(self.session), *words)
+        assert status == 0, f"{name}: {self.words[status]}"
+
     def must(self, name, *words):
         status = self.call(name, *words)
         assert status == 0, f"{name}: {self.words[status]}"
@@ -142,6 +148,26 @@ class Session(Reader):
             return None
         return self.structs[outs[0].type]() if outs[0].type in self.structs else SCALARS[outs[0].type](7)
 
+    def nearby(self, node):
+        """What stands around a node, as the calls tell it that stand for no command; they tell the same, one by one and all at once."""
+        links = self.structs["hp_node_links"]()
+        self.must("hp_links", node, ctypes.byref(links))
+        for call, member in (("hp_first_child", "first_child"), ("hp_last_child", "last_child")):
+            out = ctypes.c_uint32(7)
+            self.must(call, node, ctypes.byref(out))
+            assert out.value == getattr(links, member), call
+        numbers, count = (ctypes.c_uint32 * (links.children + 1))(*[7] * (links.children + 1)), ctypes.c_size_t(7)
+        self.silently("hp_children_into", node, numbers, len(numbers), ctypes.byref(count))
+        assert count.value == links.children and numbers[links.children] == 7, "hp_children_into"
+        children = list(numbers)[:-1]
+        for at, due in enumerate([*children, MOST]):
+            out = ctypes.c_uint32(7)
+            self.must("hp_child_at", node, at, ctypes.byref(out))
+            assert out.value == due, "hp_child_at"
+        ends = [children[0], children[-1]] if children else [MOST, MOST]
+        assert [links.first_child, links.last_child] == ends, "hp_links"
+        return links, children
+
     def place(self, it):
         name = self.node_name(it.kind, "hp_node_name")
         found = {"document": it.document, "name": name, "next": maybe(it.next), "parent": maybe(it.parent)}
@@ -150,6 +176,15 @@ class Session(Reader):
             found.update({"public": self.name("hp_node_name", 1), "system": self.name("hp_node_name", 2)})
         assert self.name("hp_node_name", 3) is None
         return {**found, "type": it.kind}
+
+    def agree(self, name, node, out):
+        """Whether what stands around a node is what its command says of it."""
+        links, children = self.nearby(node)
+        if name == "node":
+            same = all(getattr(links, it) == getattr(out, it) for it, _ in out._fields_)
+        else:
+            same = links.length == out.value if name == "length" else children == self.kept(name)
+        assert same, f"hp_links, and hp_{name}"
 
     def told(self, name, out):
         """The answer that an out pointer has."""
@@ -168,7 +203,11 @@ class Session(Reader):
         if name in TEXTS:
             return self.text("hp_text")
         if name in NUMBERS:
-            return [self.number_at(at) for at in range(self.count())]
+            found = [self.number_at(at) for at in range(self.count())]
+            numbers, count = (ctypes.c_uint32 * (len(found) + 1))(*[7] * (len(found) + 1)), ctypes.c_size_t(7)
+            self.silently("hp_numbers_into", numbers, len(numbers), ctypes.byref(count))
+            assert list(numbers) == [*found, 7] and count.value == len(found), "hp_numbers_into"
+            return found
         if name == "attributeNames":
             return [self.name("hp_name_at", at) for at in range(self.count())]
         if name in ROWS:
@@ -188,6 +227,8 @@ class Session(Reader):
         status = self.call(call.name, *words, *([] if out is None else [ctypes.byref(out)]))
         if status:
             return {"error": self.words[status]}
+        if name in ("node", "length", "children"):
+            self.agree(name, values[0], out)
         if out is not None:
             return {"ok": self.told(name, out)}
         return {"ok": values[HANDED_BACK[name]] if name in HANDED_BACK else self.kept(name)}

@@ -50,8 +50,8 @@ class ChildrenIs extends LiveIs {
 
   at(index) {
     if (index > 0) return super.at(index);
-    const first = this.session.step("all", numberOf(this.node), "firstChild");
-    return first === native.HP_NONE ? null : wrap(this.session, first);
+    check(native.hp_first_child(this.session.index, numberOf(this.node)));
+    return out[0] === native.HP_NONE ? null : wrap(this.session, out[0]);
   }
 }
 

@@ -25,12 +25,14 @@ import {
 
 // ---- Questions: each is a call of the library.
 
-/** Asks where a node stands: its document, kind, next sibling, parent and previous sibling are in `out`, in this order. */
-const ask = (node) => check(native.hp_node(sessionOf(node).index, numberOf(node)));
-const DOCUMENT_AT = 0;
-const NEXT_AT = 2;
-const PARENT_AT = 3;
-const PREVIOUS_AT = 4;
+/** Asks what stands around a node, which is in `out`: its kind, its document, its parent, the siblings before and after it, its first and its last child. */
+const ask = (node) => check(native.hp_links(sessionOf(node).index, numberOf(node)));
+const DOCUMENT_AT = 1;
+const PARENT_AT = 2;
+const PREVIOUS_AT = 3;
+const NEXT_AT = 4;
+const FIRST_AT = 5;
+const LAST_AT = 6;
 
 function beside(node, at) {
   ask(node);
@@ -40,15 +42,14 @@ function beside(node, at) {
 export const parentOf = (node) => beside(node, PARENT_AT);
 export const nextOf = (node) => beside(node, NEXT_AT);
 export const previousOf = (node) => beside(node, PREVIOUS_AT);
+export const firstChildOf = (node) => beside(node, FIRST_AT);
+export const lastChildOf = (node) => beside(node, LAST_AT);
 export const documentOf = (node) => (kindOf(node) === DOCUMENT ? node : beside(node, DOCUMENT_AT));
 
 function stepped(node, show, move) {
   const session = sessionOf(node);
   return wrapOrNull(session, session.step(show, numberOf(node), move));
 }
-
-export const firstChildOf = (node) => stepped(node, "all", "firstChild");
-export const lastChildOf = (node) => stepped(node, "all", "lastChild");
 
 /** The children of a node by their numbers. */
 export function childNumbers(node) {
@@ -62,7 +63,7 @@ export function namePart(node, part) {
   const kept = keptOf(node);
   kept.names ??= [];
   if (kept.names[part] === undefined) {
-    ask(node);
+    check(native.hp_node(sessionOf(node).index, numberOf(node)));
     kept.names[part] = lent(native.hp_node_name(sessionOf(node).index, part));
   }
   return kept.names[part];

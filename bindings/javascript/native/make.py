@@ -117,10 +117,16 @@ def shown(header):
         return set(re.findall(r"^uint8_t (hp_\w+)\(", file.read(), re.M))
 
 
+def has_form(export):
+    """Whether the addon can make a call: it has a session, and writes into no array."""
+    kinds = [it.kind for it in export.parameters]
+    return "session" in kinds and "array" not in kinds
+
+
 def addon(found, known):
     """The text of the addon over the calls that are known."""
     structs = {it.name: it for module in found for it in module.structs}
-    exports = [it for module in found for it in module.exports if it.name in known and it.name not in OWN]
+    exports = [it for module in found for it in module.exports if it.name in known and it.name not in OWN and has_form(it)]
     constants = [it for module in found for it in module.constants]
     text = HEAD + "".join(function(it, structs) for it in exports)
     text += "\nstatic const entry CALLS[] = {\n" + "".join(f'    {{ "{it.name}", call_{it.name} }},\n' for it in exports) + "};\n"

@@ -34,17 +34,17 @@ static bool numbers_push(Numbers *it, uint32_t number)
     return true;
 }
 
-/* Asks for the kind of each node that has no object yet. This takes the place of the last answer, which has been copied. */
+/* Asks for the kind of each node that has no object yet. */
 static bool numbers_ask(Numbers *it, Calls *calls)
 {
     it->kinds = zeroed(it->length + 1, 1);
     if (!it->kinds)
         return PyErr_NoMemory() != NULL;
     for (size_t at = 0; at < it->length; at++) {
-        hp_place place;
+        hp_node_links links;
         bool is_known = it->at[at] == HP_NONE || (calls->kept.entries && entry_of(&calls->kept, it->at[at], FAMILY_NODE)->object);
-        if (!is_known && hp_node(&calls->session, it->at[at], &place) == HP_OK)
-            it->kinds[at] = place.kind;
+        if (!is_known && hp_links(&calls->session, it->at[at], &links) == HP_OK)
+            it->kinds[at] = links.kind;
     }
     return true;
 }
@@ -74,16 +74,17 @@ static PyObject *numbers_nodes(const Numbers *it, size_t from, size_t count, PyO
     return found;
 }
 
-/* The numbers of the last answer. */
+/* The numbers of the last answer, which one call copies. */
 static bool numbers_read(Numbers *to, hp_session *session)
 {
     size_t count = 0;
-    uint32_t number = 0;
-    hp_count(session, &count);
-    for (size_t at = 0; at < count; at++) {
-        if (hp_number_at(session, at, &number) == HP_OK && !numbers_push(to, number))
-            return false;
-    }
+    if (hp_count(session, &count) != HP_OK || !count)
+        return true;
+    to->at = PyMem_Malloc(count * sizeof(uint32_t));
+    if (!to->at)
+        return PyErr_NoMemory() != NULL;
+    to->room = count;
+    hp_numbers_into(session, to->at, count, &to->length);
     return true;
 }
 

@@ -127,6 +127,27 @@ static PyObject *hp_place_from(const hp_place *it)
     return found;
 }
 
+static PyTypeObject *hp_node_links_type;
+static PyStructSequence_Field hp_node_links_fields[] = { { "kind", NULL }, { "document", NULL }, { "parent", NULL }, { "previous", NULL }, { "next", NULL }, { "first_child", NULL }, { "last_child", NULL }, { "children", NULL }, { "length", NULL }, { NULL, NULL } };
+static PyStructSequence_Desc hp_node_links_form = { "huckleport._core.hp_node_links", "A node: the standard's number of its kind (`nodeType`), its node document, the nodes above, beside and below it, or `HP_NONE`, how many children it has, and its length.", hp_node_links_fields, 9 };
+
+static PyObject *hp_node_links_from(const hp_node_links *it)
+{
+    PyObject *found = PyStructSequence_New(hp_node_links_type);
+    if (!found)
+        return NULL;
+    PyStructSequence_SetItem(found, 0, PyLong_FromSize_t(it->kind));
+    PyStructSequence_SetItem(found, 1, PyLong_FromSize_t(it->document));
+    PyStructSequence_SetItem(found, 2, PyLong_FromSize_t(it->parent));
+    PyStructSequence_SetItem(found, 3, PyLong_FromSize_t(it->previous));
+    PyStructSequence_SetItem(found, 4, PyLong_FromSize_t(it->next));
+    PyStructSequence_SetItem(found, 5, PyLong_FromSize_t(it->first_child));
+    PyStructSequence_SetItem(found, 6, PyLong_FromSize_t(it->last_child));
+    PyStructSequence_SetItem(found, 7, PyLong_FromSize_t(it->children));
+    PyStructSequence_SetItem(found, 8, PyLong_FromSize_t(it->length));
+    return found;
+}
+
 static bool structs_made(void)
 {
     hp_row_type = PyStructSequence_NewType(&hp_row_form);
@@ -137,7 +158,8 @@ static bool structs_made(void)
     hp_iterator_at_type = PyStructSequence_NewType(&hp_iterator_at_form);
     hp_walker_at_type = PyStructSequence_NewType(&hp_walker_at_form);
     hp_place_type = PyStructSequence_NewType(&hp_place_form);
-    return hp_row_type && hp_notice_type && hp_record_type && hp_ends_type && hp_static_ends_type && hp_iterator_at_type && hp_walker_at_type && hp_place_type;
+    hp_node_links_type = PyStructSequence_NewType(&hp_node_links_form);
+    return hp_row_type && hp_notice_type && hp_record_type && hp_ends_type && hp_static_ends_type && hp_iterator_at_type && hp_walker_at_type && hp_place_type && hp_node_links_type;
 }
 
 static bool hp_options_of(PyObject *value, hp_options *to)
@@ -780,6 +802,55 @@ static PyObject *call_tree(PyObject *self, PyObject *words)
     if (is_counted(words, 1, "tree") && uint32_of(word(words, 0), &node)) {
         uint8_t status = hp_tree(session_at(self), node);
         found = status ? refused(status, "tree", self, words) : none();
+    }
+    return found;
+}
+
+static PyObject *call_links(PyObject *self, PyObject *words)
+{
+    uint32_t node = 0;
+    hp_node_links links;
+    PyObject *found = NULL;
+    if (is_counted(words, 1, "links") && uint32_of(word(words, 0), &node)) {
+        uint8_t status = hp_links(session_at(self), node, &links);
+        found = status ? refused(status, "links", self, words) : hp_node_links_from(&links);
+    }
+    return found;
+}
+
+static PyObject *call_first_child(PyObject *self, PyObject *words)
+{
+    uint32_t node = 0;
+    uint32_t child = 0;
+    PyObject *found = NULL;
+    if (is_counted(words, 1, "first_child") && uint32_of(word(words, 0), &node)) {
+        uint8_t status = hp_first_child(session_at(self), node, &child);
+        found = status ? refused(status, "first_child", self, words) : PyLong_FromUnsignedLong(child);
+    }
+    return found;
+}
+
+static PyObject *call_last_child(PyObject *self, PyObject *words)
+{
+    uint32_t node = 0;
+    uint32_t child = 0;
+    PyObject *found = NULL;
+    if (is_counted(words, 1, "last_child") && uint32_of(word(words, 0), &node)) {
+        uint8_t status = hp_last_child(session_at(self), node, &child);
+        found = status ? refused(status, "last_child", self, words) : PyLong_FromUnsignedLong(child);
+    }
+    return found;
+}
+
+static PyObject *call_child_at(PyObject *self, PyObject *words)
+{
+    uint32_t node = 0;
+    size_t index = 0;
+    uint32_t child = 0;
+    PyObject *found = NULL;
+    if (is_counted(words, 2, "child_at") && uint32_of(word(words, 0), &node) && size_of(word(words, 1), &index)) {
+        uint8_t status = hp_child_at(session_at(self), node, index, &child);
+        found = status ? refused(status, "child_at", self, words) : PyLong_FromUnsignedLong(child);
     }
     return found;
 }
@@ -1633,6 +1704,10 @@ static PyObject *call_read_get_attribute(PyObject *self, PyObject *words)
     { "compare_position", call_compare_position, METH_VARARGS, NULL }, \
     { "text_content", call_text_content, METH_VARARGS, NULL }, \
     { "tree", call_tree, METH_VARARGS, NULL }, \
+    { "links", call_links, METH_VARARGS, NULL }, \
+    { "first_child", call_first_child, METH_VARARGS, NULL }, \
+    { "last_child", call_last_child, METH_VARARGS, NULL }, \
+    { "child_at", call_child_at, METH_VARARGS, NULL }, \
     { "data", call_data, METH_VARARGS, NULL }, \
     { "set_data", call_set_data, METH_VARARGS, NULL }, \
     { "append_data", call_append_data, METH_VARARGS, NULL }, \
@@ -1699,41 +1774,57 @@ static PyObject *call_read_get_attribute(PyObject *self, PyObject *words)
 static PyObject *member_Node_node_type(PyObject *self, PyObject *nothing)
 {
     (void)nothing;
-    hp_place place;
-    uint8_t status = hp_node(session_of(self), number_of(self), &place);
-    return status ? refused_of(status, "node", self, NULL, 0) : PyLong_FromSize_t(place.kind);
+    hp_node_links links;
+    uint8_t status = hp_links(session_of(self), number_of(self), &links);
+    return status ? refused_of(status, "links", self, NULL, 0) : PyLong_FromSize_t(links.kind);
 }
 
 static PyObject *member_Node_node_document(PyObject *self, PyObject *nothing)
 {
     (void)nothing;
-    hp_place place;
-    uint8_t status = hp_node(session_of(self), number_of(self), &place);
-    return status ? refused_of(status, "node", self, NULL, 0) : made_at(self, KIND_DOCUMENT, FAMILY_NODE, place.document);
+    hp_node_links links;
+    uint8_t status = hp_links(session_of(self), number_of(self), &links);
+    return status ? refused_of(status, "links", self, NULL, 0) : made_at(self, KIND_DOCUMENT, FAMILY_NODE, links.document);
 }
 
 static PyObject *member_Node_parent_node(PyObject *self, PyObject *nothing)
 {
     (void)nothing;
-    hp_place place;
-    uint8_t status = hp_node(session_of(self), number_of(self), &place);
-    return status ? refused_of(status, "node", self, NULL, 0) : node_or_none_at(self, place.parent);
+    hp_node_links links;
+    uint8_t status = hp_links(session_of(self), number_of(self), &links);
+    return status ? refused_of(status, "links", self, NULL, 0) : node_or_none_at(self, links.parent);
 }
 
 static PyObject *member_Node_previous_sibling(PyObject *self, PyObject *nothing)
 {
     (void)nothing;
-    hp_place place;
-    uint8_t status = hp_node(session_of(self), number_of(self), &place);
-    return status ? refused_of(status, "node", self, NULL, 0) : node_or_none_at(self, place.previous);
+    hp_node_links links;
+    uint8_t status = hp_links(session_of(self), number_of(self), &links);
+    return status ? refused_of(status, "links", self, NULL, 0) : node_or_none_at(self, links.previous);
 }
 
 static PyObject *member_Node_next_sibling(PyObject *self, PyObject *nothing)
 {
     (void)nothing;
-    hp_place place;
-    uint8_t status = hp_node(session_of(self), number_of(self), &place);
-    return status ? refused_of(status, "node", self, NULL, 0) : node_or_none_at(self, place.next);
+    hp_node_links links;
+    uint8_t status = hp_links(session_of(self), number_of(self), &links);
+    return status ? refused_of(status, "links", self, NULL, 0) : node_or_none_at(self, links.next);
+}
+
+static PyObject *member_Node_first_child(PyObject *self, PyObject *nothing)
+{
+    (void)nothing;
+    uint32_t child = 0;
+    uint8_t status = hp_first_child(session_of(self), number_of(self), &child);
+    return status ? refused_of(status, "first_child", self, NULL, 0) : node_or_none_at(self, child);
+}
+
+static PyObject *member_Node_last_child(PyObject *self, PyObject *nothing)
+{
+    (void)nothing;
+    uint32_t child = 0;
+    uint8_t status = hp_last_child(session_of(self), number_of(self), &child);
+    return status ? refused_of(status, "last_child", self, NULL, 0) : node_or_none_at(self, child);
 }
 
 static PyObject *member_Node_index(PyObject *self, PyObject *nothing)
@@ -1747,9 +1838,9 @@ static PyObject *member_Node_index(PyObject *self, PyObject *nothing)
 static PyObject *member_Node_length(PyObject *self, PyObject *nothing)
 {
     (void)nothing;
-    size_t length = 0;
-    uint8_t status = hp_length(session_of(self), number_of(self), &length);
-    return status ? refused_of(status, "length", self, NULL, 0) : PyLong_FromSize_t(length);
+    hp_node_links links;
+    uint8_t status = hp_links(session_of(self), number_of(self), &links);
+    return status ? refused_of(status, "links", self, NULL, 0) : PyLong_FromSize_t(links.length);
 }
 
 static PyObject *member_Node_get_root_node(PyObject *self, PyObject *nothing)
@@ -2322,6 +2413,8 @@ static PyMethodDef members_made[] = {
     { "Node.parent_node", member_Node_parent_node, METH_NOARGS, NULL },
     { "Node.previous_sibling", member_Node_previous_sibling, METH_NOARGS, NULL },
     { "Node.next_sibling", member_Node_next_sibling, METH_NOARGS, NULL },
+    { "Node.first_child", member_Node_first_child, METH_NOARGS, NULL },
+    { "Node.last_child", member_Node_last_child, METH_NOARGS, NULL },
     { "Node.index", member_Node_index, METH_NOARGS, NULL },
     { "Node.length", member_Node_length, METH_NOARGS, NULL },
     { "Node.get_root_node", member_Node_get_root_node, METH_NOARGS, NULL },

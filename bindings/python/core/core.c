@@ -16,8 +16,6 @@ static PyMethodDef members_by_hand[] = {
     { "ProcessingInstruction.target", node_first_name, METH_NOARGS, NULL },
     { "Node.owner_document", node_owner_document, METH_NOARGS, NULL },
     { "Node.child_nodes", node_child_nodes, METH_NOARGS, NULL },
-    { "Node.first_child", node_first_child, METH_NOARGS, NULL },
-    { "Node.last_child", node_last_child, METH_NOARGS, NULL },
     { "Node.has_child_nodes", node_has_child_nodes, METH_NOARGS, NULL },
     { "Node.tree", node_tree, METH_NOARGS, NULL },
     { NULL, NULL, 0, NULL },

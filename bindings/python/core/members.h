@@ -282,11 +282,11 @@ static PyObject *node_system_id(PyObject *self, PyObject *nothing)
 static PyObject *node_owner_document(PyObject *self, PyObject *nothing)
 {
     (void)nothing;
-    hp_place place;
-    uint8_t status = hp_node(session_of(self), number_of(self), &place);
+    hp_node_links links;
+    uint8_t status = hp_links(session_of(self), number_of(self), &links);
     if (status)
-        return refused_of(status, "node", self, NULL, 0);
-    return place.document == number_of(self) ? none() : made_at(self, KIND_DOCUMENT, FAMILY_NODE, place.document);
+        return refused_of(status, "links", self, NULL, 0);
+    return links.document == number_of(self) ? none() : made_at(self, KIND_DOCUMENT, FAMILY_NODE, links.document);
 }
 
 static PyObject *node_child_nodes(PyObject *self, PyObject *nothing)
@@ -304,46 +304,12 @@ static PyObject *node_child_nodes(PyObject *self, PyObject *nothing)
     return found;
 }
 
-/* The first or the last child, or HP_NONE. */
-static uint8_t outer_child(hp_session *session, uint32_t node, bool is_last, uint32_t *child)
-{
-#ifdef HAS_OUTER_CHILDREN
-    return is_last ? hp_last_child(session, node, child) : hp_first_child(session, node, child);
-#else
-    size_t count = 0;
-    uint8_t status = hp_children(session, node);
-    *child = HP_NONE;
-    if (status == HP_OK && hp_count(session, &count) == HP_OK && count)
-        hp_number_at(session, is_last ? count - 1 : 0, child);
-    return status;
-#endif
-}
-
-static PyObject *node_outer_child(PyObject *self, bool is_last)
-{
-    uint32_t child = HP_NONE;
-    uint8_t status = outer_child(session_of(self), number_of(self), is_last, &child);
-    return status ? refused_of(status, "children", self, NULL, 0) : node_or_none_at(self, child);
-}
-
-static PyObject *node_first_child(PyObject *self, PyObject *nothing)
-{
-    (void)nothing;
-    return node_outer_child(self, false);
-}
-
-static PyObject *node_last_child(PyObject *self, PyObject *nothing)
-{
-    (void)nothing;
-    return node_outer_child(self, true);
-}
-
 static PyObject *node_has_child_nodes(PyObject *self, PyObject *nothing)
 {
     (void)nothing;
     uint32_t child = HP_NONE;
-    uint8_t status = outer_child(session_of(self), number_of(self), false, &child);
-    return status ? refused_of(status, "children", self, NULL, 0) : PyBool_FromLong(child != HP_NONE);
+    uint8_t status = hp_first_child(session_of(self), number_of(self), &child);
+    return status ? refused_of(status, "first_child", self, NULL, 0) : PyBool_FromLong(child != HP_NONE);
 }
 
 static PyObject *node_tree(PyObject *self, PyObject *nothing)

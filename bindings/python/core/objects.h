@@ -199,11 +199,11 @@ static PyObject *kind_of(unsigned kind)
 static PyObject *node_from(PyObject *session, Calls *calls, uint32_t number)
 {
     PyObject *found = table_find(&calls->kept, number, FAMILY_NODE);
-    hp_place place;
+    hp_node_links links;
     if (found)
         return found;
-    bool is_there = hp_node(&calls->session, number, &place) == HP_OK;
-    return made(session, calls, kind_of(is_there ? place.kind : KIND_NODE), FAMILY_NODE, number);
+    bool is_there = hp_links(&calls->session, number, &links) == HP_OK;
+    return made(session, calls, kind_of(is_there ? links.kind : KIND_NODE), FAMILY_NODE, number);
 }
 
 static PyObject *none(void)

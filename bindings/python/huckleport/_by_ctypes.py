@@ -162,6 +162,18 @@ class Calls(Handle):
     def tree(self, node: int) -> None:
         self._say("hp_tree", uint32(node))
 
+    def links(self, node: int) -> _signatures.hp_node_links:
+        return self._struct(_signatures.hp_node_links(), "hp_links", uint32(node))
+
+    def first_child(self, node: int) -> int:
+        return self._number(c_uint32(), "hp_first_child", uint32(node))
+
+    def last_child(self, node: int) -> int:
+        return self._number(c_uint32(), "hp_last_child", uint32(node))
+
+    def child_at(self, node: int, index: int) -> int:
+        return self._number(c_uint32(), "hp_child_at", uint32(node), size(index))
+
     def data(self, node: int) -> None:
         self._say("hp_data", uint32(node))
 

@@ -239,7 +239,11 @@ class Handle:
         return if_there(self._part_text, "hp_text")
 
     def _answer_numbers(self) -> List[int]:
-        return [self._part(c_uint32(), "hp_number_at", at).value for at in range(self._part_count())]
+        found, count = (c_uint32 * self._part_count())(), c_size_t()
+        status = self._raw("hp_numbers_into", found, len(found), byref(count))
+        if status:
+            raise refusal(status, "numbers_into")
+        return list(found)
 
     def _answer_names(self) -> List[str]:
         return [self._part_name("hp_name_at", at) for at in range(self._part_count())]

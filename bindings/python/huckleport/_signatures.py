@@ -174,6 +174,21 @@ class hp_place(Structure):
     _fields_ = [("document", c_uint32), ("kind", c_uint8), ("next", c_uint32), ("parent", c_uint32), ("previous", c_uint32)]
 
 
+class hp_node_links(Structure):
+    """A node: the standard's number of its kind (nodeType), its node document, the nodes above, beside and below it, or HP_NONE, how many children it has, and its length."""
+
+    kind: int
+    document: int
+    parent: int
+    previous: int
+    next: int
+    first_child: int
+    last_child: int
+    children: int
+    length: int
+    _fields_ = [("kind", c_uint8), ("document", c_uint32), ("parent", c_uint32), ("previous", c_uint32), ("next", c_uint32), ("first_child", c_uint32), ("last_child", c_uint32), ("children", c_size_t), ("length", c_size_t)]
+
+
 class hp_options(Structure):
     """The members of MutationObserverInit: 0 for false, 1 for true, 2 for absent. Of the attribute filter 0 for absent, and 1 for the names that are handed beside."""
 
@@ -204,6 +219,7 @@ class hp_session(Structure):
 
 # Each call answers a status.
 ARGUMENTS: Dict[str, Tuple[Any, ...]] = {
+    "hp_version": (POINTER(c_uint32),),
     "hp_open": (POINTER(hp_session), c_uint64, c_size_t,),
     "hp_close": (POINTER(hp_session),),
     "hp_line": (POINTER(hp_session), c_char_p, c_size_t,),
@@ -213,6 +229,7 @@ ARGUMENTS: Dict[str, Tuple[Any, ...]] = {
     "hp_reply_line": (POINTER(hp_session), POINTER(hp_bytes),),
     "hp_count": (POINTER(hp_session), POINTER(c_size_t),),
     "hp_number_at": (POINTER(hp_session), c_size_t, POINTER(c_uint32),),
+    "hp_numbers_into": (POINTER(hp_session), POINTER(c_uint32), c_size_t, POINTER(c_size_t),),
     "hp_node_name": (POINTER(hp_session), c_uint8, POINTER(hp_bytes),),
     "hp_row_at": (POINTER(hp_session), c_size_t, POINTER(hp_row),),
     "hp_row_name": (POINTER(hp_session), c_size_t, c_uint8, POINTER(hp_bytes),),
@@ -221,6 +238,7 @@ ARGUMENTS: Dict[str, Tuple[Any, ...]] = {
     "hp_row_attribute_value": (POINTER(hp_session), c_size_t, c_size_t, POINTER(hp_text_view),),
     "hp_notice_at": (POINTER(hp_session), c_size_t, POINTER(hp_notice),),
     "hp_record_at": (POINTER(hp_session), c_size_t, c_size_t, POINTER(hp_record),),
+    "hp_records_into": (POINTER(hp_session), c_size_t, POINTER(hp_record), c_size_t, POINTER(c_size_t),),
     "hp_record_added_at": (POINTER(hp_session), c_size_t, c_size_t, c_size_t, POINTER(c_uint32),),
     "hp_record_removed_at": (POINTER(hp_session), c_size_t, c_size_t, c_size_t, POINTER(c_uint32),),
     "hp_record_name": (POINTER(hp_session), c_size_t, c_size_t, POINTER(hp_bytes),),
@@ -254,6 +272,11 @@ ARGUMENTS: Dict[str, Tuple[Any, ...]] = {
     "hp_compare_position": (POINTER(hp_session), c_uint32, c_uint32, POINTER(c_uint32),),
     "hp_text_content": (POINTER(hp_session), c_uint32,),
     "hp_tree": (POINTER(hp_session), c_uint32,),
+    "hp_links": (POINTER(hp_session), c_uint32, POINTER(hp_node_links),),
+    "hp_first_child": (POINTER(hp_session), c_uint32, POINTER(c_uint32),),
+    "hp_last_child": (POINTER(hp_session), c_uint32, POINTER(c_uint32),),
+    "hp_child_at": (POINTER(hp_session), c_uint32, c_size_t, POINTER(c_uint32),),
+    "hp_children_into": (POINTER(hp_session), c_uint32, POINTER(c_uint32), c_size_t, POINTER(c_size_t),),
     "hp_data": (POINTER(hp_session), c_uint32,),
     "hp_set_data": (POINTER(hp_session), c_uint32, c_char_p, c_size_t,),
     "hp_append_data": (POINTER(hp_session), c_uint32, c_char_p, c_size_t,),
@@ -312,6 +335,7 @@ ARGUMENTS: Dict[str, Tuple[Any, ...]] = {
 
 # The names of what each call is handed beside the session.
 PARAMETERS: Dict[str, Tuple[str, ...]] = {
+    "version": (),
     "open": ("numbers", "line",),
     "close": (),
     "line": ("line",),
@@ -321,6 +345,7 @@ PARAMETERS: Dict[str, Tuple[str, ...]] = {
     "reply_line": (),
     "count": (),
     "number_at": ("index",),
+    "numbers_into": (),
     "node_name": ("part",),
     "row_at": ("index",),
     "row_name": ("index", "part",),
@@ -329,6 +354,7 @@ PARAMETERS: Dict[str, Tuple[str, ...]] = {
     "row_attribute_value": ("index", "at",),
     "notice_at": ("index",),
     "record_at": ("notice", "index",),
+    "records_into": ("notice",),
     "record_added_at": ("notice", "index", "at",),
     "record_removed_at": ("notice", "index", "at",),
     "record_name": ("notice", "index",),
@@ -362,6 +388,11 @@ PARAMETERS: Dict[str, Tuple[str, ...]] = {
     "compare_position": ("node", "other",),
     "text_content": ("node",),
     "tree": ("node",),
+    "links": ("node",),
+    "first_child": ("node",),
+    "last_child": ("node",),
+    "child_at": ("node", "index",),
+    "children_into": ("node",),
     "data": ("node",),
     "set_data": ("node", "data",),
     "append_data": ("node", "data",),

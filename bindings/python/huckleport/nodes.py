@@ -49,8 +49,8 @@ class Node(SessionObject):
     DOCUMENT_POSITION_CONTAINED_BY = 16
     DOCUMENT_POSITION_IMPLEMENTATION_SPECIFIC = 32
 
-    def _place(self) -> made.hp_place:
-        return self._calls.node(self.number)
+    def _links(self) -> made.hp_node_links:
+        return self._calls.links(self.number)
 
     def _node_or_none(self, number: int) -> Optional[Node]:
         found = maybe(number)
@@ -61,7 +61,7 @@ class Node(SessionObject):
     @property
     def node_type(self) -> int:
         """The standard's number of its kind, as ``Node.ELEMENT_NODE``."""
-        return self._place().kind
+        return self._links().kind
 
     @property
     def node_name(self) -> str:
@@ -71,7 +71,7 @@ class Node(SessionObject):
     @property
     def node_document(self) -> Document:
         """The node document; a Document's is itself."""
-        return self.session._document(self._place().document)
+        return self.session._document(self._links().document)
 
     @property
     def owner_document(self) -> Optional[Document]:
@@ -82,7 +82,7 @@ class Node(SessionObject):
     @property
     def parent_node(self) -> Optional[Node]:
         """The node above it, or None."""
-        return self._node_or_none(self._place().parent)
+        return self._node_or_none(self._links().parent)
 
     @property
     def parent_element(self) -> Optional[Element]:
@@ -93,12 +93,12 @@ class Node(SessionObject):
     @property
     def previous_sibling(self) -> Optional[Node]:
         """The node before it under the same parent, or None."""
-        return self._node_or_none(self._place().previous)
+        return self._node_or_none(self._links().previous)
 
     @property
     def next_sibling(self) -> Optional[Node]:
         """The node behind it under the same parent, or None."""
-        return self._node_or_none(self._place().next)
+        return self._node_or_none(self._links().next)
 
     @property
     def child_nodes(self) -> List[Node]:
@@ -108,18 +108,16 @@ class Node(SessionObject):
     @property
     def first_child(self) -> Optional[Node]:
         """The first child, or None."""
-        found = self._calls.read_children(self.number)
-        return self.session._node(found[0]) if found else None
+        return self._node_or_none(self._calls.first_child(self.number))
 
     @property
     def last_child(self) -> Optional[Node]:
         """The last child, or None."""
-        found = self._calls.read_children(self.number)
-        return self.session._node(found[-1]) if found else None
+        return self._node_or_none(self._calls.last_child(self.number))
 
     def has_child_nodes(self) -> bool:
         """Whether it has a child."""
-        return self.first_child is not None
+        return maybe(self._calls.first_child(self.number)) is not None
 
     @property
     def index(self) -> int:

@@ -2,10 +2,12 @@
 import inspect
 import pkgutil
 import random
+import time
 import unittest
 from importlib import import_module
 
 import huckleport as h
+from huckleport._calls import core
 
 
 class Members(unittest.TestCase):
@@ -48,6 +50,28 @@ class Members(unittest.TestCase):
         for it in self.root:
             it.remove()
         self.assertFalse(self.root.has_child_nodes())
+
+    def test_ends(self):
+        self.assertEqual((self.root.first_child, self.root.last_child, self.root.has_child_nodes()), (None, None, False))
+        a, b, c = self.make("a", "b", "c")
+        self.root.append(a, b, c)
+        self.assertEqual((self.root.first_child, self.root.last_child, self.root.has_child_nodes()), (a, c, True))
+        self.root.remove()
+        self.root.discard()
+        with self.assertRaises(h.NoSuchObject):
+            self.root.first_child
+        with self.assertRaises(h.NoSuchObject):
+            self.root.has_child_nodes()
+
+    def test_many_children_go_one_by_one(self):
+        self.root.append(*(self.document.create_element("a") for _ in range(100_000)))
+        began = time.process_time()
+        while self.root.first_child:
+            self.root.first_child.remove()
+        seconds = time.process_time() - began
+        self.assertFalse(self.root.has_child_nodes())
+        # (by ctypes a call alone takes a microsecond or two, and the object of a node more)
+        self.assertLess(seconds, 1 if core else 10)
 
     def test_several_at_once(self):
         a, b, c, d, e, f = self.make(*"abcdef")

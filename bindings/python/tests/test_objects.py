@@ -10,6 +10,9 @@ from huckleport import _signatures
 from huckleport._by_ctypes import Calls as ByCtypes
 from huckleport._calls import Calls
 
+# What opens and closes a session or asks of none, and what fills an array, as the package's own calls do.
+NO_METHODS = {"hp_open", "hp_close", "hp_version", "hp_numbers_into", "hp_records_into", "hp_children_into"}
+
 
 class Objects(unittest.TestCase):
     def setUp(self):
@@ -162,17 +165,17 @@ class Objects(unittest.TestCase):
         self.assertEqual(repr(found), "<Range 0 closed>")
 
     def test_every_call_of_a_closed_session(self):
-        """Each call of the library is made with a closed session, before it was open and after."""
+        """Each call of the library that asks of a session is made with a closed one, before it was open and after."""
         count = 0
         for calls in (Calls(), self.session._calls):
             self.session.close()
             for name in _signatures.ARGUMENTS:
-                if name in ("hp_open", "hp_close"):
+                if name in NO_METHODS:
                     continue
                 with self.assertRaises(h.SessionClosed, msg=name):
                     self.use(getattr(calls, name[3:]), getattr(ByCtypes, name[3:]).__annotations__)
                 count += 1
-        self.assertEqual(count, 2 * (len(_signatures.ARGUMENTS) - 2))
+        self.assertEqual(count, 2 * len(set(_signatures.ARGUMENTS) - NO_METHODS))
 
     def use(self, call, annotations):
         """Makes a call with values of its annotations."""

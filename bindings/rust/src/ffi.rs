@@ -145,6 +145,22 @@ pub(crate) struct hp_place {
     pub(crate) previous: u32,
 }
 
+/// A node: the standard's number of its kind (`nodeType`), its node document, the nodes above, beside and below it, or HP_NONE, how many children it has, and its length.
+#[repr(C)]
+#[derive(Clone, Copy, Default)]
+#[allow(non_camel_case_types)]
+pub(crate) struct hp_node_links {
+    pub(crate) kind: u8,
+    pub(crate) document: u32,
+    pub(crate) parent: u32,
+    pub(crate) previous: u32,
+    pub(crate) next: u32,
+    pub(crate) first_child: u32,
+    pub(crate) last_child: u32,
+    pub(crate) children: usize,
+    pub(crate) length: usize,
+}
+
 /// A session, or none. All zero bytes are a closed handle.
 #[repr(C)]
 #[allow(non_camel_case_types)]
@@ -175,6 +191,7 @@ pub(crate) struct hp_slot {
 }
 
 extern "C" {
+    fn hp_version(version: *mut u32) -> u8;
     fn hp_open(session: *mut hp_session, numbers: u64, line: usize) -> u8;
     fn hp_close(session: *mut hp_session) -> u8;
     fn hp_line(session: *mut hp_session, line: *const u8, line_length: usize) -> u8;
@@ -184,6 +201,7 @@ extern "C" {
     fn hp_reply_line(session: *mut hp_session, out: *mut hp_bytes) -> u8;
     fn hp_count(session: *mut hp_session, count: *mut usize) -> u8;
     fn hp_number_at(session: *mut hp_session, index: usize, number: *mut u32) -> u8;
+    fn hp_numbers_into(session: *mut hp_session, numbers: *mut u32, numbers_capacity: usize, count: *mut usize) -> u8;
     fn hp_node_name(session: *mut hp_session, part: u8, out: *mut hp_bytes) -> u8;
     fn hp_row_at(session: *mut hp_session, index: usize, row: *mut hp_row) -> u8;
     fn hp_row_name(session: *mut hp_session, index: usize, part: u8, out: *mut hp_bytes) -> u8;
@@ -192,6 +210,7 @@ extern "C" {
     fn hp_row_attribute_value(session: *mut hp_session, index: usize, at: usize, out: *mut hp_text_view) -> u8;
     fn hp_notice_at(session: *mut hp_session, index: usize, notice: *mut hp_notice) -> u8;
     fn hp_record_at(session: *mut hp_session, notice: usize, index: usize, record: *mut hp_record) -> u8;
+    fn hp_records_into(session: *mut hp_session, notice: usize, records: *mut hp_record, records_capacity: usize, count: *mut usize) -> u8;
     fn hp_record_added_at(session: *mut hp_session, notice: usize, index: usize, at: usize, node: *mut u32) -> u8;
     fn hp_record_removed_at(session: *mut hp_session, notice: usize, index: usize, at: usize, node: *mut u32) -> u8;
     fn hp_record_name(session: *mut hp_session, notice: usize, index: usize, out: *mut hp_bytes) -> u8;
@@ -225,6 +244,11 @@ extern "C" {
     fn hp_compare_position(session: *mut hp_session, node: u32, other: u32, position: *mut u32) -> u8;
     fn hp_text_content(session: *mut hp_session, node: u32) -> u8;
     fn hp_tree(session: *mut hp_session, node: u32) -> u8;
+    fn hp_links(session: *mut hp_session, node: u32, links: *mut hp_node_links) -> u8;
+    fn hp_first_child(session: *mut hp_session, node: u32, child: *mut u32) -> u8;
+    fn hp_last_child(session: *mut hp_session, node: u32, child: *mut u32) -> u8;
+    fn hp_child_at(session: *mut hp_session, node: u32, index: usize, child: *mut u32) -> u8;
+    fn hp_children_into(session: *mut hp_session, node: u32, numbers: *mut u32, numbers_capacity: usize, count: *mut usize) -> u8;
     fn hp_data(session: *mut hp_session, node: u32) -> u8;
     fn hp_set_data(session: *mut hp_session, node: u32, data: *const u16, data_length: usize) -> u8;
     fn hp_append_data(session: *mut hp_session, node: u32, data: *const u16, data_length: usize) -> u8;
@@ -309,6 +333,13 @@ impl Handle {
         }
     }
 
+    pub(crate) fn version(&self) -> Result<u32, u8> {
+        let mut out = 0;
+        // SAFETY: as at the head of the file.
+        let status = unsafe { hp_version(&mut out) };
+        if status == HP_OK { Ok(out) } else { Err(status) }
+    }
+
     pub(crate) fn line(&mut self, line: &[u8]) -> Result<(), u8> {
         // SAFETY: as at the head of the file.
         let status = unsafe { hp_line(self.session.get(), line.as_ptr(), line.len()) };
@@ -365,6 +396,13 @@ impl Handle {
         let mut out = 0;
         // SAFETY: as at the head of the file.
         let status = unsafe { hp_number_at(self.session.get(), index, &mut out) };
+        if status == HP_OK { Ok(out) } else { Err(status) }
+    }
+
+    pub(crate) fn numbers_into(&self, numbers: &mut [u32]) -> Result<usize, u8> {
+        let mut out = 0;
+        // SAFETY: as at the head of the file.
+        let status = unsafe { hp_numbers_into(self.session.get(), numbers.as_mut_ptr(), numbers.len(), &mut out) };
         if status == HP_OK { Ok(out) } else { Err(status) }
     }
 
@@ -441,6 +479,13 @@ impl Handle {
         let mut out = hp_record::default();
         // SAFETY: as at the head of the file.
         let status = unsafe { hp_record_at(self.session.get(), notice, index, &mut out) };
+        if status == HP_OK { Ok(out) } else { Err(status) }
+    }
+
+    pub(crate) fn records_into(&self, notice: usize, records: &mut [hp_record]) -> Result<usize, u8> {
+        let mut out = 0;
+        // SAFETY: as at the head of the file.
+        let status = unsafe { hp_records_into(self.session.get(), notice, records.as_mut_ptr(), records.len(), &mut out) };
         if status == HP_OK { Ok(out) } else { Err(status) }
     }
 
@@ -668,6 +713,41 @@ impl Handle {
         // SAFETY: as at the head of the file.
         let status = unsafe { hp_tree(self.session.get(), node) };
         if status == HP_OK { Ok(()) } else { Err(status) }
+    }
+
+    pub(crate) fn links(&self, node: u32) -> Result<hp_node_links, u8> {
+        let mut out = hp_node_links::default();
+        // SAFETY: as at the head of the file.
+        let status = unsafe { hp_links(self.session.get(), node, &mut out) };
+        if status == HP_OK { Ok(out) } else { Err(status) }
+    }
+
+    pub(crate) fn first_child(&self, node: u32) -> Result<u32, u8> {
+        let mut out = 0;
+        // SAFETY: as at the head of the file.
+        let status = unsafe { hp_first_child(self.session.get(), node, &mut out) };
+        if status == HP_OK { Ok(out) } else { Err(status) }
+    }
+
+    pub(crate) fn last_child(&self, node: u32) -> Result<u32, u8> {
+        let mut out = 0;
+        // SAFETY: as at the head of the file.
+        let status = unsafe { hp_last_child(self.session.get(), node, &mut out) };
+        if status == HP_OK { Ok(out) } else { Err(status) }
+    }
+
+    pub(crate) fn child_at(&self, node: u32, index: usize) -> Result<u32, u8> {
+        let mut out = 0;
+        // SAFETY: as at the head of the file.
+        let status = unsafe { hp_child_at(self.session.get(), node, index, &mut out) };
+        if status == HP_OK { Ok(out) } else { Err(status) }
+    }
+
+    pub(crate) fn children_into(&self, node: u32, numbers: &mut [u32]) -> Result<usize, u8> {
+        let mut out = 0;
+        // SAFETY: as at the head of the file.
+        let status = unsafe { hp_children_into(self.session.get(), node, numbers.as_mut_ptr(), numbers.len(), &mut out) };
+        if status == HP_OK { Ok(out) } else { Err(status) }
     }
 
     pub(crate) fn data(&mut self, node: u32) -> Result<(), u8> {

@@ -83,7 +83,7 @@ pub use history::History;
 pub use numbers::{Node, NodeIterator, Observer, Range, StaticRange, TreeWalker};
 pub use observers::Options;
 pub use points::{BoundaryPoint, Ends, How, StaticEnds};
-pub use questions::{Description, Kind};
+pub use questions::{Description, Kind, Links};
 pub use records::{Notice, Notices, Record, RecordNodes, RecordType, Records};
 pub use rows::{Attributes, Row, Rows};
 pub use session::{utf16, Session};

@@ -90,6 +90,68 @@ impl fmt::Debug for Description<'_> {
     }
 }
 
+/// What a node is, and what stands around it.
+#[derive(Clone, Copy, Debug, PartialEq, Eq)]
+pub struct Links {
+    /// The kind.
+    pub kind: Kind,
+    /// The node document.
+    pub document: Node,
+    /// The parent.
+    pub parent: Option<Node>,
+    /// The sibling before it.
+    pub previous: Option<Node>,
+    /// The sibling after it.
+    pub next: Option<Node>,
+    /// The first child.
+    pub first_child: Option<Node>,
+    /// The last child.
+    pub last_child: Option<Node>,
+    /// How many children it has.
+    pub children: usize,
+    /// Its length: of its data, or how many children it has.
+    pub length: usize,
+}
+
+/// Questions about a node in constant time, or nearly so. They leave the last answer where it is.
+impl Session {
+    /// What a node is, and what stands around it.
+    pub fn links(&self, node: Node) -> Result<Links> {
+        let it = self.handle.links(node.number()).map_err(Exception::of)?;
+        Ok(Links {
+            kind: Kind::of(it.kind.into()),
+            document: Node::from_number(it.document),
+            parent: Node::told(it.parent),
+            previous: Node::told(it.previous),
+            next: Node::told(it.next),
+            first_child: Node::told(it.first_child),
+            last_child: Node::told(it.last_child),
+            children: it.children,
+            length: it.length,
+        })
+    }
+
+    /// The first child of a node.
+    pub fn first_child(&self, node: Node) -> Result<Option<Node>> {
+        self.handle.first_child(node.number()).map(Node::told).map_err(Exception::of)
+    }
+
+    /// The last child of a node.
+    pub fn last_child(&self, node: Node) -> Result<Option<Node>> {
+        self.handle.last_child(node.number()).map(Node::told).map_err(Exception::of)
+    }
+
+    /// Whether a node has a child.
+    pub fn has_child_nodes(&self, node: Node) -> Result<bool> {
+        self.first_child(node).map(|it| it.is_some())
+    }
+
+    /// The child of a node at an index. The library goes there from the nearer end.
+    pub fn child_at(&self, node: Node, index: usize) -> Result<Option<Node>> {
+        self.handle.child_at(node.number(), index).map(Node::told).map_err(Exception::of)
+    }
+}
+
 /// Questions about nodes.
 impl Session {
     /// Where a node stands, and what it is called.

@@ -1,5 +1,5 @@
 //! What dialogues do not show: commands that they only refuse, texts that are not well-formed, limits, threads, iterators from both ends.
-use huckleport::{utf16, BoundaryPoint, Ends, Exception, Node, Result, Session};
+use huckleport::{utf16, BoundaryPoint, Ends, Exception, Kind, Node, Result, Session};
 use std::thread;
 
 /// A session with an element of three Texts, `a`, `b` and `c`.
@@ -40,6 +40,33 @@ fn a_child_replaced_and_data_inserted() -> Result<()> {
     session.insert_data(c, 1, &utf16("d"))?;
     assert_eq!(session.data(c)?, utf16("cd"));
     assert_eq!(session.insert_data(c, 3, &[]), Err(Exception::IndexSizeError));
+    Ok(())
+}
+
+#[test]
+fn what_stands_around_a_node() -> Result<()> {
+    let (session, parent, [a, b, c]) = session()?;
+    let found = session.links(parent)?;
+    assert_eq!((found.kind, found.document, found.parent), (Kind::Element, Node::DOCUMENT, None));
+    assert_eq!((found.first_child, found.last_child, found.children, found.length), (Some(a), Some(c), 3, 3));
+    let found = session.links(b)?;
+    assert_eq!((found.previous, found.next, found.parent), (Some(a), Some(c), Some(parent)));
+    assert_eq!((found.first_child, found.last_child, found.children, found.length), (None, None, 0, 1));
+    assert_eq!((session.first_child(parent)?, session.last_child(parent)?), (Some(a), Some(c)));
+    assert_eq!((session.child_at(parent, 1)?, session.child_at(parent, 3)?), (Some(b), None));
+    assert!(session.has_child_nodes(parent)? && !session.has_child_nodes(a)?);
+    assert_eq!(session.links(Node::from_number(99)), Err(Exception::NoSuchObject));
+    assert_eq!(session.first_child(Node::from_number(99)), Err(Exception::NoSuchObject));
+    Ok(())
+}
+
+#[test]
+fn the_last_answer_stays() -> Result<()> {
+    let (mut session, parent, [a, _, c]) = session()?;
+    session.children(parent)?;
+    let printed = session.printed()?.to_vec();
+    assert_eq!((session.first_child(parent)?, session.last_child(parent)?), (Some(a), Some(c)));
+    assert_eq!(session.printed()?, printed);
     Ok(())
 }
 

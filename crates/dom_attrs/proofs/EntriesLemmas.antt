@@ -1,7 +1,7 @@
 -- What a map from names to values does to its entries is what the definitions do to the attributes that they are.
 use Rattle.std.proofs.Common.{◌≡◌, ℕ, Bool, true, false, cond, List, [], ◌∷◌, Option, Some, refl, ap, sym, ◌∙◌, string_bytes}
 use Rattle.std.specs.Prelude.{String, string_eq, bytes_eq}
-use Rattle.std.specs.List.{AllByRecursion, IsDistinct, list_any}
+use Rattle.std.specs.List.{AllByRecursion, AllZip, IsDistinct, list_any}
 use Rattle.std.specs.Map.{lookup, remove_entry, keys_of}
 use Rattle.indexmap.specs.IndexMap.{insert_entry}
 use Rattle.dom_model.specs.Forests.Attributes.{Attribute, attribute_value, attribute_names, with_attribute, without_attribute, is_attribute}
@@ -46,6 +46,15 @@ module _ {Z : Type 0} where
   unfolding IsDistinct
   distinct_names [] h = h
   distinct_names (e ∷ es) h = (others_distinct e.0 es h.0, distinct_names es h.1)
+
+  -- copies of entries are the same attributes
+  pub attributes_of-clones : (es copies : List (String Z × List ℕ)) → AllZip (λ e copy. (string_bytes copy.0 ≡ string_bytes e.0) × (copy.1 ≡ e.1)) es copies → attributes_of copies ≡ attributes_of es
+  attributes_of-clones [] [] h = refl
+  attributes_of-clones [] (c ∷ copies) h = absurd h
+  attributes_of-clones (e ∷ es) [] h = absurd h
+  attributes_of-clones (e ∷ es) (c ∷ copies) h =
+      let rest = attributes_of-clones es copies h.1 in
+      (λ j. record { name = h.0.0 j; value = h.0.1 j } ∷ rest j)
 
   -- whether an attribute is there, by the look-up of its name
   pub list_any-lookup : (a : Attribute) (es : List (String Z × List ℕ)) (xs : List Attribute) → attributes_of es ≡ xs → IsDistinct string_eq (keys_of es)

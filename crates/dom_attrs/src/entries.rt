@@ -82,3 +82,15 @@ pub(crate) fn take_from(map: &mut IndexMap<String, Units>, name: &str) -> Option
 {
     map.shift_remove(name)
 }
+
+// A copy, in memory of its own. It has the table as it stands, so no name is looked for.
+pub(crate) fn copied(
+    alloc: Global,
+    map: &IndexMap<String, Units>,
+) -> Result<Box<IndexMap<String, Units>>, AllocError>
+    ensures same { IfOk result (λ copy. attributes_of copy.value.entries ≡ attributes_of map.now.entries) }
+    ensures unique { IfOk result (λ copy. IsDistinct string_eq (keys_of copy.value.entries)) }
+{
+    let copy = map.clone()?;
+    Ok(Box::new(alloc, copy)?)
+}

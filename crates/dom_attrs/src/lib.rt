@@ -98,14 +98,17 @@ impl Attrs {
         outcome
     }
 
-    /// Takes the attribute of that name out ("remove an attribute by name"); those after it move up. It answers the value.
+    /// Takes the attribute of that name out ("remove an attribute by name"); those after it move up. It answers the value. Where none is left,
+    /// the memory of them all is given back.
     pub fn remove(&mut self, name: &str) -> Option<Units>
         ensures value { result ≡ attribute_value name.now self.old }
         ensures rest { self.new ≡ without_attribute name.now self.old }
     {
         let mut map = self.map.take()?;
         let value = entries::take_from(&mut map, name);
-        self.map = Some(map);
+        if entries::count_in(&map) > 0 {
+            self.map = Some(map);
+        }
         value
     }
 
@@ -116,27 +119,17 @@ impl Attrs {
         self.is_in_order_of(other) || (self.are_among(other) && other.are_among(self))
     }
 
-    /// A copy, in memory of its own.
+    /// A copy, in memory of its own. No name is looked for, so it takes the same time whatever the names are hashed to.
     pub fn try_clone(&self, alloc: Global) -> Result<Attrs, AllocError>
         ensures { IfOk result (λ copy. copy ≡ self.now) }
     {
-        let count = self.len();
-        let mut copy = Attrs::new(alloc);
-        for index in 0..count {
-            let (name, value) = self.pair_at(index);
-            copy.set_copied(alloc, name, value)?;
+        match &self.map {
+            None => Ok(Attrs::new(alloc)),
+            Some(map) => Ok(Attrs {
+                map: Some(entries::copied(alloc, map)?),
+                alloc,
+            }),
         }
-        Ok(copy)
-    }
-
-    // Sets a copy of a value at a copy of a name.
-    fn set_copied(&mut self, alloc: Global, name: &str, value: &Units) -> Result<(), AllocError>
-        ensures { OnOk result (self.new ≡ with_attribute name.now value.now self.old) }
-    {
-        let name = String::from_str(alloc, name)?;
-        let value = value.try_clone(alloc)?;
-        let _ = self.set(name, value)?;
-        Ok(())
     }
 
     // Whether both have the same attributes in one order.

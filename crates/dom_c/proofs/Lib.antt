@@ -1,3 +1,5 @@
 pub mod Held
 pub mod Names
 pub mod TooFew
+pub mod OpenReads
+pub mod Copies

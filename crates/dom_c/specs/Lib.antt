@@ -11,3 +11,5 @@ pub mod Lists
 pub mod Reading
 pub mod Rows
 pub mod Records
+pub mod Nearby
+pub mod Version

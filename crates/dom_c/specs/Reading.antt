@@ -1,6 +1,7 @@
 -- What is read of the last answer: its text, and its parts by their index.
 use Rattle.std.specs.Prelude.{◌≡◌, ℕ, Bool, true, false, if◌then◌else◌, List, length, slice_get, Option, Some, None, option_map, option_and_then}
 use Rattle.dom_model.specs.Commands.Reply.{Answer, Numbers, Units, MaybeUnits, Names, Rows, Records, Notified}
+use Rattle.dom_session.specs.Links.{laid_over}
 use Rattle.dom_c.specs.Statuses.{out_of_memory, closed, not_there}
 use Rattle.dom_c.specs.Told.{last_of}
 use Rattle.dom_c.specs.declared.kept.Kept.{Kept}
@@ -49,6 +50,16 @@ count_in _ = None
 abbrev pub number_at : ℕ → Answer → Option ℕ
 number_at i (Numbers ns) = slice_get ns i
 number_at i _ = None
+
+-- the numbers of an answer
+abbrev pub numbers_in : Answer → Option (List ℕ)
+numbers_in (Numbers ns) = Some ns
+numbers_in _ = None
+
+-- one list over the front of what was there, where there is one
+abbrev pub laid_or_before : {A : Type 0} → Option (List A) → List A → List A
+laid_or_before None before = before
+laid_or_before (Some found) before = laid_over found before
 
 abbrev pub name_at : ℕ → Answer → Option (List ℕ)
 name_at i (Names ns) = slice_get ns i

@@ -1,5 +1,5 @@
 -- What is read of records of mutations, and of who is told of them.
-use Rattle.std.specs.Prelude.{ℕ, nat_eq, if◌then◌else◌, List, length, slice_get, Option, Some, None, option_map, option_and_then}
+use Rattle.std.specs.Prelude.{ℕ, nat_eq, if◌then◌else◌, List, length, map, slice_get, Option, Some, None, option_map, option_and_then}
 use Rattle.dom_model.specs.declared.RecordType.{RecordType}
 use Rattle.dom_model.specs.declared.RecordType.TheVariants.{ChildList, Attributes, CharacterData}
 use Rattle.dom_model.specs.MutationObservers.Record as plain
@@ -44,6 +44,10 @@ record_told r = record {
 
 abbrev pub record_at : ℕ → ℕ → model.Answer → Option Record
 record_at n i a = option_map record_told (record_in n i a)
+
+-- all records of a notice, as they are told
+abbrev pub records_at : ℕ → model.Answer → Option (List Record)
+records_at n a = option_map (map record_told) (records_in n a)
 
 abbrev pub added_at : ℕ → ℕ → ℕ → model.Answer → Option ℕ
 added_at n i at a = option_and_then (λ (r : plain.Record). slice_get r.added at) (record_in n i a)

@@ -1,9 +1,10 @@
 //! What is read of the last answer: its text, and its parts by their index.
 
-ghost use Rattle.std.specs.Prelude.{◌≡◌, option_and_then, slice_get, string_bytes};
+ghost use Rattle.std.specs.Prelude.{◌≡◌, List, ℕ, Option, length, option_map, option_and_then, slice_get, string_bytes};
 ghost use Rattle.dom_wire.specs.Sessions.{answer_view};
 ghost use Rattle.dom_c.specs.Told.{last_of};
-ghost use Rattle.dom_c.specs.Reading.{look_up_status, looked_up, or_before, count_in, number_at};
+ghost use Rattle.dom_session.specs.Links.{laid_over};
+ghost use Rattle.dom_c.specs.Reading.{look_up_status, looked_up, or_before, laid_or_before, count_in, numbers_in, number_at};
 
 use crate::handle::Handle;
 use crate::kept::Kept;
@@ -25,6 +26,29 @@ fn count_of(answer: &Answer) -> Option<usize>
     }
 }
 
+fn numbers_of(answer: &Answer) -> Option<&[u32]>
+    ensures { option_map (λ numbers. numbers.now) result ≡ numbers_in (answer_view answer.now) }
+{
+    match answer {
+        Answer::Numbers(numbers) => Some(numbers.as_slice()),
+        _ => None,
+    }
+}
+
+// Copies numbers over the front of an array, as many as there is room for.
+fn lay_over(numbers: &[u32], into: &mut [u32])
+    ensures { into.new ≡ laid_over numbers.now into.old }
+{
+    let mut at = 0;
+    for number in numbers {
+        if at == into.len() {
+            return;
+        }
+        into[at] = *number;
+        at += 1;
+    }
+}
+
 fn number_of(answer: &Answer, index: usize) -> Option<u32>
     ensures { result ≡ number_at index (answer_view answer.now) }
 {
@@ -40,6 +64,15 @@ impl Kept {
     {
         match &self.reply {
             Some(Reply::Done(answer)) => count_of(answer),
+            _ => None,
+        }
+    }
+
+    fn numbers(&self) -> Option<&[u32]>
+        ensures { option_map (λ numbers. numbers.now) result ≡ option_and_then numbers_in (last_of self.now) }
+    {
+        match &self.reply {
+            Some(Reply::Done(answer)) => numbers_of(answer),
             _ => None,
         }
     }
@@ -94,6 +127,32 @@ pub extern "C" fn hp_number_at(handle: &mut Handle, index: usize, number: &mut u
     match kept.number_at(index) {
         Some(found) => {
             *number = found;
+            HP_OK
+        }
+        None => HP_NOT_THERE,
+    }
+}
+
+/// Copies the numbers of the last answer into an array, as many as there is room for, and writes how many there are, which may be more.
+/// What stands in the array behind them stays.
+#[unsafe(no_mangle)]
+pub extern "C" fn hp_numbers_into(handle: &mut Handle, numbers: &mut [u32], count: &mut usize) -> u8
+    ensures kept { handle.new.slot.kept ≡ handle.old.slot.kept }
+    ensures status { result ≡ look_up_status handle.old numbers_in }
+    ensures count { count.new ≡ or_before (option_map length (looked_up handle.old numbers_in)) count.old }
+    ensures copied { numbers.new ≡ laid_or_before (looked_up handle.old numbers_in) numbers.old }
+{
+    if !handle.is_open {
+        return HP_CLOSED;
+    }
+    let kept = &handle.slot.lend().kept;
+    if kept.ended {
+        return HP_OUT_OF_MEMORY;
+    }
+    match kept.numbers() {
+        Some(found) => {
+            lay_over(found, numbers);
+            *count = found.len();
             HP_OK
         }
         None => HP_NOT_THERE,

@@ -29,8 +29,8 @@ pub(crate) fn node_number(node: Option<NodeId>) -> u32
     }
 }
 
-// The standard's number of a kind.
-fn kind_number(kind: Kind) -> u8
+/// The standard's number of a kind.
+pub(crate) fn kind_number(kind: Kind) -> u8
     ensures { result ≡ number_of_kind kind }
 {
     kind.number() as u8

@@ -1,11 +1,12 @@
 //! What is read of records of mutations, the answers of `hp_notify` and `hp_take_records`.
 
-ghost use Rattle.std.specs.Prelude.{◌≡◌, List, ℕ, Option, slice_get, option_map, option_and_then};
+ghost use Rattle.std.specs.Prelude.{◌≡◌, List, ℕ, Option, length, map, slice_get, option_map, option_and_then};
 ghost use Rattle.dom_model.specs.MutationObservers.Record.{Record as PlainRecord};
 ghost use Rattle.dom_wire.specs.Sessions.{answer_view};
 ghost use Rattle.dom_c.specs.Told.{last_of};
-ghost use Rattle.dom_c.specs.Reading.{look_up_status, looked_up, or_before};
-ghost use Rattle.dom_c.specs.Records.{records_in, record_in, type_number, record_told, record_at, added_at, removed_at, record_name_at, old_value_at};
+ghost use Rattle.dom_session.specs.Links.{laid_over};
+ghost use Rattle.dom_c.specs.Reading.{look_up_status, looked_up, or_before, laid_or_before};
+ghost use Rattle.dom_c.specs.Records.{records_in, record_in, type_number, record_told, record_at, records_at, added_at, removed_at, record_name_at, old_value_at};
 
 use crate::handle::Handle;
 use crate::kept::Kept;
@@ -83,6 +84,20 @@ fn record_told(found: &MutationRecord) -> Record
     }
 }
 
+// Copies records, as C reads them, over the front of an array, as many as there is room for.
+fn lay_over(records: &[MutationRecord], into: &mut [Record])
+    ensures { into.new ≡ laid_over (map record_told records.now) into.old }
+{
+    let mut at = 0;
+    for found in records {
+        if at == into.len() {
+            return;
+        }
+        into[at] = record_told(found);
+        at += 1;
+    }
+}
+
 fn number_in(nodes: &[NodeId], at: usize) -> Option<u32>
     ensures { result ≡ slice_get nodes.now at }
 {
@@ -111,6 +126,16 @@ fn old_value_of(found: &MutationRecord) -> Option<&[u16]>
 }
 
 impl Kept {
+    fn records(&self, notice: usize) -> Option<&[MutationRecord]>
+        ensures { option_map (λ records. records.now) result
+            ≡ option_and_then (records_in notice) (last_of self.now) }
+    {
+        match &self.reply {
+            Some(Reply::Done(answer)) => records_in(answer, notice),
+            _ => None,
+        }
+    }
+
     fn record(&self, notice: usize, index: usize) -> Option<&MutationRecord>
         ensures { option_map (λ found. found.now) result
             ≡ option_and_then (record_in notice index) (last_of self.now) }
@@ -191,6 +216,37 @@ pub extern "C" fn hp_record_at(
     match kept.record_at(notice, index) {
         Some(found) => {
             *record = found;
+            HP_OK
+        }
+        None => HP_NOT_THERE,
+    }
+}
+
+/// Copies all records of a notice into an array, as many as there is room for, and writes how many there are, which may be more. What
+/// stands in the array behind them stays.
+#[unsafe(no_mangle)]
+pub extern "C" fn hp_records_into(
+    handle: &mut Handle,
+    notice: usize,
+    records: &mut [Record],
+    count: &mut usize,
+) -> u8
+    ensures kept { handle.new.slot.kept ≡ handle.old.slot.kept }
+    ensures status { result ≡ look_up_status handle.old (records_at notice) }
+    ensures count { count.new ≡ or_before (option_map length (looked_up handle.old (records_at notice))) count.old }
+    ensures copied { records.new ≡ laid_or_before (looked_up handle.old (records_at notice)) records.old }
+{
+    if !handle.is_open {
+        return HP_CLOSED;
+    }
+    let kept = &handle.slot.lend().kept;
+    if kept.ended {
+        return HP_OUT_OF_MEMORY;
+    }
+    match kept.records(notice) {
+        Some(found) => {
+            lay_over(found, records);
+            *count = found.len();
             HP_OK
         }
         None => HP_NOT_THERE,

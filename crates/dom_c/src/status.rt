@@ -77,7 +77,8 @@ fn status_of_dom(error: DomError) -> u8
     }
 }
 
-fn status_of_own(error: OwnError) -> u8
+/// The status of a refusal that is none of the standard's.
+pub(crate) fn status_of_own(error: OwnError) -> u8
     ensures { result ≡ status_of_own error }
 {
     match error {

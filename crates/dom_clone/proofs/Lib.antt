@@ -1,4 +1,5 @@
 pub mod Grown
+pub mod Left
 pub mod Partial
 pub mod Positions
 pub mod Under

@@ -64,6 +64,7 @@ pub record IsCopying (old : World) (n d : ℕ) (now : World) (ws : List (Waiting
   pub follows : Follows old now (with_trees copies now.tree.made)
   pub whole : IsWhole now
   pub from : EachNode (IsFrom old.tree.made) copies
+  pub grows : old.tree.made ≤ now.tree.made
   pub owned : IsInDocument d copies
   pub matched : Match old.tree.forest copies ws parts
   pub complete : completed d parts copies now.tree.made ≡ renumbered d old.tree.made (tree_at n old.tree.forest)
@@ -214,6 +215,7 @@ module _ (old now : World) (h : IsWhole old) (n d : ℕ) (held : HasNode old.tre
     follows = single;
     whole = whole;
     from = (omega arith, tt, tt);
+    grows = omega (arith, made_now);
     owned = (refl, tt, tt);
     matched = rw heads (Match-wait old.tree.forest first_copy [] [] old.tree.made n None tree.top.label.kind tree.kids tt tree.stands fits there (λ e. refl, tt, tt));
     complete = ap (completed d (part_if old.tree.made tree.kids) first_copy) (sym made_now)
@@ -417,6 +419,7 @@ module _ (old : World) (h : IsWhole old) (n d : ℕ) (now : World) (ws : List (W
       follows = follows_next;
       whole = whole;
       from = EachNode-placed_under (IsFrom old.tree.made) w.place None (node copy_here empty empty) i.copies (omega (arith, parent_low, parent_high), tt, tt) i.from;
+      grows = omega (arith, i.grows, next-made);
       owned = EachNode-placed_under (λ x. x.document ≡ d) w.place None (node copy_here empty empty) i.copies (refl, tt, tt) i.owned;
       matched = rw (next-told, ap (λ e. head_of (children_in e)) entry_next) matched_next;
       complete = ap (completed d ((popped.others ++ part_if w.place fr.rest) ++ part_if now.tree.made fr.kids) more) (sym next-made)

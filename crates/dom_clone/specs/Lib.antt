@@ -1,3 +1,4 @@
 pub mod Growing
+pub mod Leaving
 pub mod Meeting
 pub mod Waits

@@ -1,6 +1,6 @@
 //! Copies of trees.
 
-ghost use Rattle.std.specs.Prelude.{◌≡◌, ℕ, ◌+◌, ◌<◌, ◌≤◌, true, if◌then◌else◌, ◌++◌, Some, None, IfSome, IfOk, OnOk, unwrap_or};
+ghost use Rattle.std.specs.Prelude.{◌≡◌, ℕ, ◌+◌, ◌<◌, ◌≤◌, true, if◌then◌else◌, ◌++◌, Some, None, IfSome, IfOk, OnOk, OnErr, unwrap_or};
 ghost use Rattle.std.specs.Option.{ForSome};
 ghost use Rattle.std.specs.Result.{IfErr};
 ghost use Rattle.dom_model.specs.declared.Kind.TheVariants.{Document};
@@ -13,6 +13,7 @@ ghost use Rattle.dom_tree.specs.Standing.{MayStand};
 ghost use Rattle.dom_edit.specs.Whole.{IsWhole, Follows};
 ghost use Rattle.dom_edit.specs.Refusals.{check_adopt, IsRefused};
 ghost use Rattle.dom_clone.specs.Growing.{made_under};
+ghost use Rattle.dom_clone.specs.Leaving.{LeavesAll};
 
 use crate::waiting::{Waiting, wait_for};
 use dom_edit::{Content, Refusal, World, document_in};
@@ -34,6 +35,7 @@ pub fn clone_node(
     requires room { world.old.tree.made + size (original deep node world.old.tree.forest) ≤ 4294967295 }
     ensures number { IfOk result (λ id. id ≡ world.old.tree.made) }
     ensures cloned { OnOk result (Follows world.old world.new (clone_node deep node)) }
+    ensures left { LeavesAll world.old world.new }
     ensures whole { IsWhole world.new }
 {
     let document = document_of_copies(&world.tree, node);
@@ -58,6 +60,7 @@ pub fn import(
     ensures number { IfOk result (λ id. id ≡ world.old.tree.made) }
     ensures imported { OnOk result (Follows world.old world.new (import_node document deep node)) }
     ensures refused { IfErr result (λ e. IsRefused e (check_adopt world.old.tree.forest node) world.old world.new) }
+    ensures left { LeavesAll world.old world.new }
     ensures whole { IsWhole world.new }
 {
     if world.tree.is_of_kind(node, Kind::Document) {
@@ -94,6 +97,7 @@ fn copy_tree(
     requires own_document { document ≡ None → is_of_kind Document world.old.tree.forest node ≡ true }
     ensures number { IfOk result (λ id. id ≡ world.old.tree.made) }
     ensures copied { OnOk result (Follows world.old world.new (λ w. with_copies (unwrap_or document world.old.tree.made) (original deep node w.forest) w)) }
+    ensures left { LeavesAll world.old world.new }
     ensures whole { IsWhole world.new }
 {
     let top = copy_node(world, alloc, node, document)?;
@@ -124,6 +128,7 @@ fn copy_node(
     requires own_document { document ≡ None → is_of_kind Document world.old.tree.forest node ≡ true }
     ensures number { IfOk result (λ id. id ≡ world.old.tree.made) }
     ensures copied { IfSome (entry_in world.old.tree.forest node) (λ e. OnOk result (Follows world.old world.new (made_node (unwrap_or document world.old.tree.made) e.value.label e.value.body))) }
+    ensures left { LeavesAll world.old world.new }
     ensures whole { IsWhole world.new }
 {
     let label = world.tree.label(node).try_clone(alloc)?;
@@ -145,6 +150,7 @@ fn copy_under(
     requires kinds { MayStand world.old.tree.forest parent node }
     ensures number { IfOk result (λ id. id ≡ world.old.tree.made) }
     ensures copied { IfSome (entry_in world.old.tree.forest parent) (λ p. IfSome (entry_in world.old.tree.forest node) (λ e. OnOk result (Follows world.old world.new (made_under parent p.value.document e.value)))) }
+    ensures failed { OnErr result (LeavesAll world.old world.new) }
     ensures whole { IsWhole world.new }
 {
     let document = document_in(&world.tree, parent);

@@ -10,7 +10,7 @@ ghost use Rattle.dom_model.specs.RangesAndContents.Contents.{contained_tops};
 ghost use Rattle.dom_model.specs.RangesAndContents.BesidePaths.{tail_nodes, head_nodes};
 ghost use Rattle.dom_edit.specs.Inserting.{AreThere};
 ghost use Rattle.dom_edit.specs.Whole.{IsWhole, unwatched};
-ghost use Rattle.dom_content.specs.Drawing.{AreParts};
+ghost use Rattle.dom_content.specs.Drawing.{ArePartsOf};
 
 use crate::children::{children_ahead, children_from, children_past, children_until};
 use crate::parts::Parts;
@@ -109,7 +109,7 @@ pub(crate) fn contained_tops(
 ) -> Result<Vec<NodeId>, AllocError>
     requires whole { IsWhole world.now }
     requires range { IsRange world.now.tree.forest (record { start = start; end = end }) }
-    requires parts { AreParts world.now.tree.forest (record { start = start; end = end }) parts.now.first.items parts.now.contained.items parts.now.last.items }
+    requires parts { ArePartsOf world.now.tree.forest start end parts.now }
     ensures { IfOk result (λ tops. tops.items ≡ contained_tops (unwatched world.now) (record { start = start; end = end })) }
 {
     let mut tops = tail_nodes(world, alloc, start.offset, &parts.first)?;

@@ -14,7 +14,7 @@ ghost use Rattle.dom_ranges.specs.Tables.{range_in};
 ghost use Rattle.dom_model.specs.TokenText.Edits.{delete_contents_edits};
 ghost use Rattle.dom_edit.specs.Whole.{IsWhole, Follows, unwatched};
 ghost use Rattle.dom_edit.specs.Markers.{StandByEdits};
-ghost use Rattle.dom_content.specs.Drawing.{index_behind};
+ghost use Rattle.dom_content.specs.Drawing.{place_behind};
 ghost use Rattle.dom_content.specs.Left.{IsLeftOf};
 
 use crate::contained::contained_tops;
@@ -48,7 +48,7 @@ fn cut_units(
 // the start, where that stands in the ancestor itself.
 pub(crate) fn new_place(tree: &Tree<Content>, start: Point, path: &[NodeId]) -> Point
     requires way { (ancestor : ℕ) × IsWay tree.now.forest ancestor path.now start.node }
-    ensures { (ancestor : ℕ) → IsWay tree.now.forest ancestor path.now start.node → result ≡ record { node = ancestor; offset = index_behind tree.now.forest start path.now } }
+    ensures { (ancestor : ℕ) → IsWay tree.now.forest ancestor path.now start.node → result ≡ place_behind tree.now.forest ancestor start path.now }
 {
     match head(path) {
         Some(child) => point_after(tree, child).unwrap(),

@@ -20,7 +20,7 @@ ghost use Rattle.dom_content.specs.Left.{IsLeftOf, HoldsBetween, MovesBetween, C
 ghost use Rattle.dom_content.specs.Paths.{HasRoom, Stays};
 ghost use Rattle.dom_content.specs.Coming.{MayDraw, IsPathTo};
 ghost use Rattle.dom_model.specs.DataAndCopies.Data.{data_of};
-ghost use Rattle.dom_content.specs.Drawing.{AreParts, in_one_data, parts_drawn, filled};
+ghost use Rattle.dom_content.specs.Drawing.{ArePartsOf, in_one_data, drawn_by, filled_by};
 
 use crate::data::is_in_one_data;
 use crate::deleting::{new_place, stand_at};
@@ -52,7 +52,7 @@ fn drawable_parts(world: &World, alloc: Global, start: Point, end: Point) -> Res
     requires whole { IsWhole world.now }
     requires range { IsRange world.now.tree.forest (record { start = start; end = end }) }
     ensures allowed { OnOk result (check_draw (unwatched world.now) (record { start = start; end = end }) ≡ None) }
-    ensures parts { IfOk result (λ parts. AreParts world.now.tree.forest (record { start = start; end = end }) parts.first.items parts.contained.items parts.last.items) }
+    ensures parts { IfOk result (λ parts. ArePartsOf world.now.tree.forest start end parts) }
     ensures refused { IfErr result (λ e. IsRefused e (check_draw (unwatched world.now) (record { start = start; end = end })) world.now world.now) }
 {
     let parts = parts_of(&world.tree, alloc, start, end)?;
@@ -107,8 +107,8 @@ fn draw_parts(
     requires may { MayDraw world.old into (parts.now.first.items ++ (parts.now.contained.items ++ parts.now.last.items)) }
     requires first_way { IsPathTo world.old.tree.forest start.offset parts.now.first.items }
     requires last_way { IsPathTo world.old.tree.forest 0 parts.now.last.items }
-    requires room { HasRoom world.old (parts_drawn moves into (record { start = start; end = end }) parts.now.first.items parts.now.contained.items parts.now.last.items) }
-    ensures drawn { OnOk result (Follows world.old world.new (parts_drawn moves into (record { start = start; end = end }) parts.now.first.items parts.now.contained.items parts.now.last.items)) }
+    requires room { HasRoom world.old (drawn_by moves into start end parts.now) }
+    ensures drawn { OnOk result (Follows world.old world.new (drawn_by moves into start end parts.now)) }
     ensures stays { OnOk result (Stays world.old world.new) }
     ensures whole { IsWhole world.new }
 {
@@ -134,8 +134,8 @@ fn fill(
     requires may { MayDraw world.old into (parts.now.first.items ++ (parts.now.contained.items ++ parts.now.last.items)) }
     requires first_way { IsPathTo world.old.tree.forest start.offset parts.now.first.items }
     requires last_way { IsPathTo world.old.tree.forest 0 parts.now.last.items }
-    requires room { HasRoom world.old (filled moves (in_one_data world.old.tree.forest (record { start = start; end = end })) into (record { start = start; end = end }) parts.now.first.items parts.now.contained.items parts.now.last.items) }
-    ensures drawn { OnOk result (Follows world.old world.new (filled moves (in_one_data world.old.tree.forest (record { start = start; end = end })) into (record { start = start; end = end }) parts.now.first.items parts.now.contained.items parts.now.last.items)) }
+    requires room { HasRoom world.old (filled_by moves (in_one_data world.old.tree.forest (record { start = start; end = end })) into start end parts.now) }
+    ensures drawn { OnOk result (Follows world.old world.new (filled_by moves (in_one_data world.old.tree.forest (record { start = start; end = end })) into start end parts.now)) }
     ensures stays { OnOk result (Stays world.old world.new) }
     ensures whole { IsWhole world.new }
 {
@@ -160,7 +160,7 @@ fn draw(
     requires whole { IsWhole world.old }
     requires range { IsRange world.old.tree.forest (record { start = start; end = end }) }
     requires allowed { check_draw (unwatched world.old) (record { start = start; end = end }) ≡ None }
-    requires parts { AreParts world.old.tree.forest (record { start = start; end = end }) parts.now.first.items parts.now.contained.items parts.now.last.items }
+    requires parts { ArePartsOf world.old.tree.forest start end parts.now }
     requires room { HasRoom world.old (contents_drawn moves (record { start = start; end = end })) }
     ensures number { IfOk result (λ id. id ≡ world.old.tree.made) }
     ensures drawn { OnOk result (Follows world.old world.new (contents_drawn moves (record { start = start; end = end }))) }
@@ -186,7 +186,7 @@ fn extract_parts(
     requires live { IsSome (range_in world.old.ranges range) }
     requires range { IsRange world.old.tree.forest (record { start = start; end = end }) }
     requires allowed { check_draw (unwatched world.old) (record { start = start; end = end }) ≡ None }
-    requires parts { AreParts world.old.tree.forest (record { start = start; end = end }) parts.now.first.items parts.now.contained.items parts.now.last.items }
+    requires parts { ArePartsOf world.old.tree.forest start end parts.now }
     requires room { HasRoom world.old (contents_drawn true (record { start = start; end = end })) }
     ensures number { IfOk result (λ id. id ≡ world.old.tree.made) }
     ensures extracted { OnOk result (Follows world.old world.new (extracted range (record { start = start; end = end }))) }
@@ -236,6 +236,10 @@ pub fn extract_checked(
     requires room { (extract range (unwatched world.old)).made ≤ 4294967295 }
     ensures number { IfOk result (λ id. id ≡ world.old.tree.made) }
     ensures extracted { OnOk result (Follows world.old world.new (extract range)) }
+    ensures markers { OnOk result (StandByEdits world.old world.new (extract_edits range)) }
+    ensures left { OnOk result (IsLeftOf world.old world.new range) }
+    ensures held { IfOk result (λ id. HoldsBetween world.old world.new range id) }
+    ensures moved { IfOk result (λ id. MovesBetween world.old world.new range id) }
     ensures whole { IsWhole world.new }
 {
     let (start, end) = world.ranges.ends(range);

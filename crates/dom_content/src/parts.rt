@@ -1,14 +1,13 @@
 //! The parts of a range: the ways down to its two nodes, and what lies between them (DOM Standard, "Interface Range", "partially contained").
 
-ghost use Rattle.std.specs.Prelude.{◌≡◌, filter, IfOk, slice_get};
+ghost use Rattle.std.specs.Prelude.{◌≡◌, IfOk, slice_get};
 ghost use Rattle.dom_model.specs.Forests.Forest.{HasNode, children_of, ancestors};
 ghost use Rattle.dom_model.specs.Forests.Ways.{IsWay};
 ghost use Rattle.dom_model.specs.PlainLists.Lists.{up_to};
-ghost use Rattle.dom_model.specs.Worlds.Lengths.{unit_count};
 ghost use Rattle.dom_model.specs.Soundness.Sound.{IsRange};
-ghost use Rattle.dom_model.specs.RangesAndContents.Ranges.{is_contained, common_ancestor};
+ghost use Rattle.dom_model.specs.RangesAndContents.Ranges.{common_ancestor};
 ghost use Rattle.dom_model.specs.RangesAndContents.Contents.{path_below};
-ghost use Rattle.dom_content.specs.Drawing.{AreParts, index_behind, index_at};
+ghost use Rattle.dom_content.specs.Drawing.{ArePartsOf, contained_children, index_behind, index_at};
 
 use crate::children::children_between;
 use dom_edit::Content;
@@ -116,7 +115,7 @@ fn contained_children(
     requires ancestor { ancestor ≡ common_ancestor tree.now.forest start.node end.node }
     requires first { first.now ≡ path_below tree.now.forest (common_ancestor tree.now.forest start.node end.node) start.node }
     requires last { last.now ≡ path_below tree.now.forest (common_ancestor tree.now.forest start.node end.node) end.node }
-    ensures { IfOk result (λ list. list.items ≡ filter (is_contained unit_count tree.now.forest (record { start = start; end = end })) (children_of tree.now.forest (common_ancestor tree.now.forest start.node end.node))) }
+    ensures { IfOk result (λ list. list.items ≡ contained_children tree.now.forest (record { start = start; end = end })) }
 {
     tree.sound();
     let from = child_behind(tree, ancestor, start, first);
@@ -132,7 +131,7 @@ fn gather_parts(
     end: Point,
 ) -> Result<Parts, AllocError>
     requires range { IsRange tree.now.forest (record { start = start; end = end }) }
-    ensures { IfOk result (λ parts. AreParts tree.now.forest (record { start = start; end = end }) parts.first.items parts.contained.items parts.last.items) }
+    ensures { IfOk result (λ parts. ArePartsOf tree.now.forest start end parts) }
 {
     let ancestor = common(tree, start.node, end.node);
     let first = path_below(tree, alloc, ancestor, start.node)?;
@@ -153,7 +152,7 @@ pub(crate) fn parts_of(
     end: Point,
 ) -> Result<Parts, AllocError>
     requires range { IsRange tree.now.forest (record { start = start; end = end }) }
-    ensures { IfOk result (λ parts. AreParts tree.now.forest (record { start = start; end = end }) parts.first.items parts.contained.items parts.last.items) }
+    ensures { IfOk result (λ parts. ArePartsOf tree.now.forest start end parts) }
 {
     tree.sound();
     if start == end {

@@ -13,7 +13,7 @@ ghost use Rattle.dom_model.specs.TokenText.Gaps.{text_among};
 ghost use Rattle.dom_model.specs.TokenText.Between.{text_of_range};
 ghost use Rattle.dom_ranges.specs.Tables.{range_in};
 ghost use Rattle.dom_edit.specs.Whole.{IsWhole, unwatched};
-ghost use Rattle.dom_content.specs.Texts.{part_of, text_within, texts_within};
+ghost use Rattle.dom_content.specs.Texts.{part_of, part_behind, text_within, texts_within};
 
 use crate::contained::last_ahead;
 use dom_edit::{Content, World, data_in};
@@ -48,7 +48,7 @@ fn append_part(
 fn append_tail(tree: &Tree<Content>, from: Point, text: &mut Units) -> Result<(), AllocError>
     requires held { HasNode tree.now.forest from.node }
     requires within { is_of_kind Text tree.now.forest from.node ≡ true → from.offset ≤ length (content_in (entry_in tree.now.forest from.node)).text }
-    ensures { OnOk result (text.new ≡ text.old ++ part_of tree.now.forest from.node from.offset (length (content_in (entry_in tree.now.forest from.node)).text - from.offset)) }
+    ensures { OnOk result (text.new ≡ text.old ++ part_behind tree.now.forest from) }
 {
     let Point { node, offset } = from;
     let length = data_in(tree, node).len();

@@ -1,3 +1,4 @@
+pub mod LabelsKept
 pub mod Parting
 pub mod NewTexts
 pub mod Gathered

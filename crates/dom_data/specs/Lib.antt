@@ -1,4 +1,5 @@
 pub mod Reading
+pub mod Keeping
 pub mod Changes
 pub mod Gathering
 pub mod TextContent

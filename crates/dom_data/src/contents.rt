@@ -8,6 +8,7 @@ ghost use Rattle.dom_model.specs.Forests.Kinds.{may_be_parent};
 ghost use Rattle.dom_model.specs.Forests.Nodes.{kind_passes, is_of_kind};
 ghost use Rattle.dom_model.specs.TokenText.Edits.{set_text_content_edits};
 ghost use Rattle.dom_edit.specs.Whole.{IsWhole, Follows, unwatched};
+ghost use Rattle.dom_edit.specs.Keeping.{KeepsLabels};
 ghost use Rattle.dom_edit.specs.Markers.{StandByEdits};
 ghost use Rattle.dom_data.specs.Gathering.{text_at, gathered};
 ghost use Rattle.dom_data.specs.TextContent.{makes_text};
@@ -80,6 +81,7 @@ fn string_replace_all(
     requires no_document { is_of_kind Document world.old.tree.forest parent ≡ false }
     requires room { text ≢ [] → world.old.tree.made < 4294967295 }
     ensures replaced { OnOk result (Follows world.old world.new (string_replace_all text parent)) }
+    ensures kept { KeepsLabels world.old world.new }
     ensures whole { IsWhole world.new }
 {
     if text.is_empty() {
@@ -102,6 +104,7 @@ pub fn set_text_content(
     requires room { makes_text (unwatched world.old) node text ≡ true → world.old.tree.made < 4294967295 }
     ensures set { OnOk result (Follows world.old world.new (set_text_content node text)) }
     ensures markers { OnOk result (StandByEdits world.old world.new (set_text_content_edits node text)) }
+    ensures kept { KeepsLabels world.old world.new }
     ensures whole { IsWhole world.new }
 {
     match kind_in(&world.tree, node) {

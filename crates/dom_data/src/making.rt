@@ -5,6 +5,7 @@ ghost use Rattle.dom_model.specs.declared.Kind.TheVariants.{Document, Text};
 ghost use Rattle.dom_model.specs.Worlds.Making.{made_node, named, with_text};
 ghost use Rattle.dom_model.specs.Forests.Nodes.{is_of_kind};
 ghost use Rattle.dom_edit.specs.Whole.{IsWhole, Follows};
+ghost use Rattle.dom_edit.specs.Keeping.{KeepsLabels};
 
 use dom_attrs::Attrs;
 use dom_edit::{Content, World};
@@ -25,6 +26,7 @@ pub(crate) fn make_text(
     requires room { world.old.tree.made < 4294967295 }
     ensures number { IfOk result (λ id. id ≡ world.old.tree.made) }
     ensures made { OnOk result (Follows world.old world.new (made_node document (named Text []) (with_text text))) }
+    ensures kept { KeepsLabels world.old world.new }
     ensures whole { IsWhole world.new }
 {
     let label = Label {

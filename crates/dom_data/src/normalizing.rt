@@ -11,6 +11,7 @@ ghost use Rattle.dom_model.specs.TokenText.Edits.{normalize_edits};
 ghost use Rattle.dom_model.specs.DataAndCopies.Joinable.{AreJoinable};
 ghost use Rattle.dom_edit.specs.Whole.{IsWhole, Follows, unwatched};
 ghost use Rattle.dom_edit.specs.Markers.{StandByEdits};
+ghost use Rattle.dom_data.specs.Keeping.{KeepsNumbers};
 ghost use Rattle.dom_data.specs.TextsAlone.{alone, texts_among};
 ghost use Rattle.dom_data.specs.Joining.{is_told_by_parent, next_text, texts_behind, data_among, IsNextTaken, taken_in, each_taken_in};
 
@@ -123,6 +124,7 @@ fn take_in(
     requires next { IsNextTaken world.old node parent base next }
     ensures taken { OnOk result (Follows world.old world.new (taken_in node base next)) }
     ensures further { IfOk result (λ further. further ≡ base + length (data_of (unwatched world.old) next)) }
+    ensures kept { KeepsNumbers world.old world.new }
     ensures whole { IsWhole world.new }
 {
     let length = data_in(&world.tree, next).len();
@@ -146,6 +148,7 @@ fn take_each_in(
     requires whole { IsWhole world.old }
     requires joinable { AreJoinable (unwatched world.old) node parent base texts.now }
     ensures taken { OnOk result (Follows world.old world.new (each_taken_in node base texts.now)) }
+    ensures kept { KeepsNumbers world.old world.new }
     ensures whole { IsWhole world.new }
 {
     let mut further = base;
@@ -165,6 +168,7 @@ fn append_units(
     requires whole { IsWhole world.old }
     requires kind { is_of_kind Text world.old.tree.forest node ≡ true }
     ensures appended { OnOk result (Follows world.old world.new (λ w. replace_data node (length (data_of w node)) 0 added.now w)) }
+    ensures kept { KeepsNumbers world.old world.new }
     ensures whole { IsWhole world.new }
 {
     let end = data_in(&world.tree, node).len();
@@ -182,6 +186,7 @@ fn join_siblings(
     requires kind { is_of_kind Text world.old.tree.forest node ≡ true }
     requires child { parent_of world.old.tree.forest node ≡ Some parent }
     ensures joined { OnOk result (Follows world.old world.new (λ w. join_following node (following_texts w node) w)) }
+    ensures kept { KeepsNumbers world.old world.new }
     ensures whole { IsWhole world.new }
 {
     let texts = texts_behind(&world.tree, alloc, node)?;
@@ -196,6 +201,7 @@ fn join_following(world: &mut World, alloc: Global, node: NodeId) -> Result<(), 
     requires whole { IsWhole world.old }
     requires kind { is_of_kind Text world.old.tree.forest node ≡ true }
     ensures joined { OnOk result (Follows world.old world.new (λ w. join_following node (following_texts w node) w)) }
+    ensures kept { KeepsNumbers world.old world.new }
     ensures whole { IsWhole world.new }
 {
     match world.tree.parent(node) {
@@ -209,6 +215,7 @@ fn normalize_text(world: &mut World, alloc: Global, node: NodeId) -> Result<(), 
     requires whole { IsWhole world.old }
     requires kind { is_of_kind Text world.old.tree.forest node ≡ true }
     ensures normalized { OnOk result (Follows world.old world.new (normalize_text node)) }
+    ensures kept { KeepsNumbers world.old world.new }
     ensures whole { IsWhole world.new }
 {
     if data_in(&world.tree, node).len() == 0 {
@@ -229,6 +236,7 @@ fn normalize_below(
     requires kind { is_of_kind Text world.old.tree.forest node ≡ true }
     requires told { is_told_by_parent world.old.tree.forest top node }
     ensures normalized { OnOk result (Follows world.old world.new (λ w. if is_descendant w top node then normalize_text node w else w)) }
+    ensures kept { KeepsNumbers world.old world.new }
     ensures whole { IsWhole world.new }
 {
     if world.tree.parent(node).is_some() {
@@ -249,6 +257,7 @@ fn normalize_each(
     requires kinds { (n : ℕ) → 0 < hits n texts.now → is_of_kind Text world.old.tree.forest n ≡ true }
     requires told { (n : ℕ) → 0 < hits n texts.now → is_told_by_parent world.old.tree.forest top n }
     ensures normalized { OnOk result (Follows world.old world.new (normalize_each top texts.now)) }
+    ensures kept { KeepsNumbers world.old world.new }
     ensures whole { IsWhole world.new }
 {
     for text in texts {
@@ -263,6 +272,7 @@ pub fn normalize(world: &mut World, alloc: Global, node: NodeId) -> Result<(), A
     requires held { HasNode world.old.tree.forest node }
     ensures normalized { OnOk result (Follows world.old world.new (normalize node)) }
     ensures markers { OnOk result (StandByEdits world.old world.new (normalize_edits node)) }
+    ensures kept { KeepsNumbers world.old world.new }
     ensures whole { IsWhole world.new }
 {
     let texts = texts_below(&world.tree, alloc, node)?;

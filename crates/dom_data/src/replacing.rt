@@ -10,6 +10,7 @@ ghost use Rattle.dom_edit.specs.Whole.{IsWhole, Follows, unwatched};
 ghost use Rattle.dom_edit.specs.Markers.{StandByEdits};
 ghost use Rattle.dom_edit.specs.Refusals.{IsRefused};
 ghost use Rattle.dom_data.specs.Reading.{IsNamed};
+ghost use Rattle.dom_data.specs.Keeping.{KeepsNumbers};
 
 use crate::bodies::splice_data;
 use crate::records::tell_data;
@@ -33,6 +34,7 @@ pub(crate) fn replace_units(
     requires within { offset + count ≤ length (data_of (unwatched world.old) node) }
     ensures replaced { OnOk result (Follows world.old world.new (λ w. replace_units node offset count added.now (data_record node w))) }
     ensures kept { OnErr result (world.new ≡ record world.old { observers = world.new.observers }) }
+    ensures nodes { KeepsNumbers world.old world.new }
     ensures whole { IsWhole world.new }
 {
     tell_data(world, alloc, node)?;
@@ -58,6 +60,7 @@ pub fn replace_data(
     ensures replaced { OnOk result (Follows world.old world.new (replace_data node offset count added.now)) }
     ensures markers { OnOk result (StandByEdits world.old world.new (replace_data_edits node offset count added.now)) }
     ensures refused { IfErr result (λ e. IsRefused e (check_offset (unwatched world.old) node offset) world.old world.new) }
+    ensures kept { KeepsNumbers world.old world.new }
     ensures whole { IsWhole world.new }
 {
     if offset > data_in(&world.tree, node).len() {
@@ -82,6 +85,7 @@ pub fn replace_data_checked(
     ensures replaced { OnOk result (Follows world.old world.new (replace_data node offset count added.now)) }
     ensures markers { OnOk result (StandByEdits world.old world.new (replace_data_edits node offset count added.now)) }
     ensures kept { OnErr result (world.new ≡ record world.old { observers = world.new.observers }) }
+    ensures nodes { KeepsNumbers world.old world.new }
     ensures whole { IsWhole world.new }
 {
     let length = data_in(&world.tree, node).len();
@@ -101,6 +105,7 @@ pub fn set_data(
     ensures set { OnOk result (Follows world.old world.new (set_data node text.now)) }
     ensures markers { OnOk result (StandByEdits world.old world.new (set_data_edits node text.now)) }
     ensures kept { OnErr result (world.new ≡ record world.old { observers = world.new.observers }) }
+    ensures nodes { KeepsNumbers world.old world.new }
     ensures whole { IsWhole world.new }
 {
     let length = data_in(&world.tree, node).len();

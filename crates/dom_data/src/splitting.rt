@@ -8,6 +8,7 @@ ghost use Rattle.dom_model.specs.Forests.Nodes.{is_of_kind};
 ghost use Rattle.dom_model.specs.DataAndCopies.Data.{data_of, check_offset, split, split_off};
 ghost use Rattle.dom_model.specs.TokenText.Edits.{split_edits};
 ghost use Rattle.dom_edit.specs.Whole.{IsWhole, Follows, unwatched};
+ghost use Rattle.dom_edit.specs.Keeping.{KeepsLabels};
 ghost use Rattle.dom_edit.specs.Markers.{StandByEdits};
 ghost use Rattle.dom_edit.specs.Refusals.{IsRefused};
 ghost use Rattle.dom_data.specs.Tails.{IsTail};
@@ -45,6 +46,7 @@ fn put_behind(
     ensures parted { OnOk result (Follows world.old world.new (λ w. split_off node offset new (parent_of w.forest node) w)) }
     ensures kind { OnOk result (is_of_kind Text world.new.tree.forest node ≡ true) }
     ensures within { OnOk result (offset ≤ length (data_of (unwatched world.new) node)) }
+    ensures kept { KeepsLabels world.old world.new }
     ensures whole { IsWhole world.new }
 {
     let next = world.tree.next(node);
@@ -69,6 +71,7 @@ fn part(
     ensures parted { OnOk result (Follows world.old world.new (λ w. split_off node offset new (parent_of w.forest node) w)) }
     ensures kind { OnOk result (is_of_kind Text world.new.tree.forest node ≡ true) }
     ensures within { OnOk result (offset ≤ length (data_of (unwatched world.new) node)) }
+    ensures kept { KeepsLabels world.old world.new }
     ensures whole { IsWhole world.new }
 {
     match world.tree.parent(node) {
@@ -94,6 +97,7 @@ pub fn split(
     ensures split { OnOk result (Follows world.old world.new (split node offset)) }
     ensures markers { OnOk result (StandByEdits world.old world.new (split_edits node offset)) }
     ensures refused { IfErr result (λ e. IsRefused e (check_offset (unwatched world.old) node offset) world.old world.new) }
+    ensures kept { KeepsLabels world.old world.new }
     ensures whole { IsWhole world.new }
 {
     if offset > data_in(&world.tree, node).len() {
@@ -117,6 +121,7 @@ pub fn split_checked(
     ensures number { IfOk result (λ id. id ≡ world.old.tree.made) }
     ensures split { OnOk result (Follows world.old world.new (split node offset)) }
     ensures markers { OnOk result (StandByEdits world.old world.new (split_edits node offset)) }
+    ensures kept { KeepsLabels world.old world.new }
     ensures whole { IsWhole world.new }
 {
     let data = data_in(&world.tree, node);

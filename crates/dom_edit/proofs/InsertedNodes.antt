@@ -16,10 +16,12 @@ use Rattle.dom_model.proofs.Soundness.SoundInserting.{IsReady, freed_ready}
 use Rattle.dom_observe.specs.Watchers.{Watches}
 use Rattle.dom_edit.specs.declared.world.World.{World}
 use Rattle.dom_edit.specs.Whole.{IsWhole, Keeps, Follows, unwatched}
-use Rattle.dom_edit.specs.Inserting.{entering, AreThere, KeepsNodes, IsOpen}
+use Rattle.dom_edit.specs.Inserting.{entering, AreThere, IsOpen}
+use Rattle.dom_edit.specs.Keeping.{KeepsNodes}
 use Rattle.dom_edit.proofs.Following.{keeps-unwatched, follows-then}
-use Rattle.dom_edit.proofs.PlacedRoots.{placed-all, placed-world}
+use Rattle.dom_edit.proofs.PlacedRoots.{placed-world}
 use Rattle.dom_edit.proofs.PlacedWorlds.{sound-unwatched, placing}
+use Rattle.dom_edit.proofs.LabelsKept.{told_of, kept-told, told-all_placed}
 
 -- a step that is another one, on all worlds with these parts
 pub follows-as : (a c : World) (s t : model.World → model.World) → ((w : model.World) → Keeps a w → t w ≡ s w) → Follows a c s → Follows a c t
@@ -31,6 +33,9 @@ follows-as a c s t e f = record {
 -- the forest after a step
 pub forest-after : (a b : World) (s : model.World → model.World) → Follows a b s → b.tree.forest ≡ (s (unwatched a)).forest
 forest-after a b s f = sym (f.keeps (unwatched a) (keeps-unwatched a)).forest
+
+pub made-after : (a b : World) (s : model.World → model.World) → Follows a b s → b.tree.made ≡ (s (unwatched a)).made
+made-after a b s f = sym (f.keeps (unwatched a) (keeps-unwatched a)).made
 
 -- Nodes that are removed one after another.
 
@@ -87,10 +92,11 @@ open-freed a b n parent child ns h k e f =
 -- The nodes come in.
 
 pub nodes-placed : (a b : World) (parent : ℕ) (child : Option ℕ) (ns : List ℕ) → IsWhole a → IsOpen a.tree.forest parent child ns → Follows a b (placing parent child ns) → KeepsNodes a b
-nodes-placed a b parent child ns h ready f m held =
-    let p = placed-all a.tree h.forest parent child ns ready (record { documents = h.documents; owners = h.owners }) in
-    let e = forest-after a b (placing parent child ns) f ∙ ap (λ (w : model.World). w.forest) (placed-world parent child ns (unwatched a)) in
-    HasNode-occurs b.tree.forest m (subst (λ (g : Forest Content). 0 < occurs m g) (sym e) (subst (λ x. 0 < x) (sym (p.numbers m)) (occurs-HasNode a.tree.forest m held)))
+nodes-placed a b parent child ns h ready f =
+    let placed = placed-world parent child ns (unwatched a) in
+    let e = forest-after a b (placing parent child ns) f ∙ ap (λ (w : model.World). w.forest) placed in
+    kept-told a b (λ m. ap (λ (g : Forest Content). told_of g m) e ∙ told-all_placed a.tree h.forest parent child ns ready m)
+    (made-after a b (placing parent child ns) f ∙ ap (λ (w : model.World). w.made) placed)
 
 pub follows-insert_all : (a b c : World) (parent : ℕ) (child : Option ℕ) (ns : List ℕ) (suppressed : Bool) (previous : Option ℕ) → suppressed ≡ false → previous ≡ previous_to a.tree.forest parent child →
     Follows a b (placing parent child ns) → Follows b c (tree_record parent ns [] previous child) → Follows a c (insert_all suppressed parent child ns)

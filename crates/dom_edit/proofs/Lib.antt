@@ -10,6 +10,7 @@ pub mod Making
 pub mod Beginning
 pub mod Adopting
 pub mod Naming
+pub mod LabelsKept
 pub mod InsertedNodes
 pub mod ReplacedNodes
 pub mod NodesKept

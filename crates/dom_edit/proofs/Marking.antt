@@ -5,9 +5,10 @@ use Rattle.dom_model.specs.Forests.Forest.{HasNode}
 use Rattle.dom_model.specs.Worlds.World as model
 use Rattle.dom_model.specs.Soundness.Sound.{IsSound}
 use Rattle.dom_model.specs.MutationAlgorithms.Checks.{check_insert, check_replace}
-use Rattle.dom_model.specs.MutationAlgorithms.Editing.{remove, pre_insert, replace, replace_all}
+use Rattle.dom_model.specs.MutationAlgorithms.Editing.{remove, insert, pre_insert, replace, replace_all}
+use Rattle.dom_model.specs.MutationAlgorithms.Insertable.{IsInsertable}
 use Rattle.dom_model.specs.TokenText.Tokens.{Token, Edit, texts_of, all_on_texts}
-use Rattle.dom_model.specs.TokenText.Edits.{all_on_world, pre_insert_edits, replace_edits, remove_edits, replace_all_edits, adopt_edits}
+use Rattle.dom_model.specs.TokenText.Edits.{all_on_world, insert_edits, pre_insert_edits, replace_edits, remove_edits, replace_all_edits, adopt_edits}
 use Rattle.dom_model.proofs.Forests.Entries.{occurs-HasNode}
 use Rattle.dom_model.proofs.Soundness.SoundEditing.{MayComeIn, may_come_in}
 use Rattle.dom_model.proofs.TokenText.AlikeTrees.TreesAlike.{bared}
@@ -18,7 +19,7 @@ use Rattle.dom_model.proofs.TokenText.Pieces.NodeTokens.{tokens-same}
 use Rattle.dom_model.proofs.TokenText.EditsMade.FittingEdits.{ready-sound}
 use Rattle.dom_model.proofs.TokenText.EditsMade.EditsLeave.{laid, Leave}
 use Rattle.dom_model.proofs.TokenText.EditsMade.EditsOfSteps.{leave-remove}
-use Rattle.dom_model.proofs.TokenText.EditsMade.EditsOfTrees.{leave-pre_insert, leave-replace, leave-replace_all}
+use Rattle.dom_model.proofs.TokenText.EditsMade.EditsOfTrees.{leave-insert, leave-pre_insert, leave-replace, leave-replace_all}
 use Rattle.dom_model.proofs.TokenText.EditsMade.MarkersKept.{marked-own}
 use Rattle.dom_edit.specs.declared.world.World.{World}
 use Rattle.dom_edit.specs.Whole.{IsWhole, Follows, unwatched}
@@ -62,6 +63,11 @@ stand-by_edits old new step edits before after f leave =
 -- The edits of the world's trees.
 
 module _ (old new : World) (before : IsWhole old) (after : IsWhole new) where
+  pub stand-by_insert : (n parent : ℕ) (child : Option ℕ) → IsInsertable old.tree.forest n parent child → Follows old new (insert false n parent child) → StandByEdits old new (insert_edits n parent child)
+  stand-by_insert n parent child allowed f =
+      stand-by_edits old new (insert false n parent child) (insert_edits n parent child) before after f
+      (leave-insert false n parent child (unwatched old) (sound-unwatched old before) allowed)
+
   pub stand-by_pre_insert : (n parent : ℕ) (child : Option ℕ) → HasNode old.tree.forest n → check_insert old.tree.forest parent n child ≡ None → Follows old new (pre_insert n parent child) → StandByEdits old new (pre_insert_edits n parent child)
   stand-by_pre_insert n parent child held allowed f =
       stand-by_edits old new (pre_insert n parent child) (pre_insert_edits n parent child) before after f

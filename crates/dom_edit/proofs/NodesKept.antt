@@ -3,10 +3,10 @@ use Rattle.std.specs.Option.{ForSome}
 use Rattle.std.proofs.Common.{◌≡◌, ℕ, ◌<◌, Bool, true, false, if◌then◌else◌, List, [], ◌∷◌, Option, Some, None, refl, ap, sym, ◌∙◌, subst, arith}
 use Rattle.dom_model.specs.declared.Kind.TheVariants.{DocumentFragment}
 use Rattle.dom_model.specs.PlainLists.Lists.{is_number}
-use Rattle.dom_model.specs.Forests.Forest.{Forest, HasNode, occurs, children_of, previous_of, next_of}
+use Rattle.dom_model.specs.Forests.Forest.{Forest, Grove, HasNode, occurs, children_of, previous_of, next_of, cut, adopted}
 use Rattle.dom_model.specs.Worlds.World.{Content}
 use Rattle.dom_model.specs.Forests.Nodes.{is_of_kind}
-use Rattle.dom_model.specs.MutationAlgorithms.Editing.{remove_all, previous_to, taken_out}
+use Rattle.dom_model.specs.MutationAlgorithms.Editing.{previous_to}
 use Rattle.dom_model.specs.MutationAlgorithms.Insertable.{IsChildOf, ArePlaceable}
 use Rattle.dom_model.proofs.PlainLists.Numbers.{same_or, same, apart}
 use Rattle.dom_model.proofs.PlainLists.Members.{hits-last_of}
@@ -16,30 +16,48 @@ use Rattle.dom_model.proofs.Forests.Siblings.{index-step}
 use Rattle.dom_model.proofs.Soundness.SoundWorlds.{child_there}
 use Rattle.dom_tree.proofs.Beside.{forward-step}
 use Rattle.dom_edit.specs.declared.world.World.{World}
-use Rattle.dom_edit.specs.Whole.{IsWhole, Follows}
-use Rattle.dom_edit.specs.Inserting.{reference_in, entering, entering_if_any, AreThere, KeepsNodes}
-use Rattle.dom_edit.proofs.Leaving.{held-taken}
-use Rattle.dom_edit.proofs.InsertedNodes.{if_not, entering-there, there-removed_all}
+use Rattle.dom_edit.specs.Whole.{IsWhole}
+use Rattle.dom_edit.specs.Inserting.{reference_in, entering, entering_if_any, AreThere}
+use Rattle.dom_edit.specs.Keeping.{KeepsLabels, KeepsNodes}
+use Rattle.dom_edit.proofs.LabelsKept.{told_of, kept-told, told-cut, told-adopted}
+use Rattle.dom_edit.proofs.InsertedNodes.{if_not, entering-there}
 
 -- Steps that keep all nodes.
 
+pub labels-then : (a b c : World) → KeepsLabels a b → KeepsLabels b c → KeepsLabels a c
+labels-then a b c f s = record {
+  held = λ n h. s.held n (f.held n h);
+  labels = λ n h. s.labels n (f.held n h) ∙ f.labels n h;
+}
+
 pub nodes-then : (a b c : World) → KeepsNodes a b → KeepsNodes b c → KeepsNodes a c
-nodes-then a b c f s n h = s n (f n h)
+nodes-then a b c f s = record {
+  labelled = labels-then a b c f.labelled s.labelled;
+  contents = λ n h. s.contents n (f.labelled.held n h) ∙ f.contents n h;
+  made = s.made ∙ f.made;
+}
+
+pub nodes-same : (a b : World) → b.tree ≡ a.tree → KeepsNodes a b
+nodes-same a b e = kept-told a b (λ n. ap (λ (t : Grove Content). told_of t.forest n) e) (ap (λ (t : Grove Content). t.made) e)
 
 pub nodes-observed : (a b : World) → b ≡ record a { observers = b.observers } → KeepsNodes a b
-nodes-observed a b e n h = subst (λ (f : Forest Content). HasNode f n) (sym (ap (λ (v : World). v.tree.forest) e)) h
+nodes-observed a b e = nodes-same a b (ap (λ (v : World). v.tree) e)
 
-pub nodes-taken : (a b : World) (n p : ℕ) → Follows a b (taken_out n p) → KeepsNodes a b
-nodes-taken a b n p f m h = held-taken a b n p m f h
+-- a tree whose node was cut
+pub nodes-cut : (a b : World) (n : ℕ) → IsWhole a → b.tree ≡ record a.tree { forest = cut n a.tree.forest } → KeepsNodes a b
+nodes-cut a b n h e =
+    kept-told a b (λ m. ap (λ (t : Grove Content). told_of t.forest m) e ∙ told-cut a.tree.forest h.forest.once n m) (ap (λ (t : Grove Content). t.made) e)
 
-pub nodes-removed_all : (a b : World) (ns : List ℕ) → IsWhole a → AreThere a.tree.forest ns → Follows a b (remove_all ns) → KeepsNodes a b
-nodes-removed_all a b ns h i f m j = HasNode-occurs b.tree.forest m (there-removed_all a b ns h i f m (occurs-HasNode a.tree.forest m j))
+-- a tree in which nodes got another document
+pub nodes-adopted : (a b : World) (n d : ℕ) → b.tree ≡ record { forest = adopted n d a.tree.forest; made = a.tree.made } → KeepsNodes a b
+nodes-adopted a b n d e =
+    kept-told a b (λ m. ap (λ (t : Grove Content). told_of t.forest m) e ∙ told-adopted n d a.tree.forest m) (ap (λ (t : Grove Content). t.made) e)
 
 pub stay-there : (a b : World) → KeepsNodes a b → (ns : List ℕ) → AreThere a.tree.forest ns → AreThere b.tree.forest ns
-stay-there a b k ns h m i = occurs-HasNode b.tree.forest m (k m (HasNode-occurs a.tree.forest m (h m i)))
+stay-there a b k ns h m i = occurs-HasNode b.tree.forest m (k.labelled.held m (HasNode-occurs a.tree.forest m (h m i)))
 
 pub stay-some : (a b : World) → KeepsNodes a b → (o : Option ℕ) → ForSome o (λ n. HasNode a.tree.forest n) → ForSome o (λ n. HasNode b.tree.forest n)
-stay-some a b k o h n e = k n (h n e)
+stay-some a b k o h n e = k.labelled.held n (h n e)
 
 -- Nodes that are there.
 

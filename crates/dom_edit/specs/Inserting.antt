@@ -38,10 +38,6 @@ pub record IsOpen (f : Forest Content) (parent : ℕ) (child : Option ℕ) (node
 abbrev pub AreThere : Forest Content → List ℕ → Type 0
 AreThere f ns = (m : ℕ) → 0 < hits m ns → 0 < occurs m f
 
--- no node goes
-abbrev pub KeepsNodes : World → World → Type 0
-KeepsNodes old new = (n : ℕ) → HasNode old.tree.forest n → HasNode new.tree.forest n
-
 -- what a node comes in before: the child, or the node's next sibling where the child is the node itself
 abbrev pub reference_in : Forest Content → ℕ → Option ℕ → Option ℕ
 reference_in f n child = if is_number child n then next_of f n else child

@@ -1,5 +1,6 @@
 pub mod Places
 pub mod Whole
+pub mod Keeping
 pub mod Markers
 pub mod Refusals
 pub mod Inserting

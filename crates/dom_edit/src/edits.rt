@@ -12,9 +12,10 @@ ghost use Rattle.dom_model.specs.MutationAlgorithms.Checks.{check_insert, check_
 ghost use Rattle.dom_model.specs.Forests.Nodes.{is_of_kind, kind_passes};
 ghost use Rattle.dom_model.specs.MutationAlgorithms.Editing.{remove, insert, pre_insert, append, replace, replace_all, adopt};
 ghost use Rattle.dom_model.specs.MutationAlgorithms.Insertable.{IsInsertable};
-ghost use Rattle.dom_model.specs.TokenText.Edits.{pre_insert_edits, append_edits, replace_edits, remove_edits, replace_all_edits, adopt_edits};
+ghost use Rattle.dom_model.specs.TokenText.Edits.{insert_edits, pre_insert_edits, append_edits, replace_edits, remove_edits, replace_all_edits, adopt_edits};
 ghost use Rattle.dom_edit.specs.Inserting.{IsUnreferred};
 ghost use Rattle.dom_edit.specs.Whole.{IsWhole, Follows, Moves};
+ghost use Rattle.dom_edit.specs.Keeping.{KeepsNodes};
 ghost use Rattle.dom_edit.specs.Markers.{StandByEdits};
 ghost use Rattle.dom_edit.specs.Refusals.{check_remove_child, check_only_child, check_adopt, IsRefused};
 
@@ -47,6 +48,7 @@ impl World {
         ensures inserted { OnOk result (Follows self.old self.new (pre_insert node parent child)) }
         ensures markers { OnOk result (StandByEdits self.old self.new (pre_insert_edits node parent child)) }
         ensures refused { IfErr result (λ e. IsRefused e (check_insert self.old.tree.forest parent node child) self.old self.new) }
+        ensures kept { KeepsNodes self.old self.new }
         ensures whole { IsWhole self.new }
     {
         // the checker covers no variable of this type that is passed by value twice
@@ -71,6 +73,7 @@ impl World {
         requires allowed { check_insert self.old.tree.forest parent node child ≡ None }
         ensures inserted { OnOk result (Follows self.old self.new (pre_insert node parent child)) }
         ensures markers { OnOk result (StandByEdits self.old self.new (pre_insert_edits node parent child)) }
+        ensures kept { KeepsNodes self.old self.new }
         ensures whole { IsWhole self.new }
     {
         let reference = reference_child(&self.tree, node, child);
@@ -90,6 +93,8 @@ impl World {
         requires whole { IsWhole self.old }
         requires allowed { IsInsertable self.old.tree.forest node parent child }
         ensures inserted { OnOk result (Follows self.old self.new (insert false node parent child)) }
+        ensures markers { OnOk result (StandByEdits self.old self.new (insert_edits node parent child)) }
+        ensures kept { KeepsNodes self.old self.new }
         ensures whole { IsWhole self.new }
     {
         let nodes = entering(&self.tree, alloc, node)?;
@@ -110,6 +115,8 @@ impl World {
         requires allowed { IsInsertable self.old.tree.forest node parent child }
         requires unreferred { IsUnreferred self.old node }
         ensures inserted { OnOk result (Follows self.old self.new (insert false node parent child)) }
+        ensures markers { OnOk result (StandByEdits self.old self.new (insert_edits node parent child)) }
+        ensures kept { KeepsNodes self.old self.new }
         ensures whole { IsWhole self.new }
     {
         let nodes = entering(&self.tree, alloc, node)?;
@@ -125,6 +132,7 @@ impl World {
         ensures appended { OnOk result (Follows self.old self.new (append node parent)) }
         ensures markers { OnOk result (StandByEdits self.old self.new (append_edits node parent)) }
         ensures refused { IfErr result (λ e. IsRefused e (check_insert self.old.tree.forest parent node None) self.old self.new) }
+        ensures kept { KeepsNodes self.old self.new }
         ensures whole { IsWhole self.new }
     {
         self.insert_before(alloc, parent, node, None)
@@ -148,6 +156,7 @@ impl World {
         ensures replaced { OnOk result (Follows self.old self.new (replace child node parent)) }
         ensures markers { OnOk result (StandByEdits self.old self.new (replace_edits child node parent)) }
         ensures refused { IfErr result (λ e. IsRefused e (check_replace self.old.tree.forest parent node child) self.old self.new) }
+        ensures kept { KeepsNodes self.old self.new }
         ensures whole { IsWhole self.new }
     {
         if let Err(error) = check_replace(&self.tree, parent, node, child) {
@@ -187,6 +196,7 @@ impl World {
         ensures markers { OnOk result (StandByEdits self.old self.new (remove_edits child)) }
         ensures moved { check_remove_child self.old.tree.forest parent child ≡ None → Moves self.old self.new (remove false child) }
         ensures refused { IfErr result (λ e. IsRefused e (check_remove_child self.old.tree.forest parent child) self.old self.new) }
+        ensures kept { KeepsNodes self.old self.new }
         ensures whole { IsWhole self.new }
     {
         if self.tree.parent(child) != Some(parent) {
@@ -205,6 +215,7 @@ impl World {
         ensures removed { OnOk result (Follows self.old self.new (remove false node)) }
         ensures moved { Moves self.old self.new (remove false node) }
         ensures markers { OnOk result (StandByEdits self.old self.new (remove_edits node)) }
+        ensures kept { KeepsNodes self.old self.new }
         ensures whole { IsWhole self.new }
     {
         self.remove_node(alloc, node, false)
@@ -227,6 +238,7 @@ impl World {
         ensures replaced { OnOk result (Follows self.old self.new (replace_all node parent)) }
         ensures markers { OnOk result (StandByEdits self.old self.new (replace_all_edits node parent)) }
         ensures refused { IfErr result (λ e. IsRefused e (check_only_child self.old.tree.forest parent node) self.old self.new) }
+        ensures kept { KeepsNodes self.old self.new }
         ensures whole { IsWhole self.new }
     {
         // the checker covers no variable of this type that is passed by value twice
@@ -252,6 +264,7 @@ impl World {
         requires allowed { check_only_child self.old.tree.forest parent node ≡ None }
         ensures replaced { OnOk result (Follows self.old self.new (replace_all node parent)) }
         ensures markers { OnOk result (StandByEdits self.old self.new (replace_all_edits node parent)) }
+        ensures kept { KeepsNodes self.old self.new }
         ensures whole { IsWhole self.new }
     {
         // the checker covers no variable of this type that is passed by value twice
@@ -274,6 +287,7 @@ impl World {
         ensures adopted { OnOk result (Follows self.old self.new (adopt node document)) }
         ensures markers { OnOk result (StandByEdits self.old self.new (adopt_edits node)) }
         ensures refused { IfErr result (λ e. IsRefused e (check_adopt self.old.tree.forest node) self.old self.new) }
+        ensures kept { KeepsNodes self.old self.new }
         ensures whole { IsWhole self.new }
     {
         if self.tree.is_of_kind(node, Kind::Document) {

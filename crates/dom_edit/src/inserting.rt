@@ -4,8 +4,9 @@ ghost use Rattle.std.specs.Prelude.{◌≡◌, [], IfOk, OnOk, true, false};
 ghost use Rattle.dom_model.specs.Forests.Forest.{HasNode, children_of};
 ghost use Rattle.dom_model.specs.MutationAlgorithms.Editing.{remove_all, freed, previous_to, insert_all, insert};
 ghost use Rattle.dom_model.specs.MutationAlgorithms.Insertable.{IsInsertable};
-ghost use Rattle.dom_edit.specs.Inserting.{AreThere, KeepsNodes, IsUnreferred, listed, entering, IsOpen};
+ghost use Rattle.dom_edit.specs.Inserting.{AreThere, IsUnreferred, listed, entering, IsOpen};
 ghost use Rattle.dom_edit.specs.Whole.{IsWhole, Follows};
+ghost use Rattle.dom_edit.specs.Keeping.{KeepsNodes};
 
 use crate::content::Content;
 use crate::world::World;
@@ -80,6 +81,7 @@ impl World {
         requires whole { IsWhole self.old }
         requires held { AreThere self.old.tree.forest nodes.now }
         ensures removed { OnOk result (Follows self.old self.new (remove_all nodes.now)) }
+        ensures kept { KeepsNodes self.old self.new }
         ensures whole { IsWhole self.new }
     {
         for node in nodes {
@@ -94,6 +96,7 @@ impl World {
         requires nodes { nodes.now ≡ children_of self.old.tree.forest parent }
         requires unreferred { IsUnreferred self.old parent }
         ensures removed { OnOk result (Follows self.old self.new (remove_all nodes.now)) }
+        ensures kept { KeepsNodes self.old self.new }
         ensures whole { IsWhole self.new }
     {
         for node in nodes {
@@ -108,7 +111,7 @@ impl World {
         requires held { HasNode self.old.tree.forest node }
         requires nodes { nodes.now ≡ entering self.old.tree.forest node }
         ensures freed { OnOk result (Follows self.old self.new (freed node nodes.now)) }
-        ensures stays { OnOk result (KeepsNodes self.old self.new) }
+        ensures kept { KeepsNodes self.old self.new }
         ensures whole { IsWhole self.new }
     {
         if self.tree.is_of_kind(node, Kind::DocumentFragment) {
@@ -130,7 +133,7 @@ impl World {
         requires nodes { nodes.now ≡ entering self.old.tree.forest node }
         requires unreferred { IsUnreferred self.old node }
         ensures freed { OnOk result (Follows self.old self.new (freed node nodes.now)) }
-        ensures stays { OnOk result (KeepsNodes self.old self.new) }
+        ensures kept { KeepsNodes self.old self.new }
         ensures whole { IsWhole self.new }
     {
         if !self.tree.is_of_kind(node, Kind::DocumentFragment) {
@@ -152,7 +155,7 @@ impl World {
         requires whole { IsWhole self.old }
         requires ready { IsOpen self.old.tree.forest parent child nodes.now }
         ensures inserted { OnOk result (Follows self.old self.new (insert_all suppressed parent child nodes.now)) }
-        ensures stays { OnOk result (KeepsNodes self.old self.new) }
+        ensures kept { KeepsNodes self.old self.new }
         ensures whole { IsWhole self.new }
     {
         // the checker covers no variable of this type that is passed by value twice
@@ -180,7 +183,7 @@ impl World {
         requires allowed { IsInsertable self.old.tree.forest node parent child }
         requires nodes { nodes.now ≡ entering self.old.tree.forest node }
         ensures inserted { OnOk result (Follows self.old self.new (insert suppressed node parent child)) }
-        ensures stays { OnOk result (KeepsNodes self.old self.new) }
+        ensures kept { KeepsNodes self.old self.new }
         ensures whole { IsWhole self.new }
     {
         if nodes.is_empty() {
@@ -203,6 +206,7 @@ impl World {
         requires nodes { nodes.now ≡ entering self.old.tree.forest node }
         requires unreferred { IsUnreferred self.old node }
         ensures inserted { OnOk result (Follows self.old self.new (insert false node parent child)) }
+        ensures kept { KeepsNodes self.old self.new }
         ensures whole { IsWhole self.new }
     {
         if nodes.is_empty() {

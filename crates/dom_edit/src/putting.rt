@@ -3,8 +3,9 @@
 ghost use Rattle.std.specs.Prelude.{◌≡◌, length};
 ghost use Rattle.dom_model.specs.MutationAlgorithms.Editing.{put_all, gap_before};
 ghost use Rattle.dom_model.specs.Soundness.Owners.{IsOwnedWell};
-ghost use Rattle.dom_edit.specs.Inserting.{placed_in, all_placed, with_room, KeepsNodes, IsOpen};
+ghost use Rattle.dom_edit.specs.Inserting.{placed_in, all_placed, with_room, IsOpen};
 ghost use Rattle.dom_edit.specs.Whole.{IsWhole, Follows};
+ghost use Rattle.dom_edit.specs.Keeping.{KeepsNodes};
 ghost use Rattle.std.specs.Prelude.{Some, [], ◌∷◌};
 
 use crate::content::Content;
@@ -65,7 +66,7 @@ impl World {
         requires whole { IsWhole self.old }
         requires ready { IsOpen self.old.tree.forest parent child nodes.now }
         ensures placed { Follows self.old self.new (λ w. put_all parent child nodes.now (gap_before parent child (length nodes.now) w)) }
-        ensures stays { KeepsNodes self.old self.new }
+        ensures kept { KeepsNodes self.old self.new }
         ensures whole { IsWhole self.new }
     {
         // the checker covers no variable of this type that is passed by value twice

@@ -6,6 +6,7 @@ ghost use Rattle.dom_model.specs.MutationAlgorithms.PreRemoval.{pre_removed_all}
 ghost use Rattle.dom_model.specs.MutationAlgorithms.Editing.{taken_out, transients_made, remove};
 ghost use Rattle.dom_edit.specs.Inserting.{IsUnreferred};
 ghost use Rattle.dom_edit.specs.Whole.{IsWhole, Follows, Moves};
+ghost use Rattle.dom_edit.specs.Keeping.{KeepsNodes};
 
 use crate::world::World;
 use dom_tree::NodeId;
@@ -41,6 +42,7 @@ impl World {
         requires whole { IsWhole self.old }
         requires child { IsSome (parent_of self.old.tree.forest node) }
         ensures taken { IfSome (parent_of self.old.tree.forest node) (λ parent. Follows self.old self.new (taken_out node parent)) }
+        ensures kept { KeepsNodes self.old self.new }
         ensures whole { IsWhole self.new }
     {
         self.ranges.removing(&self.tree, node);
@@ -73,6 +75,7 @@ impl World {
         requires held { HasNode self.old.tree.forest node }
         ensures removed { OnOk result (Follows self.old self.new (remove suppressed node)) }
         ensures moved { Moves self.old self.new (remove suppressed node) }
+        ensures kept { KeepsNodes self.old self.new }
         ensures whole { IsWhole self.new }
     {
         let Some(parent) = self.tree.parent(node) else {
@@ -98,6 +101,7 @@ impl World {
         requires unreferred { IsUnreferred self.old parent }
         ensures removed { OnOk result (Follows self.old self.new (remove true node)) }
         ensures ranges { self.new.ranges ≡ self.old.ranges }
+        ensures kept { KeepsNodes self.old self.new }
         ensures whole { IsWhole self.new }
     {
         self.cut_out(node);

@@ -5,9 +5,10 @@ ghost use Rattle.std.specs.Option.{ForSome};
 ghost use Rattle.dom_model.specs.Forests.Forest.{HasNode};
 ghost use Rattle.dom_model.specs.MutationAlgorithms.Editing.{insert_if_any, replaced_record};
 ghost use Rattle.dom_model.specs.MutationAlgorithms.Insertable.{IsInsertable};
-ghost use Rattle.dom_edit.specs.Inserting.{AreThere, KeepsNodes, listed, entering_if_any};
+ghost use Rattle.dom_edit.specs.Inserting.{AreThere, listed, entering_if_any};
 ghost use Rattle.dom_edit.specs.Refusals.{check_only_child};
 ghost use Rattle.dom_edit.specs.Whole.{IsWhole, Follows};
+ghost use Rattle.dom_edit.specs.Keeping.{KeepsNodes};
 
 use crate::checks::check_insert;
 use crate::content::Content;
@@ -62,7 +63,7 @@ impl World {
         requires allowed { ForSome node (λ n. IsInsertable self.old.tree.forest n parent None) }
         requires nodes { nodes.now ≡ entering_if_any self.old.tree.forest node }
         ensures inserted { OnOk result (Follows self.old self.new (insert_if_any node parent)) }
-        ensures stays { OnOk result (KeepsNodes self.old self.new) }
+        ensures kept { KeepsNodes self.old self.new }
         ensures whole { IsWhole self.new }
     {
         match node {
@@ -84,6 +85,7 @@ impl World {
         requires added { AreThere self.old.tree.forest added.now }
         requires removed { AreThere self.old.tree.forest removed.now }
         ensures queued { OnOk result (Follows self.old self.new (replaced_record parent added.now removed.now)) }
+        ensures kept { KeepsNodes self.old self.new }
         ensures whole { IsWhole self.new }
     {
         if added.is_empty() && removed.is_empty() {

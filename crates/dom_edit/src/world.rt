@@ -9,6 +9,7 @@ ghost use Rattle.dom_model.specs.Worlds.World.{first_world};
 ghost use Rattle.dom_model.specs.Worlds.Making.{made_node};
 ghost use Rattle.dom_model.specs.Forests.Nodes.{is_of_kind};
 ghost use Rattle.dom_edit.specs.Whole.{IsWhole, Shows, CoversAhead, Follows};
+ghost use Rattle.dom_edit.specs.Keeping.{KeepsLabels};
 
 use crate::content::Content;
 use dom_kinds::{Kind, Label};
@@ -84,6 +85,7 @@ impl World {
         ensures number { IfOk result (λ id. id ≡ self.old.tree.made) }
         ensures made { OnOk result (Follows self.old self.new (made_node (unwrap_or document self.old.tree.made) label content)) }
         ensures kept { OnErr result (CoversAhead self.old self.new) }
+        ensures labelled { KeepsLabels self.old self.new }
         ensures whole { IsWhole self.new }
     {
         // each call on a world takes the allocator; here the parts have it

@@ -8,13 +8,13 @@ use Rattle.dom_model.specs.PlainLists.Lists.{is_number}
 use Rattle.dom_model.specs.Forests.Arena.{Entry, Arena, held, entry_at, altered, no_slots, IsLinked}
 use Rattle.dom_links.specs.Cells.{same_ptr, look}
 use Rattle.dom_links.specs.declared.links.Node.{Node}
-use Rattle.dom_links.specs.Standing.{place_in, link_in, node_behind, arena_of, wired, Stands}
+use Rattle.dom_links.specs.Standing.{pointer_in, link_in, node_behind, arena_of, wired, Stands}
 use Rattle.dom_links.specs.Wiring.{leads_to, link_unless}
 use Rattle.dom_links.proofs.Cells.{same_ptr_refl, differs}
 use Rattle.dom_links.proofs.Standing.{Known, arena_read, node_of, place_held, held_entry}
 
-pub place_from : (ps : List (Option Ptr)) (p : Ptr) {i k : ℕ} → i ≡ k → place_in ps i ≡ Some p → place_in ps k ≡ Some p
-place_from ps p e h = subst (λ j. place_in ps j ≡ Some p) e h
+pub place_from : (ps : List (Option Ptr)) (p : Ptr) {i k : ℕ} → i ≡ k → pointer_in ps i ≡ Some p → pointer_in ps k ≡ Some p
+place_from ps p e h = subst (λ j. pointer_in ps j ≡ Some p) e h
 
 module _ {T : Type 0} where
   pub free_read : (ps : List (Option Ptr)) (cs : List (Ptr × Node T)) (free : List ℕ) {a : Arena T} → arena_of ps cs free ≡ a → a.free ≡ reverse free
@@ -58,7 +58,7 @@ module _ {T : Type 0} where
 
   module _ (ps : List (Option Ptr)) (cs cs' : List (Ptr × Node T)) (a : Arena T) (s : Stands ps cs a) where
     -- one place has one slot
-    pub one_slot : (i j : ℕ) (q : Ptr) → place_in ps i ≡ Some q → place_in ps j ≡ Some q → IsSome (entry_at a i) → IsSome (entry_at a j) → i ≡ j
+    pub one_slot : (i j : ℕ) (q : Ptr) → pointer_in ps i ≡ Some q → pointer_in ps j ≡ Some q → IsSome (entry_at a i) → IsSome (entry_at a j) → i ≡ j
     one_slot i j q e f h k =
         let x = held_entry (entry_at a i) h in
         let y = held_entry (entry_at a j) k in
@@ -68,20 +68,20 @@ module _ {T : Type 0} where
         ap slot m
 
     -- a link leads to the node of a slot just where it is the link to that slot
-    pub leads_to-link_in : (o : Option ℕ) (i : ℕ) (q : Ptr) → Known (entry_at a) o → IsSome (entry_at a i) → place_in ps i ≡ Some q → leads_to (link_in ps o) q ≡ is_number o i
+    pub leads_to-link_in : (o : Option ℕ) (i : ℕ) (q : Ptr) → Known (entry_at a) o → IsSome (entry_at a i) → pointer_in ps i ≡ Some q → leads_to (link_in ps o) q ≡ is_number o i
     leads_to-link_in None i q k h e = refl
-    leads_to-link_in (Some m) i q k h e = at_place (place_in ps m) refl (place_held ps cs a s m (k m refl))
+    leads_to-link_in (Some m) i q k h e = at_place (pointer_in ps m) refl (place_held ps cs a s m (k m refl))
       where
-        at_place : (o : Option Ptr) → place_in ps m ≡ o → IsSome o → leads_to o q ≡ eqb m i
+        at_place : (o : Option Ptr) → pointer_in ps m ≡ o → IsSome o → leads_to o q ≡ eqb m i
         at_place None f held = cc
         at_place (Some p) f held =
-            ⊎_elim (λ (same : m ≡ i). let g : ◌≡◌ {A = Option Ptr} (Some p) (Some q) = sym f ∙ (ap (place_in ps) same ∙ e) in
+            ⊎_elim (λ (same : m ≡ i). let g : ◌≡◌ {A = Option Ptr} (Some p) (Some q) = sym f ∙ (ap (pointer_in ps) same ∙ e) in
             let g' : p ≡ q = cc in rw (eq-eqb m i same) (ap (λ r. same_ptr r q) g' ∙ same_ptr_refl q))
             (λ (other : m ≡ i → ⊥). rw (ne_eqb m i other) (differs p q (λ g. other (one_slot m i q (f ∙ ap Some g) e (k m refl) h)))) (cases_eq m i)
 
-    pub leads_to-link_unless : (o : Option ℕ) (t i : ℕ) (q top : Ptr) → Known (entry_at a) o → IsSome (entry_at a t) → place_in ps t ≡ Some top → IsSome (entry_at a i) → place_in ps i ≡ Some q → leads_to (link_unless (link_in ps o) top) q ≡ is_number (link_unless o t) i
+    pub leads_to-link_unless : (o : Option ℕ) (t i : ℕ) (q top : Ptr) → Known (entry_at a) o → IsSome (entry_at a t) → pointer_in ps t ≡ Some top → IsSome (entry_at a i) → pointer_in ps i ≡ Some q → leads_to (link_unless (link_in ps o) top) q ≡ is_number (link_unless o t) i
     leads_to-link_unless None t i q top k ht et h e = ap (λ l. leads_to l q) (sym et) ∙ leads_to-link_in (Some t) i q (λ n g. let g' : t ≡ n = cc in subst (λ m. IsSome (entry_at a m)) g' ht) h e
-    leads_to-link_unless (Some m) t i q top k ht et h e = unled (place_in ps m) (place_held ps cs a s m (k m refl))
+    leads_to-link_unless (Some m) t i q top k ht et h e = unled (pointer_in ps m) (place_held ps cs a s m (k m refl))
       where
         unled : (o : Option Ptr) → IsSome o → leads_to (link_unless o top) q ≡ false
         unled None held = cc
@@ -90,8 +90,8 @@ module _ {T : Type 0} where
     -- nodes changed each by itself, and entries likewise
     module _ (F : Ptr → Node T → Node T) (looks : (q : Ptr) → look q cs' ≡ option_map (F q) (look q cs))
         (a' : Arena T) (G : ℕ → Entry T → Entry T) (entries : (i : ℕ) → entry_at a' i ≡ option_map (G i) (entry_at a i))
-        (same : (i : ℕ) (q : Ptr) (e : Entry T) → place_in ps i ≡ Some q → entry_at a i ≡ Some e → F q (wired ps (entry_at a) i e) ≡ wired ps (entry_at a') i (G i e)) where
-      renode : (i : ℕ) (o : Option (Entry T)) → entry_at a i ≡ o → (p : Option Ptr) → place_in ps i ≡ p → is_some p ≡ is_some o → node_behind cs' p ≡ option_map (wired ps (entry_at a') i) (option_map (G i) o)
+        (same : (i : ℕ) (q : Ptr) (e : Entry T) → pointer_in ps i ≡ Some q → entry_at a i ≡ Some e → F q (wired ps (entry_at a) i e) ≡ wired ps (entry_at a') i (G i e)) where
+      renode : (i : ℕ) (o : Option (Entry T)) → entry_at a i ≡ o → (p : Option Ptr) → pointer_in ps i ≡ p → is_some p ≡ is_some o → node_behind cs' p ≡ option_map (wired ps (entry_at a') i) (option_map (G i) o)
       renode i None f None g h = refl
       renode i None f (Some q) g h = cc
       renode i (Some e) f None g h = cc
@@ -103,7 +103,7 @@ module _ {T : Type 0} where
       restands many free long linked = record {
         long = long ∙ s.long;
         held = λ n. s.held n ∙ (sym (is_some_same (G n) (entry_at a n)) ∙ ap is_some (sym (entries n)));
-        nodes = λ n. renode n (entry_at a n) refl (place_in ps n) refl (s.held n) ∙ ap (option_map (wired ps (entry_at a') n)) (sym (entries n));
+        nodes = λ n. renode n (entry_at a n) refl (pointer_in ps n) refl (s.held n) ∙ ap (option_map (wired ps (entry_at a') n)) (sym (entries n));
         sound = record {
           linked = linked;
           freed = λ n. let h : held (entry_at a' n) ≡ held (entry_at a n) = ap held (entries n) ∙ held_same (G n) (entry_at a n) in rw (free, h, long) (s.sound.freed n);

@@ -9,7 +9,7 @@ use Rattle.dom_model.specs.PlainLists.Lists.{hits, head_of, last_of, after, befo
 use Rattle.dom_model.specs.Forests.Arena.{Entry, Arena, names, held, alone, entry_at, parent_in, children_in, list_under, siblings_in, next_in, previous_in, next_from, next_slot, added, added_from, taken, IsLinked, IsSound}
 use Rattle.dom_links.specs.Cells.{same_ptr, look, without}
 use Rattle.dom_links.specs.declared.links.Node.{Node}
-use Rattle.dom_links.specs.Standing.{place_in, link_in, node_behind, node_in, wired, Stands}
+use Rattle.dom_links.specs.Standing.{pointer_in, link_in, node_behind, node_in, wired, Stands}
 use Rattle.dom_links.specs.Wiring.{alone_node, GivesSlot}
 use Rattle.dom_links.proofs.Cells.{same_ptr_symm, differs, look_head, look_tail, look_past_without, without_length}
 use Rattle.dom_links.proofs.Counting.{length-le_from_once}
@@ -82,7 +82,7 @@ module _ {T : Type 0} where
     siblings_same i = ap (list_under at) (parents_same i) ∙ under_same (parent_in (rest i))
 
     -- the table with the slot and the one without it
-    module _ (ps qs : List (Option Ptr)) (place : Option Ptr) (places : (i : ℕ) → place_in ps i ≡ cond (eqb n i) place (place_in qs i)) where
+    module _ (ps qs : List (Option Ptr)) (place : Option Ptr) (places : (i : ℕ) → pointer_in ps i ≡ cond (eqb n i) place (pointer_in qs i)) where
       link_same : (o : Option ℕ) → Known rest o → link_in ps o ≡ link_in qs o
       link_same None k = refl
       link_same (Some m) k =
@@ -133,7 +133,7 @@ module _ {T : Type 0} where
         beside : Beside (entry_at full) (entry_at a) n (alone x)
         beside = record { with_it = λ i. index-set a.slots n (Some (alone x)) i first_within; gone = first_free; root = refl; leaf = refl }
 
-        places : (i : ℕ) → place_in (slice_set ps n (Some p)) i ≡ cond (eqb n i) (Some p) (place_in ps i)
+        places : (i : ℕ) → pointer_in (slice_set ps n (Some p)) i ≡ cond (eqb n i) (Some p) (pointer_in ps i)
         places i = index-set ps n (Some p) i (omega (arith, s.long, first_within))
 
         abbrev ps' : List (Option Ptr)
@@ -145,7 +145,7 @@ module _ {T : Type 0} where
         elsewhere : (q : Ptr) (m : Node T) → look q cs ≡ Some m → look q cs' ≡ Some m
         elsewhere q m h = look_tail q p (alone_node n x) cs (differs p q (λ e. let g : look p cs ≡ Some m = rw e h in let f : ◌≡◌ {A = Option (Node T)} None (Some m) = sym fresh ∙ g in cc)) ∙ h
 
-        node_at : (i : ℕ) → (n ≡ i → ⊥) → (o : Option (Entry T)) → entry_at a i ≡ o → (l : Option Ptr) → place_in ps i ≡ l → is_some l ≡ is_some o → node_behind cs' l ≡ option_map (wired ps' (entry_at full) i) o
+        node_at : (i : ℕ) → (n ≡ i → ⊥) → (o : Option (Entry T)) → entry_at a i ≡ o → (l : Option Ptr) → pointer_in ps i ≡ l → is_some l ≡ is_some o → node_behind cs' l ≡ option_map (wired ps' (entry_at full) i) o
         node_at i d None f None g h = refl
         node_at i d None f (Some q) g h = cc
         node_at i d (Some e) f None g h = cc
@@ -156,8 +156,8 @@ module _ {T : Type 0} where
         nodes' : (i : ℕ) → node_in ps' cs' i ≡ option_map (wired ps' (entry_at full) i) (entry_at full i)
         nodes' i =
             ⊎_elim (λ (e : n ≡ i). subst (λ j. node_in ps' cs' j ≡ option_map (wired ps' (entry_at full) j) (entry_at full j)) e
-            (ap (node_behind cs') (let g : place_in ps' n ≡ Some p = places n ∙ rw (eq-eqb n n refl) in g) ∙ (look_head p (alone_node n x) cs ∙ alone_is (entry_at full n) (at_it (entry_at full) (entry_at a) n (alone x) beside))))
-            (λ (d : n ≡ i → ⊥). ap (node_behind cs') (let g : place_in ps' i ≡ place_in ps i = places i ∙ rw (ne_eqb n i d) in g) ∙ (node_at i d (entry_at a i) refl (place_in ps i) refl (s.held i)
+            (ap (node_behind cs') (let g : pointer_in ps' n ≡ Some p = places n ∙ rw (eq-eqb n n refl) in g) ∙ (look_head p (alone_node n x) cs ∙ alone_is (entry_at full n) (at_it (entry_at full) (entry_at a) n (alone x) beside))))
+            (λ (d : n ≡ i → ⊥). ap (node_behind cs') (let g : pointer_in ps' i ≡ pointer_in ps i = places i ∙ rw (ne_eqb n i d) in g) ∙ (node_at i d (entry_at a i) refl (pointer_in ps i) refl (s.held i)
             ∙ ap (option_map (wired ps' (entry_at full) i)) (sym (at_other (entry_at full) (entry_at a) n (alone x) beside i d)))) (cases_eq n i)
           where
             alone_is : (o : Option (Entry T)) → o ≡ Some (alone x) → Some (alone_node n x) ≡ option_map (wired ps' (entry_at full) n) o
@@ -177,7 +177,7 @@ module _ {T : Type 0} where
                 (λ (e : n ≡ i). rw (eq-eqb n i e) (let h : held (entry_at a i) ≡ 0 = rw (← e) (ap held first_free) in let o2 : cond true 1 0 + hits i rest + held (entry_at a i) ≡ cond (ltb i (length a.slots)) 1 0 = rw (eq-eqb n i e) at old in omega arith))
                 (λ (d : n ≡ i → ⊥). rw (ne_eqb n i d) (let o2 : cond false 1 0 + hits i rest + held (entry_at a i) ≡ cond (ltb i (length a.slots)) 1 0 = rw (ne_eqb n i d) at old in omega arith)) (cases_eq n i));
           };
-          many = omega (arith, s.many, filled ps n p (omega (arith, s.long, first_within)) (not_placed (place_in ps n) (s.held n ∙ ap is_some first_free)));
+          many = omega (arith, s.many, filled ps n p (omega (arith, s.long, first_within)) (not_placed (pointer_in ps n) (s.held n ∙ ap is_some first_free)));
         }
 
     -- a table and an arena in which no slot is free, with a new one that is
@@ -221,7 +221,7 @@ module _ {T : Type 0} where
       }
 
     -- a slot that is linked to nothing, emptied
-    module _ (k : ℕ) (e : Entry T) (ptr : Ptr) (n : Node T) (is : entry_at a k ≡ Some e) (root : e.parent ≡ None) (leaf : e.children ≡ []) (at_k : place_in ps k ≡ Some ptr) (found : look ptr cs ≡ Some n) where
+    module _ (k : ℕ) (e : Entry T) (ptr : Ptr) (n : Node T) (is : entry_at a k ≡ Some e) (root : e.parent ≡ None) (leaf : e.children ≡ []) (at_k : pointer_in ps k ≡ Some ptr) (found : look ptr cs ≡ Some n) where
       held_k : held (entry_at a k) ≡ 1
       held_k = ap held is
 
@@ -237,7 +237,7 @@ module _ {T : Type 0} where
       bare_at : (i : ℕ) → bare i ≡ cond (eqb k i) None (entry_at a i)
       bare_at i = index-set a.slots k None i taken_within
 
-      bare_place : (i : ℕ) → place_in qs i ≡ cond (eqb k i) None (place_in ps i)
+      bare_place : (i : ℕ) → pointer_in qs i ≡ cond (eqb k i) None (pointer_in ps i)
       bare_place i = index-set ps k None i (omega (arith, s.long, taken_within))
 
       besides : Beside (entry_at a) bare k e
@@ -248,13 +248,13 @@ module _ {T : Type 0} where
         leaf = leaf;
       }
 
-      back_places : (i : ℕ) → place_in ps i ≡ cond (eqb k i) (Some ptr) (place_in qs i)
+      back_places : (i : ℕ) → pointer_in ps i ≡ cond (eqb k i) (Some ptr) (pointer_in qs i)
       back_places i = rw (bare_place i) (⊎_elim (λ (q : k ≡ i). rw (eq-eqb k i q) (rw (← q) at_k)) (λ (d : k ≡ i → ⊥). rw (ne_eqb k i d)) (cases_eq k i))
 
       bare_linked : IsLinked bare
       bare_linked = linked_from (entry_at a) bare k e besides s.sound.linked
 
-      bare_node : (i : ℕ) → (k ≡ i → ⊥) → (o : Option (Entry T)) → entry_at a i ≡ o → (l : Option Ptr) → place_in ps i ≡ l → is_some l ≡ is_some o → node_behind (without ptr cs) l ≡ option_map (wired qs bare i) o
+      bare_node : (i : ℕ) → (k ≡ i → ⊥) → (o : Option (Entry T)) → entry_at a i ≡ o → (l : Option Ptr) → pointer_in ps i ≡ l → is_some l ≡ is_some o → node_behind (without ptr cs) l ≡ option_map (wired qs bare i) o
       bare_node i d None f None g h = refl
       bare_node i d None f (Some q) g h = cc
       bare_node i d (Some x) f None g h = cc
@@ -265,9 +265,9 @@ module _ {T : Type 0} where
 
       bare_nodes : (i : ℕ) → node_in qs (without ptr cs) i ≡ option_map (wired qs bare i) (bare i)
       bare_nodes i =
-          ⊎_elim (λ (q : k ≡ i). let g : place_in qs i ≡ None = bare_place i ∙ rw (eq-eqb k i q) in let f : bare i ≡ None = bare_at i ∙ rw (eq-eqb k i q) in rw (g, f))
-          (λ (d : k ≡ i → ⊥). ap (node_behind (without ptr cs)) (let g : place_in qs i ≡ place_in ps i = bare_place i ∙ rw (ne_eqb k i d) in g)
-          ∙ (bare_node i d (entry_at a i) refl (place_in ps i) refl (s.held i) ∙ ap (option_map (wired qs bare i)) (at_other (entry_at a) bare k e besides i d))) (cases_eq k i)
+          ⊎_elim (λ (q : k ≡ i). let g : pointer_in qs i ≡ None = bare_place i ∙ rw (eq-eqb k i q) in let f : bare i ≡ None = bare_at i ∙ rw (eq-eqb k i q) in rw (g, f))
+          (λ (d : k ≡ i → ⊥). ap (node_behind (without ptr cs)) (let g : pointer_in qs i ≡ pointer_in ps i = bare_place i ∙ rw (ne_eqb k i d) in g)
+          ∙ (bare_node i d (entry_at a i) refl (pointer_in ps i) refl (s.held i) ∙ ap (option_map (wired qs bare i)) (at_other (entry_at a) bare k e besides i d))) (cases_eq k i)
 
       pub stands-taken : Stands (slice_set ps k None) (without ptr cs) (taken a k)
       stands-taken = record {

@@ -6,14 +6,14 @@ use Rattle.std.proofs.lemmas.List.{get_or_append_left, get_or_push, get_or_past}
 use Rattle.std.proofs.lemmas.List.Sums.{sum_by_push}
 use denote.RawPtr.{Ptr}
 use Rattle.dom_links.specs.Cells.{same_ptr, look, without}
-use Rattle.dom_links.specs.Standing.{place_in, Left}
+use Rattle.dom_links.specs.Standing.{pointer_in, Left}
 use Rattle.dom_links.specs.declared.links.Node.{Node}
 use Rattle.dom_links.proofs.Cells.{same_ptr_symm, differs, look_past_without, without_length}
 
-within : (ps : List (Option Ptr)) (n : ℕ) (p : Ptr) → place_in ps n ≡ Some p → n < length ps
+within : (ps : List (Option Ptr)) (n : ℕ) (p : Ptr) → pointer_in ps n ≡ Some p → n < length ps
 within ps n p h = ⊎_elim (λ (lt : n < length ps). lt) (λ (le : length ps ≤ n). let e : ◌≡◌ {A = Option Ptr} None (Some p) = sym (get_or_past ps n None le) ∙ h in cc) (cases_lt n (length ps))
 
-stays : (ps : List (Option Ptr)) (o : Option Ptr) (n : ℕ) (p : Ptr) → place_in ps n ≡ Some p → place_in (ps ++ o ∷ []) n ≡ Some p
+stays : (ps : List (Option Ptr)) (o : Option Ptr) (n : ℕ) (p : Ptr) → pointer_in ps n ≡ Some p → pointer_in (ps ++ o ∷ []) n ≡ Some p
 stays ps o n p h = get_or_append_left ps (o ∷ []) None n (within ps n p h) ∙ h
 
 module _ {T : Type 0} where
@@ -29,8 +29,8 @@ module _ {T : Type 0} where
   pub left_some : {ps qs : List (Option Ptr)} {cs ds : List (Ptr × Node T)} (p : Ptr) (w : Node T) → Left ps cs → ps ≡ qs ++ Some p ∷ [] → look p cs ≡ Some w → ds ≡ without p cs → Left qs ds
   left_some {ps} {qs} {cs} {ds} p w h e found cells =
       let k : Left (qs ++ Some p ∷ []) cs = subst (λ (rs : List (Option Ptr)). Left rs cs) e h in
-      let last : place_in (qs ++ Some p ∷ []) (length qs) ≡ Some p = get_or_push qs (Some p) None (length qs) refl in
-      let far : (n : ℕ) (q : Ptr) → place_in qs n ≡ Some q → same_ptr p q ≡ false = λ n q g. differs p q (λ (t : p ≡ q).
+      let last : pointer_in (qs ++ Some p ∷ []) (length qs) ≡ Some p = get_or_push qs (Some p) None (length qs) refl in
+      let far : (n : ℕ) (q : Ptr) → pointer_in qs n ≡ Some q → same_ptr p q ≡ false = λ n q g. differs p q (λ (t : p ≡ q).
       let same : n ≡ length qs = k.apart n (length qs) p (stays qs (Some p) n p (g ∙ ap Some (sym t))) last in
       let lt = within qs n q g in absurd (omega arith)) in
       subst (λ (es : List (Ptr × Node T)). Left qs es) (sym cells) (record {

@@ -9,8 +9,8 @@ use Rattle.dom_model.specs.PlainLists.Lists.{hits, is_number, head_of, last_of, 
 use Rattle.dom_model.specs.Forests.Arena.{Entry, Arena, entry_at, parent_in, children_in, next_in, previous_in, with_parent, with_children, altered, linked, unlinked, unlinked_from, IsLinked}
 use Rattle.dom_links.specs.Cells.{same_ptr, look}
 use Rattle.dom_links.specs.declared.links.Node.{Node}
-use Rattle.dom_links.specs.Standing.{place_in, link_in, node_behind, node_in, wired, Stands}
-use Rattle.dom_links.specs.Wiring.{link_or, leads_to, link_unless, before_from, led_on, led_back, recounted, settled}
+use Rattle.dom_links.specs.Standing.{pointer_in, link_in, node_behind, node_in, wired, Stands}
+use Rattle.dom_links.specs.Wiring.{link_or, leads_to, link_unless, link_ahead, with_next, with_previous, recounted, settled}
 use Rattle.dom_links.proofs.Cutting.{hits-le, next-cut, previous-cut, first-cut, last-cut, length-cut, once, next-join, previous-join, first-join, last-join, length-join}
 use Rattle.dom_links.proofs.Standing.{Known, known_child, held-parent, known_parent, known_next, known_previous, known_last, found_in, held_entry, node_of, place_held}
 use Rattle.dom_links.proofs.Reading.{Reads, reads, count_read, parent_link, previous_link, next_link, last_link}
@@ -64,14 +64,14 @@ module _ {T : Type 0} where
   -- the four writes, as one step
   abbrev pub rewrite_node : Ptr → Ptr → ℕ → Option Ptr → Option Ptr → Option Ptr → Option Ptr → Option Ptr → Option Ptr → Option Ptr → Ptr → Node T → Node T
   rewrite_node ptr top count prev next after_prev before_next new_parent new_prev new_next q m =
-      settled ptr new_parent new_prev new_next q (recounted top count q (led_back top next before_next q (led_on top prev after_prev q m)))
+      settled ptr new_parent new_prev new_next q (recounted top count q (with_previous top next before_next q (with_next top prev after_prev q m)))
 
   pub known_one : (at : ℕ → Option (Entry T)) (k : ℕ) → IsSome (at k) → Known at (Some k)
   known_one at k h n e = let f : k ≡ n = cc in subst (λ m. IsSome (at m)) f h
 
   -- what the tests of the four writes say at the node of a slot
   module _ (ps : List (Option Ptr)) (cs : List (Ptr × Node T)) (a : Arena T) (s : Stands ps cs a) (c p : ℕ) (ptr top : Ptr)
-      (held_c : IsSome (entry_at a c)) (held_p : IsSome (entry_at a p)) (at_c : place_in ps c ≡ Some ptr) (at_p : place_in ps p ≡ Some top)
+      (held_c : IsSome (entry_at a c)) (held_p : IsSome (entry_at a p)) (at_c : pointer_in ps c ≡ Some ptr) (at_p : pointer_in ps p ≡ Some top)
       (P N : Option ℕ) (known_P : Known (entry_at a) P) (known_N : Known (entry_at a) N) (prev next : Option Ptr) (prev_is : prev ≡ link_in ps P) (next_is : next ≡ link_in ps N) where
     record Tests (i : ℕ) (q : Ptr) : Type 0 where
       child : same_ptr ptr q ≡ eqb c i
@@ -81,7 +81,7 @@ module _ {T : Type 0} where
       first : leads_to (link_unless prev top) q ≡ is_number (link_unless P p) i
       last : leads_to (link_unless next top) q ≡ is_number (link_unless N p) i
 
-    tests : (i : ℕ) (q : Ptr) → IsSome (entry_at a i) → place_in ps i ≡ Some q → Tests i q
+    tests : (i : ℕ) (q : Ptr) → IsSome (entry_at a i) → pointer_in ps i ≡ Some q → Tests i q
     tests i q h e = record {
       child = ap (λ l. leads_to l q) (sym at_c) ∙ leads_to-link_in ps cs cs a s (Some c) i q (known_one (entry_at a) c held_c) h e;
       parent = ap (λ l. leads_to l q) (sym at_p) ∙ leads_to-link_in ps cs cs a s (Some p) i q (known_one (entry_at a) p held_p) h e;
@@ -99,7 +99,7 @@ module _ {T : Type 0} where
         (firsts : (i : ℕ) → head_of (children_in (at' i)) ≡ cond (is_number (link_unless P p) i) new_after (head_of (children_in (entry_at a i))))
         (lasts : (i : ℕ) → last_of (children_in (at' i)) ≡ cond (is_number (link_unless N p) i) new_before (last_of (children_in (entry_at a i))))
         (counts : (i : ℕ) → length (children_in (at' i)) ≡ cond (eqb p i) count (length (children_in (entry_at a i)))) where
-      rewritten : (i : ℕ) (q : Ptr) (e : Entry T) → place_in ps i ≡ Some q → entry_at a i ≡ Some e
+      rewritten : (i : ℕ) (q : Ptr) (e : Entry T) → pointer_in ps i ≡ Some q → entry_at a i ≡ Some e
           → rewrite_node ptr top count prev next (link_in ps new_after) (link_in ps new_before) (link_in ps new_parent) (link_in ps new_prev) (link_in ps new_next) q (wired ps (entry_at a) i e) ≡ wired ps at' i (rewired f new_parent c p i e)
       rewritten i q e g h =
           let t = tests i q (rw h) g in
@@ -136,14 +136,14 @@ module _ {T : Type 0} where
     pub record Lies (k : ℕ) (ptr : Ptr) (n : Node T) : Type 0 where
       pub reads : Reads ps cs v k n
       pub held : IsSome (entry_at v k)
-      pub at : place_in ps k ≡ Some ptr
+      pub at : pointer_in ps k ≡ Some ptr
       pub found : look ptr cs ≡ Some n
 
-    pub lies_at : Stands ps cs v → (k : ℕ) (ptr : Ptr) (n : Node T) → IsSome (entry_at v k) → place_in ps k ≡ Some ptr → look ptr cs ≡ Some n → Lies k ptr n
+    pub lies_at : Stands ps cs v → (k : ℕ) (ptr : Ptr) (n : Node T) → IsSome (entry_at v k) → pointer_in ps k ≡ Some ptr → look ptr cs ≡ Some n → Lies k ptr n
     lies_at s k ptr n h at found = record { reads = reads s refl refl h (ap (node_behind cs) at ∙ found); held = h; at = at; found = found }
 
-    pub lies_from : {a : Arena T} {i : ℕ} (k : ℕ) (ptr : Ptr) (n : Node T) → Stands ps cs a → a ≡ v → i ≡ k → IsSome (entry_at v k) → place_in ps i ≡ Some ptr → look ptr cs ≡ Some n → Lies k ptr n
-    lies_from k ptr n s view number h at found = lies_at (subst (λ (b : Arena T). Stands ps cs b) view s) k ptr n h (subst (λ j. place_in ps j ≡ Some ptr) number at) found
+    pub lies_from : {a : Arena T} {i : ℕ} (k : ℕ) (ptr : Ptr) (n : Node T) → Stands ps cs a → a ≡ v → i ≡ k → IsSome (entry_at v k) → pointer_in ps i ≡ Some ptr → look ptr cs ≡ Some n → Lies k ptr n
+    lies_from k ptr n s view number h at found = lies_at (subst (λ (b : Arena T). Stands ps cs b) view s) k ptr n h (subst (λ j. pointer_in ps j ≡ Some ptr) number at) found
 
     -- a child and its parent
     pub record IsChild (c : ℕ) (ptr : Ptr) (n : Node T) : Type 0 where
@@ -151,7 +151,7 @@ module _ {T : Type 0} where
       pub parent : ℕ
       pub under : parent_in (entry_at v c) ≡ Some parent
 
-    pub child_from : {a : Arena T} {i : ℕ} (c : ℕ) (ptr : Ptr) (n : Node T) → Stands ps cs a → a ≡ v → i ≡ c → IsSome (parent_in (entry_at v c)) → place_in ps i ≡ Some ptr → look ptr cs ≡ Some n → IsChild c ptr n
+    pub child_from : {a : Arena T} {i : ℕ} (c : ℕ) (ptr : Ptr) (n : Node T) → Stands ps cs a → a ≡ v → i ≡ c → IsSome (parent_in (entry_at v c)) → pointer_in ps i ≡ Some ptr → look ptr cs ≡ Some n → IsChild c ptr n
     child_from c ptr n s view number h at found =
         let p = number_of (parent_in (entry_at v c)) h in
         record { child = lies_from c ptr n s view number (held-parent (entry_at v c) p.number p.is) at found; parent = p.number; under = p.is }
@@ -159,7 +159,7 @@ module _ {T : Type 0} where
     pub parent_held : (c : ℕ) (ptr : Ptr) (n : Node T) (k : IsChild c ptr n) → IsSome (entry_at v k.parent)
     parent_held c ptr n k = known_parent (entry_at v) k.child.reads.stands.sound.linked c k.parent k.under
 
-    pub parent_place : (c : ℕ) (ptr : Ptr) (n : Node T) (k : IsChild c ptr n) → place_in ps k.parent ≡ n.parent
+    pub parent_place : (c : ℕ) (ptr : Ptr) (n : Node T) (k : IsChild c ptr n) → pointer_in ps k.parent ≡ n.parent
     parent_place c ptr n k = sym (parent_link k.child.reads ∙ ap (link_in ps) k.under)
 
     pub has_parent : (c : ℕ) (ptr : Ptr) (n : Node T) → IsChild c ptr n → IsSome n.parent
@@ -200,20 +200,20 @@ module _ {T : Type 0} where
 
     -- the link that is read before a new child is linked
     pub new_link : (p : ℕ) (top : Ptr) (t : Node T) (b : Option ℕ) (next prev : Option Ptr) → Lies p top t → ((m : ℕ) → b ≡ Some m → parent_in (entry_at v m) ≡ Some p) → next ≡ link_in ps b
-        → IfSome (look (link_or next top) cs) (λ n. prev ≡ before_from next n) → prev ≡ link_in ps (new_previous (entry_at v) p b)
+        → IfSome (look (link_or next top) cs) (λ n. prev ≡ link_ahead next n) → prev ≡ link_in ps (new_previous (entry_at v) p b)
     new_link p top t None next prev lies under is h =
-        let k : IfSome (look top cs) (λ n. prev ≡ n.last) = subst (λ (o : Option Ptr). IfSome (look (link_or o top) cs) (λ (n : Node T). prev ≡ before_from o n)) is h in
+        let k : IfSome (look top cs) (λ n. prev ≡ n.last) = subst (λ (o : Option Ptr). IfSome (look (link_or o top) cs) (λ (n : Node T). prev ≡ link_ahead o n)) is h in
         let j : prev ≡ t.last = subst (λ (o : Option (Node T)). IfSome o (λ (n : Node T). prev ≡ n.last)) lies.found k in
         j ∙ last_link lies.reads
     new_link p top t (Some m) next prev lies under is h =
         let s = lies.reads.stands in
         let e = held_entry (entry_at v m) (held-parent (entry_at v m) p (under m refl)) in
-        at_place (place_in ps m) refl (place_held ps cs v s m (rw e.is)) e.entry (node_of ps cs v s m e.entry e.is)
+        at_place (pointer_in ps m) refl (place_held ps cs v s m (rw e.is)) e.entry (node_of ps cs v s m e.entry e.is)
       where
-        at_place : (o : Option Ptr) → place_in ps m ≡ o → IsSome o → (e : Entry T) → node_in ps cs m ≡ Some (wired ps (entry_at v) m e) → prev ≡ link_in ps (previous_in (entry_at v) m)
+        at_place : (o : Option Ptr) → pointer_in ps m ≡ o → IsSome o → (e : Entry T) → node_in ps cs m ≡ Some (wired ps (entry_at v) m e) → prev ≡ link_in ps (previous_in (entry_at v) m)
         at_place None g held e n = cc
         at_place (Some q) g held e n =
-            let k : IfSome (look q cs) (λ n. prev ≡ n.prev) = subst (λ (o : Option Ptr). IfSome (look (link_or o top) cs) (λ (n : Node T). prev ≡ before_from o n)) (is ∙ g) h in
+            let k : IfSome (look q cs) (λ n. prev ≡ n.prev) = subst (λ (o : Option Ptr). IfSome (look (link_or o top) cs) (λ (n : Node T). prev ≡ link_ahead o n)) (is ∙ g) h in
             let found : look q cs ≡ Some (wired ps (entry_at v) m e) = ap (node_behind cs) (sym g) ∙ n in
             subst (λ (o : Option (Node T)). IfSome o (λ (n : Node T). prev ≡ n.prev)) found k
 
@@ -230,7 +230,7 @@ module _ {T : Type 0} where
       }
 
       pub unlink_closes : (c : ℕ) (ptr top : Ptr) (n t : Node T) (count : ℕ) → IsChild c ptr n → n.parent ≡ Some top → look top cs ≡ Some t → count ≡ t.count - 1
-          → Writes (led_on top n.prev n.next) cs cs1 → Writes (led_back top n.next n.prev) cs1 cs2 → Writes (recounted top count) cs2 cs3 → Writes (settled ptr None None None) cs3 cs4 → Closes ps cs4 free (unlinked v c)
+          → Writes (with_next top n.prev n.next) cs cs1 → Writes (with_previous top n.next n.prev) cs1 cs2 → Writes (recounted top count) cs2 cs3 → Writes (settled ptr None None None) cs3 cs4 → Closes ps cs4 free (unlinked v c)
       unlink_closes c ptr top n t count k up found less w1 w2 w3 w4 =
           let at = entry_at v in
           let s = k.child.reads.stands in
@@ -242,7 +242,7 @@ module _ {T : Type 0} where
           let prev_is = previous_link k.child.reads in
           let next_is = next_link k.child.reads in
           let count_is : count ≡ length (children_in (at p)) - 1 = less ∙ ap (λ m. m - 1) (parent_count c ptr top n t k up found) in
-          let w = composed (led_on top n.prev n.next) (led_back top n.next n.prev) (recounted top count) (settled ptr None None None) w1 w2 w3 w4 in
+          let w = composed (with_next top n.prev n.next) (with_previous top n.next n.prev) (recounted top count) (settled ptr None None None) w1 w2 w3 w4 in
           let same = rewritten ps cs v s c p ptr top k.child.held top_lies.held k.child.at top_lies.at (previous_in at c) (next_in at c) (known_previous at l c) (known_next at l c) n.prev n.next prev_is next_is
           (entry_at a') None None None (next_in at c) (previous_in at c) count (left_out c) (entries-unlinked v c p l k.under)
           (next-cut at (entry_at a') c p cut) (previous-cut at (entry_at a') c p cut) (first-cut at (entry_at a') c p cut) (last-cut at (entry_at a') c p cut)
@@ -253,9 +253,9 @@ module _ {T : Type 0} where
           (length-altered (λ (e : Entry T). with_children (left_out c e.children) e) (altered (with_parent None) v c) p ∙ length-altered (with_parent None) v c) (IsLinked-cut at (entry_at a') c p cut) in
           subst (λ (b : Arena T). Closes ps cs4 free b) (sym (unlinked_is v c p l k.under)) (closes free stands free_is)
 
-      pub link_closes : (p c : ℕ) (b : Option ℕ) (top ptr : Ptr) (t : Node T) (prev next : Option Ptr) (count : ℕ) → Lies p top t → IsSome (entry_at v c) → place_in ps c ≡ Some ptr → parent_in (entry_at v c) ≡ None
+      pub link_closes : (p c : ℕ) (b : Option ℕ) (top ptr : Ptr) (t : Node T) (prev next : Option Ptr) (count : ℕ) → Lies p top t → IsSome (entry_at v c) → pointer_in ps c ≡ Some ptr → parent_in (entry_at v c) ≡ None
           → ((m : ℕ) → b ≡ Some m → parent_in (entry_at v m) ≡ Some p) → prev ≡ link_in ps (new_previous (entry_at v) p b) → next ≡ link_in ps b → count ≡ t.count + 1
-          → Writes (led_on top prev (Some ptr)) cs cs1 → Writes (led_back top next (Some ptr)) cs1 cs2 → Writes (recounted top count) cs2 cs3 → Writes (settled ptr (Some top) prev next) cs3 cs4 → Closes ps cs4 free (linked v p c b)
+          → Writes (with_next top prev (Some ptr)) cs cs1 → Writes (with_previous top next (Some ptr)) cs1 cs2 → Writes (recounted top count) cs2 cs3 → Writes (settled ptr (Some top) prev next) cs3 cs4 → Closes ps cs4 free (linked v p c b)
       link_closes p c b top ptr t prev next count lies held_c at_c root under prev_is next_is more w1 w2 w3 w4 =
           let at = entry_at v in
           let s = lies.reads.stands in
@@ -269,7 +269,7 @@ module _ {T : Type 0} where
           let prev' : previous_in at' c ≡ P = previous-linked v p c b l root held_c lies.held under in
           let count_is : length (children_in (at p)) + 1 ≡ count = sym (more ∙ ap (λ m. m + 1) (count_read lies.reads)) in
           let entries = entries-linked v p c b l root held_c lies.held under in
-          let w = composed (led_on top prev (Some ptr)) (led_back top next (Some ptr)) (recounted top count) (settled ptr (Some top) prev next) w1 w2 w3 w4 in
+          let w = composed (with_next top prev (Some ptr)) (with_previous top next (Some ptr)) (recounted top count) (settled ptr (Some top) prev next) w1 w2 w3 w4 in
           let same = rewritten ps cs v s c p ptr top held_c lies.held at_c lies.at P b (known_new p b l) known_b prev next prev_is next_is
           at' (Some p) P b (Some c) (Some c) count (entered b c) entries
           (λ i. next-join at' at c p cut i ∙ (ap (λ o. cond (eqb c i) o (cond (is_number (previous_in at' c) i) (Some c) (next_in at i))) next' ∙ ap (λ o. cond (eqb c i) b (cond (is_number o i) (Some c) (next_in at i))) prev'))
@@ -279,8 +279,8 @@ module _ {T : Type 0} where
           (λ i. length-join at' at c p cut i ∙ ap (λ m. cond (eqb p i) m (length (children_in (at i)))) count_is) in
           closes free (restands ps cs cs4 v s (rewrite_node ptr top count prev next (Some ptr) (Some ptr) (Some top) prev next) w.looks a' (rewired (entered b c) (Some p) c p) entries
           (λ i q e g h. ap (λ (o : Option Ptr). rewrite_node ptr top count prev next o o (Some top) prev next q (wired ps at i e)) (sym at_c)
-          ∙ (ap (λ (o : Option Ptr). rewrite_node ptr top count prev next (place_in ps c) (place_in ps c) o prev next q (wired ps at i e)) (sym lies.at)
-          ∙ (ap (λ (o : Option Ptr). rewrite_node ptr top count prev next (place_in ps c) (place_in ps c) (place_in ps p) o next q (wired ps at i e)) prev_is
-          ∙ (ap (λ (o : Option Ptr). rewrite_node ptr top count prev next (place_in ps c) (place_in ps c) (place_in ps p) (link_in ps P) o q (wired ps at i e)) next_is ∙ same i q e g h)))) w.many refl
+          ∙ (ap (λ (o : Option Ptr). rewrite_node ptr top count prev next (pointer_in ps c) (pointer_in ps c) o prev next q (wired ps at i e)) (sym lies.at)
+          ∙ (ap (λ (o : Option Ptr). rewrite_node ptr top count prev next (pointer_in ps c) (pointer_in ps c) (pointer_in ps p) o next q (wired ps at i e)) prev_is
+          ∙ (ap (λ (o : Option Ptr). rewrite_node ptr top count prev next (pointer_in ps c) (pointer_in ps c) (pointer_in ps p) (link_in ps P) o q (wired ps at i e)) next_is ∙ same i q e g h)))) w.many refl
           (length-altered (λ (e : Entry T). with_children (entered b c e.children) e) (altered (with_parent (Some p)) v c) p ∙ length-altered (with_parent (Some p)) v c)
           (IsLinked-linked v p c b l root held_c lies.held under)) free_is

@@ -6,7 +6,7 @@ use Rattle.dom_model.specs.PlainLists.Lists.{hits, head_of, last_of, after, befo
 use Rattle.dom_model.specs.Forests.Arena.{Entry, Arena, names, entry_at, parent_in, children_in, list_under, siblings_in, with_value, altered, IsLinked}
 use Rattle.dom_links.specs.Cells.{same_ptr, put}
 use Rattle.dom_links.specs.declared.links.Node.{Node}
-use Rattle.dom_links.specs.Standing.{place_in, link_in, wired}
+use Rattle.dom_links.specs.Standing.{pointer_in, link_in, wired}
 use Rattle.dom_links.specs.Wiring.{leads_to}
 use Rattle.dom_links.proofs.Cells.{same_ptr_refl, put_length}
 use Rattle.dom_links.proofs.Places.{look-step}
@@ -56,7 +56,7 @@ module _ {T : Type 0} where
     linked_still : IsLinked (entry_at v) → IsLinked at'
     linked_still l n m = ap (hits m) (kids n) ∙ (l n m ∙ ap (λ o. names o n) (sym (parents m)))
 
-    same : (ps : List (Option Ptr)) (cs : List (Ptr × Node T)) (ptr : Ptr) (n : Node T) → Lies ps cs v k ptr n → (i : ℕ) (q : Ptr) (e : Entry T) → place_in ps i ≡ Some q → entry_at v i ≡ Some e
+    same : (ps : List (Option Ptr)) (cs : List (Ptr × Node T)) (ptr : Ptr) (n : Node T) → Lies ps cs v k ptr n → (i : ℕ) (q : Ptr) (e : Entry T) → pointer_in ps i ≡ Some q → entry_at v i ≡ Some e
         → record (wired ps (entry_at v) i e) { value = cond (same_ptr ptr q) w e.value } ≡ wired ps at' i (revalued w k i e)
     same ps cs ptr n lies i q e g h =
         let t : same_ptr ptr q ≡ eqb k i = ap (λ l. leads_to l q) (sym lies.at) ∙ leads_to-link_in ps cs cs v lies.reads.stands (Some k) i q (known_one (entry_at v) k lies.held) (rw h) g in

@@ -9,7 +9,7 @@ use Rattle.dom_model.specs.Forests.Arena.{Entry, Arena, names, entry_at, parent_
 use Rattle.dom_model.proofs.Forests.Climbing.{hits-append}
 use Rattle.dom_links.specs.Cells.{look}
 use Rattle.dom_links.specs.declared.links.Node.{Node}
-use Rattle.dom_links.specs.Standing.{place_in, link_in, node_behind, node_in, slot_behind, slots_from, slots_along, entry_from, arena_of, wired, Stands}
+use Rattle.dom_links.specs.Standing.{pointer_in, link_in, node_behind, node_in, slot_behind, slots_from, slots_along, entry_from, arena_of, wired, Stands}
 use Rattle.dom_links.proofs.Neighbours.{after-none, before_from-none, head_of-none, last_from-none, last_of-last_from}
 use Rattle.dom_links.proofs.Cutting.{names-same, names-other, hits-le}
 
@@ -84,7 +84,7 @@ module _ {T : Type 0} where
     pub node_held : (n : ℕ) → IsSome (entry_at a n) → IsSome (node_in ps cs n)
     node_held n h = let e = held_entry (entry_at a n) h in rw (node_of n e.entry e.is)
 
-    pub place_held : (n : ℕ) → IsSome (entry_at a n) → IsSome (place_in ps n)
+    pub place_held : (n : ℕ) → IsSome (entry_at a n) → IsSome (pointer_in ps n)
     place_held n h = s.held n ∙ h
 
     slot_of : (n : ℕ) (o : Option (Entry T)) → IsSome o → option_map (λ (m : Node T). m.slot) (option_map (wired ps (entry_at a) n) o) ≡ Some n

@@ -7,13 +7,13 @@ use Rattle.dom_links.specs.Cells.{look}
 use Rattle.dom_links.specs.declared.links.Node.{Node}
 
 -- where the node of a slot lies
-abbrev pub place_in : List (Option Ptr) → ℕ → Option Ptr
-place_in ps n = slice_index_or ps n None
+abbrev pub pointer_in : List (Option Ptr) → ℕ → Option Ptr
+pointer_in ps n = slice_index_or ps n None
 
 -- the link to an optional slot
 abbrev pub link_in : List (Option Ptr) → Option ℕ → Option Ptr
 link_in ps None = None
-link_in ps (Some n) = place_in ps n
+link_in ps (Some n) = pointer_in ps n
 
 module _ {T : Type 0} where
   -- the node that a link leads to
@@ -23,7 +23,7 @@ module _ {T : Type 0} where
 
   -- the node of a slot
   abbrev pub node_in : List (Option Ptr) → List (Ptr × Node T) → ℕ → Option (Node T)
-  node_in ps cs n = node_behind cs (place_in ps n)
+  node_in ps cs n = node_behind cs (pointer_in ps n)
 
   -- the slot of the node that a link leads to
   abbrev pub slot_behind : List (Ptr × Node T) → Option Ptr → Option ℕ
@@ -61,13 +61,13 @@ module _ {T : Type 0} where
   -- the memory stands for the arena
   pub record Stands (ps : List (Option Ptr)) (cs : List (Ptr × Node T)) (a : Arena T) : Type 0 where
     pub long : length a.slots ≡ length ps
-    pub held : (n : ℕ) → is_some (place_in ps n) ≡ is_some (entry_at a n)
+    pub held : (n : ℕ) → is_some (pointer_in ps n) ≡ is_some (entry_at a n)
     pub nodes : (n : ℕ) → node_in ps cs n ≡ option_map (wired ps (entry_at a) n) (entry_at a n)
     pub sound : IsSound a
     pub many : length cs ≤ count_by is_some ps
 
   -- each place of the table has a node of its own, and there are no other nodes
   pub record Left (ps : List (Option Ptr)) (cs : List (Ptr × Node T)) : Type 0 where
-    pub found : (n : ℕ) (p : Ptr) → place_in ps n ≡ Some p → IsSome (look p cs)
-    pub apart : (n m : ℕ) (p : Ptr) → place_in ps n ≡ Some p → place_in ps m ≡ Some p → n ≡ m
+    pub found : (n : ℕ) (p : Ptr) → pointer_in ps n ≡ Some p → IsSome (look p cs)
+    pub apart : (n m : ℕ) (p : Ptr) → pointer_in ps n ≡ Some p → pointer_in ps m ≡ Some p → n ≡ m
     pub many : length cs ≤ count_by is_some ps

@@ -30,15 +30,15 @@ module _ {T : Type 0} where
   alone_node n v = record { slot = n; count = 0; parent = None; prev = None; next = None; first = None; last = None; value = v }
 
   -- the node before a new child, read at the child after it or at the top
-  abbrev pub before_from : Option Ptr → Node T → Option Ptr
-  before_from None n = n.last
-  before_from (Some p) n = n.prev
+  abbrev pub link_ahead : Option Ptr → Node T → Option Ptr
+  link_ahead None n = n.last
+  link_ahead (Some p) n = n.prev
 
-  abbrev pub led_on : Ptr → Option Ptr → Option Ptr → Ptr → Node T → Node T
-  led_on top prev next q n = record n { next = if leads_to prev q then next else n.next; first = if leads_to (link_unless prev top) q then next else n.first }
+  abbrev pub with_next : Ptr → Option Ptr → Option Ptr → Ptr → Node T → Node T
+  with_next top prev next q n = record n { next = if leads_to prev q then next else n.next; first = if leads_to (link_unless prev top) q then next else n.first }
 
-  abbrev pub led_back : Ptr → Option Ptr → Option Ptr → Ptr → Node T → Node T
-  led_back top next prev q n = record n { prev = if leads_to next q then prev else n.prev; last = if leads_to (link_unless next top) q then prev else n.last }
+  abbrev pub with_previous : Ptr → Option Ptr → Option Ptr → Ptr → Node T → Node T
+  with_previous top next prev q n = record n { prev = if leads_to next q then prev else n.prev; last = if leads_to (link_unless next top) q then prev else n.last }
 
   abbrev pub recounted : Ptr → ℕ → Ptr → Node T → Node T
   recounted p count q n = record n { count = if same_ptr p q then count else n.count }

@@ -4,8 +4,8 @@ ghost use Rattle.std.specs.Option.{ForSome};
 ghost use Rattle.std.specs.Vec.{vec_capacity};
 ghost use denote.RawPtr.{Ptr};
 ghost use Rattle.dom_links.specs.Cells.{look};
-ghost use Rattle.dom_links.specs.Standing.{place_in, link_in, node_in, slot_behind};
-ghost use Rattle.dom_links.specs.Wiring.{link_or, GivesSlot, alone_node, before_from, led_on, led_back, recounted, settled};
+ghost use Rattle.dom_links.specs.Standing.{pointer_in, link_in, node_in, slot_behind};
+ghost use Rattle.dom_links.specs.Wiring.{link_or, GivesSlot, alone_node, link_ahead, with_next, with_previous, recounted, settled};
 
 use crate::links::{Node, Slot};
 use crate::pool::{NodePtr, Pool};
@@ -67,8 +67,8 @@ pub(crate) fn free_slot<T>(
 }
 
 pub(crate) fn place_of<T>(table: &Vec<Option<*mut Node<T>>>, index: usize) -> *mut Node<T>
-    requires { IsSome (place_in table.now.items index) }
-    ensures { place_in table.now.items index ≡ Some result }
+    requires { IsSome (pointer_in table.now.items index) }
+    ensures { pointer_in table.now.items index ≡ Some result }
 {
     table[index].unwrap()
 }
@@ -77,7 +77,7 @@ pub(crate) fn link_to<T>(
     table: &Vec<Option<*mut Node<T>>>,
     slot: Option<Slot>,
 ) -> Option<*mut Node<T>>
-    requires { ForSome slot (λ n. IsSome (place_in table.now.items n)) }
+    requires { ForSome slot (λ n. IsSome (pointer_in table.now.items n)) }
     ensures { result ≡ link_in table.now.items slot }
 {
     match slot {
@@ -119,7 +119,7 @@ pub(crate) fn link_before<T>(
     next: Option<*mut Node<T>>,
 ) -> Option<*mut Node<T>>
     requires { IsSome (look (link_or next top) pool.now.cells) }
-    ensures { IfSome (look (link_or next top) pool.now.cells) (λ n. result ≡ before_from next n) }
+    ensures { IfSome (look (link_or next top) pool.now.cells) (λ n. result ≡ link_ahead next n) }
 {
     match next {
         Some(ptr) => pool.get(NodePtr { ptr }).prev,
@@ -135,7 +135,7 @@ pub(crate) fn lead_on<T>(
     next: Option<*mut Node<T>>,
 )
     requires { IsSome (look (link_or prev top) pool.old.cells) }
-    ensures nodes { (q : Ptr) → look q pool.new.cells ≡ option_map (led_on top prev next q) (look q pool.old.cells) }
+    ensures nodes { (q : Ptr) → look q pool.new.cells ≡ option_map (with_next top prev next q) (look q pool.old.cells) }
     ensures many { length pool.new.cells ≡ length pool.old.cells }
 {
     match prev {
@@ -152,7 +152,7 @@ pub(crate) fn lead_back<T>(
     prev: Option<*mut Node<T>>,
 )
     requires { IsSome (look (link_or next top) pool.old.cells) }
-    ensures nodes { (q : Ptr) → look q pool.new.cells ≡ option_map (led_back top next prev q) (look q pool.old.cells) }
+    ensures nodes { (q : Ptr) → look q pool.new.cells ≡ option_map (with_previous top next prev q) (look q pool.old.cells) }
     ensures many { length pool.new.cells ≡ length pool.old.cells }
 {
     match next {

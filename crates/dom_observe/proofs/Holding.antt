@@ -20,13 +20,13 @@ use Rattle.dom_observe.specs.declared.registration.Ended.{Ended}
 use Rattle.dom_observe.specs.Watchers.{Watchers, on}
 use Rattle.dom_observe.specs.Held.{named, watching, nodes_of_mutation, NamesOnly}
 use Rattle.dom_observe.specs.Registrations.{at, listed, spares, left_by, is_live, AllLive, StandsOn, Added, with_new_options, transient_under}
-use Rattle.dom_observe.specs.Kept.{nodes_of, IsKept}
+use Rattle.dom_observe.specs.Kept.{registered_nodes, IsKept}
 use Rattle.dom_observe.specs.Naming.{names_one, NamesNone, TellsNone}
 use Rattle.dom_observe.specs.Telling.{delivered}
 use Rattle.dom_observe.proofs.Asked.{any-found}
 use Rattle.dom_observe.proofs.Finding.{list_any-map}
-use Rattle.dom_observe.proofs.Keeping.{on-nodes_of}
-use Rattle.dom_observe.proofs.Named.{any-flat, none_under, some_under, keys-nodes_of}
+use Rattle.dom_observe.proofs.Keeping.{on-registered_nodes}
+use Rattle.dom_observe.proofs.Named.{any-flat, none_under, some_under, keys-registered_nodes}
 use Rattle.dom_observe.proofs.Tables.{all_imply, all_append, all_filter, all_at, transient_shape, alike-added}
 
 module _ {A : Type 0} (p : A → Bool) where
@@ -60,25 +60,25 @@ named-parts p o =
 -- What is registered on nodes, and what is under the keys that they have.
 module _ {A : Type 0} (table : Slab held.Registration) (entries : List (ℕ × Vec ℕ A)) where
   -- no registration passes, and so none under a number does
-  pub none_under_keys : (q : Registration → Bool) → list_any (λ (e : ℕ × List Registration). list_any q e.1) (nodes_of table entries) ≡ false
+  pub none_under_keys : (q : Registration → Bool) → list_any (λ (e : ℕ × List Registration). list_any q e.1) (registered_nodes table entries) ≡ false
       → (n : ℕ) → AllByRecursion (λ k. option_map_or q (at table k) false ≡ false) (on n (listed entries))
   none_under_keys q none n =
       none_all (λ k. option_map_or q (at table k) false) (on n (listed entries))
-      (any-found q (at table) (on n (listed entries)) ∙ ap (list_any q) (sym (on-nodes_of table n entries)) ∙ some_under q n (nodes_of table entries) none)
+      (any-found q (at table) (on n (listed entries)) ∙ ap (list_any q) (sym (on-registered_nodes table n entries)) ∙ some_under q n (registered_nodes table entries) none)
 
   -- no registration under a number passes, and so none does
   pub none_registered : (q : Registration → Bool) → IsDistinct nat_eq (keys_of entries) → ((n : ℕ) → AllByRecursion (λ k. option_map_or q (at table k) false ≡ false) (on n (listed entries)))
-      → list_any (λ (e : ℕ × List Registration). list_any q e.1) (nodes_of table entries) ≡ false
+      → list_any (λ (e : ℕ × List Registration). list_any q e.1) (registered_nodes table entries) ≡ false
   none_registered q distinct all =
-      none_under q (nodes_of table entries) (subst (IsDistinct nat_eq) (sym (keys-nodes_of table entries)) distinct)
-      (λ n. ap (list_any q) (on-nodes_of table n entries) ∙ sym (any-found q (at table) (on n (listed entries))) ∙ all_none (λ k. option_map_or q (at table k) false) (on n (listed entries)) (all n))
+      none_under q (registered_nodes table entries) (subst (IsDistinct nat_eq) (sym (keys-registered_nodes table entries)) distinct)
+      (λ n. ap (list_any q) (on-registered_nodes table n entries) ∙ sym (any-found q (at table) (on n (listed entries))) ∙ all_none (λ k. option_map_or q (at table k) false) (on n (listed entries)) (all n))
 
 module _ {A : Type 0} (table : Slab held.Registration) (entries : List (ℕ × Vec ℕ A)) (queues : List (List Record)) (pending : List ℕ) where
   abbrev shown : Watchers
-  shown = record { nodes = nodes_of table entries; queues = queues; pending = pending }
+  shown = record { nodes = registered_nodes table entries; queues = queues; pending = pending }
 
-  pub none-named : (p : ℕ → Bool) → list_any p (named (record { nodes = nodes_of table entries; queues = queues; pending = pending })) ≡ false → NamesNone p (at table) (listed entries) × TellsNone p queues
-  none-named p none = (registered, any_tells (list_any told) queues refl (or_parts (list_any (λ (e : ℕ × List Registration). list_any one e.1) (nodes_of table entries)) (list_any (list_any told) queues) parts).1)
+  pub none-named : (p : ℕ → Bool) → list_any p (named (record { nodes = registered_nodes table entries; queues = queues; pending = pending })) ≡ false → NamesNone p (at table) (listed entries) × TellsNone p queues
+  none-named p none = (registered, any_tells (list_any told) queues refl (or_parts (list_any (λ (e : ℕ × List Registration). list_any one e.1) (registered_nodes table entries)) (list_any (list_any told) queues) parts).1)
     where
       one : Registration → Bool
       one r = list_any p (nodes_of_registration r)
@@ -86,17 +86,17 @@ module _ {A : Type 0} (table : Slab held.Registration) (entries : List (ℕ × V
       told : Record → Bool
       told r = list_any p (nodes_of_record r)
 
-      parts : (list_any (λ (e : ℕ × List Registration). list_any one e.1) (nodes_of table entries) || list_any (list_any told) queues) ≡ false
+      parts : (list_any (λ (e : ℕ × List Registration). list_any one e.1) (registered_nodes table entries) || list_any (list_any told) queues) ≡ false
       parts = sym (named-parts p shown) ∙ none
 
       registered : NamesNone p (at table) (listed entries)
-      registered = none_under_keys table entries one (or_parts (list_any (λ (e : ℕ × List Registration). list_any one e.1) (nodes_of table entries)) (list_any (list_any told) queues) parts).0
+      registered = none_under_keys table entries one (or_parts (list_any (λ (e : ℕ × List Registration). list_any one e.1) (registered_nodes table entries)) (list_any (list_any told) queues) parts).0
 
   pub named-none : (p : ℕ → Bool) → IsDistinct nat_eq (keys_of entries) → NamesNone p (at table) (listed entries) → TellsNone p queues
-      → list_any p (named (record { nodes = nodes_of table entries; queues = queues; pending = pending })) ≡ false
+      → list_any p (named (record { nodes = registered_nodes table entries; queues = queues; pending = pending })) ≡ false
   named-none p distinct names tells =
       named-parts p shown
-      ∙ or_from (list_any (λ (e : ℕ × List Registration). list_any (λ r. list_any p (nodes_of_registration r)) e.1) (nodes_of table entries)) (list_any (list_any (λ r. list_any p (nodes_of_record r))) queues)
+      ∙ or_from (list_any (λ (e : ℕ × List Registration). list_any (λ r. list_any p (nodes_of_registration r)) e.1) (registered_nodes table entries)) (list_any (list_any (λ r. list_any p (nodes_of_record r))) queues)
       (none_registered table entries (λ r. list_any p (nodes_of_registration r)) distinct names) (tells_any (list_any (λ r. list_any p (nodes_of_record r))) queues tells)
 
   all_among : (P : ℕ → Type 0) (xs : List ℕ) (i : ℕ) → AllByRecursion P xs → among i xs ≡ true → P i
@@ -104,11 +104,11 @@ module _ {A : Type 0} (table : Slab held.Registration) (entries : List (ℕ × V
   all_among P (x ∷ xs) i h t = elim (same_or x i) [ same e u ↦ subst P e h.0 | apart ne u ↦ let k = rw u at t in all_among P xs i h.1 k ]
 
   -- whom the registrations and the pending list name was made
-  pub watching-made : IsKept table entries queues pending → (i : ℕ) → among i (watching (record { nodes = nodes_of table entries; queues = queues; pending = pending })) ≡ true → i < length queues
+  pub watching-made : IsKept table entries queues pending → (i : ℕ) → among i (watching (record { nodes = registered_nodes table entries; queues = queues; pending = pending })) ≡ true → i < length queues
   watching-made kept i there = go (cases_lt i (length queues))
     where
       seen : List ℕ
-      seen = flat_map (λ (e : ℕ × List Registration). map (λ (r : Registration). r.observer) e.1) (nodes_of table entries)
+      seen = flat_map (λ (e : ℕ × List Registration). map (λ (r : Registration). r.observer) e.1) (registered_nodes table entries)
 
       other : length queues ≤ i → (n k : ℕ) → StandsOn (at table) (length queues) n k → option_map_or (λ (r : Registration). r.observer == i) (at table k) false ≡ false
       other le n k s =
@@ -117,8 +117,8 @@ module _ {A : Type 0} (table : Slab held.Registration) (entries : List (ℕ × V
 
       unregistered : length queues ≤ i → list_any (λ m. m == i) seen ≡ false
       unregistered le =
-          any-flat (λ m. m == i) (λ (e : ℕ × List Registration). map (λ (r : Registration). r.observer) e.1) (nodes_of table entries)
-          ∙ (λ j. list_any (λ (e : ℕ × List Registration). list_any-map (λ m. m == i) (λ (r : Registration). r.observer) e.1 j) (nodes_of table entries))
+          any-flat (λ m. m == i) (λ (e : ℕ × List Registration). map (λ (r : Registration). r.observer) e.1) (registered_nodes table entries)
+          ∙ (λ j. list_any (λ (e : ℕ × List Registration). list_any-map (λ m. m == i) (λ (r : Registration). r.observer) e.1 j) (registered_nodes table entries))
           ∙ none_registered table entries (λ (r : Registration). r.observer == i) kept.unique
           (λ n. all_imply (StandsOn (at table) (length queues) n) (λ k. option_map_or (λ (r : Registration). r.observer == i) (at table k) false ≡ false) (other le n) (on n (listed entries)) (kept.stand n))
 
@@ -133,7 +133,7 @@ module _ {A B : Type 0} (table : Slab held.Registration) (entries : List (ℕ ×
     (table' : Slab held.Registration) (entries' : List (ℕ × Vec ℕ B)) (queues' : List (List Record)) (pending' : List ℕ)
     (kept : IsKept table' entries' queues' pending') (these : List ℕ)
     (lets : (p : ℕ → Bool) → list_any p these ≡ false → NamesNone p (at table) (listed entries) → TellsNone p queues → NamesNone p (at table') (listed entries') × TellsNone p queues') where
-  pub names-only : NamesOnly these old (record { nodes = nodes_of table' entries'; queues = queues'; pending = pending' })
+  pub names-only : NamesOnly these old (record { nodes = registered_nodes table' entries'; queues = queues'; pending = pending' })
   names-only = record { nodes = nodes; observers = watching-made table' entries' queues' pending' kept }
     where
       nodes : (n : ℕ) → among n (named (shown table' entries' queues' pending')) ≡ true → among n (named old ++ these) ≡ true
@@ -150,7 +150,7 @@ module _ {A B : Type 0} (table : Slab held.Registration) (entries : List (ℕ ×
 
 -- nothing changes
 pub names-same : {A : Type 0} (table : Slab held.Registration) (entries : List (ℕ × Vec ℕ A)) (queues : List (List Record)) (pending : List ℕ) → IsKept table entries queues pending
-    → (old : Watchers) → record { nodes = nodes_of table entries; queues = queues; pending = pending } ≡ old → (these : List ℕ) → NamesOnly these old old
+    → (old : Watchers) → record { nodes = registered_nodes table entries; queues = queues; pending = pending } ≡ old → (these : List ℕ) → NamesOnly these old old
 names-same table entries queues pending kept old is these =
     subst (NamesOnly these old) is (names-only table entries queues pending old is table entries queues pending kept these (λ p _ names tells. (names, tells)))
 

@@ -4,7 +4,7 @@ use Rattle.std.specs.Prelude.{is_none, is_some, slice_index_or, slice_set}
 use Rattle.std.specs.List.{AllByRecursion}
 use Rattle.std.proofs.lemmas.Bool.{true≢false}
 use Rattle.std.proofs.lemmas.List.{get_or-set_same, get_or-set_other, length-set}
-use Rattle.dom_model.specs.PlainLists.Lists.{among}
+use Rattle.dom_model.specs.PlainLists.Lists.{hits, among}
 use Rattle.dom_model.specs.PlainLists.LastOnce.{with_last}
 use Rattle.dom_model.specs.Worlds.World.{Options, Registration}
 use Rattle.dom_model.specs.MutationObservers.Observing.{transient_of}
@@ -17,6 +17,7 @@ use Rattle.dom_observe.specs.Kept.{IsIndexed}
 use Rattle.dom_observe.proofs.EndedOnes.{stays_by, stays_off, swept-two}
 use Rattle.dom_observe.proofs.Hearing.{stay-last, bounded-last}
 use Rattle.dom_observe.proofs.Owning.{lasting-kind, passing-kind, not_both, not_both2, owned-ended, owned-other, owned-new, owned-beside, owned-changed, placed-added, placed-changed, left-of, left-from}
+use Rattle.dom_observe.proofs.KeysOnce.{once-new, once-ended}
 use Rattle.dom_observe.proofs.Queued.{not_before}
 use Rattle.dom_observe.proofs.Tables.{all_at, all_imply, transient_shape}
 
@@ -26,6 +27,8 @@ indexed-pended u lists ls ps some made o lt ix = record {
   placed = ix.placed;
   lasting = ix.lasting;
   passing = ix.passing;
+  lasting_once = ix.lasting_once;
+  passing_once = ix.passing_once;
   fleeting = λ p off. ix.fleeting p (not_before p some (with_last some o) (stay-last p o some) off);
   known = bounded-last made o some ix.known lt;
   lasting_room = ix.lasting_room;
@@ -40,6 +43,8 @@ module _ (u : ℕ → Option Registration) (lists : List (ℕ × List ℕ)) (r :
     placed = placed-added u lists r v lists' a ix.placed;
     lasting = owned-beside u v r keys keys' key lasts_for (λ j. refl) (λ j. off (r.observer == j) r.source source) ls ix.lasting;
     passing = owned-new u v r keys keys' key passes_for passing-kind (λ j. on_its (r.observer == j) r.source source) ps ps' lt had set ix.passing;
+    lasting_once = ix.lasting_once;
+    passing_once = once-new u v r keys keys' key passes_for (λ j. refl) ps ps' lt had set ix.passing ix.passing_once;
     fleeting = λ p out. elim (same_or p r.observer) [
       | same e t ↦ absurd (true≢false (sym there ∙ ap (λ q. among q some) (sym e) ∙ out))
       | apart ne t ↦ ap (λ l. slice_index_or l p []) set ∙ get_or-set_other ps r.observer p keys' [] ne ∙ ix.fleeting p out
@@ -65,6 +70,8 @@ module _ (u : ℕ → Option Registration) (lists : List (ℕ × List ℕ)) (r :
     placed = placed-added u lists r v lists' a ix.placed;
     lasting = owned-new u v r keys keys' key lasts_for lasting-kind (λ j. ap (λ s. (r.observer == j) && is_none s) source ∙ on_its (r.observer == j)) ls ls' lt had set ix.lasting;
     passing = owned-beside u v r keys keys' key passes_for (λ j. refl) (λ j. ap (λ s. (r.observer == j) && is_some s) source ∙ off (r.observer == j)) ps ix.passing;
+    lasting_once = once-new u v r keys keys' key lasts_for (λ j. refl) ls ls' lt had set ix.lasting ix.lasting_once;
+    passing_once = ix.passing_once;
     fleeting = ix.fleeting;
     known = ix.known;
     lasting_room = subst (λ l. made ≤ l) (sym (ap length set ∙ length-set ls r.observer keys')) ix.lasting_room;
@@ -87,6 +94,8 @@ module _ (u v : ℕ → Option Registration) (lists lists' : List (ℕ × List �
     placed = placed;
     lasting = owned-ended lasts_for lasting-kind u v ls o ix.lasting (stays_by u v (slice_index_or ls o []) ended left) (stays_off u v (slice_index_or ls o []) ended left) ls' lt set;
     passing = owned-other lasts_for lasting-kind u v ls o ix.lasting (stays_by u v (slice_index_or ls o []) ended left) (stays_off u v (slice_index_or ls o []) ended left) passes_for (λ j. refl) (not_both o) ps ix.passing;
+    lasting_once = once-ended ls ls' o (is_live v) lt set ix.lasting_once;
+    passing_once = ix.passing_once;
     fleeting = ix.fleeting;
     known = ix.known;
     lasting_room = subst (λ l. made ≤ l) (sym (ap length set ∙ length-set ls o (filter (is_live v) (slice_index_or ls o [])))) ix.lasting_room;
@@ -99,6 +108,8 @@ module _ (u v : ℕ → Option Registration) (lists lists' : List (ℕ × List �
     placed = placed;
     lasting = owned-other passes_for passing-kind u v ps o ix.passing (stays_by u v (slice_index_or ps o []) ended left) (stays_off u v (slice_index_or ps o []) ended left) lasts_for (λ j. refl) (not_both2 o) ls ix.lasting;
     passing = owned-ended passes_for passing-kind u v ps o ix.passing (stays_by u v (slice_index_or ps o []) ended left) (stays_off u v (slice_index_or ps o []) ended left) ps' lt set;
+    lasting_once = ix.lasting_once;
+    passing_once = once-ended ps ps' o (is_live v) lt set ix.passing_once;
     fleeting = λ p out. elim (same_or p o) [
       | same e t ↦ ap (λ q. slice_index_or ps' q []) e ∙ ap (λ l. slice_index_or l o []) set ∙ get_or-set_same ps o (filter (is_live v) (slice_index_or ps o [])) [] lt ∙ ap (filter (is_live v)) (ap (λ q. slice_index_or ps q []) (sym e) ∙ ix.fleeting p out)
       | apart ne t ↦ ap (λ l. slice_index_or l p []) set ∙ get_or-set_other ps o p (filter (is_live v) (slice_index_or ps o [])) [] ne ∙ ix.fleeting p out
@@ -154,6 +165,8 @@ indexed-changed u v lists ls ps some made key options changed others ix = record
   placed = placed-changed u v key options changed others lists ix.placed;
   lasting = owned-changed u v key options changed others lasts_for lasting-kind ls ix.lasting;
   passing = owned-changed u v key options changed others passes_for passing-kind ps ix.passing;
+  lasting_once = ix.lasting_once;
+  passing_once = ix.passing_once;
   fleeting = ix.fleeting;
   known = ix.known;
   lasting_room = ix.lasting_room;
@@ -167,6 +180,8 @@ indexed-seated u lists ls ls' ps ps' some made made' same1 same2 le room1 room2 
   placed = ix.placed;
   lasting = λ i k. ap (among k) (same1 i) ∙ ix.lasting i k;
   passing = λ i k. ap (among k) (same2 i) ∙ ix.passing i k;
+  lasting_once = λ i k. subst (λ keys. hits k keys ≤ 1) (sym (same1 i)) (ix.lasting_once i k);
+  passing_once = λ i k. subst (λ keys. hits k keys ≤ 1) (sym (same2 i)) (ix.passing_once i k);
   fleeting = λ i off. same2 i ∙ ix.fleeting i off;
   known = all_imply (λ o. o < made) (λ o. o < made') (λ o lt. omega arith) some ix.known;
   lasting_room = room1;
@@ -180,6 +195,8 @@ indexed-notified u v lists lists' ls ps ps' some some' made ix placed left owned
   placed = placed;
   lasting = λ i k. ix.lasting i k ∙ sym (ap (lasts_for i) (left k) ∙ stays i (u k));
   passing = owned;
+  lasting_once = ix.lasting_once;
+  passing_once = λ i k. subst (λ keys. hits k keys ≤ 1) (sym (none i)) (omega arith);
   fleeting = λ o _. none o;
   known = subst (AllByRecursion (λ o. o < made)) (sym gone) tt;
   lasting_room = ix.lasting_room;

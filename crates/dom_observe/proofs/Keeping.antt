@@ -18,7 +18,7 @@ use Rattle.dom_observe.specs.declared.registration.Ended.{Ended}
 use Rattle.dom_observe.specs.Once.{once}
 use Rattle.dom_observe.specs.Watchers.{on}
 use Rattle.dom_observe.specs.Registrations.{at, found, listed, spares, left_by, is_live, Stands, StandsOn, AllStand, HaveKeys, deep_at}
-use Rattle.dom_observe.specs.Kept.{nodes_of, keys_by, IsKept}
+use Rattle.dom_observe.specs.Kept.{registered_nodes, keys_by, IsKept}
 use Rattle.dom_observe.proofs.Once.{once-none}
 use Rattle.dom_observe.proofs.Tables.{all_imply, all_append, all_filter}
 
@@ -31,8 +31,8 @@ on-map f nothing n (e ∷ es) = go (n == e.0) (on-map f nothing n es)
     go true i = refl
     go false i = i
 
-pub on-nodes_of : {A : Type 0} (table : Slab held.Registration) (n : ℕ) (es : List (ℕ × Vec ℕ A)) → on n (nodes_of table es) ≡ found table (on n (listed es))
-on-nodes_of table n es = on-map (found table) refl n (listed es)
+pub on-registered_nodes : {A : Type 0} (table : Slab held.Registration) (n : ℕ) (es : List (ℕ × Vec ℕ A)) → on n (registered_nodes table es) ≡ found table (on n (listed es))
+on-registered_nodes table n es = on-map (found table) refl n (listed es)
 
 module _ {A : Type 0} where
   pub keys_by-set : (ls : List (Vec ℕ A)) (i : ℕ) (l : Vec ℕ A) (ks : List ℕ) → l.items ≡ ks → keys_by (slice_set ls i l) ≡ slice_set (keys_by ls) i ks
@@ -176,7 +176,7 @@ nobody rs h = go rs (λ n. once-none (registered_on n rs) (h n))
 
 -- where no node has a registration, none is listed
 pub none_listed : {A : Type 0} (table : Slab held.Registration) (entries : List (ℕ × Vec ℕ A)) (made : ℕ) → AllStand (at table) made (listed entries) → HaveKeys (listed entries)
-    → ((n : ℕ) → on n (nodes_of table entries) ≡ []) → length entries ≡ 0
+    → ((n : ℕ) → on n (registered_nodes table entries) ≡ []) → length entries ≡ 0
 none_listed table [] made stand full none = refl
 none_listed table (e ∷ es) made stand full none = absurd (go e.1.items refl)
   where
@@ -190,7 +190,7 @@ none_listed table (e ∷ es) made stand full none = absurd (go e.1.items refl)
     go [] is = full e.0 e.1.items first is
     go (k ∷ keys) is =
         let all = subst (AllByRecursion (StandsOn (at table) made e.0)) (here ∙ is) (stand e.0) in
-        let gone : filter_map (at table) (k ∷ keys) ≡ [] = ap (filter_map (at table)) (sym (here ∙ is)) ∙ sym (on-nodes_of table e.0 (e ∷ es)) ∙ none e.0 in
+        let gone : filter_map (at table) (k ∷ keys) ≡ [] = ap (filter_map (at table)) (sym (here ∙ is)) ∙ sym (on-registered_nodes table e.0 (e ∷ es)) ∙ none e.0 in
         let some : all.0.registration ∷ filter_map (at table) keys ≡ [] = ap (λ o. cons_option o (filter_map (at table) keys)) (sym all.0.is) ∙ gone in
         cc some
 

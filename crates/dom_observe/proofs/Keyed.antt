@@ -14,7 +14,7 @@ use Rattle.dom_model.proofs.PlainLists.Searches.{alike, passes_not, none-each}
 use Rattle.dom_observe.specs.declared.registration.Registration as held
 use Rattle.dom_observe.specs.Watchers.{on}
 use Rattle.dom_observe.specs.Registrations.{at, listed, is_on, StandsOn, HaveKeys, HaveSources, Placed}
-use Rattle.dom_observe.specs.Kept.{nodes_of, IsKept}
+use Rattle.dom_observe.specs.Kept.{registered_nodes, IsKept}
 use Rattle.dom_observe.specs.Naming.{names_one, NamesNone}
 use Rattle.dom_observe.proofs.Holding.{none_under_keys, none_registered}
 use Rattle.dom_observe.proofs.Keys.{keys_in, on-looked}
@@ -92,9 +92,9 @@ module _ {A : Type 0} (table : Slab held.Registration) (entries : List (ℕ × V
           subst (λ m. p m ≡ false) stand.0.node (or_parts (p r.node) (list_any p (if_any r.source)) (sym (ap (names_one p) stand.0.is) ∙ nameless.0)).0
 
   -- so these nodes are asked in place of the registrations
-  pub any-keyed : list_any p (keys_of entries) ≡ list_any (λ (e : ℕ × List Registration). list_any (λ r. list_any p (nodes_of_registration r)) e.1) (nodes_of table entries)
+  pub any-keyed : list_any p (keys_of entries) ≡ list_any (λ (e : ℕ × List Registration). list_any (λ r. list_any p (nodes_of_registration r)) e.1) (registered_nodes table entries)
   any-keyed =
       let one = λ (r : Registration). list_any p (nodes_of_registration r) in
-      alike (list_any p (keys_of entries)) (list_any (λ (e : ℕ × List Registration). list_any one e.1) (nodes_of table entries))
+      alike (list_any p (keys_of entries)) (list_any (λ (e : ℕ × List Registration). list_any one e.1) (registered_nodes table entries))
       (λ none. none_registered table entries one kept.unique (none_named none))
       (λ none. none_keyed (none_under_keys table entries one none))

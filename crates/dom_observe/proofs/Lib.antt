@@ -13,13 +13,16 @@ pub mod Indexing
 pub mod Keeping
 pub mod Keyed
 pub mod Keys
+pub mod KeysOnce
 pub mod Named
 pub mod NamedRecords
+pub mod Noting
 pub mod Once
 pub mod Outcomes
 pub mod OwnKeys
 pub mod Owning
 pub mod Queued
+pub mod Sounding
 pub mod Sources
 pub mod Tables
 pub mod Transients

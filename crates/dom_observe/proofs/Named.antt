@@ -16,7 +16,7 @@ use Rattle.dom_model.proofs.PlainLists.Searches.{alike}
 use Rattle.dom_observe.specs.declared.registration.Registration as held
 use Rattle.dom_observe.specs.Once.{once}
 use Rattle.dom_observe.specs.Watchers.{on}
-use Rattle.dom_observe.specs.Kept.{nodes_of}
+use Rattle.dom_observe.specs.Kept.{registered_nodes}
 use Rattle.dom_observe.proofs.Once.{any-once}
 
 -- a search in the lists that a function makes
@@ -100,9 +100,9 @@ queues-waiting x (place ∷ places) (q ∷ qs) o e h =
     later i = omega arith
 
 module _ {A : Type 0} (table : Slab held.Registration) where
-  pub keys-nodes_of : (es : List (ℕ × Vec ℕ A)) → keys_of (nodes_of table es) ≡ keys_of es
-  keys-nodes_of [] = refl
-  keys-nodes_of (e ∷ es) = ap (λ ks. e.0 ∷ ks) (keys-nodes_of es)
+  pub keys-registered_nodes : (es : List (ℕ × Vec ℕ A)) → keys_of (registered_nodes table es) ≡ keys_of es
+  keys-registered_nodes [] = refl
+  keys-registered_nodes (e ∷ es) = ap (λ ks. e.0 ∷ ks) (keys-registered_nodes es)
 
 -- the nodes that are named, in the order of the definitions
 pub any-observed : (p : ℕ → Bool) (x : Observing) → list_any p (observed_nodes x)

@@ -57,7 +57,7 @@ options-is a b h =
 both : (a b : Bool) → a ≡ true → b ≡ true → (a && b) ≡ true
 both a b e f = ap (λ c. c && b) e ∙ f
 
-options-itself : (a : Options) → same_options a a ≡ true
+pub options-itself : (a : Options) → same_options a a ≡ true
 options-itself a =
     both _ _ ((booleans_Decides a.child_list a.child_list).1 refl)
     (both _ _ ((booleans_Decides a.attributes a.attributes).1 refl)

@@ -3,15 +3,15 @@ use Rattle.std.specs.Prelude.{◌≡◌, ℕ, ◌<◌, ◌≤◌, false, List, [
 use Rattle.std.specs.List.{AllByRecursion, IsDistinct}
 use Rattle.std.specs.Map.{keys_of}
 use Rattle.slab.specs.Slab.{Slab}
-use Rattle.dom_model.specs.PlainLists.Lists.{among}
+use Rattle.dom_model.specs.PlainLists.Lists.{hits, among}
 use Rattle.dom_model.specs.Worlds.World as model
 use Rattle.dom_model.specs.MutationObservers.Record.{Record}
 use Rattle.dom_observe.specs.declared.registration.Registration.{Registration}
 use Rattle.dom_observe.specs.Registrations.{at, found, listed, lasts_for, passes_for, AllStand, HaveKeys, Placed, Owned}
 
 -- each node with the registrations on it
-abbrev pub nodes_of : {A : Type 0} → Slab Registration → List (ℕ × Vec ℕ A) → List (ℕ × List model.Registration)
-nodes_of table entries = map (λ e. (e.0, found table e.1)) (listed entries)
+abbrev pub registered_nodes : {A : Type 0} → Slab Registration → List (ℕ × Vec ℕ A) → List (ℕ × List model.Registration)
+registered_nodes table entries = map (λ e. (e.0, found table e.1)) (listed entries)
 
 -- the keys of each observer
 abbrev pub keys_by : {A : Type 0} → List (Vec ℕ A) → List (List ℕ)
@@ -30,12 +30,18 @@ pub record IsKept {A : Type 0} (table : Slab Registration) (entries : List (ℕ 
 abbrev pub HaveNone : List ℕ → List (List ℕ) → Type 0
 HaveNone fleeting lists = (o : ℕ) → among o fleeting ≡ false → slice_index_or lists o [] ≡ []
 
--- Each node has the keys of the registrations on it, and each observer those of its own, lasting and transient ones apart; and no others.
--- Only some observers have transient ones, and there is room for each that was made.
+-- no list has a key twice
+abbrev pub HaveOnce : List (List ℕ) → Type 0
+HaveOnce lists = (i key : ℕ) → hits key (slice_index_or lists i []) ≤ 1
+
+-- Each node has the keys of the registrations on it, and each observer those of its own, lasting and transient ones apart, each once; and no
+-- others. Only some observers have transient ones, and there is room for each that was made.
 pub record IsIndexed (under : ℕ → Option model.Registration) (lists : List (ℕ × List ℕ)) (lasts passes : List (List ℕ)) (some : List ℕ) (made : ℕ) : Type 0 where
   pub placed : Placed under lists
   pub lasting : Owned lasts_for under lasts
   pub passing : Owned passes_for under passes
+  pub lasting_once : HaveOnce lasts
+  pub passing_once : HaveOnce passes
   pub fleeting : HaveNone some passes
   pub known : AllByRecursion (λ o. o < made) some
   pub lasting_room : made ≤ length lasts

@@ -4,6 +4,8 @@ pub mod Names
 pub mod Naming
 pub mod Notifying
 pub mod Once
+pub mod Origins
 pub mod Registrations
+pub mod Sound
 pub mod Telling
 pub mod Watchers

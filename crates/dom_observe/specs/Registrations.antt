@@ -18,7 +18,7 @@ use Rattle.dom_observe.specs.declared.registration.Lifetime.TheVariants.{Lasting
 use Rattle.dom_observe.specs.declared.registration.Ending.{Ending}
 
 abbrev pub plain : Registration → model.Registration
-plain r = record { node = r.node; observer = r.observer; options = r.options; source = r.source }
+plain r = record { node = r.node; observer = r.observer; options = r.options.value; source = r.source }
 
 -- a mutation of this type, target and name interests the observer by the registration
 abbrev pub concerns : RecordType → ℕ → Option (List ℕ) → model.Registration → Bool

@@ -1,17 +1,19 @@
 //! Registrations that are added, and those that stand on the ancestors of a node.
 
 ghost use Rattle.std.specs.Prelude.{◌≡◌, ◌++◌, ℕ, Bool, List, length, OnOk, OnErr, IfOk, nat_eq, filter, flat_map, option_map, true, false};
-ghost use Rattle.std.specs.List.{AllByRecursion, list_any};
+ghost use Rattle.std.specs.List.{AllByRecursion};
 ghost use Rattle.indexmap.specs.IndexMap.{IsUnique};
 ghost use Rattle.dom_model.specs.Forests.Forest.{HasNode, ancestors};
 ghost use Rattle.dom_observe.specs.Watchers.{on};
 ghost use Rattle.dom_observe.specs.Kept.{keys_by, IsIndexed};
-ghost use Rattle.dom_observe.specs.Registrations.{plain, at, found, listed, Added, NewKey, AllLive, Stands, AllStand, HaveKeys, HaveSources, Agree, deep_at, from_at, gives, transient_under, with_added_transients};
+ghost use Rattle.dom_observe.specs.Registrations.{plain, at, found, listed, Added, NewKey, AllLive, Stands, AllStand, HaveKeys, HaveSources, Agree, deep_at, gives, transient_under, with_added_transients};
 ghost use Rattle.dom_observe.specs.Naming.{names_one, NamesNone};
+ghost use Rattle.dom_observe.specs.Origins.{NotesIfAny};
 
 use crate::observer_id::ObserverId;
+use crate::origins::Origins;
 use crate::registration::Registration;
-use crate::table::{is_from, keys_on, put_key};
+use crate::table::{keys_on, put_key};
 use crate::telling::pend;
 use dom_tree::{NodeId, Tree};
 use indexmap::{IndexMap, IndexSet};
@@ -46,34 +48,34 @@ pub(crate) fn add(
     Ok(())
 }
 
-// Whether a transient registration of an observer that comes from a node is under one of the keys.
-fn has_from(table: &Slab<Registration>, keys: &[usize], observer: ObserverId, node: NodeId) -> bool
-    ensures { result ≡ list_any (from_at (at table.now) observer node) keys.now }
-{
-    keys.iter().any(|key| is_from(table, *key, observer, node))
-}
-
 // Whether a node with these keys gets a transient registration from another: that has subtree, and none of its observer and origin is there yet.
-fn gives(table: &Slab<Registration>, own: &[usize], registration: &Registration) -> bool
+fn gives(
+    table: &Slab<Registration>,
+    own: &[usize],
+    origins: &Origins,
+    registration: &Registration,
+) -> bool
+    requires { NotesIfAny (at table.now) own.now origins.now.noted }
     ensures { result ≡ gives (at table.now) own.now (plain registration.now) }
 {
     let origin = registration.origin();
-    registration.options.subtree && !has_from(table, own, registration.observer, origin)
+    registration.options.subtree && !origins.has(table, own, registration.observer, origin)
 }
 
 // The transient registration that a node with these keys gets from what stands under a key.
 fn transient_of(
     table: &Slab<Registration>,
     own: &[usize],
+    origins: &Origins,
     key: usize,
     node: NodeId,
-    alloc: Global,
 ) -> Result<Option<Registration>, AllocError>
+    requires { NotesIfAny (at table.now) own.now origins.now.noted }
     ensures { IfOk result (λ made. option_map plain made ≡ transient_under (at table.now) own.now node key) }
 {
     match table.get(key) {
-        Some(registration) if gives(table, own, registration) => {
-            Ok(Some(registration.transient(alloc, node)?))
+        Some(registration) if gives(table, own, origins, registration) => {
+            Ok(Some(registration.transient(node)?))
         }
         _ => Ok(None),
     }
@@ -103,9 +105,11 @@ pub(crate) fn add_transients(
     ensures len { length passing.new.items ≡ length passing.old.items }
     ensures unique { IsUnique nat_eq nodes.new }
 {
+    let mut origins = Origins::new(table, keys_on(nodes, node), standing.len(), alloc)?;
     for key in standing {
-        if let Some(made) = transient_of(table, keys_on(nodes, node), *key, node, alloc)? {
+        if let Some(made) = transient_of(table, keys_on(nodes, node), &origins, *key, node)? {
             let observer = made.observer;
+            origins.note(observer, made.origin())?;
             pend(fleeting, observer)?;
             let keys = &mut passing[observer.number() as usize];
             add(table, nodes, keys, made, alloc)?;

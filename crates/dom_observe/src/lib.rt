@@ -8,6 +8,7 @@ mod notifying;
 mod observer_id;
 mod observers;
 mod options;
+mod origins;
 mod queue;
 mod queues;
 mod record;

@@ -10,6 +10,7 @@ ghost use Rattle.dom_model.specs.MutationObservers.Records.{queue_of, observed, 
 ghost use Rattle.dom_observe.specs.Held.{named, nodes_of_mutation, NamesOnly};
 ghost use Rattle.std.specs.List.{list_any};
 ghost use Rattle.dom_observe.specs.Notifying.{told_of};
+ghost use Rattle.dom_observe.specs.Sound.{IsSound};
 ghost use Rattle.dom_observe.specs.Watchers.{Watches};
 
 use crate::adding::{add, add_transients, standing, standing_deep};
@@ -29,6 +30,7 @@ use indexmap::{IndexMap, IndexSet};
 use slab::Slab;
 use std::alloc::{AllocError, Global};
 use std::marker::Model;
+use std::rc::Rc;
 
 /// Observers, who is registered on which node, and the records that wait for them.
 ///
@@ -55,10 +57,10 @@ impl Model for Observers {
 
     ghost use Rattle.std.specs.Prelude.{length};
     ghost use Rattle.dom_observe.specs.Registrations.{at, listed, HaveSources, Agree};
-    ghost use Rattle.dom_observe.specs.Kept.{nodes_of, keys_by, IsKept, IsIndexed};
+    ghost use Rattle.dom_observe.specs.Kept.{registered_nodes, keys_by, IsKept, IsIndexed};
 
     ghost view = { λ o. record {
-      nodes = nodes_of o.table o.nodes.entries;
+      nodes = registered_nodes o.table o.nodes.entries;
       queues = o.queues.items;
       pending = o.pending.keys;
     } };
@@ -100,6 +102,15 @@ impl Observers {
         Ok(id)
     }
 
+    /// A law: what observers keep at all times.
+    ///
+    /// After a call that was refused too.
+    pub fn sound(&self)
+        ensures { IsSound self.now }
+    {
+        let _ = &self.table;
+    }
+
     /// How many observers were made.
     pub fn made(&self) -> usize
         ensures { result ≡ length self.now.queues }
@@ -138,6 +149,23 @@ impl Observers {
     ) -> Result<(), AllocError>
         requires held { observer < length self.old.queues }
         ensures ok { OnOk result ((x : Observing) → Watches self.old x → Watches self.new (observed observer node options x)) }
+        ensures err { OnErr result (self.new ≡ self.old) }
+        ensures names { NamesOnly (node ∷ []) self.old self.new }
+        ensures made { length self.new.queues ≡ length self.old.queues }
+    {
+        let shared = Rc::new(self.alloc, options)?;
+        self.register(observer, node, shared)
+    }
+
+    // The same, with options that its transient registrations will share.
+    fn register(
+        &mut self,
+        observer: ObserverId,
+        node: NodeId,
+        options: Rc<Options>,
+    ) -> Result<(), AllocError>
+        requires held { observer < length self.old.queues }
+        ensures ok { OnOk result ((x : Observing) → Watches self.old x → Watches self.new (observed observer node options.value x)) }
         ensures err { OnErr result (self.new ≡ self.old) }
         ensures names { NamesOnly (node ∷ []) self.old self.new }
         ensures made { length self.new.queues ≡ length self.old.queues }
@@ -302,8 +330,9 @@ impl Observers {
 
     /// Whether a registration, or a record that waits, names a node inside another. It takes no memory.
     ///
-    /// It walks the nodes inside, and asks of each whether a registration stands on it: so does one on the source of each transient one. Where they are
-    /// more than the nodes with registrations it asks these. It asks each queue of a pending observer in the same way, by the nodes that its records name.
+    /// It walks the nodes inside, and asks of each whether a registration stands on it: so does one on the source of each transient one. Where climbs from
+    /// the nodes with registrations take fewer steps, it asks these: walk and climbs are counted in step, as `Tree::steps_inside` says. It asks each queue
+    /// of a pending observer in the same way, by the nodes that its records name.
     pub fn refers<X>(&self, tree: &Tree<X>, top: NodeId) -> bool
         requires { HasNode tree.now.forest top }
         ensures observed { (x : Observing) → Watches self.now x → result ≡ list_any (λ m. among m (inclusive_descendants tree.now.forest top)) (observed_nodes x) }

@@ -9,14 +9,15 @@ use crate::observer_id::ObserverId;
 use crate::options::Options;
 use dom_model::RecordType;
 use dom_tree::NodeId;
-use std::alloc::{AllocError, Global};
+use std::alloc::AllocError;
+use std::rc::Rc;
 
-// An observer on a node; a transient registration has the node of its source.
+// An observer on a node; a transient registration has the node of its source, and shares the options of the one that it comes from.
 #[derive(Debug, Drop)]
 pub struct Registration {
     pub node: NodeId,
     pub observer: ObserverId,
-    pub options: Options,
+    pub options: Rc<Options>,
     pub source: Option<NodeId>,
 }
 
@@ -89,10 +90,10 @@ impl Registration {
     }
 
     // The transient registration that a node gets from it.
-    pub fn transient(&self, alloc: Global, node: NodeId) -> Result<Registration, AllocError>
+    pub fn transient(&self, node: NodeId) -> Result<Registration, AllocError>
         ensures { IfOk result (λ made. plain made ≡ transient_of node (plain self.now)) }
     {
-        let options = self.options.try_clone(alloc)?;
+        let options = self.options.clone()?;
         Ok(Registration {
             node,
             observer: self.observer,

@@ -15,6 +15,7 @@ use dom_tree::NodeId;
 use indexmap::IndexMap;
 use slab::Slab;
 use std::alloc::{AllocError, Global};
+use std::rc::Rc;
 
 // Whether there is a registration under the key.
 fn is_live(table: &Slab<Registration>, key: usize) -> bool
@@ -126,8 +127,8 @@ pub(crate) fn own_key(
 }
 
 // Puts other options in place of those of a registration.
-pub(crate) fn set_options(table: &mut Slab<Registration>, key: usize, options: Options)
-    ensures changed { at table.new key ≡ option_map (with_new_options options) (at table.old key) }
+pub(crate) fn set_options(table: &mut Slab<Registration>, key: usize, options: Rc<Options>)
+    ensures changed { at table.new key ≡ option_map (with_new_options options.value) (at table.old key) }
     ensures others { (other : ℕ) → other ≢ key → at table.new other ≡ at table.old other }
 {
     if let Some(registration) = table.get_mut(key) {

@@ -1,10 +1,10 @@
 -- What stands under each of the first numbers.
-use Rattle.std.proofs.Common.{◌≡◌, ℕ, ◌+◌, ◌<◌, List, [], ◌∷◌, ◌++◌, length, Option, None, slice_index_or, slice_set, ap, sym, ◌∙◌, arith, ⊎_elim}
+use Rattle.std.proofs.Common.{◌≡◌, ℕ, ◌+◌, ◌/◌, ◌%◌, ◌<◌, List, [], ◌∷◌, ◌++◌, length, Option, None, slice_index_or, slice_set, ap, sym, ◌∙◌, arith, ⊎_elim}
 use Rattle.std.proofs.lemmas.Bool.{cases_eq}
 use Rattle.std.proofs.lemmas.List.{get_or-set_same, get_or-set_other, length-set}
 use Rattle.std.proofs.lemmas.List.FromFn.{length-map-range_with_len, get_or-map-range_with_len, map-range_with_len_more, fill_by_all}
-use Rattle.dom_pages.specs.Paged.{cell_at, cells_of}
-use Rattle.dom_pages.proofs.Written.{written, cell_at-other}
+use Rattle.dom_pages.specs.Paged.{page_at, cell_at, cells_of, AllVacant}
+use Rattle.dom_pages.proofs.Written.{written, cell_at-other, cell_at-inside, cell_at-outside}
 
 module _ {T : Type 0} where
   pub length-cells_of : (pages : List (List (Option T))) (len : ℕ) → length (cells_of pages len) ≡ len
@@ -38,3 +38,16 @@ module _ {T : Type 0} (pages : List (List (Option T))) (len : ℕ) where
       map-range_with_len_more (cell_at (written pages len x)) 0 len len (omega arith)
       ∙ ap (λ l. l ++ cell_at (written pages len x) len ∷ []) (cells_of-same pages (written pages len x) len (λ n lt. cell_at-other pages len n x (λ e. omega arith)))
       ∙ ap (λ y. cells_of pages len ++ y ∷ []) is
+
+  -- the page of a cleared number, in which nothing stands, gave its memory back
+  pub cells_of-emptied : (n : ℕ) → n / 1024 < length pages → AllVacant (slice_set (page_at pages (n / 1024)) (n % 1024) None)
+      → cells_of (slice_set pages (n / 1024) []) len ≡ cells_of (written pages n None) len
+  cells_of-emptied n lt all =
+      let k = n / 1024 in
+      let page = slice_set (page_at pages k) (n % 1024) None in
+      cells_of-same (written pages n None) (slice_set pages k []) len
+      (λ m _.
+      ⊎_elim
+      (λ (e : m / 1024 ≡ k). cell_at-inside pages k m [] e lt ∙ sym (cell_at-inside pages k m page e lt ∙ all (m % 1024)))
+      (λ (ne : m / 1024 ≡ k → ⊥). cell_at-outside pages k m [] ne ∙ sym (cell_at-outside pages k m page ne))
+      (cases_eq (m / 1024) k))

@@ -1,8 +1,8 @@
 -- In how many cells of a page something stands.
-use Rattle.std.proofs.Common.{◌≡◌, ℕ, ◌+◌, ◌<◌, ◌≤◌, List, [], ◌∷◌, length, Option, Some, None, is_some, false, slice_index_or, slice_set, sym, ap, arith}
+use Rattle.std.proofs.Common.{◌≡◌, ℕ, ◌+◌, ◌<◌, ◌≤◌, List, [], ◌∷◌, length, Option, Some, None, is_some, false, slice_index_or, slice_set, refl, sym, ap, arith, suc}
 use Rattle.std.proofs.lemmas.List.{length-set}
 use Rattle.std.proofs.lemmas.List.Sums.{sum_by-cons, sum_by-set}
-use Rattle.dom_pages.specs.Paged.{taken, taken_in}
+use Rattle.dom_pages.specs.Paged.{taken, taken_in, AllVacant}
 
 module _ {T : Type 0} where
   one_at_most : (item : Option T) → taken item ≤ 1
@@ -29,3 +29,9 @@ module _ {T : Type 0} where
     -- so while a cell is empty, fewer are counted than there are
     pub taken_in-lt : (x : T) → slice_index_or cells k None ≡ None → taken_in cells < length cells
     taken_in-lt x e = omega (arith, taken_in-put x e, taken_in-le (slice_set cells k (Some x)), length-set cells k (Some x))
+
+module _ {T : Type 0} where
+  -- of a page in which nothing stands none is counted
+  pub none_counted : (cells : List (Option T)) → AllVacant cells → taken_in cells ≡ 0
+  none_counted [] none = refl
+  none_counted (x ∷ cells) none = omega (arith, sum_by-cons taken x cells, ap taken (none 0), none_counted cells (λ k. none (suc k)))

@@ -56,22 +56,6 @@ module _ {T : Type 0} (pages : List (List (Option T))) where
       ∙ get_or_past (slice_set (page_at pages (n / 1024)) (n % 1024) None) (n % 1024) None (omega (arith, length-set (page_at pages (n / 1024)) (n % 1024) None)))
       (cases_lt (n % 1024) (length (page_at pages (n / 1024))))
 
-  -- no page has other cells
-  pub length-page_at-written : (n k : ℕ) (x : Option T) → length (page_at (written n x) k) ≡ length (page_at pages k)
-  length-page_at-written n k x =
-      ⊎_elim
-      (λ (e : k ≡ n / 1024).
-      ⊎_elim
-      (λ (lt : n / 1024 < length pages).
-      ap (λ j. length (page_at (written n x) j)) e
-      ∙ ap length (get_or-set_same pages (n / 1024) (slice_set (page_at pages (n / 1024)) (n % 1024) x) [] lt)
-      ∙ length-set (page_at pages (n / 1024)) (n % 1024) x
-      ∙ ap (λ j. length (page_at pages j)) (sym e))
-      (λ (le : length pages ≤ n / 1024). ap (λ p. length (page_at p k)) (set_past pages (n / 1024) (slice_set (page_at pages (n / 1024)) (n % 1024) x) le))
-      (cases_lt (n / 1024) (length pages)))
-      (λ (ne : k ≡ n / 1024 → ⊥). ap length (get_or-set_other pages (n / 1024) k (slice_set (page_at pages (n / 1024)) (n % 1024) x) [] ne))
-      (cases_eq k (n / 1024))
-
   -- a number in no page
   pub cell_at-past : (n : ℕ) → length pages ≤ n / 1024 → cell_at pages n ≡ None
   cell_at-past n le = ap (λ p. slice_index_or p (n % 1024) None) (get_or_past pages (n / 1024) [] le)
@@ -91,3 +75,7 @@ module _ {T : Type 0} (pages : List (List (Option T))) where
   pub is_written : (n : ℕ) (x : Option T) (page after : List (Option T)) → n / 1024 < length pages → page ≡ slice_index_or pages (n / 1024) page → after ≡ slice_set page (n % 1024) x → slice_set pages (n / 1024) after ≡ written n x
   is_written n x page after lt read e =
       ap (slice_set pages (n / 1024)) (e ∙ ap (λ q. slice_set q (n % 1024) x) (read ∙ get_or_default pages (n / 1024) page [] lt))
+
+  -- a page that was read and emptied at one cell
+  pub is_cleared : (n : ℕ) (page after : List (Option T)) → n / 1024 < length pages → page ≡ slice_index_or pages (n / 1024) page → after ≡ slice_set page (n % 1024) None → after ≡ slice_set (page_at pages (n / 1024)) (n % 1024) None
+  is_cleared n page after lt read e = e ∙ ap (λ q. slice_set q (n % 1024) None) (read ∙ get_or_default pages (n / 1024) page [] lt)

@@ -1,6 +1,7 @@
 -- How the items of a table lie in pages.
 use Rattle.std.specs.Prelude.{◌≡◌, ℕ, ◌*◌, ◌/◌, ◌%◌, ◌<◌, ◌≤◌, List, [], length, map, Option, Some, None, slice_index_or}
 use Rattle.std.specs.List.{range_with_len, sum_by}
+use Rattle.dom_pages.specs.Numbered.{item_at}
 
 -- how many numbers a page is for
 abbrev pub page_size : ℕ
@@ -38,3 +39,10 @@ module _ {T : Type 0} where
     pub within : len ≤ page_size * length pages
     pub present : (k : ℕ) → len / page_size ≤ k → k < length pages → length (page_at pages k) ≡ page_size
     pub vacant : (n : ℕ) → len ≤ n → cell_at pages n ≡ None
+    pub short : (k : ℕ) → length (page_at pages k) ≤ page_size
+    pub gone : (k : ℕ) → k < len / page_size → AllVacant (page_at pages k) → page_at pages k ≡ []
+
+  -- the numbers of a page were all given out, and all taken back
+  pub record IsTakenBack (items : List (Option T)) (page : ℕ) : Type 0 where
+    pub given_out : page < length items / page_size
+    pub vacant : (n : ℕ) → n / page_size ≡ page → item_at items n ≡ None

@@ -1,6 +1,6 @@
 //! A page of a table: a cell for each of its numbers, or no memory at all.
 
-ghost use Rattle.std.specs.Prelude.{◌≡◌, ◌<◌, [], length, Some, None, IfOk, IsTrue, slice_index_or, slice_set};
+ghost use Rattle.std.specs.Prelude.{◌≡◌, ◌<◌, [], length, Some, None, IfOk, IsTrue, false, slice_index_or, slice_set};
 ghost use Rattle.dom_pages.specs.Paged.{page_size, AllVacant};
 
 use std::alloc::{AllocError, Global};
@@ -18,7 +18,7 @@ pub(crate) struct Page<T> {
 }
 
 impl<T> Model for Page<T> {
-    ghost use Rattle.std.specs.Prelude.{◌≡◌, List, Option};
+    ghost use Rattle.std.specs.Prelude.{◌≡◌, List, Option, length, vec_capacity};
     ghost use Rattle.std.specs.Coded.{coded_list, coded_option};
     ghost use Rattle.dom_pages.specs.Paged.{taken_in};
 
@@ -28,7 +28,7 @@ impl<T> Model for Page<T> {
 
     ghost view = { λ p. p.cells.items };
 
-    ghost invariant = { λ p. p.count ≡ taken_in p.cells.items };
+    ghost invariant = { λ p. (p.count ≡ taken_in p.cells.items) × (vec_capacity p.cells ≡ length p.cells.items) };
 }
 
 impl<T: Copy> Page<T> {
@@ -77,7 +77,8 @@ impl<T: Copy> Page<T> {
 
     /// Whether nothing stands in any cell.
     pub(crate) fn is_vacant(&self) -> bool
-        ensures { IsTrue result → AllVacant self.now }
+        ensures vacant { IsTrue result → AllVacant self.now }
+        ensures sure { AllVacant self.now → IsTrue result }
     {
         self.count == 0
     }
@@ -93,7 +94,8 @@ impl<T: Copy> Page<T> {
 
     /// Whether the page has its memory: it has where it has a cell.
     pub(crate) fn is_present(&self) -> bool
-        ensures { 0 < length self.now → IsTrue result }
+        ensures present { 0 < length self.now → IsTrue result }
+        ensures gone { self.now ≡ [] → result ≡ false }
     {
         self.cells.capacity() != 0
     }

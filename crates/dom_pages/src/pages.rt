@@ -1,8 +1,8 @@
 //! A table in pages.
 
-ghost use Rattle.std.specs.Prelude.{◌≡◌, ◌+◌, ◌<◌, ◌≤◌, ◌∷◌, ◌++◌, [], length, Some, None, IsSome, IsTrue, OnOk, slice_set};
+ghost use Rattle.std.specs.Prelude.{◌≡◌, ◌+◌, ◌/◌, ◌<◌, ◌≤◌, ◌∷◌, ◌++◌, [], length, Some, None, IsSome, IsTrue, OnOk, false, slice_set};
 ghost use Rattle.dom_pages.specs.Numbered.{item_at};
-ghost use Rattle.dom_pages.specs.Paged.{page_size};
+ghost use Rattle.dom_pages.specs.Paged.{page_size, IsTakenBack};
 
 use crate::page::{PAGE, Page};
 use std::alloc::{AllocError, Global};
@@ -117,26 +117,17 @@ impl<T: Copy> Pages<T> {
     {
         let page = &mut self.pages[number / PAGE];
         page.clear(number % PAGE);
-        self.give_back(number / PAGE);
-    }
-
-    // Gives back the memory of a page whose numbers were all given out, where all were taken back. The page of the next number stays, and
-    // so do those behind it: they are the room.
-    fn give_back(&mut self, at: usize)
-        ensures { self.new ≡ self.old }
-    {
-        if at >= self.len / PAGE {
-            return;
-        }
-        let page = &mut self.pages[at];
-        if page.is_vacant() {
+        // The page of the next number keeps its memory, and so do those behind it: they are the room.
+        if number / PAGE < self.len / PAGE && page.is_vacant() {
             page.give_back();
         }
     }
 
-    /// Whether the page of a number has its memory: it has where something stands under the number.
+    /// Whether the page of a number has its memory: it has where something stands under the number, and it has none where all numbers of the
+    /// page were given out and taken back.
     pub fn is_present(&self, number: usize) -> bool
-        ensures { IsSome (item_at self.now.items number) → IsTrue result }
+        ensures present { IsSome (item_at self.now.items number) → IsTrue result }
+        ensures gone { IsTakenBack self.now.items (number / page_size) → result ≡ false }
     {
         match self.pages.get(number / PAGE) {
             Some(page) => page.is_present(),

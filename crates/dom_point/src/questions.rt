@@ -2,8 +2,9 @@
 
 ghost use Rattle.std.specs.Prelude.{◌≡◌, ◌+◌, Some, option_map};
 ghost use Rattle.dom_model.specs.Forests.Forest.{HasNode, index_of, parent_of, root_of};
-ghost use Rattle.dom_model.specs.Forests.Nodes.{same_root as has_same_root};
-ghost use Rattle.dom_model.specs.RangesAndContents.Ranges.{is_before as comes_before, check_point, point_before as place_before, point_after as place_after, around};
+ghost use Rattle.dom_model.specs.Forests.Nodes as nodes;
+ghost use Rattle.dom_model.specs.RangesAndContents.Ranges as points;
+ghost use Rattle.dom_model.specs.RangesAndContents.Ranges.{check_point, around};
 ghost use Rattle.dom_point.specs.Refusals.{refused};
 
 use crate::ordering::{found_order, order};
@@ -16,7 +17,7 @@ use std::cmp::Ordering;
 pub fn same_root<X>(tree: &Tree<X>, a: NodeId, b: NodeId) -> bool
     requires a_held { HasNode tree.now.forest a }
     requires b_held { HasNode tree.now.forest b }
-    ensures { result ≡ has_same_root tree.now.forest a b }
+    ensures { result ≡ nodes.same_root tree.now.forest a b }
 {
     tree.root(a) == tree.root(b)
 }
@@ -26,7 +27,7 @@ pub fn is_before<X>(tree: &Tree<X>, a: Point, b: Point) -> bool
     requires a_held { HasNode tree.now.forest a.node }
     requires b_held { HasNode tree.now.forest b.node }
     requires one_root { root_of tree.now.forest a.node ≡ root_of tree.now.forest b.node }
-    ensures { result ≡ comes_before tree.now.forest a b }
+    ensures { result ≡ points.is_before tree.now.forest a b }
 {
     match order(tree, a, b) {
         Ordering::Less => true,
@@ -39,7 +40,7 @@ pub fn found_before<X>(tree: &mut Tree<X>, a: Point, b: Point) -> bool
     requires a_held { HasNode tree.old.forest a.node }
     requires b_held { HasNode tree.old.forest b.node }
     requires one_root { root_of tree.old.forest a.node ≡ root_of tree.old.forest b.node }
-    ensures before { result ≡ comes_before tree.old.forest a b }
+    ensures before { result ≡ points.is_before tree.old.forest a b }
     ensures unchanged { tree.new ≡ tree.old }
 {
     found_order(tree, a, b) == Ordering::Less
@@ -62,7 +63,7 @@ pub fn checked_point<X: Body>(tree: &Tree<X>, node: NodeId, offset: usize) -> Re
 /// The point ahead of a node in its parent; none without a parent.
 pub fn point_before<X>(tree: &Tree<X>, node: NodeId) -> Option<Point>
     requires { HasNode tree.now.forest node }
-    ensures { result ≡ place_before tree.now.forest node }
+    ensures { result ≡ points.point_before tree.now.forest node }
 {
     let parent = tree.parent(node)?;
     Some(Point {
@@ -74,7 +75,7 @@ pub fn point_before<X>(tree: &Tree<X>, node: NodeId) -> Option<Point>
 /// The point behind a node in its parent; none without a parent.
 pub fn point_after<X>(tree: &Tree<X>, node: NodeId) -> Option<Point>
     requires { HasNode tree.now.forest node }
-    ensures { result ≡ place_after tree.now.forest node }
+    ensures { result ≡ points.point_after tree.now.forest node }
 {
     let (_, after) = points_around(tree, node)?;
     Some(after)

@@ -8,19 +8,19 @@ use Rattle.dom_model.specs.Worlds.World.{Point}
 use Rattle.dom_links.specs.Wiring.{link_unless}
 use Rattle.dom_links.proofs.Neighbours.{is_number-true, head_of-none, after-none, before_from-none, left_out-none, hits-left_out_same, hits-left_out_other, head_of-left_out, after-left_out, before_from-left_out, meets, first_of}
 use Rattle.dom_ranges.specs.declared.chains.End.{End}
-use Rattle.dom_ranges.specs.Chained.{Heads, free_end, end_at, point_at, covers, cover_of, head_in, head_at, stands_at, IsChained, ForLink, led_on, heads_led, led_back, table_without, heads_without, table_with, heads_with}
+use Rattle.dom_ranges.specs.Chained.{Heads, free_end, end_at, point_at, covers, cover_of, head_in, head_at, counted_at, IsChained, ForLink, led_on, heads_led, led_back, table_without, heads_without, table_with, heads_with}
 use Rattle.dom_ranges.proofs.Covers as Covers
 
 -- a point stands in one node
-pub stands-both : (n m : ℕ) (o : Option Point) → 0 < stands_at n o → 0 < stands_at m o → n ≡ m
+pub stands-both : (n m : ℕ) (o : Option Point) → 0 < counted_at n o → 0 < counted_at m o → n ≡ m
 stands-both n m None a b = absurd (omega arith)
 stands-both n m (Some p) a b = grind (arith, nat_tests)
 
-pub stands-once : (n : ℕ) (o : Option Point) → stands_at n o ≤ 1
+pub stands-once : (n : ℕ) (o : Option Point) → counted_at n o ≤ 1
 stands-once n None = omega arith
 stands-once n (Some p) = grind (arith, nat_tests)
 
-pub stands-itself : (p : Point) → stands_at p.node (Some p) ≡ 1
+pub stands-itself : (p : Point) → counted_at p.node (Some p) ≡ 1
 stands-itself p = rw (eq-eqb p.node p.node refl) refl
 
 -- an end that stands somewhere is in the table
@@ -69,7 +69,7 @@ pub written-other : (heads : Heads) (n m : ℕ) (o : Option (Option ℕ)) → (m
 written-other heads n m o d = ap head_in (get_or-set_other heads n m o None d)
 
 module _ (c : ℕ → List ℕ) (t : List End) (heads : Heads) (ok : IsChained c t heads) where
-  pub in-stands : (e n : ℕ) → 0 < hits e (c n) → 0 < stands_at n (point_at t e)
+  pub in-stands : (e n : ℕ) → 0 < hits e (c n) → 0 < counted_at n (point_at t e)
   in-stands e n h = omega (arith, ok.counted e n)
 
   pub once : (e n : ℕ) → hits e (c n) ≤ 1
@@ -77,7 +77,7 @@ module _ (c : ℕ → List ℕ) (t : List End) (heads : Heads) (ok : IsChained c
 
   pub in-chain : (e : ℕ) (p : Point) → point_at t e ≡ Some p → hits e (c p.node) ≡ 1
   in-chain e p h =
-      let a : stands_at p.node (point_at t e) ≡ 1 = rw h (stands-itself p) in
+      let a : counted_at p.node (point_at t e) ≡ 1 = rw h (stands-itself p) in
       ok.counted e p.node ∙ a
 
   pub one-chain : (e n m : ℕ) → 0 < hits e (c n) → 0 < hits e (c m) → n ≡ m
@@ -86,8 +86,8 @@ module _ (c : ℕ → List ℕ) (t : List End) (heads : Heads) (ok : IsChained c
   pub chained-within : (e n : ℕ) → 0 < hits e (c n) → e < length t
   chained-within e n h = go (point_at t e) refl (in-stands e n h)
     where
-      go : (o : Option Point) → point_at t e ≡ o → 0 < stands_at n (point_at t e) → e < length t
-      go None q s = let z : 0 < stands_at n None = rw q at s in absurd (omega arith)
+      go : (o : Option Point) → point_at t e ≡ o → 0 < counted_at n (point_at t e) → e < length t
+      go None q s = let z : 0 < counted_at n None = rw q at s in absurd (omega arith)
       go (Some p) q s = live-within t e p q
 
   -- a node in whose chain an end is, and so one in which an end stands, is covered
@@ -228,10 +228,10 @@ module _ (c : ℕ → List ℕ) (t : List End) (heads : Heads) (ok : IsChained c
           ⊎_elim (λ (z : hits e (c n) ≡ 0). first-there n (apart n z) (end_at t e).prev ∙ ok.first n ∙ sym (ap head_of (left_out-none e (c n) z)))
           (λ (d : hits e (c n) ≡ 0 → ⊥). let q : n ≡ p.node = one-chain c t heads ok e n p.node (omega arith) here in rw q first-here) (cases_eq (hits e (c n)) 0)
 
-      counted : (k n : ℕ) → hits k (left_out e (c n)) ≡ stands_at n (point_at (table_without e t) k)
+      counted : (k n : ℕ) → hits k (left_out e (c n)) ≡ counted_at n (point_at (table_without e t) k)
       counted k n =
-          ⊎_elim (λ (q : k ≡ e). rw q (hits-left_out_same e (c n) ∙ sym (ap (λ (x : End). stands_at n x.point) without-itself)))
-          (λ (d : k ≡ e → ⊥). hits-left_out_other k e (c n) (λ q. d (sym q)) ∙ ok.counted k n ∙ sym (ap (λ (x : End). stands_at n x.point) (without-end k d))) (cases_eq k e)
+          ⊎_elim (λ (q : k ≡ e). rw q (hits-left_out_same e (c n) ∙ sym (ap (λ (x : End). counted_at n x.point) without-itself)))
+          (λ (d : k ≡ e → ⊥). hits-left_out_other k e (c n) (λ q. d (sym q)) ∙ ok.counted k n ∙ sym (ap (λ (x : End). counted_at n x.point) (without-end k d))) (cases_eq k e)
 
       other : (k n : ℕ) → 0 < hits k (left_out e (c n)) → k ≡ e → ⊥
       other k n h q = let a : 0 < hits e (left_out e (c n)) = rw q at h in omega (arith, hits-left_out_same e (c n))
@@ -270,7 +270,7 @@ module _ (c : ℕ → List ℕ) (t : List End) (heads : Heads) (ok : IsChained c
   entered_first n = if p.node == n then e ∷ c n else c n
 
   absent : (n : ℕ) → hits e (c n) ≡ 0
-  absent n = ok.counted e n ∙ ap (stands_at n) free
+  absent n = ok.counted e n ∙ ap (counted_at n) free
 
   pub with-length : length (table_with e p heads t) ≡ length t
   with-length = length-set (led_back (head_at heads p.node) (Some e) t) e (record { point = Some p; prev = None; next = head_at heads p.node }) ∙ led_back-length (head_at heads p.node) (Some e) t
@@ -303,22 +303,22 @@ module _ (c : ℕ → List ℕ) (t : List End) (heads : Heads) (ok : IsChained c
           ⊎_elim (λ (q : p.node ≡ n). let y : (p.node == n) ≡ true = eq-eqb p.node n q in rw y (rw (← q) (written-head heads p.node (Some e) room)))
           (λ (d : p.node ≡ n → ⊥). let y : (p.node == n) ≡ false = ne_eqb p.node n d in rw y (written-other heads p.node n (Some (Some e)) (λ q. d (sym q)) ∙ ok.first n)) (cases_eq p.node n)
 
-      counted : (k n : ℕ) → hits k (entered_first n) ≡ stands_at n (point_at (table_with e p heads t) k)
+      counted : (k n : ℕ) → hits k (entered_first n) ≡ counted_at n (point_at (table_with e p heads t) k)
       counted k n = ⊎_elim (λ (q : k ≡ e). itself q) (λ (d : k ≡ e → ⊥). others d) (cases_eq k e)
         where
-          entered : hits e (entered_first n) ≡ stands_at n (Some p)
+          entered : hits e (entered_first n) ≡ counted_at n (Some p)
           entered =
               let z = absent n in
               ⊎_elim (λ (y : (p.node == n) ≡ true). rw (y, eq-eqb e e refl) (omega arith)) (λ (y : (p.node == n) ≡ false). rw y z) (cases_Bool (p.node == n))
 
-          itself : k ≡ e → hits k (entered_first n) ≡ stands_at n (point_at (table_with e p heads t) k)
-          itself q = rw q (entered ∙ sym (ap (λ (x : End). stands_at n x.point) with-itself))
+          itself : k ≡ e → hits k (entered_first n) ≡ counted_at n (point_at (table_with e p heads t) k)
+          itself q = rw q (entered ∙ sym (ap (λ (x : End). counted_at n x.point) with-itself))
 
-          others : (k ≡ e → ⊥) → hits k (entered_first n) ≡ stands_at n (point_at (table_with e p heads t) k)
+          others : (k ≡ e → ⊥) → hits k (entered_first n) ≡ counted_at n (point_at (table_with e p heads t) k)
           others d =
               let f : (e == k) ≡ false = ne_eqb e k (λ q. d (sym q)) in
               let a : hits k (entered_first n) ≡ hits k (c n) = ⊎_elim (λ (y : (p.node == n) ≡ true). rw (y, f) (omega arith)) (λ (y : (p.node == n) ≡ false). rw y refl) (cases_Bool (p.node == n)) in
-              a ∙ ok.counted k n ∙ sym (ap (λ (x : End). stands_at n x.point) (with-end k d))
+              a ∙ ok.counted k n ∙ sym (ap (λ (x : End). counted_at n x.point) (with-end k d))
 
       next : (k n : ℕ) → 0 < hits k (entered_first n) → (end_at (table_with e p heads t) k).next ≡ after k (entered_first n)
       next k n h = ⊎_elim (λ (q : k ≡ e). itself q) (λ (d : k ≡ e → ⊥). others d) (cases_eq k e)

@@ -7,9 +7,12 @@ pub mod Making
 pub mod Marking
 pub mod MarkingJoined
 pub mod MarkingSet
+pub mod MarkingSetters
+pub mod MarkingSeveral
 pub mod Moving
 pub mod Pairs
 pub mod Slots
 pub mod Standing
+pub mod StandingCovered
 pub mod Steps
 pub mod Walking

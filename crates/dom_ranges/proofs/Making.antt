@@ -6,7 +6,7 @@ use Rattle.std.specs.Prelude.{swap_remove}
 use Rattle.dom_model.specs.Worlds.World.{Point, Range}
 use Rattle.dom_ranges.specs.declared.chains.End.{End}
 use Rattle.dom_ranges.specs.Chained.{Heads, cover_of, points_of, HasChains}
-use Rattle.dom_ranges.specs.Tables.{RangeTable, live_nodes, paired, IsPaired, live_count, by_slot, slot_at, number_at, without_slot, HaveSlots, IsInOrder}
+use Rattle.dom_ranges.specs.Tables.{RangeTable, live_nodes, paired, IsPaired, live_count, by_slot, slot_at, range_in_slot, without_slot, HaveSlots, IsInOrder}
 use Rattle.dom_ranges.proofs.Steps.{points-length, same-length}
 use Rattle.dom_ranges.proofs.Slots.{slots-none, slots-added, ranges-added, slots-written, ranges-written, held-live, slot-there, moves, slots-released, ranges-released, idle-none}
 use Rattle.dom_ranges.proofs.Pairs.{paired-length, paired-append, IsPaired-append, live-set, live-append, written-ranges, written-paired, left-ranges, left-paired, ranges-are, covered-is}
@@ -70,21 +70,21 @@ module _ (t : List End) (heads : Heads) (slots : List (Option ℕ)) (numbers : L
       rw (written, w, y, z) refl
 
 -- what `swap_remove` leaves of the numbers
-pub numbers-left : (numbers : List ℕ) (s i l m d : ℕ) → i ≡ s → l + 1 ≡ length numbers → m ≡ number_at numbers l → swap_remove numbers i d ≡ take l (set numbers s m)
+pub numbers-left : (numbers : List ℕ) (s i l m d : ℕ) → i ≡ s → l + 1 ≡ length numbers → m ≡ range_in_slot numbers l → swap_remove numbers i d ≡ take l (set numbers s m)
 numbers-left numbers s i l m d at last mover =
     let e : length numbers - 1 ≡ l = omega (arith, last) in
     let f : get_or numbers (length numbers - 1) d ≡ m = ap (λ n. get_or numbers n d) e ∙ get_or_default_zero numbers l d (omega (arith, last)) ∙ sym mover in
     ap (λ n. take n (set numbers i (get_or numbers (length numbers - 1) d))) e ∙ ap (λ n. take l (set numbers i n)) f ∙ ap (λ n. take l (set numbers n m)) at
 
-pub moved-is : (numbers : List ℕ) (m d i l : ℕ) → m ≡ get_or numbers i d → i ≡ l → i < length numbers → m ≡ number_at numbers l
-moved-is numbers m d i l read at w = read ∙ get_or_default_zero numbers i d w ∙ ap (number_at numbers) at
+pub moved-is : (numbers : List ℕ) (m d i l : ℕ) → m ≡ get_or numbers i d → i ≡ l → i < length numbers → m ≡ range_in_slot numbers l
+moved-is numbers m d i l read at w = read ∙ get_or_default_zero numbers i d w ∙ ap (range_in_slot numbers) at
 
 pub some-number : (t : List End) (heads : Heads) (slots : List (Option ℕ)) (numbers : List ℕ) → IsInOrder t heads slots numbers → (r s : ℕ) → slot_at slots r ≡ Some s → s < length numbers
 some-number t heads slots numbers k r s slot = omega (arith, slot-there (paired (points_of t)) slots numbers k.numbered r s slot, many t heads slots numbers k)
 
 -- a range released, where the range in the last slot comes into its slot
 module _ (t : List End) (heads : Heads) (slots : List (Option ℕ)) (numbers : List ℕ) (k : IsInOrder t heads slots numbers) (v : RangeTable) (view : record { ranges = by_slot (paired (points_of t)) slots; covered = cover_of heads } ≡ v)
-    (r s l m : ℕ) (slot : slot_at slots r ≡ Some s) (last : l + 1 ≡ length numbers) (mover : m ≡ number_at numbers l) where
+    (r s l m : ℕ) (slot : slot_at slots r ≡ Some s) (last : l + 1 ≡ length numbers) (mover : m ≡ range_in_slot numbers l) where
   pub last-moves : slot_at slots m ≡ Some l
   last-moves = moves (paired (points_of t)) slots numbers k.numbered r s slot (many t heads slots numbers k) l m last mover
 

@@ -7,7 +7,7 @@ use Rattle.dom_model.specs.Worlds.World.{Point, Range}
 use Rattle.dom_model.specs.BoundaryPoints.Points.{after_gap, after_splice, after_split, after_merge, map_ranges}
 use Rattle.dom_ranges.specs.declared.chains.End.{End}
 use Rattle.dom_ranges.specs.Chained.{Heads, covers, cover_of, point_at, points_of, HasChains, on_node, MovesWithin, GoesElsewhere, StaysBeside}
-use Rattle.dom_ranges.specs.Tables.{RangeTable, FitsMoved, OffsetsFit, paired, IsPaired, live_count, in_slot, by_slot, slot_at, number_at, HaveSlots, IsInOrder}
+use Rattle.dom_ranges.specs.Tables.{RangeTable, FitsMoved, OffsetsFit, paired, IsPaired, live_count, in_slot, by_slot, slot_at, range_in_slot, HaveSlots, IsInOrder}
 use Rattle.dom_ranges.proofs.Chained as Chained
 use Rattle.dom_ranges.proofs.Steps.{points-at, points-length}
 use Rattle.dom_ranges.proofs.Slots.{by_slot-at, by_slot-map, slots-same, map-some, some-within}
@@ -117,7 +117,7 @@ fits-one g rs fit r range h =
 module _ (t : List End) (heads : Heads) (slots : List (Option ℕ)) (numbers : List ℕ) (k : IsInOrder t heads slots numbers) (v : RangeTable) (view : record { ranges = by_slot (paired (points_of t)) slots; covered = cover_of heads } ≡ v) where
   fits-pair : (g : Point → Point) → OffsetsFit g v.ranges → (s : ℕ) (range : Range) → get_or (paired (points_of t)) s None ≡ Some range → FitsMoved g range
   fits-pair g fit s range at =
-      let r = number_at numbers s in
+      let r = range_in_slot numbers s in
       let there : slot_at slots r ≡ Some s = k.numbered.held s (omega (arith, some-within (paired (points_of t)) s (ap is_some at), many t heads slots numbers k)) in
       fits-one g v.ranges fit r range
       (ap (λ rs. get_or rs r None) (ranges-are t heads slots numbers k v view) ∙ by_slot-at (paired (points_of t)) slots r ∙ ap (in_slot (paired (points_of t))) there ∙ at)

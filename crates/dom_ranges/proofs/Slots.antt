@@ -6,7 +6,7 @@ use Rattle.std.proofs.lemmas.List.{map-append, get_or_past, get_or-take, get_or_
 use Rattle.dom_model.specs.Worlds.World.{Point, Range}
 use Rattle.dom_model.specs.BoundaryPoints.Points.{moved_range, map_ranges}
 use Rattle.dom_model.specs.MutationAlgorithms.Discarding.{nodes_of_live}
-use Rattle.dom_ranges.specs.Tables.{in_slot, by_slot, slot_at, number_at, live_count, HaveSlots}
+use Rattle.dom_ranges.specs.Tables.{in_slot, by_slot, slot_at, range_in_slot, live_count, HaveSlots}
 
 pub by_slot-at : (pairs : List (Option Range)) (slots : List (Option ℕ)) (r : ℕ) → get_or (by_slot pairs slots) r None ≡ in_slot pairs (get_or slots r None)
 by_slot-at pairs [] r = refl
@@ -104,23 +104,23 @@ module _ (x : Range) (pairs : List (Option Range)) (slots : List (Option ℕ)) (
   pub slots-added : HaveSlots (pairs ++ Some x ∷ []) (slots ++ Some s ∷ []) (numbers ++ length slots ∷ [])
   slots-added = record { named = named; full = full; held = held }
     where
-      named : (r k : ℕ) → slot_at (slots ++ Some s ∷ []) r ≡ Some k → number_at (numbers ++ length slots ∷ []) k ≡ r
+      named : (r k : ℕ) → slot_at (slots ++ Some s ∷ []) r ≡ Some k → range_in_slot (numbers ++ length slots ∷ []) k ≡ r
       named r k e =
           ⊎_elim (λ (l : get_or slots r None ≡ Some k). get_or_append_left numbers (length slots ∷ []) 0 k (omega (arith, same, some-within pairs k (h.full r k l))) ∙ h.named r k l)
-          (λ (q : (r ≡ length slots) × (s ≡ k)). ap (number_at (numbers ++ length slots ∷ [])) (sym q.1 ∙ new) ∙ last-is numbers (length slots) 0 ∙ sym q.0) (appended-at slots s r k e)
+          (λ (q : (r ≡ length slots) × (s ≡ k)). ap (range_in_slot (numbers ++ length slots ∷ [])) (sym q.1 ∙ new) ∙ last-is numbers (length slots) 0 ∙ sym q.0) (appended-at slots s r k e)
 
       full : (r k : ℕ) → slot_at (slots ++ Some s ∷ []) r ≡ Some k → IsSome (get_or (pairs ++ Some x ∷ []) k None)
       full r k e =
           ⊎_elim (λ (l : get_or slots r None ≡ Some k). ap is_some (kept r k l) ∙ h.full r k l)
           (λ (q : (r ≡ length slots) × (s ≡ k)). ap is_some (here k q.1)) (appended-at slots s r k e)
 
-      held : (k : ℕ) → k < length (numbers ++ length slots ∷ []) → slot_at (slots ++ Some s ∷ []) (number_at (numbers ++ length slots ∷ []) k) ≡ Some k
+      held : (k : ℕ) → k < length (numbers ++ length slots ∷ []) → slot_at (slots ++ Some s ∷ []) (range_in_slot (numbers ++ length slots ∷ []) k) ≡ Some k
       held k l =
           ⊎_elim (λ (q : k ≡ length numbers).
-          ap (slot_at (slots ++ Some s ∷ [])) (ap (number_at (numbers ++ length slots ∷ [])) q ∙ last-is numbers (length slots) 0) ∙ last-is slots (Some s) None ∙ ap Some (new ∙ sym q))
+          ap (slot_at (slots ++ Some s ∷ [])) (ap (range_in_slot (numbers ++ length slots ∷ [])) q ∙ last-is numbers (length slots) 0) ∙ last-is slots (Some s) None ∙ ap Some (new ∙ sym q))
           (λ (d : k ≡ length numbers → ⊥).
           let w : k < length numbers = omega (arith, length-append numbers (length slots ∷ [])) in
-          ap (slot_at (slots ++ Some s ∷ [])) (get_or_append_left numbers (length slots ∷ []) 0 k w) ∙ appended-kept slots s (number_at numbers k) k (h.held k w)) (cases_eq k (length numbers))
+          ap (slot_at (slots ++ Some s ∷ [])) (get_or_append_left numbers (length slots ∷ []) 0 k w) ∙ appended-kept slots s (range_in_slot numbers k) k (h.held k w)) (cases_eq k (length numbers))
 
   pub ranges-added : by_slot (pairs ++ Some x ∷ []) (slots ++ Some s ∷ []) ≡ by_slot pairs slots ++ Some x ∷ []
   ranges-added =
@@ -137,7 +137,7 @@ module _ (pairs : List (Option Range)) (slots : List (Option ℕ)) (numbers : Li
   slot-there = some-within pairs s (h.full r s slot)
 
   elsewhere : (o : Option Range) (q k : ℕ) → (q ≡ r → ⊥) → get_or slots q None ≡ Some k → get_or (set pairs s o) k None ≡ get_or pairs k None
-  elsewhere o q k d e = get_or-set_other pairs s k o None (λ n. d (sym (h.named q k e) ∙ ap (number_at numbers) n ∙ h.named r s slot))
+  elsewhere o q k d e = get_or-set_other pairs s k o None (λ n. d (sym (h.named q k e) ∙ ap (range_in_slot numbers) n ∙ h.named r s slot))
 
   pub ranges-written : (o : Option Range) → by_slot (set pairs s o) slots ≡ set (by_slot pairs slots) r o
   ranges-written o =
@@ -159,7 +159,7 @@ module _ (pairs : List (Option Range)) (slots : List (Option ℕ)) (numbers : Li
   held-live = ap is_some (by_slot-at pairs slots r ∙ ap (in_slot pairs) slot) ∙ h.full r s slot
 
   -- the number is released: the range in the last slot, which has the number `m`, comes into the slot
-  module _ (same : length pairs ≡ length numbers) (l m : ℕ) (last : l + 1 ≡ length numbers) (mover : m ≡ number_at numbers l) where
+  module _ (same : length pairs ≡ length numbers) (l m : ℕ) (last : l + 1 ≡ length numbers) (mover : m ≡ range_in_slot numbers l) where
     abbrev pub slots_left : List (Option ℕ)
     slots_left = set (set slots m (Some s)) r None
 
@@ -177,7 +177,7 @@ module _ (pairs : List (Option Range)) (slots : List (Option ℕ)) (numbers : Li
 
     in-front : (m ≡ r → ⊥) → s < l
     in-front d =
-        ⊎_elim (λ (q : s ≡ l). absurd (d (mover ∙ ap (number_at numbers) (sym q) ∙ h.named r s slot))) (λ (n : s ≡ l → ⊥). omega (arith, slot-there, same, last)) (cases_eq s l)
+        ⊎_elim (λ (q : s ≡ l). absurd (d (mover ∙ ap (range_in_slot numbers) (sym q) ∙ h.named r s slot))) (λ (n : s ≡ l → ⊥). omega (arith, slot-there, same, last)) (cases_eq s l)
 
     cleared : slot_at slots_left r ≡ None
     cleared = get_or-set_same (set slots m (Some s)) r None None (omega (arith, slot-within, length-set slots m (Some s)))
@@ -196,11 +196,11 @@ module _ (pairs : List (Option Range)) (slots : List (Option ℕ)) (numbers : Li
 
     -- a number that is neither of the two has another slot, which is not the last
     not-there : (q k : ℕ) → (q ≡ r → ⊥) → slot_at slots q ≡ Some k → k ≡ s → ⊥
-    not-there q k d e n = d (sym (h.named q k e) ∙ ap (number_at numbers) n ∙ h.named r s slot)
+    not-there q k d e n = d (sym (h.named q k e) ∙ ap (range_in_slot numbers) n ∙ h.named r s slot)
 
     not-last : (q k : ℕ) → (q ≡ m → ⊥) → slot_at slots q ≡ Some k → k < l
     not-last q k d e =
-        ⊎_elim (λ (n : k ≡ l). absurd (d (sym (h.named q k e) ∙ ap (number_at numbers) n ∙ sym mover)))
+        ⊎_elim (λ (n : k ≡ l). absurd (d (sym (h.named q k e) ∙ ap (range_in_slot numbers) n ∙ sym mover)))
         (λ (n : k ≡ l → ⊥). omega (arith, some-within pairs k (h.full q k e), same, last)) (cases_eq k l)
 
     gone : (q k : ℕ) → slot_at slots_left q ≡ Some k → q ≡ r → ⊥
@@ -216,12 +216,12 @@ module _ (pairs : List (Option Range)) (slots : List (Option ℕ)) (numbers : Li
         there : (q k : ℕ) → slot_at slots_left q ≡ Some k → (q ≡ m → ⊥) → slot_at slots q ≡ Some k
         there q k e n = sym (stays q (gone q k e) n) ∙ e
 
-        named : (q k : ℕ) → slot_at slots_left q ≡ Some k → number_at numbers_left k ≡ q
+        named : (q k : ℕ) → slot_at slots_left q ≡ Some k → range_in_slot numbers_left k ≡ q
         named q k e =
             ⊎_elim (λ (n : q ≡ m).
             let w = in-front (λ i. gone q k e (n ∙ i)) in
             let v : s < length numbers = omega (arith, slot-there, same) in
-            ap (number_at numbers_left) (moved-here q k e n) ∙ get_or-take l (set numbers s m) s 0 w ∙ get_or-set_same numbers s m 0 v ∙ sym n)
+            ap (range_in_slot numbers_left) (moved-here q k e n) ∙ get_or-take l (set numbers s m) s 0 w ∙ get_or-set_same numbers s m 0 v ∙ sym n)
             (λ (d : q ≡ m → ⊥).
             let a = there q k e d in
             get_or-take l (set numbers s m) k 0 (not-last q k d a) ∙ get_or-set_other numbers s k m 0 (not-there q k (gone q k e) a) ∙ h.named q k a) (cases_eq q m)
@@ -231,18 +231,18 @@ module _ (pairs : List (Option Range)) (slots : List (Option ℕ)) (numbers : Li
             ⊎_elim (λ (n : q ≡ m). ap (λ i. is_some (get_or pairs_left i None)) (moved-here q k e n) ∙ ap is_some (pair-mover (λ i. gone q k e (n ∙ i))) ∙ h.full m l moves)
             (λ (d : q ≡ m → ⊥). let a = there q k e d in ap is_some (pair-stays k (not-last q k d a) (not-there q k (gone q k e) a)) ∙ h.full q k a) (cases_eq q m)
 
-        held : (k : ℕ) → k < length numbers_left → slot_at slots_left (number_at numbers_left k) ≡ Some k
+        held : (k : ℕ) → k < length numbers_left → slot_at slots_left (range_in_slot numbers_left k) ≡ Some k
         held k w0 =
             let w : k < l = omega (arith, length-take l (set numbers s m)) in
             ⊎_elim (λ (n : k ≡ s).
             let apart : m ≡ r → ⊥ = (λ i. let z : Some l ≡ Some s = sym moves ∙ ap (slot_at slots) i ∙ slot in let y : l ≡ s = cc in omega arith) in
             let v : s < length numbers = omega (arith, slot-there, same) in
-            ap (slot_at slots_left) (ap (number_at numbers_left) n ∙ get_or-take l (set numbers s m) s 0 (in-front apart) ∙ get_or-set_same numbers s m 0 v) ∙ at-mover apart ∙ ap Some (sym n))
+            ap (slot_at slots_left) (ap (range_in_slot numbers_left) n ∙ get_or-take l (set numbers s m) s 0 (in-front apart) ∙ get_or-set_same numbers s m 0 v) ∙ at-mover apart ∙ ap Some (sym n))
             (λ (d : k ≡ s → ⊥).
             let a = h.held k (omega (arith, last)) in
-            let b : number_at numbers k ≡ r → ⊥ = (λ i. let z : Some k ≡ Some s = sym a ∙ ap (slot_at slots) i ∙ slot in d cc) in
-            let c : number_at numbers k ≡ m → ⊥ = (λ i. let z : Some k ≡ Some l = sym a ∙ ap (slot_at slots) i ∙ moves in let y : k ≡ l = cc in omega arith) in
-            ap (slot_at slots_left) (get_or-take l (set numbers s m) k 0 w ∙ get_or-set_other numbers s k m 0 d) ∙ stays (number_at numbers k) b c ∙ a) (cases_eq k s)
+            let b : range_in_slot numbers k ≡ r → ⊥ = (λ i. let z : Some k ≡ Some s = sym a ∙ ap (slot_at slots) i ∙ slot in d cc) in
+            let c : range_in_slot numbers k ≡ m → ⊥ = (λ i. let z : Some k ≡ Some l = sym a ∙ ap (slot_at slots) i ∙ moves in let y : k ≡ l = cc in omega arith) in
+            ap (slot_at slots_left) (get_or-take l (set numbers s m) k 0 w ∙ get_or-set_other numbers s k m 0 d) ∙ stays (range_in_slot numbers k) b c ∙ a) (cases_eq k s)
 
     pub ranges-released : by_slot pairs_left slots_left ≡ set (by_slot pairs slots) r None
     ranges-released =
@@ -320,7 +320,7 @@ slots-any p pairs slots numbers h same =
     onto : (s : ℕ) (x : Range) → get_or pairs s None ≡ Some x → (q : ℕ) × (get_or (by_slot pairs slots) q None ≡ Some x)
     onto s x e =
         let w : s < length numbers = omega (arith, same, some-within pairs s (ap is_some e)) in
-        (number_at numbers s, by_slot-at pairs slots (number_at numbers s) ∙ ap (in_slot pairs) (h.held s w) ∙ e)
+        (range_in_slot numbers s, by_slot-at pairs slots (range_in_slot numbers s) ∙ ap (in_slot pairs) (h.held s w) ∙ e)
 
     up : list_any p (flat_map nodes_of_live (by_slot pairs slots)) ≡ true → list_any p (flat_map nodes_of_live pairs) ≡ true
     up t =

@@ -4,7 +4,7 @@ use Rattle.std.proofs.lemmas.Bool.{cases_Bool, cases_eq}
 use Rattle.dom_model.specs.PlainLists.Lists.{among, hits, head_of}
 use Rattle.dom_model.specs.Worlds.World.{Point}
 use Rattle.dom_ranges.specs.declared.chains.End.{End}
-use Rattle.dom_ranges.specs.Chained.{Heads, head_at, point_at, points_of, stands_at, HasChains}
+use Rattle.dom_ranges.specs.Chained.{Heads, head_at, point_at, points_of, counted_at, HasChains}
 use Rattle.dom_ranges.specs.Tables.{nodes_at}
 use Rattle.dom_ranges.proofs.Chained.{has-head, head-there, in-stands}
 use Rattle.dom_ranges.proofs.Steps.{points-at}
@@ -22,10 +22,10 @@ nodes-one n (Some p ∷ ps) zero q h y = let z : p ≡ q = cc in let w : (p.node
 nodes-one n (Some p ∷ ps) (suc e) q h y =
     ⊎_elim (λ (v : (p.node == n) ≡ true). rw v refl) (λ (v : (p.node == n) ≡ false). rw v (nodes-one n ps e q h y)) (cases_Bool (p.node == n))
 
-stands-none : (n : ℕ) (q : Point) → stands_at n (Some q) ≡ 0 → (q.node == n) ≡ false
+stands-none : (n : ℕ) (q : Point) → counted_at n (Some q) ≡ 0 → (q.node == n) ≡ false
 stands-none n q h = ⊎_elim (λ (a : (q.node == n) ≡ true). let b : cond true 1 0 ≡ 0 = rw a at h in absurd (omega arith)) (λ (a : (q.node == n) ≡ false). a) (cases_Bool (q.node == n))
 
-stands-some : (n : ℕ) (q : Point) → 0 < stands_at n (Some q) → (q.node == n) ≡ true
+stands-some : (n : ℕ) (q : Point) → 0 < counted_at n (Some q) → (q.node == n) ≡ true
 stands-some n q h = ⊎_elim (λ (a : (q.node == n) ≡ true). a) (λ (a : (q.node == n) ≡ false). let b : 0 < cond false 1 0 = rw a at h in absurd (omega arith)) (cases_Bool (q.node == n))
 
 -- a node has a head just where an end stands in it
@@ -37,13 +37,13 @@ heads-tell t heads has node = go (head_at heads node) refl
         let none : head_of (has.chain node) ≡ None = sym (has.chained.first node) ∙ h in
         rw h (sym (nodes-none node (points_of t) (λ e q at.
         let z : hits e (has.chain node) ≡ 0 = ⊎_elim (λ (y : hits e (has.chain node) ≡ 0). y) (λ (d : hits e (has.chain node) ≡ 0 → ⊥). absurd (has-head e (has.chain node) (omega arith) none)) (cases_eq (hits e (has.chain node)) 0) in
-        let s : stands_at node (point_at t e) ≡ 0 = sym (has.chained.counted e node) ∙ z in
+        let s : counted_at node (point_at t e) ≡ 0 = sym (has.chained.counted e node) ∙ z in
         let at' : point_at t e ≡ Some q = sym (points-at t e) ∙ at in
         stands-none node q (rw at' at s))))
     go (Some e) h =
         let there : 0 < hits e (has.chain node) = head-there e (has.chain node) (sym (has.chained.first node) ∙ h) in
         rw h (found e (point_at t e) refl (in-stands has.chain t heads has.chained e node there))
       where
-        found : (e : ℕ) (o : Option Point) → point_at t e ≡ o → 0 < stands_at node (point_at t e) → true ≡ among node (nodes_at (points_of t))
-        found e None a s = let z : 0 < stands_at node None = rw a at s in absurd (omega arith)
-        found e (Some q) a s = let z : 0 < stands_at node (Some q) = rw a at s in sym (nodes-one node (points_of t) e q (points-at t e ∙ a) (stands-some node q z))
+        found : (e : ℕ) (o : Option Point) → point_at t e ≡ o → 0 < counted_at node (point_at t e) → true ≡ among node (nodes_at (points_of t))
+        found e None a s = let z : 0 < counted_at node None = rw a at s in absurd (omega arith)
+        found e (Some q) a s = let z : 0 < counted_at node (Some q) = rw a at s in sym (nodes-one node (points_of t) e q (points-at t e ∙ a) (stands-some node q z))

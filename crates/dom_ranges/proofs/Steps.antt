@@ -6,7 +6,7 @@ use Rattle.std.proofs.lemmas.List.{map-set, map-append, length-map, length-take,
 use Rattle.dom_model.specs.PlainLists.Lists.{hits}
 use Rattle.dom_model.specs.Worlds.World.{Point}
 use Rattle.dom_ranges.specs.declared.chains.End.{End}
-use Rattle.dom_ranges.specs.Chained.{Heads, free_end, end_at, point_at, points_of, covers, cover_of, head_in, head_at, stands_at, HasChains, Rechains, unchained, chained_first, moved_from, table_moved, ForLink, led_on, heads_led, led_back, table_without, heads_without, table_with, heads_with}
+use Rattle.dom_ranges.specs.Chained.{Heads, free_end, end_at, point_at, points_of, covers, cover_of, head_in, head_at, counted_at, HasChains, Rechains, unchained, chained_first, moved_from, table_moved, ForLink, led_on, heads_led, led_back, table_without, heads_without, table_with, heads_with}
 use Rattle.dom_ranges.specs.Tables.{without_slot}
 use Rattle.dom_ranges.proofs.Covers.{cover-set}
 use Rattle.dom_ranges.proofs.Chained.{live-within, in-chain, point-covered, next-within, prev-within, head-within, IsChained-without, IsChained-with, led_on-length}
@@ -154,7 +154,7 @@ HasChains-same t t' heads heads' a b has = record {
   chain = has.chain;
   chained = record {
     first = λ n. b n ∙ has.chained.first n;
-    counted = λ e n. has.chained.counted e n ∙ sym (ap (λ (x : End). stands_at n x.point) (a e));
+    counted = λ e n. has.chained.counted e n ∙ sym (ap (λ (x : End). counted_at n x.point) (a e));
     next = λ e n h. ap (λ (x : End). x.next) (a e) ∙ has.chained.next e n h;
     prev = λ e n h. ap (λ (x : End). x.prev) (a e) ∙ has.chained.prev e n h;
   };
@@ -181,13 +181,13 @@ HasChains-forgotten t heads n none has = HasChains-same t t heads (set heads n N
         (λ (d : m ≡ n → ⊥). ap head_in (get_or-set_other heads n m None None d)) (cases_eq m n)
 
 -- an end that stays in its node stays in its chain
-stands-alike : (n : ℕ) (p q : Point) → p.node ≡ q.node → stands_at n (Some p) ≡ stands_at n (Some q)
+stands-alike : (n : ℕ) (p q : Point) → p.node ≡ q.node → counted_at n (Some p) ≡ counted_at n (Some q)
 stands-alike n p q h = ap (λ (m : ℕ). if m == n then 1 else 0) h
 
-pub stays-there : (p q : Point) → p.node ≡ q.node → (stands_at q.node (Some p) == 1) ≡ true
+pub stays-there : (p q : Point) → p.node ≡ q.node → (counted_at q.node (Some p) == 1) ≡ true
 stays-there p q h = let y : (p.node == q.node) ≡ true = eq-eqb p.node q.node h in rw y refl
 
-pub goes-elsewhere : (p q : Point) → (p.node ≡ q.node → ⊥) → (stands_at q.node (Some p) == 1) ≡ false
+pub goes-elsewhere : (p q : Point) → (p.node ≡ q.node → ⊥) → (counted_at q.node (Some p) == 1) ≡ false
 goes-elsewhere p q d = let y : (p.node == q.node) ≡ false = ne_eqb p.node q.node d in rw y refl
 
 module _ (t t' : List End) (heads heads' : Heads) (e : ℕ) (p q : Point) (at : point_at t e ≡ Some p) (node : p.node ≡ q.node) (table : t' ≡ table_moved e q t) (same : heads' ≡ heads) where
@@ -210,8 +210,8 @@ module _ (t t' : List End) (heads heads' : Heads) (e : ℕ) (p q : Point) (at : 
         first = ok.first;
         counted = λ k n.
             ⊎_elim (λ (i : k ≡ e).
-            rw i (ok.counted e n ∙ ap (stands_at n) at ∙ stands-alike n p q node ∙ sym (ap (λ (x : End). stands_at n x.point) moved-itself)))
-            (λ (d : k ≡ e → ⊥). ok.counted k n ∙ sym (ap (λ (x : End). stands_at n x.point) (moved-other k d))) (cases_eq k e);
+            rw i (ok.counted e n ∙ ap (counted_at n) at ∙ stands-alike n p q node ∙ sym (ap (λ (x : End). counted_at n x.point) moved-itself)))
+            (λ (d : k ≡ e → ⊥). ok.counted k n ∙ sym (ap (λ (x : End). counted_at n x.point) (moved-other k d))) (cases_eq k e);
         next = λ k n h.
             ⊎_elim (λ (i : k ≡ e). ap (λ m. (end_at (table_moved e q t) m).next) i ∙ ap (λ (x : End). x.next) moved-itself ∙ ap (λ m. (end_at t m).next) (sym i) ∙ ok.next k n h)
             (λ (d : k ≡ e → ⊥). ap (λ (x : End). x.next) (moved-other k d) ∙ ok.next k n h) (cases_eq k e);
@@ -241,8 +241,8 @@ HasChains-cut t t' heads heads' n cut same free has = rw (cut, same) (record {
   chained = record {
     first = has.chained.first;
     counted = λ e m.
-        ⊎_elim (λ (w : e < n). has.chained.counted e m ∙ sym (ap (λ (x : End). stands_at m x.point) (get_or-take n t e free_end w)))
-        (λ (past : n ≤ e). has.chained.counted e m ∙ ap (stands_at m) (free e past) ∙ sym (ap (λ (x : End). stands_at m x.point) (get_or_past (take n t) e free_end (omega (arith, length-take n t))))) (cases_lt e n);
+        ⊎_elim (λ (w : e < n). has.chained.counted e m ∙ sym (ap (λ (x : End). counted_at m x.point) (get_or-take n t e free_end w)))
+        (λ (past : n ≤ e). has.chained.counted e m ∙ ap (counted_at m) (free e past) ∙ sym (ap (λ (x : End). counted_at m x.point) (get_or_past (take n t) e free_end (omega (arith, length-take n t))))) (cases_lt e n);
     next = λ e m h. ap (λ (x : End). x.next) (front e m h) ∙ has.chained.next e m h;
     prev = λ e m h. ap (λ (x : End). x.prev) (front e m h) ∙ has.chained.prev e m h;
   };
@@ -251,7 +251,7 @@ HasChains-cut t t' heads heads' n cut same free has = rw (cut, same) (record {
     front : (e m : ℕ) → 0 < hits e (has.chain m) → end_at (take n t) e ≡ end_at t e
     front e m h =
         ⊎_elim (λ (w : e < n). get_or-take n t e free_end w)
-        (λ (past : n ≤ e). absurd (omega (arith, has.chained.counted e m ∙ ap (stands_at m) (free e past)))) (cases_lt e n)
+        (λ (past : n ≤ e). absurd (omega (arith, has.chained.counted e m ∙ ap (counted_at m) (free e past)))) (cases_lt e n)
 
 -- the ends of the last slot come into another, and are taken out of theirs
 module _ (t t1 t2 t3 t4 t5 : List End) (s l i j a b : ℕ) (p q : Point) (first : i ≡ s + s) (second : j ≡ s + s + 1) (first-last : a ≡ l + l) (second-last : b ≡ l + l + 1) (long : length t ≡ l + l + 2)

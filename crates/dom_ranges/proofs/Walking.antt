@@ -9,7 +9,7 @@ use Rattle.dom_model.proofs.PlainLists.Heads.{hits-first, hits-rest, after-first
 use Rattle.dom_links.proofs.Neighbours.{after-none, after-left_out, hits-left_out_other}
 use Rattle.dom_links.proofs.Counting.{length-le_from_once}
 use Rattle.dom_ranges.specs.declared.chains.End.{End}
-use Rattle.dom_ranges.specs.Chained.{Heads, end_at, point_at, points_of, covers, cover_of, head_at, stands_at, IsChained, HasChains, Rechains, moved_from, on_node, MovesWithin}
+use Rattle.dom_ranges.specs.Chained.{Heads, end_at, point_at, points_of, covers, cover_of, head_at, counted_at, IsChained, HasChains, Rechains, moved_from, on_node, MovesWithin}
 use Rattle.dom_ranges.proofs.Chained.{in-stands, once, chained-within}
 use Rattle.dom_ranges.proofs.Steps.{points-moved, same-length, point-written, point-kept, stays-there, goes-elsewhere}
 
@@ -56,7 +56,7 @@ pub record Walks (node : ℕ) (move : Point → Point) (t0 : List End) (covered 
   pub starts : here ≡ head_of rest
   pub walked : IsWalked node move t0 covered t heads chain rest
 
-on_other : (node : ℕ) (move : Point → Point) (o : Option Point) → stands_at node o ≡ 0 → o ≡ option_map (on_node node move) o
+on_other : (node : ℕ) (move : Point → Point) (o : Option Point) → counted_at node o ≡ 0 → o ≡ option_map (on_node node move) o
 on_other node move None h = refl
 on_other node move (Some p) h =
     ⊎_elim (λ (y : (p.node == node) ≡ true). let z : cond true 1 0 ≡ 0 = rw y at h in absurd (omega arith)) (λ (y : (p.node == node) ≡ false). rw y refl) (cases_Bool (p.node == node))
@@ -81,7 +81,7 @@ Walks-start node move t heads here has h = record {
     points e =
         ⊎_elim (λ (z : hits e (has.chain node) ≡ 0).
         let a = hits-not_among e (has.chain node) z in
-        let s : stands_at node (point_at t e) ≡ 0 = sym (has.chained.counted e node) ∙ z in
+        let s : counted_at node (point_at t e) ≡ 0 = sym (has.chained.counted e node) ∙ z in
         rw a (on_other node move (point_at t e) s))
         (λ (d : hits e (has.chain node) ≡ 0 → ⊥).
         ⊎_elim (λ (y : among e (has.chain node) ≡ true). rw y refl)
@@ -112,14 +112,14 @@ module _ (node : ℕ) (move : Point → Point) (t0 : List End) (covered : List B
     pub id-live : IsSome (point_at t id)
     id-live = go (point_at t id) (in-stands chain t heads w.chained id node chained-here)
       where
-        go : (o : Option Point) → 0 < stands_at node o → IsSome o
+        go : (o : Option Point) → 0 < counted_at node o → IsSome o
         go None h = absurd (omega arith)
         go (Some p) h = refl
 
     pub id-node : (p : Point) → point_at t id ≡ Some p → p.node ≡ node
     id-node p h =
-        let a : 0 < stands_at node (point_at t id) = in-stands chain t heads w.chained id node chained-here in
-        let b : 0 < stands_at node (Some p) = rw h at a in
+        let a : 0 < counted_at node (point_at t id) = in-stands chain t heads w.chained id node chained-here in
+        let b : 0 < counted_at node (Some p) = rw h at a in
         ⊎_elim (λ (y : (p.node == node) ≡ true). eqb-true p.node node y) (λ (y : (p.node == node) ≡ false). let z : 0 < cond false 1 0 = rw y at b in absurd (omega arith)) (cases_Bool (p.node == node))
 
     pub id-stood : point_at t id ≡ point_at t0 id
@@ -139,11 +139,11 @@ module _ (node : ℕ) (move : Point → Point) (t0 : List End) (covered : List B
     over p q = moved_from id (Some p) q.node chain
 
     stays : (p q : Point) → p.node ≡ node → (q.node == node) ≡ true → over p q node ≡ chain node
-    stays p q n y = let z : (stands_at q.node (Some p) == 1) ≡ true = stays-there p q (n ∙ sym (eqb-true q.node node y)) in rw z refl
+    stays p q n y = let z : (counted_at q.node (Some p) == 1) ≡ true = stays-there p q (n ∙ sym (eqb-true q.node node y)) in rw z refl
 
     leaves : (p q : Point) → p.node ≡ node → (q.node == node) ≡ false → over p q node ≡ left_out id (chain node)
     leaves p q n y =
-        let z : (stands_at q.node (Some p) == 1) ≡ false = goes-elsewhere p q (λ e. let v : (q.node == node) ≡ true = eq-eqb q.node node (sym e ∙ n) in false≢true (sym y ∙ v)) in
+        let z : (counted_at q.node (Some p) == 1) ≡ false = goes-elsewhere p q (λ e. let v : (q.node == node) ≡ true = eq-eqb q.node node (sym e ∙ n) in false≢true (sym y ∙ v)) in
         rw (z, y) refl
 
     pub stepped : (p q : Point) → point_at t id ≡ Some p → q ≡ move p → (t' : List End) (heads' : Heads) → points_of t' ≡ set (points_of t) id (Some q) → Rechains (moved_from id (point_at t id) q.node) t heads t' heads' → cover_of heads' ≡ cover_of heads

@@ -48,15 +48,15 @@ abbrev pub head_at : Heads → ℕ → Option ℕ
 head_at heads n = head_in (slice_index_or heads n None)
 
 -- 1 where the point stands in the node
-abbrev pub stands_at : ℕ → Option Point → ℕ
-stands_at n None = 0
-stands_at n (Some p) = if p.node == n then 1 else 0
+abbrev pub counted_at : ℕ → Option Point → ℕ
+counted_at n None = 0
+counted_at n (Some p) = if p.node == n then 1 else 0
 
 -- each node's chain is spelled in both directions from its head on, and has the ends that stand in the node, each once. A node that is not
 -- covered has no head, so no end stands in it
 pub record IsChained (chain : ℕ → List ℕ) (t : List End) (heads : Heads) : Type 0 where
   pub first : (n : ℕ) → head_at heads n ≡ head_of (chain n)
-  pub counted : (e n : ℕ) → hits e (chain n) ≡ stands_at n (point_at t e)
+  pub counted : (e n : ℕ) → hits e (chain n) ≡ counted_at n (point_at t e)
   pub next : (e n : ℕ) → 0 < hits e (chain n) → (end_at t e).next ≡ after e (chain n)
   pub prev : (e n : ℕ) → 0 < hits e (chain n) → (end_at t e).prev ≡ before e (chain n)
 
@@ -117,7 +117,7 @@ table_moved e p t = slice_set t e (record (end_at t e) { point = Some p })
 
 -- the chains, with an end moved from a point to a node: it keeps its place where it stays in its node, and comes first where it does not
 abbrev pub moved_from : ℕ → Option Point → ℕ → (ℕ → List ℕ) → ℕ → List ℕ
-moved_from e from node chain = if stands_at node from == 1 then chain else moved_first e node chain
+moved_from e from node chain = if counted_at node from == 1 then chain else moved_first e node chain
 
 -- what a change of chains does to whichever chains there are
 abbrev pub Rechains : ((ℕ → List ℕ) → ℕ → List ℕ) → List End → Heads → List End → Heads → Type 0

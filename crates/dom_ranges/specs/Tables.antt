@@ -32,6 +32,10 @@ range_in t r = slice_index_or t.ranges r None
 abbrev pub live_nodes : RangeTable → List ℕ
 live_nodes t = flat_map nodes_of_live t.ranges
 
+-- each node in which an end of a live range stands is covered
+abbrev pub AreCovered : RangeTable → Type 0
+AreCovered t = (n : ℕ) → among n (live_nodes t) ≡ true → IsCovered t n
+
 -- both offsets fit a number of the machine once they are moved, as they do before
 pub record FitsMoved (move : Point → Point) (r : Range) : Type 0 where
   pub start : r.start.offset < 2 ^ 64 → (move r.start).offset < 2 ^ 64
@@ -122,14 +126,14 @@ without_slot slot last ps =
     (slice_set (slice_set ps (slot + slot) (slice_index_or ps (last + last) None)) (slot + slot + 1) (slice_index_or ps (last + last + 1) None))
 
 -- the number of the range in a slot
-abbrev pub number_at : List ℕ → ℕ → ℕ
-number_at numbers s = slice_index_or numbers s 0
+abbrev pub range_in_slot : List ℕ → ℕ → ℕ
+range_in_slot numbers s = slice_index_or numbers s 0
 
 -- each number that has a slot has one to itself, with a range in it, and each slot is that of a number
 pub record HaveSlots (pairs : List (Option Range)) (slots : List (Option ℕ)) (numbers : List ℕ) : Type 0 where
-  pub named : (r s : ℕ) → slot_at slots r ≡ Some s → number_at numbers s ≡ r
+  pub named : (r s : ℕ) → slot_at slots r ≡ Some s → range_in_slot numbers s ≡ r
   pub full : (r s : ℕ) → slot_at slots r ≡ Some s → IsSome (slice_index_or pairs s None)
-  pub held : (s : ℕ) → s < length numbers → slot_at slots (number_at numbers s) ≡ Some s
+  pub held : (s : ℕ) → s < length numbers → slot_at slots (range_in_slot numbers s) ≡ Some s
 
 -- what the live ranges keep of their ends, of the slots of their numbers, and of the numbers of their slots. There are as many slots as live
 -- ranges, and two ends to each

@@ -1,13 +1,22 @@
 //! Laws of live range ends: each map that adjusts them, and each call that sets them anew, moves an end as the edit of the token texts moves
 //! its marker. They follow from the definitions alone; nothing here runs.
 
-ghost use Rattle.dom_ranges.specs.Markers.{MoveWhereNodesComeIn, MoveWhereANodeLeaves, MoveWhereUnitsAreReplaced, MoveWhereATextIsSplit, MoveWhereTextsAreJoined, MoveWhereEndsAreSet};
+ghost use Rattle.dom_ranges.specs.Markers.{MoveWhereNodesComeIn, MoveWhereSeveralNodesComeIn, MoveWhereANodeLeaves, MoveWhereUnitsAreReplaced, MoveWhereATextIsSplit, MoveWhereTextsAreJoined, MoveWhereEndsAreSet};
 
 /// A law: where a root comes in among a node's children, `after_gap` for one node moves each end of a live range as the coming in of the
-/// root's tokens behind the gap's markers moves its marker. Several nodes come in one after another, each in a gap of its own (DOM Standard,
-/// "Live ranges", "Mutation algorithms").
+/// root's tokens behind the gap's markers moves its marker (DOM Standard, "Live ranges",
+/// "Mutation algorithms").
 pub fn ends_move_as_markers_where_nodes_come_in()
     ensures { MoveWhereNodesComeIn }
+{}
+
+/// A law: where several roots come in one after another before one of a node's children, or behind the last, `after_gap` for their count moves
+/// each end of a live range as these edits, one after another, move its marker. So it is with one call of [`Ranges::gap`], which is made ahead
+/// of them all (DOM Standard, "Mutation algorithms").
+///
+/// [`Ranges::gap`]: crate::Ranges::gap
+pub fn ends_move_as_markers_where_several_nodes_come_in()
+    ensures { MoveWhereSeveralNodesComeIn }
 {}
 
 /// A law: where a node leaves its parent, `after_removal` moves each end of a live range as the removal of the node's tokens moves its

@@ -6,7 +6,7 @@ ghost use Rattle.dom_model.specs.PlainLists.Lists.{among};
 ghost use Rattle.dom_model.specs.Forests.Forest.{HasNode, inclusive_descendants};
 ghost use Rattle.dom_model.specs.Worlds.World.{Range};
 ghost use Rattle.dom_ranges.specs.Chained.{covers, covered_to, uncovered};
-ghost use Rattle.dom_ranges.specs.Tables.{IsCovered, range_in, slot_at, live_nodes, live_count, IsRangeIn};
+ghost use Rattle.dom_ranges.specs.Tables.{IsCovered, AreCovered, range_in, slot_at, live_nodes, live_count, IsRangeIn};
 
 use crate::chains::Chains;
 use crate::numbers::{RangeId, RangeSlot};
@@ -191,6 +191,17 @@ impl Ranges {
         ensures { result ≡ among node (live_nodes self.now) }
     {
         self.chains.stands_in(node)
+    }
+
+    /// A law: it does nothing, and its contract tells what holds of all live ranges at any time.
+    ///
+    /// The ends that stand in a node are its chain, each of them once, and a node that is not covered has no chain. So where
+    /// [`Ranges::stands_in`] answers yes, [`Ranges::is_covered`] does too. And each live range has two ends in a table of at most 2 ^ 33.
+    pub fn sound(&self)
+        ensures covered { AreCovered self.now }
+        ensures few { live_count self.now.ranges ≤ 2 ^ 32 }
+    {
+        let _ = &self.chains;
     }
 
     // Whether no range is live.

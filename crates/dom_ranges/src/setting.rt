@@ -7,6 +7,10 @@ ghost use Rattle.dom_model.specs.Forests.Forest.{HasNode, parent_of};
 ghost use Rattle.dom_model.specs.Worlds.World.{Range};
 ghost use Rattle.dom_model.specs.Forests.Nodes.{is_of_kind};
 ghost use Rattle.dom_model.specs.RangesAndContents.Ranges.{start_set, end_set, check_point, check_parent, check_contents, around, contents_of, collapsed, collapsed_at};
+ghost use Rattle.dom_model.specs.Commands.Command.{SelectNode, SelectNodeContents, Collapse};
+ghost use Rattle.dom_model.specs.TokenText.Edits.{ends_edits_at};
+ghost use Rattle.dom_model.specs.TokenText.CommandEdits.{start_edits, end_edits, command_edits};
+ghost use Rattle.dom_ranges.specs.Markers.{StandByEdits, IsNestedAs, IsMeasuredAs, HasPoint, IsAny};
 ghost use Rattle.dom_ranges.specs.Tables.{IsCovered, range_in, StandsIn, refused};
 
 use crate::numbers::RangeId;
@@ -29,6 +33,7 @@ impl Ranges {
         requires stands { ForSome (range_in self.old r) (StandsIn tree.old.forest) }
         ensures refusal { result ≡ refused (check_point X.length tree.old.forest p) }
         ensures set { OnOk result (IfSome (range_in self.old r) (λ range. self.new ≡ record self.old { ranges = slice_set self.old.ranges r (Some (start_set tree.old.forest p range)) })) }
+        ensures markers { OnOk result (StandByEdits (IsMeasuredAs X.length tree.old.forest) self.old self.new (start_edits r p)) }
         ensures unchanged { OnErr result (self.new ≡ self.old) }
         ensures kept { tree.new ≡ tree.old }
     {
@@ -55,6 +60,7 @@ impl Ranges {
         requires stands { ForSome (range_in self.old r) (StandsIn tree.old.forest) }
         ensures refusal { result ≡ refused (check_point X.length tree.old.forest p) }
         ensures set { OnOk result (IfSome (range_in self.old r) (λ range. self.new ≡ record self.old { ranges = slice_set self.old.ranges r (Some (end_set tree.old.forest p range)) })) }
+        ensures markers { OnOk result (StandByEdits (IsMeasuredAs X.length tree.old.forest) self.old self.new (end_edits r p)) }
         ensures unchanged { OnErr result (self.new ≡ self.old) }
         ensures kept { tree.new ≡ tree.old }
     {
@@ -75,6 +81,7 @@ impl Ranges {
         requires covered { ForSome (parent_of tree.now.forest node) (IsCovered self.old) }
         ensures refusal { result ≡ refused (check_parent tree.now.forest node) }
         ensures set { OnOk result (IfSome (around tree.now.forest node) (λ range. self.new ≡ record self.old { ranges = slice_set self.old.ranges r (Some range) })) }
+        ensures markers { OnOk result (StandByEdits (IsNestedAs tree.now.forest) self.old self.new (command_edits (SelectNode r node))) }
         ensures unchanged { OnErr result (self.new ≡ self.old) }
     {
         if tree.parent(node).is_none() {
@@ -90,7 +97,8 @@ impl Ranges {
         requires node { HasNode tree.now.forest node }
         requires allowed { check_parent tree.now.forest node ≡ None }
         requires covered { ForSome (parent_of tree.now.forest node) (IsCovered self.old) }
-        ensures { IfSome (around tree.now.forest node) (λ range. self.new ≡ record self.old { ranges = slice_set self.old.ranges r (Some range) }) }
+        ensures set { IfSome (around tree.now.forest node) (λ range. self.new ≡ record self.old { ranges = slice_set self.old.ranges r (Some range) }) }
+        ensures markers { StandByEdits (IsNestedAs tree.now.forest) self.old self.new (command_edits (SelectNode r node)) }
     {
         let (start, end) = points_around(tree, node).unwrap();
         self.write(r, start, end);
@@ -108,6 +116,7 @@ impl Ranges {
         requires covered { IsCovered self.old node }
         ensures refusal { result ≡ refused (check_contents tree.now.forest node) }
         ensures set { OnOk result (self.new ≡ record self.old { ranges = slice_set self.old.ranges r (Some (contents_of X.length tree.now.forest node)) }) }
+        ensures markers { OnOk result (StandByEdits (IsMeasuredAs X.length tree.now.forest) self.old self.new (command_edits (SelectNodeContents r node))) }
         ensures unchanged { OnErr result (self.new ≡ self.old) }
     {
         if tree.is_of_kind(node, Kind::DocumentType) {
@@ -122,7 +131,8 @@ impl Ranges {
     pub fn collapse_at(&mut self, r: RangeId, p: Point)
         requires held { IsSome (range_in self.old r) }
         requires covered { IsCovered self.old p.node }
-        ensures { self.new ≡ record self.old { ranges = slice_set self.old.ranges r (Some (collapsed_at p)) } }
+        ensures set { self.new ≡ record self.old { ranges = slice_set self.old.ranges r (Some (collapsed_at p)) } }
+        ensures markers { StandByEdits (HasPoint p) self.old self.new (ends_edits_at r (collapsed_at p)) }
     {
         self.write(r, p, p);
     }
@@ -130,7 +140,8 @@ impl Ranges {
     /// Both ends become the start, or the end.
     pub fn collapse(&mut self, r: RangeId, to_start: bool)
         requires { IsSome (range_in self.old r) }
-        ensures { IfSome (range_in self.old r) (λ range. self.new ≡ record self.old { ranges = slice_set self.old.ranges r (Some (collapsed to_start range)) }) }
+        ensures set { IfSome (range_in self.old r) (λ range. self.new ≡ record self.old { ranges = slice_set self.old.ranges r (Some (collapsed to_start range)) }) }
+        ensures markers { StandByEdits IsAny self.old self.new (command_edits (Collapse r to_start)) }
     {
         let (start, end) = self.ends(r);
         if to_start {

@@ -8,7 +8,6 @@ use Rattle.dom_model.specs.Commands.Answer.{Bounds}
 use Rattle.dom_model.specs.Commands.Table.{whole_table}
 use Rattle.dom_model.specs.Commands.Printed.{out_of_memory_line}
 use Rattle.dom_model.specs.Commands.Output.{joined, due, whole_lines, last_piece, lines_of, output_of}
-use Rattle.dom_model.proofs.Commands.ReplyLines.{length-whole_lines-output_of, last_piece-output_of}
 use Rattle.dom_serve.specs.declared.fault.Fault.{Fault}
 use Rattle.dom_serve.specs.declared.fault.Fault.TheVariants.{Read, Write, Memory, InputTooLong}
 use Rattle.dom_serve.specs.declared.fault.Summary.{Summary}
@@ -17,7 +16,8 @@ use Rattle.dom_serve.specs.Writes.{IsPrefix}
 use Rattle.dom_serve.specs.Calls.{EndsWith}
 use Rattle.dom_serve.specs.Pieces.{Reads, AreWithin, EndsOnce, is_nothing, has_end, before_last}
 use Rattle.dom_serve.specs.Tells.{is_read_fault, SaysOutOfMemory, IsCutShort, AnswersEarlier, Tells}
-use Rattle.dom_serve.specs.Server.{Stands, Grows, IsBroken, Breaks, Concludes, SaysWant, IsSoFar, IsTold}
+use Rattle.dom_serve.specs.Server.{Stands, Grows, IsBroken, Breaks, Concludes, SaysWant, IsSoFar}
+use Rattle.dom_serve.specs.Serves.{IsTold}
 use Rattle.dom_serve.proofs.Lines.{joined-single}
 use Rattle.dom_serve.proofs.Growth.{Grows-written}
 
@@ -293,21 +293,6 @@ told-none gives fails left b turns old taken taken' Memory s = record {
 }
 told-none gives fails left b turns old taken taken' InputTooLong s = absurd s
 
--- ---- one line for each
-
-one-each-of : (b : Bounds) (bytes text : List ℕ) (lines : ℕ) → text ≡ output_of whole_table b bytes → lines ≡ length (lines_of bytes)
-    → (length (whole_lines text) ≡ lines) × (last_piece text ≡ [])
-one-each-of b bytes text lines e h =
-    (ap (λ l. length (whole_lines l)) e ∙ length-whole_lines-output_of whole_table b bytes ∙ sym h, ap last_piece e ∙ last_piece-output_of whole_table b bytes)
-
--- what was written has one whole line for each line of the input
-pub one-each : {R : Type 0} (gives : R → List ℕ → R → Type 0) (fails : R → R → Type 0) (left : R → Option (List ℕ)) (b : Bounds) (turns : ℕ) (old new : R) (taken taken' : Option (List ℕ))
-    (result : Result Summary Fault) → IsTold gives fails left b turns old new taken taken' result
-    → IfOk result (λ summary. (text : List ℕ) × Appends taken taken' text × (length (whole_lines text) ≡ summary.lines) × (last_piece text ≡ []))
-one-each gives fails left b turns old new taken taken' (Ok summary) t =
-    let e = one-each-of b (joined t.pieces) t.text summary.lines t.tells.1 t.tells.2 in (t.text, t.written, e.0, e.1)
-one-each gives fails left b turns old new taken taken' (Err fault) t = tt
-
 -- ---- once the input ended
 
 -- what was written is the output for all of the input
@@ -318,11 +303,3 @@ told-output gives fails left b turns old new taken taken' (Ok summary) t ended =
     Consumes-whole (left old) (left new) (joined t.pieces) (λ input. Appends taken taken' (output_of whole_table b input)) t.consumed ended
     (subst (λ l. Appends taken taken' l) t.tells.1 t.written)
 told-output gives fails left b turns old new taken taken' (Err fault) t ended = tt
-
--- as many lines were counted as the input has
-pub told-lines : {R : Type 0} (gives : R → List ℕ → R → Type 0) (fails : R → R → Type 0) (left : R → Option (List ℕ)) (b : Bounds) (turns : ℕ) (old new : R) (taken taken' : Option (List ℕ))
-    (result : Result Summary Fault) → IsTold gives fails left b turns old new taken taken' result → OnOk result (IsAtEnd (left new))
-    → IfOk result (λ summary. IfSome (left old) (λ input. summary.lines ≡ length (lines_of input)))
-told-lines gives fails left b turns old new taken taken' (Ok summary) t ended =
-    Consumes-whole (left old) (left new) (joined t.pieces) (λ input. summary.lines ≡ length (lines_of input)) t.consumed ended t.tells.2
-told-lines gives fails left b turns old new taken taken' (Err fault) t ended = tt

@@ -4,3 +4,4 @@ pub mod Calls
 pub mod Tells
 pub mod Server
 pub mod Limits
+pub mod Serves

@@ -18,9 +18,8 @@ use Rattle.dom_serve.specs.declared.fault.Fault.TheVariants.{Read, Write, Memory
 use Rattle.dom_serve.specs.declared.server.Server.{Server}
 use Rattle.dom_serve.specs.declared.fault.Summary.{Summary}
 use Rattle.dom_serve.specs.Writes.{AppendsFront}
-use Rattle.dom_serve.specs.Pieces.{Reads, AreWithin, EndsOnce, is_nothing, has_end}
-use Rattle.dom_serve.specs.Calls.{EndsWith}
-use Rattle.dom_serve.specs.Tells.{is_read_fault, IsCutShort, SaysOutOfMemory, Tells}
+use Rattle.dom_serve.specs.Pieces.{Reads, is_nothing, has_end}
+use Rattle.dom_serve.specs.Tells.{IsCutShort, SaysOutOfMemory}
 
 -- the command of the line that is held, of which the bytes were kept unless there were too many
 abbrev pub held_command : List ℕ → Bool → Result Command OwnError
@@ -127,17 +126,3 @@ pub record IsSoFar {R : Type 0} (gives : R → List ℕ → R → Type 0) (left 
   pub consumed : Consumes (left old) (left new) (joined pieces)
   pub stands : Stands b (joined pieces) s
   pub written : Appends taken taken' (joined (due whole_table b (joined pieces) false))
-
--- the pieces that reads gave, and what was written for them
-pub record IsTold {R : Type 0} (gives : R → List ℕ → R → Type 0) (fails : R → R → Type 0) (left : R → Option (List ℕ)) (b : Bounds) (turns : ℕ) (old new : R)
-    (taken taken' : Option (List ℕ)) (result : Result Summary Fault) : Type 0 where
-  pub pieces : List (List ℕ)
-  pub text : List ℕ
-  pub last : R
-  pub reads : Reads gives old pieces last
-  pub ends : EndsWith fails (is_read_fault result) last new
-  pub within : AreWithin turns pieces
-  pub once : EndsOnce pieces
-  pub consumed : Consumes (left old) (left new) (joined pieces)
-  pub written : Appends taken taken' text
-  pub tells : Tells b turns pieces text result

@@ -1,15 +1,15 @@
 //! Serving: read, answer what became due, read again.
 
 ghost use Rattle.std.specs.Prelude.{◌≡◌, ℕ, ◌+◌, ◌<◌, ◌≤◌, ◌^◌, true, false, List, [], length, take, IfOk, OnOk, OnErr, IfSome, ◌⊎◌};
-ghost use Rattle.std.specs.Io.KnownBytes.{Appends, Consumes, IsAtEnd, ReadConsumes};
+ghost use Rattle.std.specs.Io.KnownBytes.{Appends, IsAtEnd, ReadConsumes};
 ghost use Rattle.dom_model.specs.Commands.Answer.{Bounds};
 ghost use Rattle.dom_model.specs.Commands.Table.{whole_table};
-ghost use Rattle.dom_model.specs.Commands.Output.{joined, whole_lines, last_piece, lines_of, output_of};
+ghost use Rattle.dom_model.specs.Commands.Output.{output_of};
 ghost use Rattle.dom_wire.specs.Sessions.{bounds_of};
-ghost use Rattle.dom_serve.specs.Pieces.{Reads, AreWithin, EndsOnce};
-ghost use Rattle.dom_serve.specs.Calls.{EndsWith, IsRead, IsWritten, HasPassedOn, HasAnswered};
-ghost use Rattle.dom_serve.specs.Tells.{is_read_fault, is_write_fault, Tells};
-ghost use Rattle.dom_serve.specs.Server.{Stands, Concludes, IsTold};
+ghost use Rattle.dom_serve.specs.Calls.{IsWritten, HasPassedOn, HasAnswered};
+ghost use Rattle.dom_serve.specs.Serves.{IsTold, Serves};
+ghost use Rattle.dom_serve.specs.Tells.{is_write_fault};
+ghost use Rattle.dom_serve.specs.Server.{Stands, Concludes};
 
 use crate::fault::{Fault, Summary};
 use crate::server::Server;
@@ -121,30 +121,8 @@ pub fn serve_within<R: Source, W: Sink>(
     requires line { 1 ≤ limits.line }
     requires bounded { (1 ≤ turns) × (turns ≤ 2 ^ 40) }
 
-    // Whatever the sizes of the reads, what is written is the output for all bytes of the reader.
-    ensures output { OnOk result (IfSome (R.left reader.old) (λ input.
-        Appends (W.taken writer.old) (W.taken writer.new) (output_of whole_table (bounds_of limits) input))) }
-    ensures lines { IfOk result (λ summary. IfSome (R.left reader.old) (λ input.
-        summary.lines ≡ length (lines_of input))) }
-
-    // One whole line was written for each line of the input, and nothing after the last of them.
-    ensures one_each { IfOk result (λ summary. (text : List ℕ) × Appends (W.taken writer.old) (W.taken writer.new) text
-        × (length (whole_lines text) ≡ summary.lines) × (last_piece text ≡ [])) }
-
-    // For each outcome: the pieces that reads gave, and the text that was written.
-    ensures tells { (pieces : List (List ℕ)) × (text : List ℕ) × (last : _)
-        × Reads R.gives reader.old pieces last × EndsWith R.fails (is_read_fault result) last reader.new
-        × AreWithin turns pieces × EndsOnce pieces
-        × Consumes (R.left reader.old) (R.left reader.new) (joined pieces)
-        × Appends (W.taken writer.old) (W.taken writer.new) text
-        × Tells (bounds_of limits) turns pieces text result }
-
-    // Where no write or flush failed, all that was written has been passed on.
-    ensures passed { is_write_fault result ≡ false → HasPassedOn W.is_passed_on writer.old writer.new }
-
-    // A read failed only at `Read`, a write or a flush only at `Write`, and nothing was asked after that.
-    ensures reader { IsRead R.gives R.fails (is_read_fault result) reader.old reader.new }
-    ensures writer { IsWritten W.works W.fails (is_write_fault result) writer.old writer.new }
+    ensures { Serves R.gives R.fails R.left W.works W.fails W.taken W.is_passed_on (bounds_of limits) turns
+        reader.old reader.new writer.old writer.new result }
 {
     match start(alloc, limits) {
         Ok((mut server, mut buffer)) => {
@@ -167,27 +145,8 @@ pub fn serve<R: Source, W: Sink>(
     // Whatever the sizes of the reads, what is written is the output for all bytes of the reader.
     ensures output { OnOk result (IfSome (R.left reader.old) (λ input.
         Appends (W.taken writer.old) (W.taken writer.new) (output_of whole_table (bounds_of limits) input))) }
-    ensures lines { IfOk result (λ summary. IfSome (R.left reader.old) (λ input.
-        summary.lines ≡ length (lines_of input))) }
-
-    // One whole line was written for each line of the input, and nothing after the last of them.
-    ensures one_each { IfOk result (λ summary. (text : List ℕ) × Appends (W.taken writer.old) (W.taken writer.new) text
-        × (length (whole_lines text) ≡ summary.lines) × (last_piece text ≡ [])) }
-
-    // For each outcome: the pieces that reads gave, and the text that was written.
-    ensures tells { (pieces : List (List ℕ)) × (text : List ℕ) × (last : _)
-        × Reads R.gives reader.old pieces last × EndsWith R.fails (is_read_fault result) last reader.new
-        × AreWithin (2 ^ 40) pieces × EndsOnce pieces
-        × Consumes (R.left reader.old) (R.left reader.new) (joined pieces)
-        × Appends (W.taken writer.old) (W.taken writer.new) text
-        × Tells (bounds_of limits) (2 ^ 40) pieces text result }
-
-    // Where no write or flush failed, all that was written has been passed on.
-    ensures passed { is_write_fault result ≡ false → HasPassedOn W.is_passed_on writer.old writer.new }
-
-    // A read failed only at `Read`, a write or a flush only at `Write`, and nothing was asked after that.
-    ensures reader { IsRead R.gives R.fails (is_read_fault result) reader.old reader.new }
-    ensures writer { IsWritten W.works W.fails (is_write_fault result) writer.old writer.new }
+    ensures serves { Serves R.gives R.fails R.left W.works W.fails W.taken W.is_passed_on (bounds_of limits) (2 ^ 40)
+        reader.old reader.new writer.old writer.new result }
 {
     serve_within(alloc, limits, MOST_READS, reader, writer)
 }

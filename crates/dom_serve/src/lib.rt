@@ -5,6 +5,7 @@ mod answering;
 mod fault;
 mod feeding;
 mod from_read;
+pub mod laws;
 mod replies;
 mod server;
 mod streams;

@@ -14,3 +14,4 @@ pub mod RangeAnswers
 pub mod NodeData
 pub mod Unfelt
 pub mod ContentsAnswers
+pub mod Laying

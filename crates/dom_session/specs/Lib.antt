@@ -5,3 +5,4 @@ pub mod Limiting
 pub mod Bounding
 pub mod Printing
 pub mod Codes
+pub mod Links

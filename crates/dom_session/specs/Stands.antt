@@ -2,7 +2,7 @@
 use Rattle.std.specs.Prelude.{◌≡◌, Bool, true}
 use Rattle.dom_model.specs.Worlds.World as model
 use Rattle.dom_model.specs.Commands.Command.{Command}
-use Rattle.dom_model.specs.Commands.Answer.{Bounds, answer}
+use Rattle.dom_model.specs.Commands.Answer.{Bounds, Step, answer}
 use Rattle.dom_model.specs.Commands.Reply.{is_refusal}
 use Rattle.dom_edit.specs.declared.world.World.{World}
 use Rattle.dom_edit.specs.Whole.{Shows}
@@ -29,3 +29,7 @@ pub record IsStep (old new : World) (b : Bounds) (c : Command) (reply : Reply) :
   pub reply_is : (w : model.World) → Shows old w → reply_view reply ≡ (answer b w c).reply
   pub world_is : (w : model.World) → Shows old w → Shows new (answer b w c).world
   pub refused : is_refusal (reply_view reply) ≡ true → new ≡ old
+
+-- a step for each command that means, in every world shown, what is told
+abbrev pub StepsAs : World → World → Reply → (model.World → Step) → Type 0
+StepsAs old new reply meaning = (b : Bounds) (c : Command) → ((w : model.World) → Shows old w → answer b w c ≡ meaning w) → IsStep old new b c reply

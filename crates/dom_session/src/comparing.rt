@@ -2,7 +2,7 @@
 
 ghost use Rattle.std.specs.Prelude.{◌≡◌, true};
 ghost use Rattle.dom_model.specs.Forests.Forest.{HasNode, root_of};
-ghost use Rattle.dom_model.specs.Forests.Nodes.{same_root as has_same_root};
+ghost use Rattle.dom_model.specs.Forests.Nodes as nodes;
 ghost use Rattle.dom_model.specs.Worlds.World.{Range};
 ghost use Rattle.dom_model.specs.RangesAndContents.Ranges.{place_against, is_point_in, intersects};
 ghost use Rattle.dom_model.specs.Commands.Command.{CompareBoundaryPoints, ComparePoint, IsPointInRange, IntersectsNode, CommonAncestor};
@@ -43,7 +43,7 @@ fn place(tree: &mut Tree<Content>, point: Point, start: Point, end: Point) -> Or
 fn is_inside(tree: &mut Tree<Content>, point: Point, start: Point, end: Point) -> bool
     requires point_held { HasNode tree.old.forest point.node }
     requires stands { StandsIn tree.old.forest (record { start = start; end = end }) }
-    requires one_root { has_same_root tree.old.forest point.node start.node ≡ true }
+    requires one_root { nodes.same_root tree.old.forest point.node start.node ≡ true }
     ensures inside { result ≡ is_point_in tree.old.forest point (record { start = start; end = end }) }
     ensures unchanged { tree.new ≡ tree.old }
 {

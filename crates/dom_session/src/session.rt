@@ -2,15 +2,20 @@
 
 ghost use Rattle.std.specs.Prelude.{◌≡◌, ℕ, ◌≤◌, true, false, IsErr, IfOk, OnOk, OnErr};
 ghost use Rattle.dom_model.specs.Worlds.World.{World as PlainWorld, first_world};
+ghost use Rattle.dom_model.specs.Forests.Forest.{children_of};
 ghost use Rattle.dom_model.specs.Commands.Reply.{is_refusal};
 ghost use Rattle.dom_session.specs.Views.{command_view, reply_view};
 ghost use Rattle.dom_session.specs.Stands.{StandsFor, IsAnswered};
 ghost use Rattle.dom_session.specs.Bounding.{bounds_of};
+ghost use Rattle.dom_session.specs.Links.{links_in, first_child_in, last_child_in, child_in, count_in, laid_over};
 
 use crate::answering::answered;
 use crate::command::Command;
+use crate::links::{self, Links};
 use crate::reply::Reply;
 use dom_edit::World;
+use dom_model::OwnError;
+use dom_tree::NodeId;
 use std::alloc::{AllocError, Global};
 use std::marker::Model;
 
@@ -93,5 +98,42 @@ impl Session {
                 Err(Ended)
             }
         }
+    }
+
+    /// What a node is, and what stands around it, in constant time. No command is applied, and no memory taken.
+    pub fn links(&self, node: NodeId) -> Result<Links, OwnError>
+        ensures { (w : PlainWorld) → StandsFor self.now w → result ≡ links_in w.forest node }
+    {
+        links::links_at(&self.world.tree, node)
+    }
+
+    /// The first child of a node, where it has one, in constant time.
+    pub fn first_child(&self, node: NodeId) -> Result<Option<NodeId>, OwnError>
+        ensures { (w : PlainWorld) → StandsFor self.now w → result ≡ first_child_in w.forest node }
+    {
+        links::first_child(&self.world.tree, node)
+    }
+
+    /// The last child of a node, where it has one, in constant time.
+    pub fn last_child(&self, node: NodeId) -> Result<Option<NodeId>, OwnError>
+        ensures { (w : PlainWorld) → StandsFor self.now w → result ≡ last_child_in w.forest node }
+    {
+        links::last_child(&self.world.tree, node)
+    }
+
+    /// The child of a node at an index, where there is one. It goes there from the nearer end.
+    pub fn child_at(&self, node: NodeId, index: usize) -> Result<Option<NodeId>, OwnError>
+        ensures { (w : PlainWorld) → StandsFor self.now w → result ≡ child_in index w.forest node }
+    {
+        links::child_at(&self.world.tree, node, index)
+    }
+
+    /// Copies the numbers of the children of a node over the front of a slice, as far as there is room, and tells how many children
+    /// there are.
+    pub fn copy_children(&self, node: NodeId, into: &mut [u32]) -> Result<usize, OwnError>
+        ensures count { (w : PlainWorld) → StandsFor self.now w → result ≡ count_in w.forest node }
+        ensures copied { (w : PlainWorld) → StandsFor self.now w → into.new ≡ laid_over (children_of w.forest node) into.old }
+    {
+        links::copy_children(&self.world.tree, node, into)
     }
 }

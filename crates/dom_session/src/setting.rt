@@ -1,15 +1,13 @@
 //! The commands that set the ends of live ranges (DOM Standard, "Interface Range").
 
 ghost use Rattle.std.specs.Prelude.{◌≡◌, IfSome};
-ghost use Rattle.dom_model.specs.Worlds.World.{World as PlainWorld};
 ghost use Rattle.dom_model.specs.Soundness.Sound.{IsBoundary};
-ghost use Rattle.dom_model.specs.Commands.Command.{Command as PlainCommand, SetStart, SetEnd, SetStartBefore, SetStartAfter, SetEndBefore, SetEndAfter, Collapse, SelectNode, SelectNodeContents};
+ghost use Rattle.dom_model.specs.Commands.Command.{SetStart, SetEnd, SetStartBefore, SetStartAfter, SetEndBefore, SetEndAfter, Collapse, SelectNode, SelectNodeContents};
 ghost use Rattle.dom_model.specs.Commands.Guards.{Bounds};
-ghost use Rattle.dom_model.specs.Commands.Answer.{answer};
 ghost use Rattle.dom_model.specs.Commands.AnswerRanges.{sets_start, sets_end};
-ghost use Rattle.dom_edit.specs.Whole.{IsShown, Shows};
+ghost use Rattle.dom_edit.specs.Whole.{IsShown};
 ghost use Rattle.dom_session.specs.Views.{setting_view};
-ghost use Rattle.dom_session.specs.Stands.{IsStep};
+ghost use Rattle.dom_session.specs.Stands.{IsStep, StepsAs};
 
 use crate::command::Setting;
 use crate::questions::find_index;
@@ -61,7 +59,7 @@ pub(crate) fn set_end(world: &mut World, range: RangeId, node: NodeId, offset: u
 fn set_start_beside(world: &mut World, range: RangeId, node: NodeId, point: Option<Point>) -> Reply
     requires shown { IsShown world.old }
     requires boundary { IfSome point (IsBoundary world.old.tree.forest) }
-    ensures step { (b : Bounds) (c : PlainCommand) → ((w : PlainWorld) → Shows world.old w → answer b w c ≡ sets_start range node point w) → IsStep world.old world.new b c result }
+    ensures step { StepsAs world.old world.new result (sets_start range node point) }
 {
     if !world.ranges.holds(range) || !world.tree.holds(node) {
         return Reply::Own(OwnError::NoSuchObject);
@@ -79,7 +77,7 @@ fn set_start_beside(world: &mut World, range: RangeId, node: NodeId, point: Opti
 fn set_end_beside(world: &mut World, range: RangeId, node: NodeId, point: Option<Point>) -> Reply
     requires shown { IsShown world.old }
     requires boundary { IfSome point (IsBoundary world.old.tree.forest) }
-    ensures step { (b : Bounds) (c : PlainCommand) → ((w : PlainWorld) → Shows world.old w → answer b w c ≡ sets_end range node point w) → IsStep world.old world.new b c result }
+    ensures step { StepsAs world.old world.new result (sets_end range node point) }
 {
     if !world.ranges.holds(range) || !world.tree.holds(node) {
         return Reply::Own(OwnError::NoSuchObject);

@@ -7,19 +7,19 @@ use Rattle.dom_model.specs.PlainLists.Lists.{hits, is_number, head_of, after, be
 use Rattle.dom_links.specs.Wiring.{link_unless}
 use Rattle.dom_links.proofs.Neighbours.{is_number-true, left_out-none, hits-left_out_same, hits-left_out_other, head_of-left_out, after-left_out, before_from-left_out, meets, first_of}
 use Rattle.dom_traverse.specs.declared.seats.Seat.{Seat}
-use Rattle.dom_traverse.specs.Seats.{Heads, free_seat, seat_at, place_at, head_at, stands_at, IsChained, ForLink, led_on, heads_led, led_back, seats_without, heads_without, seats_with, heads_with}
+use Rattle.dom_traverse.specs.Seats.{Heads, free_seat, seat_at, place_at, head_at, counted_at, IsChained, ForLink, led_on, heads_led, led_back, seats_without, heads_without, seats_with, heads_with}
 use Rattle.dom_traverse.proofs.ListsBeside.{after-there, before-there, head-there, has-head}
 
 -- an item stands at one place
-pub stands-both : (n m : ℕ) (o : Option ℕ) → 0 < stands_at n o → 0 < stands_at m o → n ≡ m
+pub stands-both : (n m : ℕ) (o : Option ℕ) → 0 < counted_at n o → 0 < counted_at m o → n ≡ m
 stands-both n m None a b = absurd (omega arith)
 stands-both n m (Some p) a b = grind (arith, nat_tests)
 
-pub stands-once : (n : ℕ) (o : Option ℕ) → stands_at n o ≤ 1
+pub stands-once : (n : ℕ) (o : Option ℕ) → counted_at n o ≤ 1
 stands-once n None = omega arith
 stands-once n (Some p) = grind (arith, nat_tests)
 
-pub stands-itself : (p : ℕ) → stands_at p (Some p) ≡ 1
+pub stands-itself : (p : ℕ) → counted_at p (Some p) ≡ 1
 stands-itself p = rw (eq-eqb p p refl) refl
 
 -- an item that stands somewhere has a seat
@@ -45,7 +45,7 @@ head-within heads n k h =
     cc) (cases_lt n (length heads))
 
 module _ (c : ℕ → List ℕ) (t : List Seat) (heads : Heads) (ok : IsChained c t heads) where
-  pub in-stands : (e n : ℕ) → 0 < hits e (c n) → 0 < stands_at n (place_at t e)
+  pub in-stands : (e n : ℕ) → 0 < hits e (c n) → 0 < counted_at n (place_at t e)
   in-stands e n h = omega (arith, ok.counted e n)
 
   pub once : (e n : ℕ) → hits e (c n) ≤ 1
@@ -53,7 +53,7 @@ module _ (c : ℕ → List ℕ) (t : List Seat) (heads : Heads) (ok : IsChained 
 
   pub in-chain : (e : ℕ) (p : ℕ) → place_at t e ≡ Some p → hits e (c p) ≡ 1
   in-chain e p h =
-      let a : stands_at p (place_at t e) ≡ 1 = rw h (stands-itself p) in
+      let a : counted_at p (place_at t e) ≡ 1 = rw h (stands-itself p) in
       ok.counted e p ∙ a
 
   pub one-chain : (e n m : ℕ) → 0 < hits e (c n) → 0 < hits e (c m) → n ≡ m
@@ -62,8 +62,8 @@ module _ (c : ℕ → List ℕ) (t : List Seat) (heads : Heads) (ok : IsChained 
   pub chained-within : (e n : ℕ) → 0 < hits e (c n) → e < length t
   chained-within e n h = go (place_at t e) refl (in-stands e n h)
     where
-      go : (o : Option ℕ) → place_at t e ≡ o → 0 < stands_at n (place_at t e) → e < length t
-      go None q s = let z : 0 < stands_at n None = rw q at s in absurd (omega arith)
+      go : (o : Option ℕ) → place_at t e ≡ o → 0 < counted_at n (place_at t e) → e < length t
+      go None q s = let z : 0 < counted_at n None = rw q at s in absurd (omega arith)
       go (Some p) q s = live-within t e p q
 
   -- a place in whose chain an item stands is there
@@ -198,10 +198,10 @@ module _ (c : ℕ → List ℕ) (t : List Seat) (heads : Heads) (ok : IsChained 
           ⊎_elim (λ (z : hits e (c n) ≡ 0). first-there n (apart n z) (seat_at t e).prev ∙ ok.first n ∙ sym (ap head_of (left_out-none e (c n) z)))
           (λ (d : hits e (c n) ≡ 0 → ⊥). let q : n ≡ p = one-chain c t heads ok e n p (omega arith) here in rw q first-here) (cases_eq (hits e (c n)) 0)
 
-      counted : (k n : ℕ) → hits k (left_out e (c n)) ≡ stands_at n (place_at (seats_without e t) k)
+      counted : (k n : ℕ) → hits k (left_out e (c n)) ≡ counted_at n (place_at (seats_without e t) k)
       counted k n =
-          ⊎_elim (λ (q : k ≡ e). rw q (hits-left_out_same e (c n) ∙ sym (ap (λ (x : Seat). stands_at n x.place) without-itself)))
-          (λ (d : k ≡ e → ⊥). hits-left_out_other k e (c n) (λ q. d (sym q)) ∙ ok.counted k n ∙ sym (ap (λ (x : Seat). stands_at n x.place) (without-seat k d))) (cases_eq k e)
+          ⊎_elim (λ (q : k ≡ e). rw q (hits-left_out_same e (c n) ∙ sym (ap (λ (x : Seat). counted_at n x.place) without-itself)))
+          (λ (d : k ≡ e → ⊥). hits-left_out_other k e (c n) (λ q. d (sym q)) ∙ ok.counted k n ∙ sym (ap (λ (x : Seat). counted_at n x.place) (without-seat k d))) (cases_eq k e)
 
       other : (k n : ℕ) → 0 < hits k (left_out e (c n)) → k ≡ e → ⊥
       other k n h q = let a : 0 < hits e (left_out e (c n)) = rw q at h in omega (arith, hits-left_out_same e (c n))
@@ -237,7 +237,7 @@ module _ (c : ℕ → List ℕ) (t : List Seat) (heads : Heads) (ok : IsChained 
   entered_first n = if p == n then e ∷ c n else c n
 
   absent : (n : ℕ) → hits e (c n) ≡ 0
-  absent n = ok.counted e n ∙ ap (stands_at n) free
+  absent n = ok.counted e n ∙ ap (counted_at n) free
 
   pub with-length : length (seats_with e p heads t) ≡ length t
   with-length = length-set (led_back (head_at heads p) (Some e) t) e (record { place = Some p; prev = None; next = head_at heads p }) ∙ led_back-length (head_at heads p) (Some e) t
@@ -270,22 +270,22 @@ module _ (c : ℕ → List ℕ) (t : List Seat) (heads : Heads) (ok : IsChained 
           ⊎_elim (λ (q : p ≡ n). let y : (p == n) ≡ true = eq-eqb p n q in rw y (rw (← q) (written-head heads p (Some e) room)))
           (λ (d : p ≡ n → ⊥). let y : (p == n) ≡ false = ne_eqb p n d in rw y (written-other heads p n (Some e) (λ q. d (sym q)) ∙ ok.first n)) (cases_eq p n)
 
-      counted : (k n : ℕ) → hits k (entered_first n) ≡ stands_at n (place_at (seats_with e p heads t) k)
+      counted : (k n : ℕ) → hits k (entered_first n) ≡ counted_at n (place_at (seats_with e p heads t) k)
       counted k n = ⊎_elim (λ (q : k ≡ e). itself q) (λ (d : k ≡ e → ⊥). others d) (cases_eq k e)
         where
-          entered : hits e (entered_first n) ≡ stands_at n (Some p)
+          entered : hits e (entered_first n) ≡ counted_at n (Some p)
           entered =
               let z = absent n in
               ⊎_elim (λ (y : (p == n) ≡ true). rw (y, eq-eqb e e refl) (omega arith)) (λ (y : (p == n) ≡ false). rw y z) (cases_Bool (p == n))
 
-          itself : k ≡ e → hits k (entered_first n) ≡ stands_at n (place_at (seats_with e p heads t) k)
-          itself q = rw q (entered ∙ sym (ap (λ (x : Seat). stands_at n x.place) with-itself))
+          itself : k ≡ e → hits k (entered_first n) ≡ counted_at n (place_at (seats_with e p heads t) k)
+          itself q = rw q (entered ∙ sym (ap (λ (x : Seat). counted_at n x.place) with-itself))
 
-          others : (k ≡ e → ⊥) → hits k (entered_first n) ≡ stands_at n (place_at (seats_with e p heads t) k)
+          others : (k ≡ e → ⊥) → hits k (entered_first n) ≡ counted_at n (place_at (seats_with e p heads t) k)
           others d =
               let f : (e == k) ≡ false = ne_eqb e k (λ q. d (sym q)) in
               let a : hits k (entered_first n) ≡ hits k (c n) = ⊎_elim (λ (y : (p == n) ≡ true). rw (y, f) (omega arith)) (λ (y : (p == n) ≡ false). rw y refl) (cases_Bool (p == n)) in
-              a ∙ ok.counted k n ∙ sym (ap (λ (x : Seat). stands_at n x.place) (with-seat k d))
+              a ∙ ok.counted k n ∙ sym (ap (λ (x : Seat). counted_at n x.place) (with-seat k d))
 
       next : (k n : ℕ) → 0 < hits k (entered_first n) → (seat_at (seats_with e p heads t) k).next ≡ after k (entered_first n)
       next k n h = ⊎_elim (λ (q : k ≡ e). itself q) (λ (d : k ≡ e → ⊥). others d) (cases_eq k e)

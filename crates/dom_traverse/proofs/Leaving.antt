@@ -5,7 +5,8 @@ use Rattle.std.proofs.lemmas.Bool.{cases_eq, false≢true}
 use Rattle.std.proofs.lemmas.List.{ext_get_or, get_or_default, length-map}
 use Rattle.dom_model.specs.Worlds.World.{Iterator}
 use Rattle.dom_traverse.specs.Whereabouts.{node_in}
-use Rattle.dom_traverse.specs.GivingWay.{references_of, GaveWay, StandOrWait}
+use Rattle.dom_model.proofs.PlainLists.Numbers.{same_or, same, apart}
+use Rattle.dom_traverse.specs.GivingWay.{references_of, stepped_at, GaveWay, StandOrWait}
 
 -- how many items stand, and how many wait
 abbrev pub standing : List (Option ℕ) → ℕ
@@ -117,6 +118,21 @@ module _ (step : Iterator → Iterator) (old new : List Iterator) (nodes : List 
           → (node_in nodes k ≡ None) ⊎ (node_in nodes k ≡ Some (get_or new k i).reference)
       go k i (inl h) = inl h.1
       go k i (inr h) = inr (h.1 ∙ sym (ap (λ (x : Iterator). Some x.reference) h.0))
+
+-- iterators elsewhere stay, so a step of those at the node is all
+pub gave-there : (step : Iterator → Iterator) (node : ℕ) (old new : List Iterator) → GaveWay (stepped_at node step) node old new → GaveWay step node old new
+gave-there step node old new gave = record {
+  long = gave.long;
+  each = λ k i l. go (get_or old k i) (get_or new k i) (gave.each k i l);
+}
+  where
+    go : (x y : Iterator) → (y ≡ stepped_at node step x) ⊎ ((y ≡ x) × (x.reference ≡ node → ⊥)) → (y ≡ step x) ⊎ ((y ≡ x) × (x.reference ≡ node → ⊥))
+    go x y (inl h) =
+        elim (same_or x.reference node) [
+          | same d t ↦ inl (h ∙ (rw t refl))
+          | apart ne t ↦ inr (h ∙ (rw t refl), ne)
+        ]
+    go x y (inr h) = inr h
 
 -- those that wait come to stand
 module _ (is : List Iterator) (nodes : List (Option ℕ)) (are : StandOrWait is nodes) where

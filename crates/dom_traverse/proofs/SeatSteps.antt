@@ -5,8 +5,8 @@ use Rattle.std.proofs.lemmas.Bool.{false≢true}
 use Rattle.std.proofs.lemmas.List.{get_or_default, take_all, take-append-le, map-set, map-append, set-set, length-map, get_or_past}
 use Rattle.dom_model.specs.PlainLists.Lists.{hits, left_out}
 use Rattle.dom_traverse.specs.declared.seats.Seat.{Seat}
-use Rattle.dom_traverse.specs.Placing.{Placing, place_in}
-use Rattle.dom_traverse.specs.Seats.{Heads, free_seat, seat_at, place_at, places_of, head_at, stands_at, HasChains, ForLink, led_on, heads_led, led_back, seats_without, heads_without, seats_with}
+use Rattle.dom_traverse.specs.Placing.{Placing, place_of_item}
+use Rattle.dom_traverse.specs.Seats.{Heads, free_seat, seat_at, place_at, places_of, head_at, counted_at, HasChains, ForLink, led_on, heads_led, led_back, seats_without, heads_without, seats_with}
 use Rattle.dom_traverse.proofs.ListsBeside.{head-there, has-head}
 use Rattle.dom_traverse.proofs.Chained.{stands-both, stands-itself, live-within, in-stands, in-chain, within-heads, next-within, prev-within, first-within, IsChained-without, IsChained-with, led_on-length}
 
@@ -107,7 +107,7 @@ chains-same t t' heads heads' a b has = record {
   chain = has.chain;
   chained = record {
     first = λ n. b n ∙ has.chained.first n;
-    counted = λ e n. has.chained.counted e n ∙ sym (ap (λ (x : Seat). stands_at n x.place) (a e));
+    counted = λ e n. has.chained.counted e n ∙ sym (ap (λ (x : Seat). counted_at n x.place) (a e));
     next = λ e n h. ap (λ (x : Seat). x.next) (a e) ∙ has.chained.next e n h;
     prev = λ e n h. ap (λ (x : Seat). x.prev) (a e) ∙ has.chained.prev e n h;
   };
@@ -151,7 +151,7 @@ module _ (t : List Seat) (heads : Heads) (has : HasChains t heads) (p : ℕ) whe
   pub first-stands : (id : ℕ) → head_at heads p ≡ Some id → get_or (places_of t) id None ≡ Some p
   first-stands id h = places-at t id ∙ go (place_at t id) (in-stands has.chain t heads has.chained id p (head-there id (has.chain p) (sym (has.chained.first p) ∙ h)))
     where
-      go : (o : Option ℕ) → 0 < stands_at p o → o ≡ Some p
+      go : (o : Option ℕ) → 0 < counted_at p o → o ≡ Some p
       go None s = absurd (omega arith)
       go (Some q) s = ap Some (stands-both q p (Some q) (omega (arith, stands-itself q)) s)
 
@@ -201,17 +201,17 @@ module _ (t : List Seat) (heads : Heads) (has : HasChains t heads) (v : Placing)
   items-are : places_of t ≡ v.items
   items-are = ap (λ (x : Placing). x.items) view
 
-  pub first-told : IfSome o (λ id. place_in v.items id ≡ Some p)
+  pub first-told : IfSome o (λ id. place_of_item v.items id ≡ Some p)
   first-told = go o read
     where
-      go : (r : Option ℕ) → r ≡ head_at heads p → IfSome r (λ id. place_in v.items id ≡ Some p)
+      go : (r : Option ℕ) → r ≡ head_at heads p → IfSome r (λ id. place_of_item v.items id ≡ Some p)
       go None e = tt
       go (Some id) e = ap (λ ps. get_or ps id None) (sym items-are) ∙ first-stands t heads has p id (sym e)
 
-  pub none-told : IfNone o ((e : ℕ) → place_in v.items e ≡ Some p → ⊥)
+  pub none-told : IfNone o ((e : ℕ) → place_of_item v.items e ≡ Some p → ⊥)
   none-told = go o read
     where
-      go : (r : Option ℕ) → r ≡ head_at heads p → IfNone r ((e : ℕ) → place_in v.items e ≡ Some p → ⊥)
+      go : (r : Option ℕ) → r ≡ head_at heads p → IfNone r ((e : ℕ) → place_of_item v.items e ≡ Some p → ⊥)
       go None e = λ k at. none-stands t heads has p (sym e) k (ap (λ ps. get_or ps k None) items-are ∙ at)
       go (Some id) e = tt
 

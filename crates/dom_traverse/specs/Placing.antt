@@ -7,5 +7,5 @@ pub record Placing : Type 0 where
   pub count : ℕ
 
 -- where an item stands
-abbrev pub place_in : List (Option ℕ) → ℕ → Option ℕ
-place_in items e = slice_index_or items e None
+abbrev pub place_of_item : List (Option ℕ) → ℕ → Option ℕ
+place_of_item items e = slice_index_or items e None

@@ -25,14 +25,14 @@ abbrev pub head_at : Heads → ℕ → Option ℕ
 head_at heads n = slice_index_or heads n None
 
 -- 1 where that is the place
-abbrev pub stands_at : ℕ → Option ℕ → ℕ
-stands_at n None = 0
-stands_at n (Some p) = if p == n then 1 else 0
+abbrev pub counted_at : ℕ → Option ℕ → ℕ
+counted_at n None = 0
+counted_at n (Some p) = if p == n then 1 else 0
 
 -- each place's chain is spelled in both directions from its head on, and has the items that stand there, each once
 pub record IsChained (chain : ℕ → List ℕ) (t : List Seat) (heads : Heads) : Type 0 where
   pub first : (n : ℕ) → head_at heads n ≡ head_of (chain n)
-  pub counted : (e n : ℕ) → hits e (chain n) ≡ stands_at n (place_at t e)
+  pub counted : (e n : ℕ) → hits e (chain n) ≡ counted_at n (place_at t e)
   pub next : (e n : ℕ) → 0 < hits e (chain n) → (seat_at t e).next ≡ after e (chain n)
   pub prev : (e n : ℕ) → 0 < hits e (chain n) → (seat_at t e).prev ≡ before e (chain n)
 

@@ -13,8 +13,9 @@ use crate::iterator::NodeIterator;
 use crate::whereabouts::Whereabouts;
 use dom_tree::{NodeId, Tree};
 
-// The pre-removing steps for `node` of the iterators whose reference is `here`, inside it, and of those that share its place. They wait from
-// then on, so that the walk meets each once. Where those of a root go is found once for all that follow one another.
+// The pre-removing steps for `node` of the iterators whose reference is `here`, inside it. They wait from then on, as do those that share
+// the place, so that the walk meets each once; those stay, and are asked for their reference alone. Where those of a root go is found once
+// for all that follow one another.
 pub(crate) fn give_way<X>(
     iterators: &mut [NodeIterator],
     references: &mut Whereabouts,
@@ -34,7 +35,7 @@ pub(crate) fn give_way<X>(
     let mut last = last;
     while let Some(id) = references.first(here) {
         let iterator = &mut iterators[id as usize];
-        last = iterator.removing(tree, node, here, last);
+        last = iterator.removing_at(tree, node, here, last);
         references.wait(id);
     }
     last

@@ -10,6 +10,7 @@ ghost use Rattle.dom_model.specs.Traversal.Filters.{accepts};
 ghost use Rattle.dom_model.specs.Traversal.Iterators.{next_found, previous_found, moved_to_next, moved_to_previous};
 ghost use Rattle.dom_model.specs.MutationAlgorithms.PreRemoval.{pre_removed};
 ghost use Rattle.dom_traverse.specs.Exits.{IsExit, gone_by};
+ghost use Rattle.dom_traverse.specs.GivingWay.{stepped_at};
 ghost use Rattle.dom_traverse.specs.Standing.{StandsInside};
 
 use crate::exit::Exit;
@@ -123,9 +124,24 @@ impl NodeIterator {
         previous_accepted(tree, &self.filter, self.root, self.reference)
     }
 
-    // Before a node is removed: a reference inside it steps off, on where the pointer is before it, or else back. `here` is such a reference, of
-    // which this is known. What is found for the root is answered, or else what was found last.
-    pub fn removing<X>(
+    // Before a node is removed: a reference inside it steps off, on where the pointer is before it, or else back. What is found for the root
+    // is answered, or else what was found last.
+    pub fn removing<X>(&mut self, tree: &Tree<X>, node: NodeId, last: Option<Exit>) -> Option<Exit>
+        requires held { HasNode tree.now.forest node }
+        requires found { ForSome last (IsExit tree.now.forest node) }
+        ensures moved { self.new ≡ pre_removed tree.now.forest node self.old }
+        ensures found { ForSome result (IsExit tree.now.forest node) }
+    {
+        tree.sound();
+        if tree.is_inside(node, self.reference) {
+            self.leave(tree, node, last)
+        } else {
+            last
+        }
+    }
+
+    // The same of a reference at `here`, which is inside the node. One at another node stays, and is not asked where that is.
+    pub fn removing_at<X>(
         &mut self,
         tree: &Tree<X>,
         node: NodeId,
@@ -135,24 +151,27 @@ impl NodeIterator {
         requires held { HasNode tree.now.forest node }
         requires inside { among here (inclusive_descendants tree.now.forest node) ≡ true }
         requires found { ForSome last (IsExit tree.now.forest node) }
+        ensures moved { self.new ≡ stepped_at here (pre_removed tree.now.forest node) self.old }
+        ensures found { ForSome result (IsExit tree.now.forest node) }
+    {
+        if self.reference == here {
+            self.leave(tree, node, last)
+        } else {
+            last
+        }
+    }
+
+    // The same of a reference inside the node.
+    fn leave<X>(&mut self, tree: &Tree<X>, node: NodeId, last: Option<Exit>) -> Option<Exit>
+        requires held { HasNode tree.now.forest node }
+        requires inside { among self.old.reference (inclusive_descendants tree.now.forest node) ≡ true }
+        requires found { ForSome last (IsExit tree.now.forest node) }
         ensures moved { self.new ≡ pre_removed tree.now.forest node self.old }
         ensures found { ForSome result (IsExit tree.now.forest node) }
     {
-        tree.sound();
-        if !self.is_lost(tree, node, here) {
-            return last;
-        }
         let exit = Exit::for_root(last, tree, node, self.root);
         self.step_off(&exit);
         Some(exit)
-    }
-
-    // Whether the reference is inside a node, as `here` is.
-    fn is_lost<X>(&self, tree: &Tree<X>, node: NodeId, here: NodeId) -> bool
-        requires { among here (inclusive_descendants tree.now.forest node) ≡ true }
-        ensures { result ≡ among self.now.reference (inclusive_descendants tree.now.forest node) }
-    {
-        self.reference == here || tree.is_inside(node, self.reference)
     }
 
     // A reference inside the node goes.

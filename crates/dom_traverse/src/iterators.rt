@@ -256,7 +256,7 @@ impl NodeIterators {
     {
         tree.sound();
         let iterator = &mut self.iterators[id as usize];
-        let last = iterator.removing(tree, node, node, last);
+        let last = iterator.removing(tree, node, last);
         self.references.set(id, iterator.reference);
         last
     }

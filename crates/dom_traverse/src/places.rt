@@ -3,7 +3,7 @@
 ghost use Rattle.std.specs.Prelude.{◌≡◌, ℕ, ◌<◌, ◌^◌, [], ◌∷◌, ◌++◌, length, slice_index_or, slice_set, Some, None, IsSome, IfSome, IfNone, IfOk, OnOk, OnErr};
 ghost use Rattle.std.specs.List.{list_any};
 ghost use Rattle.dom_model.specs.PlainLists.Lists.{is_number};
-ghost use Rattle.dom_traverse.specs.Placing.{place_in};
+ghost use Rattle.dom_traverse.specs.Placing.{place_of_item};
 
 use crate::seats::{Seat, has_mark, move_to, put_first};
 use std::alloc::{AllocError, Global};
@@ -60,8 +60,8 @@ impl Places {
     // An item that stands at a place: the one that came there last.
     pub(crate) fn first(&self, place: usize) -> Option<u32>
         requires { place < self.now.count }
-        ensures some { IfSome result (λ id. place_in self.now.items id ≡ Some place) }
-        ensures none { IfNone result ((e : ℕ) → place_in self.now.items e ≡ Some place → ⊥) }
+        ensures some { IfSome result (λ id. place_of_item self.now.items id ≡ Some place) }
+        ensures none { IfNone result ((e : ℕ) → place_of_item self.now.items e ≡ Some place → ⊥) }
     {
         self.heads[place]
     }
@@ -70,7 +70,7 @@ impl Places {
     pub(crate) fn has(&self, place: usize, marks: &[Option<u32>], mark: u32) -> bool
         requires there { place < self.now.count }
         requires long { length marks.now ≡ length self.now.items }
-        requires placed { (e : ℕ) → slice_index_or marks.now e None ≡ Some mark → place_in self.now.items e ≡ Some place }
+        requires placed { (e : ℕ) → slice_index_or marks.now e None ≡ Some mark → place_of_item self.now.items e ≡ Some place }
         ensures { result ≡ list_any (λ o. is_number o mark) marks.now }
     {
         has_mark(&self.seats, &self.heads, place, marks, mark)
@@ -95,7 +95,7 @@ impl Places {
 
     // Moves an item to a place.
     pub(crate) fn place(&mut self, id: u32, place: usize)
-        requires stands { IsSome (place_in self.old.items id) }
+        requires stands { IsSome (place_of_item self.old.items id) }
         requires there { place < self.old.count }
         ensures { self.new ≡ record self.old { items = slice_set self.old.items id (Some place) } }
     {

@@ -12,8 +12,8 @@ use Rattle.dom_model.proofs.Forests.Changes.{seen, nothing, just}
 use Rattle.dom_model.proofs.Forests.Climbing.{hits-first}
 use Rattle.dom_model.proofs.Forests.PutBack.{hits-head_of, hits-after}
 use Rattle.dom_tree.specs.Following.{IsChild, slots_from, numbers_from}
-use Rattle.dom_tree.specs.Slots.{Kept, nodes_of, IsTree}
-use Rattle.dom_tree.specs.Spelled.{number_at, slot_in, slot_for, numbered, shown, IsKept}
+use Rattle.dom_tree.specs.Slots.{Kept, nodes_alone, IsTree}
+use Rattle.dom_tree.specs.Spelled.{number_in_slot, slot_in, slot_for, numbered, shown, IsKept}
 use Rattle.dom_tree.proofs.Counting.{names-itself, names-other, children-once}
 use Rattle.dom_tree.proofs.Kept.{entry-numbered}
 use Rattle.dom_tree.proofs.Nodes.{children-nodes, siblings-nodes, sound-nodes, held-nodes}
@@ -97,39 +97,39 @@ module _ {X : Type 0} {a : Arena (Kept X)} (l : IsSound a) (s : ℕ) (h : IsSome
   pub child-held : IsHeld a s
   child-held = entry-there (entry_at a s) h
 
-  pub child-node : IsHeld (nodes_of a) s
+  pub child-node : IsHeld (nodes_alone a) s
   child-node = held-nodes a s child-held
 
   -- the numbers from a child on: its own, and those from the sibling after it on
-  pub numbers-next : (o : Option ℕ) (n : ℕ) → o ≡ next_in (entry_at a) s → n ≡ number_at (entry_at (nodes_of a)) s → numbers_from a (Some s) ≡ n ∷ numbers_from a o
-  numbers-next o n e d = rw (e, d) (ap (map (number_at (entry_at (nodes_of a)))) (slots-next (entry_at a) l.linked s h))
+  pub numbers-next : (o : Option ℕ) (n : ℕ) → o ≡ next_in (entry_at a) s → n ≡ number_in_slot (entry_at (nodes_alone a)) s → numbers_from a (Some s) ≡ n ∷ numbers_from a o
+  numbers-next o n e d = rw (e, d) (ap (map (number_in_slot (entry_at (nodes_alone a)))) (slots-next (entry_at a) l.linked s h))
 
 module _ {X : Type 0} {a : Arena (Node X)} {table : List (Option ℕ)} {live : ℕ} (k : IsKept a table live) (l : IsSound a) where
   entries : entry_in (shown a table) ≡ numbered a table
   entries = λ i n. entry-numbered k n i
 
   -- from a number on stand the numbers of what stands from its slot on
-  from-slot : (n s : ℕ) → slot_in table n ≡ Some s → from_first n (siblings_in (entry_in (shown a table)) n) ≡ map (number_at (entry_at a)) (from_first s (siblings_in (entry_at a) s))
+  from-slot : (n s : ℕ) → slot_in table n ≡ Some s → from_first n (siblings_in (entry_in (shown a table)) n) ≡ map (number_in_slot (entry_at a)) (from_first s (siblings_in (entry_at a) s))
   from-slot n s e =
       let at = entry_at a in
       let d = k.tabled.named n s e in
-      let m = from_first-map (number_at at) s (siblings_in at s) (λ x h. same_test at (slot_in table) k.tabled x s (sibling-held at l.linked s x h) d.0) in
+      let m = from_first-map (number_in_slot at) s (siblings_in at s) (λ x h. same_test at (slot_in table) k.tabled x s (sibling-held at l.linked s x h) d.0) in
       let m2 = rw d.1 at m in
       ap (λ (o : ℕ → Option (Entry (Node X))). from_first n (siblings_in o n)) entries
       ∙ ap (from_first n) (siblings_in-map at (slot_in table) k.tabled l.linked n s e)
       ∙ m2
 
-module _ {X : Type 0} {a : Arena (Kept X)} {table : List (Option ℕ)} {live : ℕ} {strays : Bool} (k : IsTree a table live strays) {w : Grove X} (v : record { forest = shown (nodes_of a) table; made = length table } ≡ w) (l : IsSound a) where
+module _ {X : Type 0} {a : Arena (Kept X)} {table : List (Option ℕ)} {live : ℕ} {strays : Bool} (k : IsTree a table live strays) {w : Grove X} (v : record { forest = shown (nodes_alone a) table; made = length table } ≡ w) (l : IsSound a) where
   -- the numbers from the first child's slot on are those of all children
   pub all-numbers : (n s : ℕ) (o : Option ℕ) → slot_in table n ≡ Some s → o ≡ head_of (children_in (entry_at a s)) → numbers_from a o ≡ children_of w.forest n
   all-numbers n s o i e =
       ap (numbers_from a) e
-      ∙ ap (map (number_at (entry_at (nodes_of a)))) (slots-first (entry_at a) l.linked s ∙ sym (children-nodes a s))
+      ∙ ap (map (number_in_slot (entry_at (nodes_alone a)))) (slots-first (entry_at a) l.linked s ∙ sym (children-nodes a s))
       ∙ children-read k.stored.kept v n s i
 
   numbers-slot : (c s p : ℕ) → slot_in table c ≡ Some s → parent_of w.forest c ≡ Some p → numbers_from a (Some s) ≡ from_first c (children_of w.forest p)
   numbers-slot c s p i e =
-      ap (λ (ss : List ℕ). map (number_at (entry_at (nodes_of a))) (from_first s ss)) (sym (siblings-nodes a s))
+      ap (λ (ss : List ℕ). map (number_in_slot (entry_at (nodes_alone a))) (from_first s ss)) (sym (siblings-nodes a s))
       ∙ sym (from-slot k.stored.kept (sound-nodes l) c s i)
       ∙ ap (λ (g : Grove X). from_first c (siblings_in (entry_in g.forest) c)) v
       ∙ ap (λ o. from_first c (list_under (entry_in w.forest) o)) e

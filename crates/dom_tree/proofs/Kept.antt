@@ -5,7 +5,7 @@ use Rattle.std.specs.Option.{ForSome}
 use Rattle.dom_model.specs.PlainLists.Lists.{hits, among, place_in}
 use Rattle.dom_model.specs.Forests.Arena.{Arena, Entry, entry_at, held, parent_in, children_in, siblings_in, next_in, previous_in, unlinked, linked, StandsUnder, itself, below, IsSound}
 use Rattle.dom_model.specs.Forests.Forest.{Node, Forest, occurs, one_at, size, tree_at, without, entry_in, HasNode, parent_of, children_of, next_of, previous_of, index_of, ancestors, cut, put, KindsFit}
-use Rattle.dom_tree.specs.Spelled.{number_at, renumbered, slot_in, slot_for, numbered, shown, Spells, IsTabled, IsKept}
+use Rattle.dom_tree.specs.Spelled.{number_in_slot, renumbered, slot_in, slot_for, numbered, shown, Spells, IsTabled, IsKept}
 use Rattle.dom_tree.specs.Standing.{MayStand}
 use Rattle.dom_model.proofs.Forests.Totals.{total-cut, total-put, total-tree_at}
 use Rattle.dom_model.proofs.Forests.Changes.{seen, nothing, just, cut_at, link_at}
@@ -65,19 +65,19 @@ module _ {X : Type 0} {a : Arena (Node X)} {table : List (Option ℕ)} {live : �
   pub entry-slot : (n s : ℕ) → slot_in table n ≡ Some s → entry_in (shown a table) n ≡ option_map (renumbered (entry_at a)) (entry_at a s)
   entry-slot n s e = entry-numbered n ∙ by_number-slot (entry_at a) (slot_in table) n s e
 
-  pub parent-slot : (n s : ℕ) → slot_in table n ≡ Some s → parent_of (shown a table) n ≡ option_map (number_at (entry_at a)) (parent_in (entry_at a s))
+  pub parent-slot : (n s : ℕ) → slot_in table n ≡ Some s → parent_of (shown a table) n ≡ option_map (number_in_slot (entry_at a)) (parent_in (entry_at a s))
   parent-slot n s e = ap parent_in (entry-slot n s e) ∙ parent_in-map (entry_at a) (entry_at a s)
 
-  pub children-slot : (n s : ℕ) → slot_in table n ≡ Some s → children_of (shown a table) n ≡ map (number_at (entry_at a)) (children_in (entry_at a s))
+  pub children-slot : (n s : ℕ) → slot_in table n ≡ Some s → children_of (shown a table) n ≡ map (number_in_slot (entry_at a)) (children_in (entry_at a s))
   children-slot n s e = ap children_in (entry-slot n s e) ∙ children_in-map (entry_at a) (entry_at a s)
 
   entries : entry_in (shown a table) ≡ numbered a table
   entries = λ i n. entry-numbered n i
 
-  pub next-slot : IsSound a → (n s : ℕ) → slot_in table n ≡ Some s → next_of (shown a table) n ≡ option_map (number_at (entry_at a)) (next_in (entry_at a) s)
+  pub next-slot : IsSound a → (n s : ℕ) → slot_in table n ≡ Some s → next_of (shown a table) n ≡ option_map (number_in_slot (entry_at a)) (next_in (entry_at a) s)
   next-slot l n s e = ap (λ (at : ℕ → Option (Entry (Node X))). next_in at n) entries ∙ next_in-map (entry_at a) (slot_in table) k.tabled l.linked n s e
 
-  pub previous-slot : IsSound a → (n s : ℕ) → slot_in table n ≡ Some s → previous_of (shown a table) n ≡ option_map (number_at (entry_at a)) (previous_in (entry_at a) s)
+  pub previous-slot : IsSound a → (n s : ℕ) → slot_in table n ≡ Some s → previous_of (shown a table) n ≡ option_map (number_in_slot (entry_at a)) (previous_in (entry_at a) s)
   previous-slot l n s e = ap (λ (at : ℕ → Option (Entry (Node X))). previous_in at n) entries ∙ previous_in-map (entry_at a) (slot_in table) k.tabled l.linked n s e
 
   pub index-slot : IsSound a → (n s : ℕ) → slot_in table n ≡ Some s → index_of (shown a table) n ≡ place_in s (siblings_in (entry_at a) s)
@@ -124,13 +124,13 @@ module _ {X : Type 0} {a : Arena (Node X)} {table : List (Option ℕ)} {live : �
       hits-self n c (shown a table) d (omega (arith, occurs-slot n s en))
   stands-among l top s (below {p = q} e u) n c en ec =
       let hq : IsSome (entry_at a q) = parent-held (entry_at a) l.linked s q e in
-      let eq : slot_in table (number_at (entry_at a) q) ≡ Some q = k.tabled.listed q hq in
-      let i = stands-among l top q u (number_at (entry_at a) q) c eq ec in
-      let p : parent_in (numbered a table n) ≡ Some (number_at (entry_at a) q) = ap parent_in (sym (entry-numbered n)) ∙ parent-slot n s en ∙ ap (option_map (number_at (entry_at a))) e in
-      let j = climbs (numbered a table) n (number_at (entry_at a) q) (shown a table) once k.spelled.placed (omega (arith, occurs-slot n s en)) p in
+      let eq : slot_in table (number_in_slot (entry_at a) q) ≡ Some q = k.tabled.listed q hq in
+      let i = stands-among l top q u (number_in_slot (entry_at a) q) c eq ec in
+      let p : parent_in (numbered a table n) ≡ Some (number_in_slot (entry_at a) q) = ap parent_in (sym (entry-numbered n)) ∙ parent-slot n s en ∙ ap (option_map (number_in_slot (entry_at a))) e in
+      let j = climbs (numbered a table) n (number_in_slot (entry_at a) q) (shown a table) once k.spelled.placed (omega (arith, occurs-slot n s en)) p in
       rw j.1 (omega (arith, i))
 
-  pub slot_for-numbers : (nb sb : Option ℕ) → slot_for table nb ≡ sb → ForSome nb (λ n. IsSome (slot_in table n)) → option_map (number_at (entry_at a)) sb ≡ nb
+  pub slot_for-numbers : (nb sb : Option ℕ) → slot_for table nb ≡ sb → ForSome nb (λ n. IsSome (slot_in table n)) → option_map (number_in_slot (entry_at a)) sb ≡ nb
   slot_for-numbers None sb e h = rw (← e) refl
   slot_for-numbers (Some n) sb e h =
       elim (seen sb) [
@@ -153,7 +153,7 @@ module _ {X : Type 0} {a : Arena (Node X)} {table : List (Option ℕ)} {live : �
       k.small
     where
       root : parent_in (numbered a table nc) ≡ None
-      root = ap parent_in (sym (entry-numbered nc)) ∙ parent-slot nc sc ec ∙ ap (option_map (number_at (entry_at a))) r
+      root = ap parent_in (sym (entry-numbered nc)) ∙ parent-slot nc sc ec ∙ ap (option_map (number_in_slot (entry_at a))) r
 
       apart_from : occurs np (tree_at nc (shown a table)) ≡ 0
       apart_from = sym (hits-ancestors nc np (shown a table) once) ∙ not_among-hits nc (ancestors np (shown a table)) cy

@@ -9,6 +9,7 @@ pub mod Kept
 pub mod Making
 pub mod Nodes
 pub mod Numbering
+pub mod Passing
 pub mod PlacesAt
 pub mod Written
 pub mod OwnedSlots

@@ -4,7 +4,7 @@ use Rattle.std.proofs.lemmas.Bool.{ne_eqb, eq-eqb}
 use Rattle.dom_model.specs.PlainLists.Lists.{hits, place_in}
 use Rattle.dom_model.specs.Forests.Arena.{Entry, held, names, parent_in, children_in, siblings_in, list_under, next_in, previous_in, IsLinked}
 use Rattle.dom_model.specs.Forests.Forest.{Node}
-use Rattle.dom_tree.specs.Spelled.{number_at, renumbered, entry_in_slot, by_number, IsTabled}
+use Rattle.dom_tree.specs.Spelled.{number_in_slot, renumbered, entry_in_slot, by_number, IsTabled}
 use Rattle.dom_model.proofs.PlainLists.Numbers.{same_or, same, apart}
 use Rattle.dom_model.proofs.PlainLists.Mapped.{after-map, before_from-map, place_in-map}
 use Rattle.dom_model.proofs.Forests.Changes.{seen, nothing, just}
@@ -42,18 +42,18 @@ module _ {X : Type 0} where
       under (Some p) k = child-held at l p c k
 
   -- two held slots of one number are one
-  pub one_slot : (at : (ℕ → Option (Entry (Node X)))) (sl : ℕ → Option ℕ) → IsTabled at sl → (x y : ℕ) → IsSome (at x) → IsSome (at y) → number_at at x ≡ number_at at y → x ≡ y
+  pub one_slot : (at : (ℕ → Option (Entry (Node X)))) (sl : ℕ → Option ℕ) → IsTabled at sl → (x y : ℕ) → IsSome (at x) → IsSome (at y) → number_in_slot at x ≡ number_in_slot at y → x ≡ y
   one_slot at sl t x y hx hy e =
-      let a : sl (number_at at x) ≡ Some x = t.listed x hx in
-      let b : sl (number_at at y) ≡ Some y = t.listed y hy in
+      let a : sl (number_in_slot at x) ≡ Some x = t.listed x hx in
+      let b : sl (number_in_slot at y) ≡ Some y = t.listed y hy in
       let c : Some x ≡ Some y = sym a ∙ ap sl e ∙ b in
       cc c
 
-  pub same_test : (at : (ℕ → Option (Entry (Node X)))) (sl : ℕ → Option ℕ) → IsTabled at sl → (x y : ℕ) → IsSome (at x) → IsSome (at y) → (number_at at x == number_at at y) ≡ (x == y)
+  pub same_test : (at : (ℕ → Option (Entry (Node X)))) (sl : ℕ → Option ℕ) → IsTabled at sl → (x y : ℕ) → IsSome (at x) → IsSome (at y) → (number_in_slot at x == number_in_slot at y) ≡ (x == y)
   same_test at sl t x y hx hy =
       elim (same_or x y) [
-        | same e v ↦ eq-eqb (number_at at x) (number_at at y) (ap (number_at at) e) ∙ sym v
-        | apart ne v ↦ ne_eqb (number_at at x) (number_at at y) (λ d. ne (one_slot at sl t x y hx hy d)) ∙ sym v
+        | same e v ↦ eq-eqb (number_in_slot at x) (number_in_slot at y) (ap (number_in_slot at) e) ∙ sym v
+        | apart ne v ↦ ne_eqb (number_in_slot at x) (number_in_slot at y) (λ d. ne (one_slot at sl t x y hx hy d)) ∙ sym v
       ]
 
   pub slot-there : (at : (ℕ → Option (Entry (Node X)))) (sl : ℕ → Option ℕ) (n : ℕ) → IsSome (by_number at sl n) → IsSome (sl n)
@@ -66,39 +66,39 @@ module _ {X : Type 0} where
   pub by_number-slot : (at : (ℕ → Option (Entry (Node X)))) (sl : ℕ → Option ℕ) (n s : ℕ) → sl n ≡ Some s → by_number at sl n ≡ option_map (renumbered at) (at s)
   by_number-slot at sl n s e = rw e refl
 
-  pub parent_in-map : (at : (ℕ → Option (Entry (Node X)))) (o : Option (Entry (Node X))) → parent_in (option_map (renumbered at) o) ≡ option_map (number_at at) (parent_in o)
+  pub parent_in-map : (at : (ℕ → Option (Entry (Node X)))) (o : Option (Entry (Node X))) → parent_in (option_map (renumbered at) o) ≡ option_map (number_in_slot at) (parent_in o)
   parent_in-map at None = refl
   parent_in-map at (Some e) = refl
 
-  pub children_in-map : (at : (ℕ → Option (Entry (Node X)))) (o : Option (Entry (Node X))) → children_in (option_map (renumbered at) o) ≡ map (number_at at) (children_in o)
+  pub children_in-map : (at : (ℕ → Option (Entry (Node X)))) (o : Option (Entry (Node X))) → children_in (option_map (renumbered at) o) ≡ map (number_in_slot at) (children_in o)
   children_in-map at None = refl
   children_in-map at (Some e) = refl
 
-  pub siblings_in-map : (at : (ℕ → Option (Entry (Node X)))) (sl : ℕ → Option ℕ) → IsTabled at sl → IsLinked at → (n s : ℕ) → sl n ≡ Some s → siblings_in (by_number at sl) n ≡ map (number_at at) (siblings_in at s)
+  pub siblings_in-map : (at : (ℕ → Option (Entry (Node X)))) (sl : ℕ → Option ℕ) → IsTabled at sl → IsLinked at → (n s : ℕ) → sl n ≡ Some s → siblings_in (by_number at sl) n ≡ map (number_in_slot at) (siblings_in at s)
   siblings_in-map at sl t l n s e =
       rw (by_number-slot at sl n s e, parent_in-map at (at s)) (under (parent_in (at s)) (λ p h. parent-held at l s p h))
     where
-      under : (o : Option ℕ) → ((p : ℕ) → o ≡ Some p → IsSome (at p)) → list_under (by_number at sl) (option_map (number_at at) o) ≡ map (number_at at) (list_under at o)
+      under : (o : Option ℕ) → ((p : ℕ) → o ≡ Some p → IsSome (at p)) → list_under (by_number at sl) (option_map (number_in_slot at) o) ≡ map (number_in_slot at) (list_under at o)
       under None h = refl
-      under (Some p) h = ap children_in (by_number-slot at sl (number_at at p) p (t.listed p (h p refl))) ∙ children_in-map at (at p)
+      under (Some p) h = ap children_in (by_number-slot at sl (number_in_slot at p) p (t.listed p (h p refl))) ∙ children_in-map at (at p)
 
-  pub next_in-map : (at : (ℕ → Option (Entry (Node X)))) (sl : ℕ → Option ℕ) → IsTabled at sl → IsLinked at → (n s : ℕ) → sl n ≡ Some s → next_in (by_number at sl) n ≡ option_map (number_at at) (next_in at s)
+  pub next_in-map : (at : (ℕ → Option (Entry (Node X)))) (sl : ℕ → Option ℕ) → IsTabled at sl → IsLinked at → (n s : ℕ) → sl n ≡ Some s → next_in (by_number at sl) n ≡ option_map (number_in_slot at) (next_in at s)
   next_in-map at sl t l n s e =
       let d = t.named n s e in
-      let k = after-map (number_at at) s (siblings_in at s) (λ x h. same_test at sl t x s (sibling-held at l s x h) d.0) in
+      let k = after-map (number_in_slot at) s (siblings_in at s) (λ x h. same_test at sl t x s (sibling-held at l s x h) d.0) in
       let k2 = rw d.1 at k in
       rw (siblings_in-map at sl t l n s e) k2
 
-  pub previous_in-map : (at : (ℕ → Option (Entry (Node X)))) (sl : ℕ → Option ℕ) → IsTabled at sl → IsLinked at → (n s : ℕ) → sl n ≡ Some s → previous_in (by_number at sl) n ≡ option_map (number_at at) (previous_in at s)
+  pub previous_in-map : (at : (ℕ → Option (Entry (Node X)))) (sl : ℕ → Option ℕ) → IsTabled at sl → IsLinked at → (n s : ℕ) → sl n ≡ Some s → previous_in (by_number at sl) n ≡ option_map (number_in_slot at) (previous_in at s)
   previous_in-map at sl t l n s e =
       let d = t.named n s e in
-      let k = before_from-map (number_at at) s None (siblings_in at s) (λ x h. same_test at sl t x s (sibling-held at l s x h) d.0) in
+      let k = before_from-map (number_in_slot at) s None (siblings_in at s) (λ x h. same_test at sl t x s (sibling-held at l s x h) d.0) in
       let k2 = rw d.1 at k in
       rw (siblings_in-map at sl t l n s e) k2
 
   pub place_in-slot : (at : (ℕ → Option (Entry (Node X)))) (sl : ℕ → Option ℕ) → IsTabled at sl → IsLinked at → (n s : ℕ) → sl n ≡ Some s → place_in n (siblings_in (by_number at sl) n) ≡ place_in s (siblings_in at s)
   place_in-slot at sl t l n s e =
       let d = t.named n s e in
-      let k = place_in-map (number_at at) s (siblings_in at s) (λ x h. same_test at sl t x s (sibling-held at l s x h) d.0) in
+      let k = place_in-map (number_in_slot at) s (siblings_in at s) (λ x h. same_test at sl t x s (sibling-held at l s x h) d.0) in
       let k2 = rw d.1 at k in
       rw (siblings_in-map at sl t l n s e) k2

@@ -9,7 +9,7 @@ use Rattle.dom_model.proofs.PlainLists.Numbers.{same_or, same, apart}
 use Rattle.dom_model.proofs.Forests.Totals.{occurs-without}
 use Rattle.dom_tree.specs.Owned.{IsOwned, document_at, document_in, owned_by}
 use Rattle.dom_tree.specs.Spelled.{renumbered, slot_in, numbered, shown}
-use Rattle.dom_tree.specs.Slots.{Kept, node_entry, nodes_of, with_owned, with_document, owned_in, document_in_slot, one_more, one_less, homed, Owns, IsTree}
+use Rattle.dom_tree.specs.Slots.{Kept, node_entry, nodes_alone, with_owned, with_document, owned_in, document_in_slot, one_more, one_less, homed, Owns, IsTree}
 use Rattle.dom_tree.proofs.Kept.{entry-numbered, entry-slot}
 use Rattle.dom_tree.proofs.Nodes.{entry-nodes, parent-nodes, children-nodes, sound-nodes, taken-nodes}
 use Rattle.dom_tree.proofs.Stores.{altered-at, added-new, added-old, taken-other}
@@ -33,30 +33,30 @@ module _ {X : Type 0} where
       (refl, sym (part-owned o i x h) ∙ ap (λ (q : Kept X). q.owned) (sym yx) ∙ eqb-true y.owned 1 (not-false (nat_eq y.owned 1) e))
 
 module _ {X : Type 0} {a : Arena (Kept X)} {table : List (Option ℕ)} {live : ℕ} {strays : Bool} (k : IsTree a table live strays) where
-  whole : IsForest (record { forest = shown (nodes_of a) table; made = length table })
+  whole : IsForest (record { forest = shown (nodes_alone a) table; made = length table })
   whole = forest-read k refl
 
   -- the node document of a number is that of its slot
-  pub document-slot : (n s : ℕ) → slot_in table n ≡ Some s → document_in (shown (nodes_of a) table) n ≡ document_in_slot (entry_at a s)
+  pub document-slot : (n s : ℕ) → slot_in table n ≡ Some s → document_in (shown (nodes_alone a) table) n ≡ document_in_slot (entry_at a s)
   document-slot n s i =
-      ap document_at (entry-slot k.stored.kept n s i ∙ ap (option_map (renumbered (entry_at (nodes_of a)))) (entry-nodes a s)) ∙ go (entry_at a s)
+      ap document_at (entry-slot k.stored.kept n s i ∙ ap (option_map (renumbered (entry_at (nodes_alone a)))) (entry-nodes a s)) ∙ go (entry_at a s)
     where
-      go : (o : Option (Entry (Kept X))) → document_at (option_map (renumbered (entry_at (nodes_of a))) (option_map node_entry o)) ≡ document_in_slot o
+      go : (o : Option (Entry (Kept X))) → document_at (option_map (renumbered (entry_at (nodes_alone a))) (option_map node_entry o)) ≡ document_in_slot o
       go None = refl
       go (Some e) = refl
 
-  document-small : (n d : ℕ) → document_in (shown (nodes_of a) table) n ≡ Some d → n < length table
+  document-small : (n d : ℕ) → document_in (shown (nodes_alone a) table) n ≡ Some d → n < length table
   document-small n d e =
       ⊎_elim
       (λ (lt : n < length table). lt)
-      (λ (le : length table ≤ n). absurd (let z : None ≡ Some d = sym (document-none (shown (nodes_of a) table) n (whole.small n le)) ∙ e in cc z))
+      (λ (le : length table ≤ n). absurd (let z : None ≡ Some d = sym (document-none (shown (nodes_alone a) table) n (whole.small n le)) ∙ e in cc z))
       (cases_lt n (length table))
 
-  slot-document : (n s : ℕ) → slot_in table n ≡ Some s → IsSome (document_in (shown (nodes_of a) table) n)
-  slot-document n s i = HasNode-document (shown (nodes_of a) table) n (sym (holds-read k refl n) ∙ ap is_some i)
+  slot-document : (n s : ℕ) → slot_in table n ≡ Some s → IsSome (document_in (shown (nodes_alone a) table) n)
+  slot-document n s i = HasNode-document (shown (nodes_alone a) table) n (sym (holds-read k refl n) ∙ ap is_some i)
 
   -- the count in a slot is that of the nodes
-  pub owned-read : {w : Grove X} → record { forest = shown (nodes_of a) table; made = length table } ≡ w → strays ≡ false → (n s : ℕ) → slot_in table n ≡ Some s → (x y : Kept X) → y ≡ x → IfSome (entry_at a s) (λ e. x ≡ e.value) → y.owned ≡ owned_by w.forest w.made n
+  pub owned-read : {w : Grove X} → record { forest = shown (nodes_alone a) table; made = length table } ≡ w → strays ≡ false → (n s : ℕ) → slot_in table n ≡ Some s → (x y : Kept X) → y ≡ x → IfSome (entry_at a s) (λ e. x ≡ e.value) → y.owned ≡ owned_by w.forest w.made n
   owned-read v none n s i x y yx h =
       ap (λ (q : Kept X). q.owned) yx ∙ part-owned (entry_at a s) (held-slot k refl n s i) x h ∙ (k.owned none).right n s i ∙ ap (λ (g : Grove X). owned_by g.forest g.made n) v
 
@@ -73,12 +73,12 @@ module _ {X : Type 0} {a : Arena (Kept X)} {table : List (Option ℕ)} {live : �
 
   -- a node goes into another document
   module _ (n s : ℕ) (i : slot_in table n ≡ Some s) (former d : ℕ) (was : document_in_slot (entry_at a s) ≡ Some former) (b : Arena (Kept X)) (eb : b ≡ homed a s d) where
-    there : HasNode (shown (nodes_of a) table) n
-    there = document-HasNode (shown (nodes_of a) table) n (slot-document n s i)
+    there : HasNode (shown (nodes_alone a) table) n
+    there = document-HasNode (shown (nodes_alone a) table) n (slot-document n s i)
 
-    pub moved-stays : Stays b table live (with_node n (in_document d) (shown (nodes_of a) table))
+    pub moved-stays : Stays b table live (with_node n (in_document d) (shown (nodes_alone a) table))
     moved-stays =
-        subst (λ (c : Arena (Kept X)). Stays c table live (with_node n (in_document d) (shown (nodes_of a) table))) (sym eb) (alter-done k refl n s i (in_document d) (λ q. refl) (λ q. refl))
+        subst (λ (c : Arena (Kept X)). Stays c table live (with_node n (in_document d) (shown (nodes_alone a) table))) (sym eb) (alter-done k refl n s i (in_document d) (λ q. refl) (λ q. refl))
 
     -- where it may be in none, there is no count
     pub strayed-tree : (strays' : Bool) → (strays' ≡ false → ⊥) → IsTree b table live strays'
@@ -94,7 +94,7 @@ module _ {X : Type 0} {a : Arena (Kept X)} {table : List (Option ℕ)} {live : �
         go None h = absurd (false≢true h)
         go (Some e) h = elim (t == s) as (λ v. IsSome (if v then Some (with_value (with_document d e.value) e) else Some e)) [ true ↦ refl | false ↦ refl ]
 
-    former-is : document_in (shown (nodes_of a) table) n ≡ Some former
+    former-is : document_in (shown (nodes_alone a) table) n ≡ Some former
     former-is = document-slot n s i ∙ was
 
     module _ (none : strays ≡ false) where
@@ -102,14 +102,14 @@ module _ {X : Type 0} {a : Arena (Kept X)} {table : List (Option ℕ)} {live : �
       w = k.owned none
 
       pub former-slot : IsSome (slot_in table former)
-      former-slot = slot-held k refl former (document-HasNode (shown (nodes_of a) table) former (w.there n former former-is))
+      former-slot = slot-held k refl former (document-HasNode (shown (nodes_alone a) table) former (w.there n former former-is))
 
       module _ (from to : ℕ) (j : slot_in table former ≡ Some from) (l : slot_in table d ≡ Some to) where
         pub from-held : IsHeld b from
         from-held = held-b from (held-slot k refl former from j)
 
         pub from-some : 0 < owned_in (entry_at b from)
-        from-some = omega (arith, b-owned from, w.right former from j, having-some (document_in (shown (nodes_of a) table)) n former (length table) former-is (document-small n former former-is))
+        from-some = omega (arith, b-owned from, w.right former from j, having-some (document_in (shown (nodes_alone a) table)) n former (length table) former-is (document-small n former former-is))
 
         module _ (c : Arena (Kept X)) (ec : c ≡ one_less b from) where
           less : (t : ℕ) → owned_in (entry_at c t) + one_at from t ≡ owned_in (entry_at b t)
@@ -123,15 +123,15 @@ module _ {X : Type 0} {a : Arena (Kept X)} {table : List (Option ℕ)} {live : �
               go (Some e) h = elim (to == from) as (λ v. IsSome (if v then Some (with_value (with_owned (owned_in (entry_at b from) - 1) e.value) e) else Some e)) [ true ↦ refl | false ↦ refl ]
 
           pub to-few : owned_in (entry_at c to) < 2 ^ 32
-          to-few = omega (arith, less to, b-owned to, w.right d to l, having-few (document_in (shown (nodes_of a) table)) d (length table), k.stored.kept.small)
+          to-few = omega (arith, less to, b-owned to, w.right d to l, having-few (document_in (shown (nodes_alone a) table)) d (length table), k.stored.kept.small)
 
           module _ (e : Arena (Kept X)) (ee : e ≡ one_more c to) where
-            stays-e : Stays e table live (with_node n (in_document d) (shown (nodes_of a) table))
+            stays-e : Stays e table live (with_node n (in_document d) (shown (nodes_alone a) table))
             stays-e =
-                subst (λ (q : Arena (Kept X)). Stays q table live (with_node n (in_document d) (shown (nodes_of a) table))) (sym ee)
-                (owning-stays c table live to (owned_in (entry_at c to) + 1) (with_node n (in_document d) (shown (nodes_of a) table))
-                (subst (λ (q : Arena (Kept X)). Stays q table live (with_node n (in_document d) (shown (nodes_of a) table))) (sym ec)
-                (owning-stays b table live from (owned_in (entry_at b from) - 1) (with_node n (in_document d) (shown (nodes_of a) table)) moved-stays)))
+                subst (λ (q : Arena (Kept X)). Stays q table live (with_node n (in_document d) (shown (nodes_alone a) table))) (sym ee)
+                (owning-stays c table live to (owned_in (entry_at c to) + 1) (with_node n (in_document d) (shown (nodes_alone a) table))
+                (subst (λ (q : Arena (Kept X)). Stays q table live (with_node n (in_document d) (shown (nodes_alone a) table))) (sym ec)
+                (owning-stays b table live from (owned_in (entry_at b from) - 1) (with_node n (in_document d) (shown (nodes_alone a) table)) moved-stays)))
 
             more : (t : ℕ) → owned_in (entry_at e t) ≡ owned_in (entry_at c t) + one_at to t
             more t = ap (λ (q : Arena (Kept X)). owned_in (entry_at q t)) ee ∙ more-at c to t to-held
@@ -144,25 +144,25 @@ module _ {X : Type 0} {a : Arena (Kept X)} {table : List (Option ℕ)} {live : �
                 record {
                   stored = stays-e.kept;
                   owned =
-                      λ _. owned-moved (document_in (shown (nodes_of a) table)) (document_in (shown (nodes_of e) table)) (slot_in table) (λ t. owned_in (entry_at a t)) (λ t. owned_in (entry_at e t)) (length table) n former d
+                      λ _. owned-moved (document_in (shown (nodes_alone a) table)) (document_in (shown (nodes_alone e) table)) (slot_in table) (λ t. owned_in (entry_at a t)) (λ t. owned_in (entry_at e t)) (length table) n former d
                       (document-small n former former-is) former-is
-                      (ap (λ (g : Forest X). document_in g n) stays-e.same ∙ documents-set (shown (nodes_of a) table) whole.once n d there)
-                      (λ m ne. ap (λ (g : Forest X). document_in g m) stays-e.same ∙ documents-others (shown (nodes_of a) table) whole.once n d m ne)
+                      (ap (λ (g : Forest X). document_in g n) stays-e.same ∙ documents-set (shown (nodes_alone a) table) whole.once n d there)
+                      (λ m ne. ap (λ (g : Forest X). document_in g m) stays-e.same ∙ documents-others (shown (nodes_alone a) table) whole.once n d m ne)
                       (slot-document d to l) counts w;
                 }
 
-            pub moved-same : shown (nodes_of e) table ≡ with_node n (in_document d) (shown (nodes_of a) table)
+            pub moved-same : shown (nodes_alone e) table ≡ with_node n (in_document d) (shown (nodes_alone a) table)
             moved-same = stays-e.same
 
   -- a node is made, in itself
-  pub made-tree : IsSound a → (x : Kept X) (b : Arena (Kept X)) (places : List (Option ℕ)) (s : ℕ) → x.node.number ≡ length table → x.node.document ≡ length table → x.owned ≡ 1 → entry_at a s ≡ None → b ≡ added a x → s ≡ next_slot a → places ≡ table ++ Some s ∷ [] → Stays b places (live + 1) (beside (shown (nodes_of a) table) (node x.node empty empty)) → IsTree b places (live + 1) strays
+  pub made-tree : IsSound a → (x : Kept X) (b : Arena (Kept X)) (places : List (Option ℕ)) (s : ℕ) → x.node.number ≡ length table → x.node.document ≡ length table → x.owned ≡ 1 → entry_at a s ≡ None → b ≡ added a x → s ≡ next_slot a → places ≡ table ++ Some s ∷ [] → Stays b places (live + 1) (beside (shown (nodes_alone a) table) (node x.node empty empty)) → IsTree b places (live + 1) strays
   made-tree l x b places s nx dx one fresh eb es ep st =
       record {
         stored = st.kept;
         owned =
-            λ e. subst (λ m. IsOwned (document_in (shown (nodes_of b) places)) (slot_in places) (λ t. owned_in (entry_at b t)) m) (sym long)
-            (owned-made (document_in (shown (nodes_of a) table)) (document_in (shown (nodes_of b) places)) (slot_in table) (slot_in places) (λ t. owned_in (entry_at a t)) (λ t. owned_in (entry_at b t)) (length table) s
-            (document-none (shown (nodes_of a) table) (length table) absent) new others
+            λ e. subst (λ m. IsOwned (document_in (shown (nodes_alone b) places)) (slot_in places) (λ t. owned_in (entry_at b t)) m) (sym long)
+            (owned-made (document_in (shown (nodes_alone a) table)) (document_in (shown (nodes_alone b) places)) (slot_in table) (slot_in places) (λ t. owned_in (entry_at a t)) (λ t. owned_in (entry_at b t)) (length table) s
+            (document-none (shown (nodes_alone a) table) (length table) absent) new others
             (ap (λ q. slot_in q (length table)) ep ∙ slot_in-new table s)
             (λ m ne. ap (λ q. slot_in q m) ep ∙ slot_in-old table s m ne)
             (ap owned_in here ∙ one) rest (k.owned e));
@@ -171,17 +171,17 @@ module _ {X : Type 0} {a : Arena (Kept X)} {table : List (Option ℕ)} {live : �
       long : length places ≡ suc (length table)
       long = ap length ep ∙ length-append table (Some s ∷ []) ∙ add-one (length table)
 
-      absent : occurs (length table) (shown (nodes_of a) table) ≡ 0
+      absent : occurs (length table) (shown (nodes_alone a) table) ≡ 0
       absent = whole.small (length table) (omega arith)
 
-      new : document_in (shown (nodes_of b) places) (length table) ≡ Some (length table)
+      new : document_in (shown (nodes_alone b) places) (length table) ≡ Some (length table)
       new =
           ap (λ (g : Forest X). document_in g (length table)) st.same
-          ∙ subst (λ m. document_in (beside (shown (nodes_of a) table) (node x.node empty empty)) m ≡ Some x.node.document) nx (documents-root (shown (nodes_of a) table) x.node (ap (λ m. occurs m (shown (nodes_of a) table)) nx ∙ absent))
+          ∙ subst (λ m. document_in (beside (shown (nodes_alone a) table) (node x.node empty empty)) m ≡ Some x.node.document) nx (documents-root (shown (nodes_alone a) table) x.node (ap (λ m. occurs m (shown (nodes_alone a) table)) nx ∙ absent))
           ∙ ap Some dx
 
-      others : (m : ℕ) → (m ≡ length table → ⊥) → document_in (shown (nodes_of b) places) m ≡ document_in (shown (nodes_of a) table) m
-      others m ne = ap (λ (g : Forest X). document_in g m) st.same ∙ documents-older (shown (nodes_of a) table) x.node m (λ q. ne (q ∙ nx))
+      others : (m : ℕ) → (m ≡ length table → ⊥) → document_in (shown (nodes_alone b) places) m ≡ document_in (shown (nodes_alone a) table) m
+      others m ne = ap (λ (g : Forest X). document_in g m) st.same ∙ documents-older (shown (nodes_alone a) table) x.node m (λ q. ne (q ∙ nx))
 
       here : entry_at b s ≡ Some (record { value = x; parent = None; children = [] })
       here = ap (λ (q : Arena (Kept X)). entry_at q s) eb ∙ ap (entry_at (added a x)) es ∙ added-new a x l
@@ -192,14 +192,14 @@ module _ {X : Type 0} {a : Arena (Kept X)} {table : List (Option ℕ)} {live : �
           ap (λ (q : Arena (Kept X)). owned_in (entry_at q t)) eb ∙ ap owned_in (added-old a x t far)
 
   -- a root that is in itself is taken out
-  module _ (n s : ℕ) (i : slot_in table n ≡ Some s) (itself : document_in (shown (nodes_of a) table) n ≡ Some n) (root : parent_of (shown (nodes_of a) table) n ≡ None) (childless : children_of (shown (nodes_of a) table) n ≡ []) (b : Arena (Kept X)) (eb : b ≡ taken a s) (lb : IsSound b) where
-    pub taken-tree : (places : List (Option ℕ)) → places ≡ slice_set table n None → (strays' : Bool) → (strays' ≡ false → (strays ≡ false) × (owned_in (entry_at a s) ≡ 1)) → Stays b places (live - 1) (without n (shown (nodes_of a) table)) → IsTree b places (live - 1) strays'
+  module _ (n s : ℕ) (i : slot_in table n ≡ Some s) (itself : document_in (shown (nodes_alone a) table) n ≡ Some n) (root : parent_of (shown (nodes_alone a) table) n ≡ None) (childless : children_of (shown (nodes_alone a) table) n ≡ []) (b : Arena (Kept X)) (eb : b ≡ taken a s) (lb : IsSound b) where
+    pub taken-tree : (places : List (Option ℕ)) → places ≡ slice_set table n None → (strays' : Bool) → (strays' ≡ false → (strays ≡ false) × (owned_in (entry_at a s) ≡ 1)) → Stays b places (live - 1) (without n (shown (nodes_alone a) table)) → IsTree b places (live - 1) strays'
     taken-tree places ep strays' known st =
         record {
           stored = st.kept;
           owned =
-              λ e. subst (λ m. IsOwned (document_in (shown (nodes_of b) places)) (slot_in places) (λ t. owned_in (entry_at b t)) m) (sym long)
-              (owned-taken (document_in (shown (nodes_of a) table)) (document_in (shown (nodes_of b) places)) (slot_in table) (slot_in places) (λ t. owned_in (entry_at a t)) (λ t. owned_in (entry_at b t)) (length table) n s
+              λ e. subst (λ m. IsOwned (document_in (shown (nodes_alone b) places)) (slot_in places) (λ t. owned_in (entry_at b t)) m) (sym long)
+              (owned-taken (document_in (shown (nodes_alone a) table)) (document_in (shown (nodes_alone b) places)) (slot_in table) (slot_in places) (λ t. owned_in (entry_at a t)) (λ t. owned_in (entry_at b t)) (length table) n s
               document-small i itself (known e).1 gone others
               (ap (λ q. slot_in q n) ep ∙ get_or-set_same table n None None (document-small n n itself))
               (λ m ne. ap (λ q. slot_in q m) ep ∙ get_or-set_other table n m None None ne)
@@ -209,16 +209,16 @@ module _ {X : Type 0} {a : Arena (Kept X)} {table : List (Option ℕ)} {live : �
         long : length places ≡ length table
         long = ap length ep ∙ length-set table n None
 
-        gone : document_in (shown (nodes_of b) places) n ≡ None
-        gone = ap (λ (g : Forest X). document_in g n) st.same ∙ document-none (without n (shown (nodes_of a) table)) n (occurs-without n (shown (nodes_of a) table))
+        gone : document_in (shown (nodes_alone b) places) n ≡ None
+        gone = ap (λ (g : Forest X). document_in g n) st.same ∙ document-none (without n (shown (nodes_alone a) table)) n (occurs-without n (shown (nodes_alone a) table))
 
-        nodes_b : nodes_of b ≡ taken (nodes_of a) s
-        nodes_b = ap nodes_of eb ∙ taken-nodes a s
+        nodes_b : nodes_alone b ≡ taken (nodes_alone a) s
+        nodes_b = ap nodes_alone eb ∙ taken-nodes a s
 
-        others : (m : ℕ) → (m ≡ n → ⊥) → document_in (shown (nodes_of b) places) m ≡ document_in (shown (nodes_of a) table) m
+        others : (m : ℕ) → (m ≡ n → ⊥) → document_in (shown (nodes_alone b) places) m ≡ document_in (shown (nodes_alone a) table) m
         others m ne =
             ap document_at (entry-numbered st.kept.kept m
-            ∙ ap (λ q. numbered (nodes_of b) q m) ep
+            ∙ ap (λ q. numbered (nodes_alone b) q m) ep
             ∙ ap (λ (q : Arena (Node X)). numbered q (slice_set table n None) m) nodes_b
             ∙ taking.others k.stored.kept n s i (subst IsSound nodes_b (sound-nodes lb)) (parent-nodes a s ∙ parent-none k refl n s i root) (children-nodes a s ∙ children-none k refl n s i childless) m ne
             ∙ sym (entry-numbered k.stored.kept m))

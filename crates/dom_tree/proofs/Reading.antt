@@ -6,7 +6,7 @@ use Rattle.dom_model.specs.PlainLists.Lists.{hits, among, head_of, last_of}
 use Rattle.dom_model.specs.Forests.Arena.{Arena, Entry, entry_at, parent_in, children_in, siblings_in, next_in, previous_in, linked, unlinked, altered, with_value, StandsUnder, IsHeld, IsSound}
 use Rattle.dom_model.specs.Forests.Forest.{Node, Forest, Grove, size, entry_in, HasNode, parent_of, children_of, next_of, previous_of, ancestors, cut, put, with_node, IsForest}
 use Rattle.dom_tree.specs.Standing.{MayStand}
-use Rattle.dom_tree.specs.Spelled.{number_at, renumbered, entry_in_slot, slot_in, slot_for, numbered, shown, IsKept}
+use Rattle.dom_tree.specs.Spelled.{number_in_slot, renumbered, entry_in_slot, slot_in, slot_for, numbered, shown, IsKept}
 use Rattle.dom_model.proofs.Forests.Changes.{seen, nothing, just}
 use Rattle.dom_model.proofs.Forests.Climbing.{not_among-hits}
 use Rattle.dom_model.proofs.Forests.PutBack.{hits-head_of, hits-after}
@@ -53,32 +53,32 @@ module _ {X : Type 0} {a : Arena (Node X)} {table : List (Option ℕ)} {live : �
       go None z = tt
       go (Some e) z = ap p (yx ∙ z)
 
-  pub parent-read : (n s : ℕ) (o r : Option ℕ) → slot_in table n ≡ Some s → o ≡ parent_in (entry_at a s) → r ≡ option_map (number_at (entry_at a)) o → r ≡ parent_of w.forest n
+  pub parent-read : (n s : ℕ) (o r : Option ℕ) → slot_in table n ≡ Some s → o ≡ parent_in (entry_at a s) → r ≡ option_map (number_in_slot (entry_at a)) o → r ≡ parent_of w.forest n
   parent-read n s o r i h j =
-      j ∙ ap (option_map (number_at (entry_at a))) h ∙ sym (parent-slot k n s i) ∙ ap (λ (g : Grove X). parent_of g.forest n) v
+      j ∙ ap (option_map (number_in_slot (entry_at a))) h ∙ sym (parent-slot k n s i) ∙ ap (λ (g : Grove X). parent_of g.forest n) v
 
-  pub children-read : (n s : ℕ) → slot_in table n ≡ Some s → map (number_at (entry_at a)) (children_in (entry_at a s)) ≡ children_of w.forest n
+  pub children-read : (n s : ℕ) → slot_in table n ≡ Some s → map (number_in_slot (entry_at a)) (children_in (entry_at a s)) ≡ children_of w.forest n
   children-read n s i = sym (children-slot k n s i) ∙ ap (λ (g : Grove X). children_of g.forest n) v
 
-  pub first-read : (n s : ℕ) (o r : Option ℕ) → slot_in table n ≡ Some s → o ≡ head_of (children_in (entry_at a s)) → r ≡ option_map (number_at (entry_at a)) o → r ≡ head_of (children_of w.forest n)
+  pub first-read : (n s : ℕ) (o r : Option ℕ) → slot_in table n ≡ Some s → o ≡ head_of (children_in (entry_at a s)) → r ≡ option_map (number_in_slot (entry_at a)) o → r ≡ head_of (children_of w.forest n)
   first-read n s o r i h j =
-      j ∙ ap (option_map (number_at (entry_at a))) h ∙ sym (head_of-map (number_at (entry_at a)) (children_in (entry_at a s))) ∙ ap head_of (children-read n s i)
+      j ∙ ap (option_map (number_in_slot (entry_at a))) h ∙ sym (head_of-map (number_in_slot (entry_at a)) (children_in (entry_at a s))) ∙ ap head_of (children-read n s i)
 
-  pub last-read : (n s : ℕ) (o r : Option ℕ) → slot_in table n ≡ Some s → o ≡ last_of (children_in (entry_at a s)) → r ≡ option_map (number_at (entry_at a)) o → r ≡ last_of (children_of w.forest n)
+  pub last-read : (n s : ℕ) (o r : Option ℕ) → slot_in table n ≡ Some s → o ≡ last_of (children_in (entry_at a s)) → r ≡ option_map (number_in_slot (entry_at a)) o → r ≡ last_of (children_of w.forest n)
   last-read n s o r i h j =
-      j ∙ ap (option_map (number_at (entry_at a))) h ∙ sym (last_of-map (number_at (entry_at a)) (children_in (entry_at a s))) ∙ ap last_of (children-read n s i)
+      j ∙ ap (option_map (number_in_slot (entry_at a))) h ∙ sym (last_of-map (number_in_slot (entry_at a)) (children_in (entry_at a s))) ∙ ap last_of (children-read n s i)
 
   pub count-read : (n s : ℕ) (r : ℕ) → slot_in table n ≡ Some s → r ≡ length (children_in (entry_at a s)) → r ≡ length (children_of w.forest n)
   count-read n s r i h =
-      h ∙ sym (length-map (children_in (entry_at a s)) (number_at (entry_at a))) ∙ ap length (children-read n s i)
+      h ∙ sym (length-map (children_in (entry_at a s)) (number_in_slot (entry_at a))) ∙ ap length (children-read n s i)
 
-  pub next-read : IsSound a → (n s : ℕ) (o r : Option ℕ) → slot_in table n ≡ Some s → o ≡ next_in (entry_at a) s → r ≡ option_map (number_at (entry_at a)) o → r ≡ next_of w.forest n
+  pub next-read : IsSound a → (n s : ℕ) (o r : Option ℕ) → slot_in table n ≡ Some s → o ≡ next_in (entry_at a) s → r ≡ option_map (number_in_slot (entry_at a)) o → r ≡ next_of w.forest n
   next-read l n s o r i h j =
-      j ∙ ap (option_map (number_at (entry_at a))) h ∙ sym (next-slot k l n s i) ∙ ap (λ (g : Grove X). next_of g.forest n) v
+      j ∙ ap (option_map (number_in_slot (entry_at a))) h ∙ sym (next-slot k l n s i) ∙ ap (λ (g : Grove X). next_of g.forest n) v
 
-  pub previous-read : IsSound a → (n s : ℕ) (o r : Option ℕ) → slot_in table n ≡ Some s → o ≡ previous_in (entry_at a) s → r ≡ option_map (number_at (entry_at a)) o → r ≡ previous_of w.forest n
+  pub previous-read : IsSound a → (n s : ℕ) (o r : Option ℕ) → slot_in table n ≡ Some s → o ≡ previous_in (entry_at a) s → r ≡ option_map (number_in_slot (entry_at a)) o → r ≡ previous_of w.forest n
   previous-read l n s o r i h j =
-      j ∙ ap (option_map (number_at (entry_at a))) h ∙ sym (previous-slot k l n s i) ∙ ap (λ (g : Grove X). previous_of g.forest n) v
+      j ∙ ap (option_map (number_in_slot (entry_at a))) h ∙ sym (previous-slot k l n s i) ∙ ap (λ (g : Grove X). previous_of g.forest n) v
 
   pub holds-read : (n : ℕ) → is_some (slot_in table n) ≡ is_some (entry_in w.forest n)
   holds-read n =
@@ -116,23 +116,23 @@ module _ {X : Type 0} {a : Arena (Node X)} {table : List (Option ℕ)} {live : �
   parent-there n s i h =
       let j : IsSome (parent_of (shown a table) n) = subst (λ (g : Grove X). IsSome (parent_of g.forest n)) (sym v) h in
       let d = parent-slot k n s i in
-      option_map-some (number_at (entry_at a)) (parent_in (entry_at a s)) (let j2 = rw d at j in j2)
+      option_map-some (number_in_slot (entry_at a)) (parent_in (entry_at a s)) (let j2 = rw d at j in j2)
 
   pub parent-none : (n s : ℕ) → slot_in table n ≡ Some s → parent_of w.forest n ≡ None → parent_in (entry_at a s) ≡ None
   parent-none n s i h =
-      option_map-none (number_at (entry_at a)) (parent_in (entry_at a s)) (sym (parent-slot k n s i) ∙ ap (λ (g : Grove X). parent_of g.forest n) v ∙ h)
+      option_map-none (number_in_slot (entry_at a)) (parent_in (entry_at a s)) (sym (parent-slot k n s i) ∙ ap (λ (g : Grove X). parent_of g.forest n) v ∙ h)
 
   -- the slot before which a child goes stands under the parent's slot
   pub parent-same : IsSound a → (nb : Option ℕ) (np sp : ℕ) (sb : Option ℕ) → slot_in table np ≡ Some sp → slot_for table nb ≡ sb → ForSome nb (λ b. parent_of w.forest b ≡ Some np) → (x : ℕ) → sb ≡ Some x → parent_in (entry_at a x) ≡ Some sp
   parent-same l None np sp sb ep eb h x d = absurd (let z : None ≡ Some x = eb ∙ d in cc z)
   parent-same l (Some n) np sp sb ep eb h x d =
       let i : slot_in table n ≡ Some x = eb ∙ d in
-      let j : option_map (number_at (entry_at a)) (parent_in (entry_at a x)) ≡ Some np = sym (parent-slot k n x i) ∙ ap (λ (g : Grove X). parent_of g.forest n) v ∙ h n refl in
+      let j : option_map (number_in_slot (entry_at a)) (parent_in (entry_at a x)) ≡ Some np = sym (parent-slot k n x i) ∙ ap (λ (g : Grove X). parent_of g.forest n) v ∙ h n refl in
       elim (seen (parent_in (entry_at a x))) [
         | nothing z ↦ absurd (let j2 = rw z at j in cc j2)
         | just q z ↦
             let j2 = rw z at j in
-            let m : number_at (entry_at a) q ≡ np = cc j2 in
+            let m : number_in_slot (entry_at a) q ≡ np = cc j2 in
             let hq = parent-held (entry_at a) l.linked x q z in
             let hp = k.tabled.named np sp ep in
             z ∙ ap Some (one_slot (entry_at a) (slot_in table) k.tabled q sp hq hp.0 (m ∙ sym hp.1))

@@ -4,7 +4,7 @@ use Rattle.std.proofs.lemmas.Bool.{false≢true}
 use Rattle.dom_model.specs.PlainLists.Lists.{hits, is_number, entered, left_out}
 use Rattle.dom_model.specs.Forests.Arena.{Entry, held, alone, IsLinked}
 use Rattle.dom_model.specs.Forests.Forest.{Node}
-use Rattle.dom_tree.specs.Spelled.{number_in, number_at, renumbered, by_number, IsTabled}
+use Rattle.dom_tree.specs.Spelled.{number_in, number_in_slot, renumbered, by_number, IsTabled}
 use Rattle.dom_model.proofs.PlainLists.Numbers.{same_or, same, apart}
 use Rattle.dom_model.proofs.Forests.Changes.{seen, nothing, just, cut_at, link_at, change_at, held-cut_at, held-link_at}
 use Rattle.dom_tree.proofs.Numbering.{child-held, parent-held, same_test}
@@ -40,15 +40,15 @@ module _ {X : Type 0} where
   IsTabled-unlinked at at' sl c h t =
       IsTabled-kept at at' sl (λ s. ap held (h s) ∙ held-cut_at c s (at s)) (λ s. ap number_in (h s) ∙ number_in-unlinked c s (at s)) t
 
-  map_numbers : (at at' : (ℕ → Option (Entry (Node X)))) (l : List ℕ) → ((s : ℕ) → number_in (at' s) ≡ number_in (at s)) → map (number_at at') l ≡ map (number_at at) l
-  map_numbers at at' l h = map-same (number_at at') (number_at at) l (λ x _. h x)
+  map_numbers : (at at' : (ℕ → Option (Entry (Node X)))) (l : List ℕ) → ((s : ℕ) → number_in (at' s) ≡ number_in (at s)) → map (number_in_slot at') l ≡ map (number_in_slot at) l
+  map_numbers at at' l h = map-same (number_in_slot at') (number_in_slot at) l (λ x _. h x)
 
-  option_numbers : (at at' : (ℕ → Option (Entry (Node X)))) (o : Option ℕ) → ((s : ℕ) → number_in (at' s) ≡ number_in (at s)) → option_map (number_at at') o ≡ option_map (number_at at) o
+  option_numbers : (at at' : (ℕ → Option (Entry (Node X)))) (o : Option ℕ) → ((s : ℕ) → number_in (at' s) ≡ number_in (at s)) → option_map (number_in_slot at') o ≡ option_map (number_in_slot at) o
   option_numbers at at' None h = refl
   option_numbers at at' (Some x) h = ap Some (h x)
 
   -- to link by slot is to link by number
-  pub by_number-linked : (at at' : (ℕ → Option (Entry (Node X)))) (sl : ℕ → Option ℕ) (p c : ℕ) (b : Option ℕ) → IsTabled at sl → IsLinked at → IsSome (at p) → IsSome (at c) → ((q : ℕ) → b ≡ Some q → IsSome (at q)) → ((s : ℕ) → at' s ≡ link_at p b c s (at s)) → (n : ℕ) → by_number at' sl n ≡ link_at (number_at at p) (option_map (number_at at) b) (number_at at c) n (by_number at sl n)
+  pub by_number-linked : (at at' : (ℕ → Option (Entry (Node X)))) (sl : ℕ → Option ℕ) (p c : ℕ) (b : Option ℕ) → IsTabled at sl → IsLinked at → IsSome (at p) → IsSome (at c) → ((q : ℕ) → b ≡ Some q → IsSome (at q)) → ((s : ℕ) → at' s ≡ link_at p b c s (at s)) → (n : ℕ) → by_number at' sl n ≡ link_at (number_in_slot at p) (option_map (number_in_slot at) b) (number_in_slot at c) n (by_number at sl n)
   by_number-linked at at' sl p c b t l hp hc hb h n =
       elim (seen (sl n)) [
         | nothing e ↦ rw e refl
@@ -64,38 +64,38 @@ module _ {X : Type 0} where
       numbers_same : (s : ℕ) → number_in (at' s) ≡ number_in (at s)
       numbers_same s = ap number_in (h s) ∙ number_in-linked p b c s (at s)
 
-      test_before : (x : ℕ) → IsSome (at x) → is_number (option_map (number_at at) b) (number_at at x) ≡ is_number b x
+      test_before : (x : ℕ) → IsSome (at x) → is_number (option_map (number_in_slot at) b) (number_in_slot at x) ≡ is_number b x
       test_before x hx = go b hb
         where
-          go : (o : Option ℕ) → ((q : ℕ) → o ≡ Some q → IsSome (at q)) → is_number (option_map (number_at at) o) (number_at at x) ≡ is_number o x
+          go : (o : Option ℕ) → ((q : ℕ) → o ≡ Some q → IsSome (at q)) → is_number (option_map (number_in_slot at) o) (number_in_slot at x) ≡ is_number o x
           go None _ = refl
           go (Some q) hq = same_test at sl t q x (hq q refl) hx
 
-      parents : (s : ℕ) (o : Option ℕ) → sl n ≡ Some s → IsSome (at s) → option_map (number_at at') (if s == c then Some p else o) ≡ (if n == number_at at c then Some (number_at at p) else option_map (number_at at) o)
+      parents : (s : ℕ) (o : Option ℕ) → sl n ≡ Some s → IsSome (at s) → option_map (number_in_slot at') (if s == c then Some p else o) ≡ (if n == number_in_slot at c then Some (number_in_slot at p) else option_map (number_in_slot at) o)
       parents s o e i =
           let d = (t.named n s e).1 in
           let k = same_test at sl t s c i hc in
           let k2 = rw d at k in
           rw (option_numbers at at' (if s == c then Some p else o) numbers_same, k2)
-          (elim (s == c) as (λ v. option_map (number_at at) (if v then Some p else o) ≡ (if v then Some (number_at at p) else option_map (number_at at) o)) [ true ↦ refl | false ↦ refl ])
+          (elim (s == c) as (λ v. option_map (number_in_slot at) (if v then Some p else o) ≡ (if v then Some (number_in_slot at p) else option_map (number_in_slot at) o)) [ true ↦ refl | false ↦ refl ])
 
-      lists : (s : ℕ) (xs : List ℕ) → sl n ≡ Some s → IsSome (at s) → ((x : ℕ) → 0 < hits x xs → IsSome (at x)) → map (number_at at') (if s == p then entered b c xs else xs) ≡ (if n == number_at at p then entered (option_map (number_at at) b) (number_at at c) (map (number_at at) xs) else map (number_at at) xs)
+      lists : (s : ℕ) (xs : List ℕ) → sl n ≡ Some s → IsSome (at s) → ((x : ℕ) → 0 < hits x xs → IsSome (at x)) → map (number_in_slot at') (if s == p then entered b c xs else xs) ≡ (if n == number_in_slot at p then entered (option_map (number_in_slot at) b) (number_in_slot at c) (map (number_in_slot at) xs) else map (number_in_slot at) xs)
       lists s xs e i hx =
           let d = (t.named n s e).1 in
           let k = same_test at sl t s p i hp in
           let k2 = rw d at k in
           rw (map_numbers at at' (if s == p then entered b c xs else xs) numbers_same, k2)
-          (elim (s == p) as (λ v. map (number_at at) (if v then entered b c xs else xs) ≡ (if v then entered (option_map (number_at at) b) (number_at at c) (map (number_at at) xs) else map (number_at at) xs)) [
-            | true ↦ sym (entered-map (number_at at) b c xs (λ x k. test_before x (hx x k)))
+          (elim (s == p) as (λ v. map (number_in_slot at) (if v then entered b c xs else xs) ≡ (if v then entered (option_map (number_in_slot at) b) (number_in_slot at c) (map (number_in_slot at) xs) else map (number_in_slot at) xs)) [
+            | true ↦ sym (entered-map (number_in_slot at) b c xs (λ x k. test_before x (hx x k)))
             | false ↦ refl
           ])
 
-      pieces : (s : ℕ) → sl n ≡ Some s → (a : Entry (Node X)) → at s ≡ Some a → IsSome (at s) → renumbered at' (record { value = a.value; parent = if s == c then Some p else a.parent; children = if s == p then entered b c a.children else a.children }) ≡ record { value = a.value; parent = if n == number_at at c then Some (number_at at p) else option_map (number_at at) a.parent; children = if n == number_at at p then entered (option_map (number_at at) b) (number_at at c) (map (number_at at) a.children) else map (number_at at) a.children }
+      pieces : (s : ℕ) → sl n ≡ Some s → (a : Entry (Node X)) → at s ≡ Some a → IsSome (at s) → renumbered at' (record { value = a.value; parent = if s == c then Some p else a.parent; children = if s == p then entered b c a.children else a.children }) ≡ record { value = a.value; parent = if n == number_in_slot at c then Some (number_in_slot at p) else option_map (number_in_slot at) a.parent; children = if n == number_in_slot at p then entered (option_map (number_in_slot at) b) (number_in_slot at c) (map (number_in_slot at) a.children) else map (number_in_slot at) a.children }
       pieces s e a d i =
           let hx : (x : ℕ) → 0 < hits x a.children → IsSome (at x) = λ x k. child-held at l s x (rw d k) in
           λ j. record { value = a.value; parent = parents s a.parent e i j; children = lists s a.children e i hx j }
 
-  pub by_number-unlinked : (at at' : (ℕ → Option (Entry (Node X)))) (sl : ℕ → Option ℕ) (c : ℕ) → IsTabled at sl → IsLinked at → IsSome (at c) → ((s : ℕ) → at' s ≡ cut_at c s (at s)) → (n : ℕ) → by_number at' sl n ≡ cut_at (number_at at c) n (by_number at sl n)
+  pub by_number-unlinked : (at at' : (ℕ → Option (Entry (Node X)))) (sl : ℕ → Option ℕ) (c : ℕ) → IsTabled at sl → IsLinked at → IsSome (at c) → ((s : ℕ) → at' s ≡ cut_at c s (at s)) → (n : ℕ) → by_number at' sl n ≡ cut_at (number_in_slot at c) n (by_number at sl n)
   by_number-unlinked at at' sl c t l hc h n =
       elim (seen (sl n)) [
         | nothing e ↦ rw e refl
@@ -111,19 +111,19 @@ module _ {X : Type 0} where
       numbers_same : (s : ℕ) → number_in (at' s) ≡ number_in (at s)
       numbers_same s = ap number_in (h s) ∙ number_in-unlinked c s (at s)
 
-      parents : (s : ℕ) (o : Option ℕ) → sl n ≡ Some s → IsSome (at s) → option_map (number_at at') (if s == c then None else o) ≡ (if n == number_at at c then None else option_map (number_at at) o)
+      parents : (s : ℕ) (o : Option ℕ) → sl n ≡ Some s → IsSome (at s) → option_map (number_in_slot at') (if s == c then None else o) ≡ (if n == number_in_slot at c then None else option_map (number_in_slot at) o)
       parents s o e i =
           let d = (t.named n s e).1 in
           let k = same_test at sl t s c i hc in
           let k2 = rw d at k in
           rw (option_numbers at at' (if s == c then None else o) numbers_same, k2)
-          (elim (s == c) as (λ v. option_map (number_at at) (if v then None else o) ≡ (if v then None else option_map (number_at at) o)) [ true ↦ refl | false ↦ refl ])
+          (elim (s == c) as (λ v. option_map (number_in_slot at) (if v then None else o) ≡ (if v then None else option_map (number_in_slot at) o)) [ true ↦ refl | false ↦ refl ])
 
-      lists : (xs : List ℕ) → ((x : ℕ) → 0 < hits x xs → IsSome (at x)) → map (number_at at') (left_out c xs) ≡ left_out (number_at at c) (map (number_at at) xs)
+      lists : (xs : List ℕ) → ((x : ℕ) → 0 < hits x xs → IsSome (at x)) → map (number_in_slot at') (left_out c xs) ≡ left_out (number_in_slot at c) (map (number_in_slot at) xs)
       lists xs hx =
-          map_numbers at at' (left_out c xs) numbers_same ∙ sym (left_out-map (number_at at) c xs (λ x k. same_test at sl t x c (hx x k) hc))
+          map_numbers at at' (left_out c xs) numbers_same ∙ sym (left_out-map (number_in_slot at) c xs (λ x k. same_test at sl t x c (hx x k) hc))
 
-      pieces : (s : ℕ) → sl n ≡ Some s → (a : Entry (Node X)) → at s ≡ Some a → IsSome (at s) → renumbered at' (record { value = a.value; parent = if s == c then None else a.parent; children = left_out c a.children }) ≡ record { value = a.value; parent = if n == number_at at c then None else option_map (number_at at) a.parent; children = left_out (number_at at c) (map (number_at at) a.children) }
+      pieces : (s : ℕ) → sl n ≡ Some s → (a : Entry (Node X)) → at s ≡ Some a → IsSome (at s) → renumbered at' (record { value = a.value; parent = if s == c then None else a.parent; children = left_out c a.children }) ≡ record { value = a.value; parent = if n == number_in_slot at c then None else option_map (number_in_slot at) a.parent; children = left_out (number_in_slot at c) (map (number_in_slot at) a.children) }
       pieces s e a d i =
           let hx : (x : ℕ) → 0 < hits x a.children → IsSome (at x) = λ x k. child-held at l s x (rw d k) in
           λ j. record { value = a.value; parent = parents s a.parent e i j; children = lists a.children hx j }
@@ -144,7 +144,7 @@ module _ {X : Type 0} where
   IsTabled-changed at at' sl c g k h t =
       IsTabled-kept at at' sl (λ s. ap held (h s) ∙ held-changed g c s (at s)) (λ s. ap number_in (h s) ∙ number_in-changed g k c s (at s)) t
 
-  pub by_number-changed : (at at' : (ℕ → Option (Entry (Node X)))) (sl : ℕ → Option ℕ) (c : ℕ) (g : Node X → Node X) → ((x : Node X) → (g x).number ≡ x.number) → IsTabled at sl → IsSome (at c) → ((s : ℕ) → at' s ≡ changed_at g c s (at s)) → (n : ℕ) → by_number at' sl n ≡ change_at g (number_at at c) n (by_number at sl n)
+  pub by_number-changed : (at at' : (ℕ → Option (Entry (Node X)))) (sl : ℕ → Option ℕ) (c : ℕ) (g : Node X → Node X) → ((x : Node X) → (g x).number ≡ x.number) → IsTabled at sl → IsSome (at c) → ((s : ℕ) → at' s ≡ changed_at g c s (at s)) → (n : ℕ) → by_number at' sl n ≡ change_at g (number_in_slot at c) n (by_number at sl n)
   by_number-changed at at' sl c g k t hc h n =
       elim (seen (sl n)) [
         | nothing e ↦ rw e refl
@@ -155,7 +155,7 @@ module _ {X : Type 0} where
                   let i : IsSome (at s) = rw d refl in
                   let j = same_test at sl t s c i hc in
                   let j2 = rw ((t.named n s e).1) at j in
-                  rw (e, h s, d, j2) (elim (s == c) as (λ v. option_map (renumbered at') (if v then Some (record a { value = g a.value }) else Some a) ≡ Some (record { value = if v then g a.value else a.value; parent = option_map (number_at at) a.parent; children = map (number_at at) a.children })) [
+                  rw (e, h s, d, j2) (elim (s == c) as (λ v. option_map (renumbered at') (if v then Some (record a { value = g a.value }) else Some a) ≡ Some (record { value = if v then g a.value else a.value; parent = option_map (number_in_slot at) a.parent; children = map (number_in_slot at) a.children })) [
                     | true ↦ (λ q. Some (record { value = g a.value; parent = option_numbers at at' a.parent numbers_same q; children = map_numbers at at' a.children numbers_same q }))
                     | false ↦ (λ q. Some (record { value = a.value; parent = option_numbers at at' a.parent numbers_same q; children = map_numbers at at' a.children numbers_same q }))
                   ])
@@ -173,13 +173,13 @@ module _ {X : Type 0} where
       far : (s : ℕ) → IsSome (at s) → s ≡ k → ⊥
       far s i e = false≢true (sym (ap is_some (ap at e ∙ fresh)) ∙ i)
 
-      named : (n s : ℕ) → sl' n ≡ Some s → IsSome (at' s) × (number_at at' s ≡ n)
+      named : (n s : ℕ) → sl' n ≡ Some s → IsSome (at' s) × (number_in_slot at' s ≡ n)
       named n s e =
           elim (same_or n made) [
             | same d v ↦
                 let f : Some k ≡ Some s = sym snew ∙ ap sl' (sym d) ∙ e in
                 let g : k ≡ s = cc f in
-                (subst (λ m. IsSome (at' m)) g (rw new refl), subst (λ m. number_at at' m ≡ n) g (rw new (nx ∙ sym d)))
+                (subst (λ m. IsSome (at' m)) g (rw new refl), subst (λ m. number_in_slot at' m ≡ n) g (rw new (nx ∙ sym d)))
             | apart ne v ↦
                 let f : sl n ≡ Some s = sym (sold n ne) ∙ e in
                 let g = t.named n s f in
@@ -187,7 +187,7 @@ module _ {X : Type 0} where
                 (rw w g.0, rw w g.1)
           ]
 
-      listed : (s : ℕ) → IsSome (at' s) → sl' (number_at at' s) ≡ Some s
+      listed : (s : ℕ) → IsSome (at' s) → sl' (number_in_slot at' s) ≡ Some s
       listed s i =
           elim (same_or s k) [
             | same d v ↦ ap sl' (ap number_in (ap at' d ∙ new) ∙ nx) ∙ snew ∙ ap Some (sym d)
@@ -195,8 +195,8 @@ module _ {X : Type 0} where
                 let w = old s ne in
                 let i2 = rw w at i in
                 let f = t.listed s i2 in
-                let apart_from : number_at at s ≡ made → ⊥ = λ m. none_not_some (sym free ∙ ap sl (sym m) ∙ f) in
-                ap sl' (ap number_in w) ∙ sold (number_at at s) apart_from ∙ f
+                let apart_from : number_in_slot at s ≡ made → ⊥ = λ m. none_not_some (sym free ∙ ap sl (sym m) ∙ f) in
+                ap sl' (ap number_in w) ∙ sold (number_in_slot at s) apart_from ∙ f
           ]
         where
           none_not_some : None ≡ Some s → ⊥
@@ -209,10 +209,10 @@ module _ {X : Type 0} where
       far : (s : ℕ) → IsSome (at s) → s ≡ k → ⊥
       far s i e = false≢true (sym (ap is_some (ap at e ∙ fresh)) ∙ i)
 
-      number_kept : (s : ℕ) → IsSome (at s) → number_at at' s ≡ number_at at s
+      number_kept : (s : ℕ) → IsSome (at s) → number_in_slot at' s ≡ number_in_slot at s
       number_kept s i = ap number_in (old s (far s i))
 
-      option_kept : (o : Option ℕ) → ((p : ℕ) → o ≡ Some p → IsSome (at p)) → option_map (number_at at') o ≡ option_map (number_at at) o
+      option_kept : (o : Option ℕ) → ((p : ℕ) → o ≡ Some p → IsSome (at p)) → option_map (number_in_slot at') o ≡ option_map (number_in_slot at) o
       option_kept None h = refl
       option_kept (Some p) h = ap Some (number_kept p (h p refl))
 
@@ -226,7 +226,7 @@ module _ {X : Type 0} where
                   | nothing d ↦ absurd (false≢true (sym (ap is_some d) ∙ i))
                   | just a d ↦
                       let ps = option_kept a.parent (λ p h. parent-held at l s p (rw d h)) in
-                      let cs = map-same (number_at at') (number_at at) a.children (λ c h. number_kept c (child-held at l s c (rw d h))) in
+                      let cs = map-same (number_in_slot at') (number_in_slot at) a.children (λ c h. number_kept c (child-held at l s c (rw d h))) in
                       rw (e, old s (far s i), d) (λ j. Some (record { value = a.value; parent = ps j; children = cs j }))
                 ]
           ])

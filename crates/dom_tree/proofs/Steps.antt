@@ -3,17 +3,17 @@ use Rattle.std.proofs.Common.{◌≡◌, ◌==◌, ℕ, Bool, List, length, Opti
 use Rattle.dom_model.specs.PlainLists.Lists.{head_of, last_of}
 use Rattle.dom_model.specs.Forests.Arena.{Arena, entry_at, parent_in, children_in, list_under, siblings_in, next_in, previous_in, IsHeld, IsSound}
 use Rattle.dom_model.specs.Forests.Forest.{Grove, entry_in, HasNode, parent_of, children_of, next_of, previous_of}
-use Rattle.dom_tree.specs.Spelled.{number_at, slot_in, shown}
-use Rattle.dom_tree.specs.Slots.{Kept, nodes_of, IsTree}
+use Rattle.dom_tree.specs.Spelled.{number_in_slot, slot_in, shown}
+use Rattle.dom_tree.specs.Slots.{Kept, nodes_alone, IsTree}
 use Rattle.dom_tree.proofs.Nodes.{held-nodes, held-back}
 use Rattle.dom_tree.proofs.Numbering.{one_slot, same_test}
 use Rattle.dom_tree.proofs.Trees.{parent-named, first-named, last-named, next-named, previous-named, parent-read, parent-there, parent-same, count-read, first-read, last-read, next-read, previous-read, holds-read}
 
 -- the number of the node in a slot
 abbrev pub called : {X : Type 0} → Arena (Kept X) → ℕ → ℕ
-called a s = number_at (entry_at (nodes_of a)) s
+called a s = number_in_slot (entry_at (nodes_alone a)) s
 
-module _ {X : Type 0} {a : Arena (Kept X)} {table : List (Option ℕ)} {live : ℕ} {strays : Bool} (k : IsTree a table live strays) {w : Grove X} (v : record { forest = shown (nodes_of a) table; made = length table } ≡ w) where
+module _ {X : Type 0} {a : Arena (Kept X)} {table : List (Option ℕ)} {live : ℕ} {strays : Bool} (k : IsTree a table live strays) {w : Grove X} (v : record { forest = shown (nodes_alone a) table; made = length table } ≡ w) where
   -- the slot of a number is held, and the node in it has that number
   pub begins : (n s : ℕ) → slot_in table n ≡ Some s → IsHeld a s × (called a s ≡ n)
   begins n s i = (let t = k.stored.kept.tabled.named n s i in (held-back a s t.0, t.1))
@@ -26,13 +26,13 @@ module _ {X : Type 0} {a : Arena (Kept X)} {table : List (Option ℕ)} {live : �
 
   -- two slots of one number are one
   pub one : (s t : ℕ) → IsHeld a s → IsHeld a t → called a s ≡ called a t → s ≡ t
-  one s t hs ht e = one_slot (entry_at (nodes_of a)) (slot_in table) k.stored.kept.tabled s t (held-nodes a s hs) (held-nodes a t ht) e
+  one s t hs ht e = one_slot (entry_at (nodes_alone a)) (slot_in table) k.stored.kept.tabled s t (held-nodes a s hs) (held-nodes a t ht) e
 
   -- a slot is a number's, or is not, as the node in it has the number
   pub meets : (s n e : ℕ) → IsHeld a s → slot_in table n ≡ Some e → (called a s == n) ≡ (s == e)
   meets s n e h i =
       let b = begins n e i in
-      ap (λ m. called a s == m) (sym b.1) ∙ same_test (entry_at (nodes_of a)) (slot_in table) k.stored.kept.tabled s e (held-nodes a s h) (held-nodes a e b.0)
+      ap (λ m. called a s == m) (sym b.1) ∙ same_test (entry_at (nodes_alone a)) (slot_in table) k.stored.kept.tabled s e (held-nodes a s h) (held-nodes a e b.0)
 
   -- a step leads to a slot that is held, where the forest says so by number
   module _ (l : IsSound a) (s : ℕ) (h : IsHeld a s) where

@@ -5,7 +5,7 @@ use Rattle.std.proofs.lemmas.List.{get_or-set_same, get_or-set_other, get_or_pas
 use Rattle.dom_model.specs.Forests.Arena.{Arena, Entry, entry_at, held, alone, parent_in, children_in, taken, IsSound}
 use Rattle.dom_model.specs.Forests.Lies.{Lies}
 use Rattle.dom_model.specs.Forests.Forest.{Node, Forest, empty, node, occurs, one_at, size, tops, tree_at, without}
-use Rattle.dom_tree.specs.Spelled.{number_in, number_at, slot_in, numbered, shown, Spells, IsTabled, IsKept}
+use Rattle.dom_tree.specs.Spelled.{number_in, number_in_slot, slot_in, numbered, shown, Spells, IsTabled, IsKept}
 use Rattle.dom_model.proofs.PlainLists.Numbers.{same_or, same, apart}
 use Rattle.dom_model.proofs.Forests.Totals.{total-tree_at, occurs-without}
 use Rattle.dom_model.proofs.Forests.Tops.{IsRising-left_out, tops-without}
@@ -79,18 +79,18 @@ module _ {X : Type 0} where
   IsTabled-taken at at' sl sl' c s t e gone old sgone sold =
       record { named = named; listed = listed }
     where
-      named : (n k : ℕ) → sl' n ≡ Some k → IsSome (at' k) × (number_at at' k ≡ n)
+      named : (n k : ℕ) → sl' n ≡ Some k → IsSome (at' k) × (number_in_slot at' k ≡ n)
       named n k h =
           elim (same_or n c) [
             | same d _ ↦ absurd (let z : None ≡ Some k = sym sgone ∙ ap sl' (sym d) ∙ h in cc z)
             | apart ne _ ↦
                 let i = t.named n k (sym (sold n ne) ∙ h) in
-                let ks : k ≡ s → ⊥ = λ d. ne (sym i.1 ∙ ap (number_at at) d ∙ (t.named c s e).1) in
+                let ks : k ≡ s → ⊥ = λ d. ne (sym i.1 ∙ ap (number_in_slot at) d ∙ (t.named c s e).1) in
                 let w = old k ks in
                 (rw w i.0, rw w i.1)
           ]
 
-      listed : (k : ℕ) → IsSome (at' k) → sl' (number_at at' k) ≡ Some k
+      listed : (k : ℕ) → IsSome (at' k) → sl' (number_in_slot at' k) ≡ Some k
       listed k h =
           elim (same_or k s) [
             | same d _ ↦ absurd (let z : at' k ≡ None = ap at' d ∙ gone in let h2 = rw z at h in false≢true h2)
@@ -98,13 +98,13 @@ module _ {X : Type 0} where
                 let w = old k ks in
                 let h2 : IsSome (at k) = rw w at h in
                 let i = t.listed k h2 in
-                let nc : number_at at k ≡ c → ⊥ = λ d. ks (let z : Some k ≡ Some s = sym i ∙ ap sl d ∙ e in cc z) in
-                ap sl' (ap number_in w) ∙ sold (number_at at k) nc ∙ i
+                let nc : number_in_slot at k ≡ c → ⊥ = λ d. ks (let z : Some k ≡ Some s = sym i ∙ ap sl d ∙ e in cc z) in
+                ap sl' (ap number_in w) ∙ sold (number_in_slot at k) nc ∙ i
           ]
 
 module _ {X : Type 0} {a : Arena (Node X)} {table : List (Option ℕ)} {live : ℕ} (k : IsKept a table live) where
   module _ (n s : ℕ) (e : slot_in table n ≡ Some s) (l : IsSound (taken a s)) (r : parent_in (entry_at a s) ≡ None) (c : children_in (entry_at a s) ≡ []) where
-    number_s : number_at (entry_at a) s ≡ n
+    number_s : number_in_slot (entry_at a) s ≡ n
     number_s = (k.tabled.named n s e).1
 
     lone : (v : Node X) × (entry_at a s ≡ Some (alone v))

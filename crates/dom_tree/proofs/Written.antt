@@ -11,7 +11,7 @@ use Rattle.dom_model.proofs.PlainLists.Members.{hits-before}
 use Rattle.dom_model.proofs.PlainLists.Places.{place-there}
 use Rattle.dom_model.proofs.Forests.Chains.{place-apart}
 use Rattle.dom_model.proofs.Forests.Siblings.{after-get, hits-get, place-before, place-first}
-use Rattle.dom_tree.specs.Slots.{Kept, with_sure, unknown, Tells, nodes_of, index_in, sure_in, reach_in, indexed, assured, IsCounted}
+use Rattle.dom_tree.specs.Slots.{Kept, with_sure, unknown, Tells, nodes_alone, index_in, sure_in, reach_in, indexed, assured, IsCounted}
 use Rattle.dom_tree.specs.Numberings.{told, IsWritten, IsNumbered}
 use Rattle.dom_tree.proofs.Nodes.{parent-nodes, children-nodes, held-nodes, held-back, indexed-nodes, assured-nodes, room-altered}
 use Rattle.dom_tree.proofs.PlacesAt.{get-place, get-within, place-get}
@@ -19,13 +19,13 @@ use Rattle.dom_tree.proofs.Counting.{children-once, altered-children, names-itse
 use Rattle.dom_tree.proofs.OwnedSlots.{indexed-owned, assured-owned}
 
 module _ {X : Type 0} where
-  pub children-same : (a b : Arena (Kept X)) → nodes_of a ≡ nodes_of b → (n : ℕ) → children_in (entry_at a n) ≡ children_in (entry_at b n)
+  pub children-same : (a b : Arena (Kept X)) → nodes_alone a ≡ nodes_alone b → (n : ℕ) → children_in (entry_at a n) ≡ children_in (entry_at b n)
   children-same a b e n = sym (children-nodes a n) ∙ ap (λ (d : Arena (Node X)). children_in (entry_at d n)) e ∙ children-nodes b n
 
-  pub parent-same : (a b : Arena (Kept X)) → nodes_of a ≡ nodes_of b → (n : ℕ) → parent_in (entry_at a n) ≡ parent_in (entry_at b n)
+  pub parent-same : (a b : Arena (Kept X)) → nodes_alone a ≡ nodes_alone b → (n : ℕ) → parent_in (entry_at a n) ≡ parent_in (entry_at b n)
   parent-same a b e n = sym (parent-nodes a n) ∙ ap (λ (d : Arena (Node X)). parent_in (entry_at d n)) e ∙ parent-nodes b n
 
-  pub held-same : (a b : Arena (Kept X)) → nodes_of a ≡ nodes_of b → (n : ℕ) → IsHeld b n → IsHeld a n
+  pub held-same : (a b : Arena (Kept X)) → nodes_alone a ≡ nodes_alone b → (n : ℕ) → IsHeld b n → IsHeld a n
   held-same a b e n h = held-back a n (subst (λ (d : Arena (Node X)). IsHeld d n) (sym e) (held-nodes b n h))
 
   -- how far the children have been written from a place on, and the next one
@@ -150,7 +150,7 @@ module _ {X : Type 0} {start : Arena (Kept X)} (l : IsSound start) (p : ℕ) whe
       writing-held = held-same now start w.so_far.nodes c (held_under c listed)
 
       pub writing-still : (now' : Arena (Kept X)) (i : ℕ) → now' ≡ indexed now c i → IsHeld now' c
-      writing-still now' i e = held-same now' now (ap nodes_of e ∙ indexed-nodes now c i) c writing-held
+      writing-still now' i e = held-same now' now (ap nodes_alone e ∙ indexed-nodes now c i) c writing-held
 
       pub writing-next : place < until → (i : ℕ) → i ≡ told known place → (now' : Arena (Kept X)) → now' ≡ indexed now c i → (next' : Option ℕ) → next' ≡ next_in (entry_at now') c → IsWriting start now' p from (place + 1) until known next'
       writing-next lt i ei now' e next' en =
@@ -169,8 +169,8 @@ module _ {X : Type 0} {start : Arena (Kept X)} (l : IsSound start) (p : ℕ) whe
             up_to = omega arith;
           }
         where
-          n : nodes_of now' ≡ nodes_of start
-          n = ap nodes_of e ∙ indexed-nodes now c i ∙ w.so_far.nodes
+          n : nodes_alone now' ≡ nodes_alone start
+          n = ap nodes_alone e ∙ indexed-nodes now c i ∙ w.so_far.nodes
 
           siblings : siblings_in (entry_at now') c ≡ list
           siblings = ap (list_under (entry_at now')) (parent-same now' start n c ∙ under c listed) ∙ children-same now' start n p
@@ -226,7 +226,7 @@ module _ {X : Type 0} {start : Arena (Kept X)} (l : IsSound start) (p : ℕ) whe
           s : ℕ
           s = index + 1
 
-          n : nodes_of last ≡ nodes_of start
+          n : nodes_alone last ≡ nodes_alone start
           n = v.nodes ∙ w.nodes
 
           held_last : IsHeld last p

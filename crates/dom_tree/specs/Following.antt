@@ -3,8 +3,8 @@ use Rattle.std.specs.Prelude.{ℕ, List, [], map, Option, Some, None, IsSome}
 use Rattle.std.specs.Option.{ForSome}
 use Rattle.dom_model.specs.PlainLists.Lists.{from_first}
 use Rattle.dom_model.specs.Forests.Arena.{Arena, Entry, entry_at, parent_in, siblings_in}
-use Rattle.dom_tree.specs.Spelled.{number_at}
-use Rattle.dom_tree.specs.Slots.{Kept, nodes_of}
+use Rattle.dom_tree.specs.Spelled.{number_in_slot}
+use Rattle.dom_tree.specs.Slots.{Kept, nodes_alone}
 
 module _ {T : Type 0} where
   -- the slot that is given has a parent
@@ -18,4 +18,4 @@ module _ {T : Type 0} where
 
 -- the numbers of the nodes in them
 abbrev pub numbers_from : {X : Type 0} → Arena (Kept X) → Option ℕ → List ℕ
-numbers_from a slot = map (number_at (entry_at (nodes_of a))) (slots_from (entry_at a) slot)
+numbers_from a slot = map (number_in_slot (entry_at (nodes_alone a))) (slots_from (entry_at a) slot)

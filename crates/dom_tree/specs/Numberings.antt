@@ -2,7 +2,7 @@
 use Rattle.std.specs.Prelude.{◌≡◌, ℕ, ◌+◌, ◌-◌, ◌<◌, ◌≤◌, nat_lt, nat_le, ◌&&◌, min, Bool, if◌then◌else◌, length, Option, Some, None, is_none}
 use Rattle.dom_model.specs.PlainLists.Lists.{hits, place_in}
 use Rattle.dom_model.specs.Forests.Arena.{Arena, Entry, entry_at, parent_in, children_in}
-use Rattle.dom_tree.specs.Slots.{Kept, unknown, index_in, sure_in, reach_in, owned_in, nodes_of, indexed, assured, IsCounted}
+use Rattle.dom_tree.specs.Slots.{Kept, unknown, index_in, sure_in, reach_in, owned_in, nodes_alone, indexed, assured, IsCounted}
 
 -- an index that is written: the place, or that none is known
 abbrev pub told : Bool → ℕ → ℕ
@@ -48,7 +48,7 @@ module _ {X : Type 0} where
 
   -- the same nodes, of which those among the parent's children that stand from one place on and ahead of another have another index
   pub record IsWritten (old new : Arena (Kept X)) (parent from until : ℕ) (known : Bool) : Type 0 where
-    pub nodes : nodes_of new ≡ nodes_of old
+    pub nodes : nodes_alone new ≡ nodes_alone old
     pub written : (x : ℕ) → 0 < hits x (children_in (entry_at old parent)) → from ≤ place_in x (children_in (entry_at old parent)) → place_in x (children_in (entry_at old parent)) < until → index_in (entry_at new x) ≡ told known (place_in x (children_in (entry_at old parent)))
     pub untouched : (x : ℕ) → (0 < hits x (children_in (entry_at old parent)) → from ≤ place_in x (children_in (entry_at old parent)) → until ≤ place_in x (children_in (entry_at old parent))) → index_in (entry_at new x) ≡ index_in (entry_at old x)
     pub sures : (slot : ℕ) → sure_in (entry_at new slot) ≡ sure_in (entry_at old slot)
@@ -58,7 +58,7 @@ module _ {X : Type 0} where
 
   -- the same nodes, of which a child's index is right, and is known to be
   pub record IsNumbered (old new : Arena (Kept X)) (parent child : ℕ) : Type 0 where
-    pub nodes : nodes_of new ≡ nodes_of old
+    pub nodes : nodes_alone new ≡ nodes_alone old
     pub counted : IsCounted (entry_at new)
     pub known : place_in child (children_in (entry_at old parent)) < sure_in (entry_at new parent)
     pub room : length new.slots ≡ length old.slots

@@ -67,8 +67,8 @@ module _ {X : Type 0} where
   node_entry e = record { value = e.value.node; parent = e.parent; children = e.children }
 
   -- the store of the nodes alone
-  abbrev pub nodes_of : Arena (Kept X) → Arena (Node X)
-  nodes_of a = record { slots = map (option_map node_entry) a.slots; free = a.free }
+  abbrev pub nodes_alone : Arena (Kept X) → Arena (Node X)
+  nodes_alone a = record { slots = map (option_map node_entry) a.slots; free = a.free }
 
   -- a slot's kept index set
   abbrev pub indexed : Arena (Kept X) → ℕ → ℕ → Arena (Kept X)
@@ -101,13 +101,13 @@ module _ {X : Type 0} where
 
   -- what a tree keeps of its store, its table and its count of nodes
   pub record IsStored (a : Arena (Kept X)) (table : List (Option ℕ)) (live : ℕ) : Type 0 where
-    pub kept : IsKept (nodes_of a) table live
+    pub kept : IsKept (nodes_alone a) table live
     pub counted : IsCounted (entry_at a)
     pub room : length a.slots ≤ length table
 
   -- the node documents of the nodes are nodes, and counted
   abbrev pub Owns : Arena (Kept X) → List (Option ℕ) → Type 0
-  Owns a table = IsOwned (document_in (shown (nodes_of a) table)) (slot_in table) (λ s. owned_in (entry_at a s)) (length table)
+  Owns a table = IsOwned (document_in (shown (nodes_alone a) table)) (slot_in table) (λ s. owned_in (entry_at a s)) (length table)
 
   -- what a tree keeps: the counts of node documents as long as no node document can be missing
   pub record IsTree (a : Arena (Kept X)) (table : List (Option ℕ)) (live : ℕ) (strays : Bool) : Type 0 where

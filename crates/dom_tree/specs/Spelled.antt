@@ -25,12 +25,12 @@ module _ {X : Type 0} where
   number_in (Some e) = e.value.number
 
   -- the number of the node in a slot
-  abbrev pub number_at : (ℕ → Option (Entry (Node X))) → ℕ → ℕ
-  number_at at slot = number_in (at slot)
+  abbrev pub number_in_slot : (ℕ → Option (Entry (Node X))) → ℕ → ℕ
+  number_in_slot at slot = number_in (at slot)
 
   -- an entry with numbers in place of slots
   abbrev pub renumbered : (ℕ → Option (Entry (Node X))) → Entry (Node X) → Entry (Node X)
-  renumbered at e = record { value = e.value; parent = option_map (number_at at) e.parent; children = map (number_at at) e.children }
+  renumbered at e = record { value = e.value; parent = option_map (number_in_slot at) e.parent; children = map (number_in_slot at) e.children }
 
   abbrev pub entry_in_slot : (ℕ → Option (Entry (Node X))) → Option ℕ → Option (Entry (Node X))
   entry_in_slot at None = None
@@ -42,8 +42,8 @@ module _ {X : Type 0} where
 
   -- each number's slot holds the node of that number, and each held slot is its number's
   pub record IsTabled (at : ℕ → Option (Entry (Node X))) (slot_of : ℕ → Option ℕ) : Type 0 where
-    pub named : (n slot : ℕ) → slot_of n ≡ Some slot → IsSome (at slot) × (number_at at slot ≡ n)
-    pub listed : (slot : ℕ) → IsSome (at slot) → slot_of (number_at at slot) ≡ Some slot
+    pub named : (n slot : ℕ) → slot_of n ≡ Some slot → IsSome (at slot) × (number_in_slot at slot ≡ n)
+    pub listed : (slot : ℕ) → IsSome (at slot) → slot_of (number_in_slot at slot) ≡ Some slot
 
   -- the entries spell the forest, and no more
   pub record Spells (made : ℕ) (at : ℕ → Option (Entry (Node X))) (f : Forest X) : Type 0 where

@@ -1,6 +1,6 @@
 //! What stands inside a node: its inclusive descendants (DOM Standard, "Trees").
 
-ghost use Rattle.std.specs.Prelude.{◌≡◌, ◌==◌, ℕ, Bool, List, Some, None, IfSome, true, if◌then◌else◌};
+ghost use Rattle.std.specs.Prelude.{◌≡◌, ◌==◌, ◌≤◌, ℕ, Bool, List, length, Some, None, IsSome, IfSome, true, if◌then◌else◌};
 ghost use Rattle.std.specs.List.{list_any};
 ghost use Rattle.dom_model.specs.PlainLists.Lists.{among, after, last_of};
 ghost use Rattle.dom_model.specs.Forests.Forest.{HasNode, parent_of, ancestors, inclusive_descendants};
@@ -62,7 +62,7 @@ impl<X> Tree<X> {
 
     /// Whether a test passes for an inclusive descendant of `top`. It asks them in tree order, and where it has asked `steps` of them, and there are more, it has no answer.
     ///
-    /// The clause is for a test that tells whether a node is one of some.
+    /// What it finds is said of a test that tells whether a node is one of some.
     pub fn any_inside<F: Fn(NodeId) -> bool>(
         &self,
         top: NodeId,
@@ -71,7 +71,8 @@ impl<X> Tree<X> {
     ) -> Option<bool>
         requires held { HasNode self.now.forest top }
         requires callable { F.IsAlwaysCallable test }
-        ensures { (nodes : List ℕ) → ((n : ℕ) (passes : Bool) → F.post test n passes → passes ≡ among n nodes) → IfSome result (λ any. any ≡ list_any (λ m. among m (inclusive_descendants self.now.forest top)) nodes) }
+        ensures found { (nodes : List ℕ) → ((n : ℕ) (passes : Bool) → F.post test n passes → passes ≡ among n nodes) → IfSome result (λ any. any ≡ list_any (λ m. among m (inclusive_descendants self.now.forest top)) nodes) }
+        ensures answered { length (inclusive_descendants self.now.forest top) ≤ steps → IsSome result }
     {
         self.sound();
         let mut here = top;

@@ -7,8 +7,8 @@ ghost use Rattle.dom_model.specs.PlainLists.Lists.{among, head_of, last_of};
 ghost use Rattle.dom_model.specs.Forests.Arena.{IsHeld, entry_at};
 ghost use Rattle.dom_model.specs.Forests.Forest.{empty, node, beside, size, entry_in, HasNode, parent_of, children_of, next_of, previous_of, ancestors, put, cut, IsForest};
 ghost use Rattle.dom_tree.specs.Bodies.{lends_item_body};
-ghost use Rattle.dom_tree.specs.Spelled.{slot_in, slot_for, number_at};
-ghost use Rattle.dom_tree.specs.Slots.{nodes_of};
+ghost use Rattle.dom_tree.specs.Spelled.{slot_in, slot_for, number_in_slot};
+ghost use Rattle.dom_tree.specs.Slots.{nodes_alone};
 ghost use Rattle.dom_tree.specs.Standing.{MayStand};
 
 use crate::item::Item;
@@ -37,13 +37,13 @@ impl<X> Model for Tree<X> {
     ghost use Rattle.dom_model.specs.Forests.Forest.{Grove};
     ghost use Rattle.dom_model.specs.Forests.ForestCode.{grove_code};
     ghost use Rattle.dom_tree.specs.Spelled.{shown};
-    ghost use Rattle.dom_tree.specs.Slots.{nodes_of, IsTree};
+    ghost use Rattle.dom_tree.specs.Slots.{nodes_alone, IsTree};
 
     ghost Value = { Grove X };
 
     ghost coded = { grove_code X.code };
 
-    ghost view = { λ t. record { forest = shown (nodes_of t.links) t.table.items; made = length t.table.items } };
+    ghost view = { λ t. record { forest = shown (nodes_alone t.links) t.table.items; made = length t.table.items } };
 
     ghost invariant = { λ t. IsTree t.links t.table.items t.live t.strays };
 }
@@ -77,16 +77,16 @@ pub(crate) fn slot_of_any(table: &Pages<SlotNumber>, id: Option<NodeId>) -> Opti
 
 /// The number of the node in a slot.
 pub(crate) fn number_of<X>(links: &Links<Item<X>>, slot: Slot) -> NodeId
-    requires { IsHeld (nodes_of links.now) slot }
-    ensures { result ≡ number_at (entry_at (nodes_of links.now)) slot }
+    requires { IsHeld (nodes_alone links.now) slot }
+    ensures { result ≡ number_in_slot (entry_at (nodes_alone links.now)) slot }
 {
     links.value(slot).number
 }
 
 /// The numbers in place of the slots.
 pub(crate) fn named<X>(links: &Links<Item<X>>, slot: Option<Slot>) -> Option<NodeId>
-    requires { ForSome slot (λ s. IsHeld (nodes_of links.now) s) }
-    ensures { result ≡ option_map (number_at (entry_at (nodes_of links.now))) slot }
+    requires { ForSome slot (λ s. IsHeld (nodes_alone links.now) s) }
+    ensures { result ≡ option_map (number_in_slot (entry_at (nodes_alone links.now))) slot }
 {
     match slot {
         Some(slot) => Some(number_of(links, slot)),

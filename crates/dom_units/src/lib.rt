@@ -26,6 +26,15 @@ impl Model for Units {
     ghost view = { λ u. u.units.items };
 }
 
+impl Clone for Units {
+    ghost is_clone = { λ units copy. copy ≡ units };
+
+    // a copy by the allocator of these units, as the clone of a map's values asks for it
+    fn clone(&self) -> Result<Units, AllocError> {
+        self.try_clone(*self.units.allocator())
+    }
+}
+
 impl Units {
     /// The empty text.
     pub fn new(alloc: Global) -> Units
@@ -84,14 +93,19 @@ impl Units {
 
     /// Puts `added` in place of the `count` units from `at` on ("replace data").
     ///
-    /// It takes memory at most once, before anything moves, and moves what follows once.
+    /// It takes memory at most once, before anything moves, and moves what follows once. Where no unit is left, it gives its memory back.
     pub fn splice(&mut self, at: usize, count: usize, added: &[u16]) -> Result<(), AllocError>
         requires within { at ≤ length self.old }
         requires enough { count ≤ length self.old - at }
         ensures ok { OnOk result (self.new ≡ spliced at count added.now self.old) }
         ensures err { OnErr result (self.new ≡ self.old) }
     {
-        shift::splice(&mut self.units, at, count, added)
+        let outcome = shift::splice(&mut self.units, at, count, added);
+        if self.is_empty() {
+            let alloc = *self.units.allocator();
+            self.units = Vec::new(alloc);
+        }
+        outcome
     }
 
     /// Whether each surrogate has its partner.

@@ -5,7 +5,7 @@ ghost use Rattle.std.specs.Option.{ForSome};
 ghost use Rattle.std.specs.Result.{IfErr};
 ghost use Rattle.dom_model.specs.Forests.Forest.{HasNode};
 ghost use Rattle.dom_model.specs.Worlds.World.{World as PlainWorld};
-ghost use Rattle.dom_model.specs.MutationAlgorithms.Checks.{check_insert as insert_refusal};
+ghost use Rattle.dom_model.specs.MutationAlgorithms.Checks as checks;
 ghost use Rattle.dom_model.specs.MutationAlgorithms.Editing.{nodes_of};
 ghost use Rattle.dom_model.specs.DataAndCopies.Data.{data_of};
 ghost use Rattle.dom_model.specs.RangesAndContents.Wrapping.{insert_node, is_text, inserted_at, placed_at, refusal_in, check_start, reference_at, parent_at, reference_after, split_at, offset_past, end_if_collapsed};
@@ -76,7 +76,7 @@ fn check(world: &World, start: Point, node: NodeId) -> Result<(), DomError>
     requires start_held { HasNode world.now.tree.forest start.node }
     requires node_held { HasNode world.now.tree.forest node }
     ensures start { OnOk result (check_start (unwatched world.now) start node ≡ None) }
-    ensures insert { OnOk result (insert_refusal world.now.tree.forest (parent_at (unwatched world.now) start) node (reference_at (unwatched world.now) start) ≡ None) }
+    ensures insert { OnOk result (checks.check_insert world.now.tree.forest (parent_at (unwatched world.now) start) node (reference_at (unwatched world.now) start) ≡ None) }
     ensures refused { IfErr result (λ e. (r : ℕ) → refusal_in (inserted_at r node start (unwatched world.now)) ≡ Some e) }
 {
     check_start(world, start, node)?;
@@ -136,7 +136,7 @@ fn offset_past(world: &World, parent: NodeId, reference: Option<NodeId>, node: N
     requires parent_held { HasNode world.now.tree.forest parent }
     requires reference_held { ForSome reference (λ c. HasNode world.now.tree.forest c) }
     requires node_held { HasNode world.now.tree.forest node }
-    requires allowed { insert_refusal world.now.tree.forest parent node reference ≡ None }
+    requires allowed { checks.check_insert world.now.tree.forest parent node reference ≡ None }
     ensures { result ≡ offset_past (unwatched world.now) parent reference node }
 {
     // the children of the parent and what comes in are no more than all nodes, whose number is one of the machine

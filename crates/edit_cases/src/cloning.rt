@@ -31,6 +31,16 @@ fn copied(
     clone_node(world, alloc, node, deep)
 }
 
+// That element 1 and what stands below it are where they were.
+fn expect_originals(rt: &impl Abort, world: &World) {
+    expect_children(rt, world, 0, &[1]);
+    expect_children(rt, world, 1, &[2, 3, 5]);
+    expect_children(rt, world, 3, &[4]);
+    expect_data(rt, world, 2, "ab");
+    expect_data(rt, world, 4, "cd");
+    expect_data(rt, world, 5, "ef");
+}
+
 // That a copy of element 1 is a root, of that document, and the originals are where they were.
 fn expect_copy(rt: &impl Abort, world: &World, copy: NodeId, document: u32) {
     let node = NodeId::new(1);
@@ -39,8 +49,7 @@ fn expect_copy(rt: &impl Abort, world: &World, copy: NodeId, document: u32) {
     assert!(rt; is_equal(&world.tree, node, copy));
     expect_document(rt, world, copy.number(), document);
     expect_root(rt, world, copy.number());
-    expect_children(rt, world, 1, &[2, 3, 5]);
-    expect_children(rt, world, 3, &[4]);
+    expect_originals(rt, world);
 }
 
 // A copy of element 1 with all below it.
@@ -59,6 +68,7 @@ impl Scene for ATreeIsCopied {
             }
             Err(_) => {
                 expect_held(rt, world, 13);
+                expect_originals(rt, world);
                 let copy = copied(rt, world, alloc, true)?;
                 expect_copy(rt, world, copy, 0);
             }
@@ -81,7 +91,7 @@ impl Scene for ANodeIsCopiedAlone {
             Ok(copy) => copy,
             Err(_) => {
                 expect_held(rt, world, 13);
-                expect_children(rt, world, 1, &[2, 3, 5]);
+                expect_originals(rt, world);
                 copied(rt, world, alloc, false)?
             }
         };
@@ -130,6 +140,7 @@ impl Scene for ATreeIsImported {
             }
             Err(_) => {
                 expect_held(rt, world, 14);
+                expect_originals(rt, world);
                 imported(rt, world, alloc, document)?
             }
         };

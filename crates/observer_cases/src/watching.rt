@@ -298,3 +298,92 @@ fn what_is_named(rt: HostRuntime) -> Result<(), Fail> {
     played::<WhatIsNamed>(&rt, rt.alloc())?;
     Ok(())
 }
+
+// So many observers that their registrations above a node are more than the few of which each is looked for among those on the node.
+const MANY: u32 = 9;
+
+// Makes one observer more, which watches what is below node 0.
+fn add_watcher(
+    rt: &impl Abort,
+    observers: &mut Observers,
+    observer: ObserverId,
+) -> Result<(), AllocError> {
+    assert!(rt; observers.made() < 9);
+    if observers.make().is_err() {
+        let _ = observers.make()?;
+    }
+    let node = NodeId::new(0);
+    if watch(rt, observers, observer, node, below()).is_err() {
+        watch(rt, observers, observer, node, below())?;
+    }
+    Ok(())
+}
+
+// Many observers watch what is below node 0.
+fn begin_many(rt: &impl Abort, observers: &mut Observers) -> Result<(), AllocError> {
+    for number in 0..MANY {
+        add_watcher(rt, observers, ObserverId::new(number))?;
+    }
+    assert_eq!(rt; observers.made(), 9);
+    Ok(())
+}
+
+// Takes the records of all of them.
+fn take_all(rt: &impl Abort, observers: &mut Observers) {
+    for number in 0..MANY {
+        let _ = take(rt, observers, ObserverId::new(number));
+    }
+}
+
+// The data of node 1 changes. Where the record is refused, some of them may have it all the same.
+fn changed_for_many(
+    rt: &impl Abort,
+    observers: &mut Observers,
+    tree: &Tree<u8>,
+    alloc: Global,
+) -> Result<(), AllocError> {
+    let node = NodeId::new(1);
+    if change(rt, observers, tree, alloc, node, "c").is_err() {
+        take_all(rt, observers);
+        change(rt, observers, tree, alloc, node, "c")?;
+    }
+    Ok(())
+}
+
+// Whether each of many has one record.
+fn have_one_each(rt: &impl Abort, observers: &mut Observers) -> bool {
+    for number in 0..MANY {
+        if take(rt, observers, ObserverId::new(number)).len() != 1 {
+            return false;
+        }
+    }
+    true
+}
+
+// Node 1 leaves node 0 twice. Each of the observers is told of it once, and of none once all were told.
+struct ANodeLeavesMany;
+
+impl Scene for ANodeLeavesMany {
+    fn play(
+        rt: &impl Abort,
+        observers: &mut Observers,
+        tree: &Tree<u8>,
+        alloc: Global,
+    ) -> Result<(), AllocError> {
+        begin_many(rt, observers)?;
+        leave(rt, observers, tree)?;
+        leave(rt, observers, tree)?;
+        changed_for_many(rt, observers, tree, alloc)?;
+        assert!(rt; have_one_each(rt, observers));
+        assert_eq!(rt; told(observers)?, 0);
+        changed_for_many(rt, observers, tree, alloc)?;
+        assert!(rt; !have_one_each(rt, observers));
+        Ok(())
+    }
+}
+
+#[test]
+fn a_node_leaves_many(rt: HostRuntime) -> Result<(), Fail> {
+    played::<ANodeLeavesMany>(&rt, rt.alloc())?;
+    Ok(())
+}

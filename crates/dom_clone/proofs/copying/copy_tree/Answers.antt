@@ -3,6 +3,7 @@ use Rattle.dom_model.specs.Forests.Forest.{size}
 use Rattle.dom_model.specs.DataAndCopies.Clones.{original, with_copies}
 use Rattle.dom_edit.specs.Whole.{Follows}
 use Rattle.dom_clone.specs.declared.waiting.Waiting.{Waiting}
+use Rattle.dom_clone.proofs.Left.{left-then, left-copying}
 use Rattle.dom_clone.proofs.Partial.{some-copied, first-held, copying-starts, copied-alone, copying-ends, next-held, parent-held, may-stand, more-to_come, original-held, next-made, copying-goes_on}
 use Rattle.dom_clone.proofs.copying.copy_tree.Goals as goal
 
@@ -88,3 +89,28 @@ returns-clause-copied c =
     let i = rw none at c.loop-next.invariant in
     let k = copying-ends v c.args.node d c.loop-next.world i in
     subst (λ b. Follows v c.loop-next.world (λ w. with_copies d (original b c.args.node w.forest) w)) (sym c.if-not-deep.false) k
+
+pub returns-in_err-copy-clause-left : goal.returns-in_err-copy-clause-left
+returns-in_err-copy-clause-left c =
+    let v = c.args.world.now in
+    let so_far = left-copying v c.args.node (unwrap_or c.args.document v.tree.made) c.loop-next.world c.loop-next.invariant in
+    left-then v c.loop-next.world c.copy_under.new.world so_far c.in_err-copy.ensures.failed
+
+pub returns-in_err-wait_for-2-clause-left : goal.returns-in_err-wait_for-2-clause-left
+returns-in_err-wait_for-2-clause-left c =
+    let v = c.args.world.now in
+    let i = rw c.in-Some.ensures.items at c.loop-next.invariant in
+    let step = copying-goes_on v c.requires.whole c.args.node (unwrap_or c.args.document v.tree.made) c.loop-next.world c.pop.new.self.items c.in-Some.next i c.copy_under.new.world c.in_ok-copy.ensures.copied c.in_ok-copy.ensures.whole in
+    left-copying v c.args.node (unwrap_or c.args.document v.tree.made) c.copy_under.new.world step
+
+pub returns-in_err-wait_for-3-clause-left : goal.returns-in_err-wait_for-3-clause-left
+returns-in_err-wait_for-3-clause-left c =
+    let v = c.args.world.now in
+    let i = rw c.in-Some.ensures.items at c.loop-next.invariant in
+    let step = copying-goes_on v c.requires.whole c.args.node (unwrap_or c.args.document v.tree.made) c.loop-next.world c.pop.new.self.items c.in-Some.next i c.copy_under.new.world c.in_ok-copy.ensures.copied c.in_ok-copy.ensures.whole in
+    left-copying v c.args.node (unwrap_or c.args.document v.tree.made) c.copy_under.new.world step
+
+pub returns-clause-left : goal.returns-clause-left
+returns-clause-left c =
+    let v = c.args.world.now in
+    left-copying v c.args.node (unwrap_or c.args.document v.tree.made) c.loop-next.world c.loop-next.invariant

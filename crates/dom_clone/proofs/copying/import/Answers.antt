@@ -1,4 +1,5 @@
 use Rattle.std.proofs.Common.{tests, rules}
+use Rattle.dom_clone.proofs.Left.{left-same}
 use Rattle.dom_clone.proofs.copying.import.Goals as goal
 
 pub returns-then-is_of_kind-clause-allowed : goal.returns-then-is_of_kind-clause-allowed
@@ -12,6 +13,9 @@ returns-then-is_of_kind-clause-imported c = search (tests, rules)
 
 pub returns-then-is_of_kind-clause-refused : goal.returns-then-is_of_kind-clause-refused
 returns-then-is_of_kind-clause-refused c = search (tests, rules)
+
+pub returns-then-is_of_kind-clause-left : goal.returns-then-is_of_kind-clause-left
+returns-then-is_of_kind-clause-left c = left-same c.args.world.now
 
 pub returns-then-is_of_kind-clause-whole : goal.returns-then-is_of_kind-clause-whole
 returns-then-is_of_kind-clause-whole c = search (tests, rules)

@@ -7,7 +7,7 @@ pub collapse_at-requires-clause-covered : goal.collapse_at-requires-clause-cover
 collapse_at-requires-clause-covered c = held-covered c.args.world.now c.requires.whole c.args.place.node c.requires.within.starts.there
 
 pub returns-clause-stands : goal.returns-clause-stands
-returns-clause-stands c = follows-standing c.args.world.now c.args.range c.args.place c.collapse_at.new.self c.collapse_at.ensures
+returns-clause-stands c = follows-standing c.args.world.now c.args.range c.args.place c.collapse_at.new.self c.collapse_at.ensures.set
 
 pub returns-clause-whole : goal.returns-clause-whole
-returns-clause-whole c = whole-standing c.args.world.now c.args.range c.args.place c.collapse_at.new.self c.collapse_at.ensures c.requires.whole c.requires.within
+returns-clause-whole c = whole-standing c.args.world.now c.args.range c.args.place c.collapse_at.new.self c.collapse_at.ensures.set c.requires.whole c.requires.within

@@ -9,6 +9,7 @@ use Rattle.dom_edit.specs.declared.world.World.{World}
 use Rattle.dom_edit.specs.Whole.{unwatched}
 use Rattle.dom_data.proofs.MovedOffsets.{splice-fits}
 use Rattle.dom_data.proofs.StaysWhole.{whole-replaced}
+use Rattle.dom_data.proofs.LabelsKept.{numbers-same, numbers-then, numbers-replaced}
 use Rattle.dom_data.proofs.replacing.replace_units.Goals as goal
 
 pub spliced-requires : goal.spliced-requires
@@ -30,3 +31,10 @@ returns-clause-whole c =
 
 pub returns-clause-replaced : goal.returns-clause-replaced
 returns-clause-replaced c = search (tests, rules)
+
+pub returns-clause-nodes : goal.returns-clause-nodes
+returns-clause-nodes c =
+    let told = c.tell_data.new.world in
+    let new : World = record told { tree = c.splice_data.new.tree; ranges = c.spliced.new.self } in
+    numbers-then c.args.world.now told new (numbers-same c.args.world.now told (ap (λ (v : World). v.tree) c.tell_data.ensures.kept))
+    (numbers-replaced told new c.args.node _ c.in_ok-splice_data.ensures.ok)

@@ -1,19 +1,19 @@
 use Rattle.std.proofs.Common.{Some, None}
-use Rattle.dom_links.specs.Wiring.{led_back}
+use Rattle.dom_links.specs.Wiring.{with_previous}
 use Rattle.dom_links.proofs.Cells.{same_ptr_refl, put_length}
 use Rattle.dom_links.proofs.Places.{look-step}
 use Rattle.dom_links.proofs.steps.lead_back.Goals as goal
 
 pub returns-in-Some-clause-nodes : goal.returns-in-Some-clause-nodes
 returns-in-Some-clause-nodes g c =
-    rw c.in-Some.is (look-step (led_back c.args.top (Some c.in-Some.ptr) c.args.prev) c.in-Some.ptr c.get_mut.result.now _ c.args.pool.now.cells c.get_mut.ensures.value (rw (same_ptr_refl c.in-Some.ptr)) (λ q m e. rw e))
+    rw c.in-Some.is (look-step (with_previous c.args.top (Some c.in-Some.ptr) c.args.prev) c.in-Some.ptr c.get_mut.result.now _ c.args.pool.now.cells c.get_mut.ensures.value (rw (same_ptr_refl c.in-Some.ptr)) (λ q m e. rw e))
 
 pub returns-in-Some-clause-many : goal.returns-in-Some-clause-many
 returns-in-Some-clause-many g c = put_length _ _ _
 
 pub returns-in-None-clause-nodes : goal.returns-in-None-clause-nodes
 returns-in-None-clause-nodes g c =
-    rw c.in-None.is (look-step (led_back c.args.top None c.args.prev) c.args.top c.get_mut-in-None.result.now _ c.args.pool.now.cells c.get_mut-in-None.ensures.value (rw (same_ptr_refl c.args.top)) (λ q m e. rw e))
+    rw c.in-None.is (look-step (with_previous c.args.top None c.args.prev) c.args.top c.get_mut-in-None.result.now _ c.args.pool.now.cells c.get_mut-in-None.ensures.value (rw (same_ptr_refl c.args.top)) (λ q m e. rw e))
 
 pub returns-in-None-clause-many : goal.returns-in-None-clause-many
 returns-in-None-clause-many g c = put_length _ _ _

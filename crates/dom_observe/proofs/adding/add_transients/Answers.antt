@@ -12,10 +12,12 @@ use Rattle.dom_observe.proofs.Indexing.{indexed-pended, indexed-transient, made-
 use Rattle.dom_observe.proofs.Keeping.{keys_by-set, keys_by-at, keys_by-length, set_same}
 use Rattle.dom_model.specs.PlainLists.LastOnce.{with_last}
 use Rattle.std.proofs.lemmas.List.{length-set}
+use Rattle.dom_observe.specs.Origins.{NotesIfAny, AlsoNotes}
+use Rattle.dom_observe.proofs.Noting.{noted-added}
 use Rattle.dom_observe.proofs.Sources.{sources-added, source-made}
 use Rattle.dom_observe.proofs.Tables.{alike_self, turn-none, turn-added, turn-alike, turn-stands, all_live-added}
 use Rattle.dom_observe.proofs.adding.add_transients.Goals as goal
-use Rattle.dom_observe.proofs.adding.add_transients.Goals.{in-Some+in_ok-pend+in_ok-add, in_default}
+use Rattle.dom_observe.proofs.adding.add_transients.Goals.{in-Some+in_ok-note+in_ok-pend+in_ok-add, in_default}
 
 nothing_yet : {A : Type 0} (b : Bool) (rs : List A) → rs ≡ (if b then rs else rs)
 nothing_yet true rs = refl
@@ -25,6 +27,7 @@ pub loop-key-init : goal.loop-key-init
 loop-key-init c = record {
   unique = c.requires.unique;
   live = c.requires.live;
+  noted = subst (λ own. NotesIfAny (at c.args.table.now) own c.in_ok-origins.origins.noted) c.keys_on.ensures c.in_ok-origins.ensures;
   standing = alike_self (at c.args.table.now) c.args.standing.now;
   has = λ n. nothing_yet (c.args.node == n) _;
   stands = λ made bounded all. all;
@@ -74,7 +77,7 @@ returns-in_err-add-clause-indexed c = λ lasts made bounded ix.
     let inv = c.loop-key.invariant in
     let i = c.loop-key.key-index in
     let own = on c.args.node (listed c.loop-key.nodes.entries) in
-    let some : transient_under u own c.args.node (slice_index_or c.args.standing.now i 0) ≡ Some (plain c.in-Some.made) = ap (λ ks. transient_under u ks c.args.node (slice_index_or c.args.standing.now i 0)) (sym c.keys_on.ensures) ∙ sym c.in_ok-made.ensures ∙ ap (option_map plain) c.in-Some.is in
+    let some : transient_under u own c.args.node (slice_index_or c.args.standing.now i 0) ≡ Some (plain c.in-Some.made) = ap (λ ks. transient_under u ks c.args.node (slice_index_or c.args.standing.now i 0)) (sym c.keys_on-in-loop-key.ensures) ∙ sym c.in_ok-made.ensures ∙ ap (option_map plain) c.in-Some.is in
     let shape = made-transient u0 u own c.args.node c.args.standing.now i 0 c.loop-key-test.true inv.standing (plain c.in-Some.made) some in
     let o = c.in-Some.made.observer in
     let ps = c.loop-key.passing.items in
@@ -98,14 +101,16 @@ loop-key-preserved c =
     let keys = c.args.standing.now in
     let i = c.loop-key.key-index in
     let own = on c.args.node lists in
-    elim c.match-branch-2.branch [
-      | in-Some+in_ok-pend+in_ok-add w ↦
-          let some : transient_under u own c.args.node (slice_index_or keys i 0) ≡ Some (plain w.in-Some.made) = ap (λ ks. transient_under u ks c.args.node (slice_index_or keys i 0)) (sym c.keys_on.ensures) ∙ sym c.in_ok-made.ensures ∙ ap (option_map plain) w.in-Some.is in
+    elim c.match-branch-3.branch [
+      | in-Some+in_ok-note+in_ok-pend+in_ok-add w ↦
+          let some : transient_under u own c.args.node (slice_index_or keys i 0) ≡ Some (plain w.in-Some.made) = ap (λ ks. transient_under u ks c.args.node (slice_index_or keys i 0)) (sym c.keys_on-in-loop-key.ensures) ∙ sym c.in_ok-made.ensures ∙ ap (option_map plain) w.in-Some.is in
           let a = w.in_ok-add.ensures.ok in
           let v = at w.add.new.table in
           let lists' = listed w.add.new.nodes.entries in
-          rw (w.table-is, w.nodes-is, w.passing-is, w.fleeting-is) (record {
+          rw (w.table-is, w.nodes-is, w.passing-is, w.fleeting-is, w.origins-is) (record {
             unique = w.add.ensures.unique;
+            noted = noted-added u lists (plain w.in-Some.made) v lists' a inv.live c.args.node (slice_index_or keys i 0) some c.loop-key.origins.noted w.note.new.self.noted inv.noted
+                (subst (λ n. AlsoNotes w.in-Some.made.observer n c.loop-key.origins.noted w.note.new.self.noted) w.origin.ensures w.in_ok-note.ensures);
             live = all_live-added u lists (plain w.in-Some.made) v lists' a inv.live;
             standing = turn-alike u0 u lists0 lists c.args.node keys i 0 c.loop-key-test.true inv.live inv.standing inv.has (plain w.in-Some.made) some v lists' a c.requires.standing;
             has = turn-added u0 u lists0 lists c.args.node keys i 0 c.loop-key-test.true inv.live inv.standing inv.has (plain w.in-Some.made) some v lists' a;
@@ -132,9 +137,10 @@ loop-key-preserved c =
             full = λ full. w.add.ensures.full (inv.full full);
           })
       | in_default w ↦
-          let none : transient_under u own c.args.node (slice_index_or keys i 0) ≡ None = ap (λ ks. transient_under u ks c.args.node (slice_index_or keys i 0)) (sym c.keys_on.ensures) ∙ sym c.in_ok-made.ensures ∙ ap (option_map plain) w.in_default.is in
-          rw (w.table-is, w.nodes-is, w.passing-is, w.fleeting-is) (record {
+          let none : transient_under u own c.args.node (slice_index_or keys i 0) ≡ None = ap (λ ks. transient_under u ks c.args.node (slice_index_or keys i 0)) (sym c.keys_on-in-loop-key.ensures) ∙ sym c.in_ok-made.ensures ∙ ap (option_map plain) w.in_default.is in
+          rw (w.table-is, w.nodes-is, w.passing-is, w.fleeting-is, w.origins-is) (record {
             unique = inv.unique;
+            noted = inv.noted;
             live = inv.live;
             standing = inv.standing;
             has = turn-none u0 u lists0 lists c.args.node keys i 0 c.loop-key-test.true inv.live inv.standing inv.has none;

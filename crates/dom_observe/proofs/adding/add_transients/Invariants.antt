@@ -1,10 +1,11 @@
--- The node has the transient registrations of the first keys; what stands under the keys themselves stays.
+-- The node has the transient registrations of the first keys, and their origins are noted; what stands under the keys themselves stays.
 use Rattle.std.proofs.Common.{◌≡◌, ℕ, Bool, List, nat_eq, take, length, false}
 use Rattle.std.specs.List.{AllByRecursion}
 use Rattle.indexmap.specs.IndexMap.{IsUnique}
 use Rattle.dom_observe.specs.Watchers.{on}
 use Rattle.dom_observe.specs.Kept.{keys_by, IsIndexed}
 use Rattle.dom_observe.specs.Naming.{names_one, NamesNone}
+use Rattle.dom_observe.specs.Origins.{NotesIfAny}
 use Rattle.dom_observe.specs.Registrations.{at, found, listed, AllLive, Stands, AllStand, HaveKeys, HaveSources, Agree, with_added_transients}
 use Rattle.dom_observe.proofs.adding.add_transients.Given as goal
 
@@ -12,6 +13,7 @@ abbrev pub invariant-loop-key : goal.invariant-loop-key
 invariant-loop-key l = record {
   unique : IsUnique nat_eq l.nodes;
   live : (n : ℕ) → AllLive (at l.table) (on n (listed l.nodes.entries));
+  noted : NotesIfAny (at l.table) (on l.node (listed l.nodes.entries)) l.origins.noted;
   standing : AllByRecursion (λ k. at l.table k ≡ at l.initial.table k) l.standing;
   has : (n : ℕ) → found l.table (on n (listed l.nodes.entries))
       ≡ with_added_transients l.node (found l.initial.table (take l.key-index l.standing)) n (found l.initial.table (on n (listed l.initial.nodes.entries)));

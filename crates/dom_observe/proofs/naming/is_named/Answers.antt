@@ -7,5 +7,5 @@ use Rattle.dom_observe.proofs.naming.is_named.Goals as goal
 pub returns : goal.returns
 returns g c =
     by_either c.any_inside.result _ c.unwrap_or_else.result _ c.unwrap_or_else.ensures
-    (c.any_inside.ensures (keys_of c.args.nodes.now.entries) (λ n passes called. search (rules, of_calls)))
+    (c.any_inside.ensures.found (keys_of c.args.nodes.now.entries) (λ n passes called. search (rules, of_calls)))
     (λ called. search (rules, of_calls))

@@ -15,6 +15,6 @@ returns c =
     let r = c.args.range in
     let live : is_some (range_in old.ranges r) ≡ true = cc in
     record {
-      step = λ b. step-set b (Collapse r c.args.to_start) (Done Nothing) old c.collapse.new.self r (range_in old.ranges r) (λ range. collapsed c.args.to_start range) refl c.requires.shown live c.collapse.ensures
+      step = λ b. step-set b (Collapse r c.args.to_start) (Done Nothing) old c.collapse.new.self r (range_in old.ranges r) (λ range. collapsed c.args.to_start range) refl c.requires.shown live c.collapse.ensures.set
           (λ range held w shown. answer-collapse old b w shown r c.args.to_start range held);
     }

@@ -2,12 +2,13 @@
 use Rattle.std.specs.Option.{ForSome}
 use Rattle.dom_model.specs.MutationAlgorithms.PreRemoval.{pre_removed}
 use Rattle.dom_traverse.specs.Exits.{IsExit}
+use Rattle.dom_traverse.specs.GivingWay.{stepped_at}
 use Rattle.dom_traverse.proofs.Leaving.{standing, AreLeaving}
 use Rattle.dom_traverse.proofs.giving_way.give_way.Given as goal
 
 abbrev pub invariant-loop-id : goal.invariant-loop-id
 invariant-loop-id g l = record {
-  leaving : AreLeaving (pre_removed l.tree.forest l.node) l.fn.iterators l.iterators l.references;
+  leaving : AreLeaving (stepped_at l.here (pre_removed l.tree.forest l.node)) l.fn.iterators l.iterators l.references;
   found : ForSome l.last (IsExit l.tree.forest l.node);
 }
 

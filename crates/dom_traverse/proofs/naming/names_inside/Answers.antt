@@ -6,6 +6,6 @@ use Rattle.dom_traverse.proofs.naming.names_inside.Goals as goal
 pub returns : goal.returns
 returns g c =
     λ nodes names.
-    c.any_inside.ensures nodes (λ n passes called.
+    c.any_inside.ensures.found nodes (λ n passes called.
     let e : passes ≡ is_named c.args.roots.now c.args.standing.now n = search (rules, of_calls) in
     e ∙ sym (names n))

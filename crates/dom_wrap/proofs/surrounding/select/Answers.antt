@@ -8,7 +8,7 @@ select_checked-requires-clause-covered c parent e =
     held-covered v c.requires.whole parent (parent-held v c.requires.whole c.args.node parent e)
 
 pub returns-clause-selected : goal.returns-clause-selected
-returns-clause-selected c = passes-selected c.args.world.now c.requires.whole c.args.range c.args.node c.select_checked.new.self c.requires.allowed c.select_checked.ensures
+returns-clause-selected c = passes-selected c.args.world.now c.requires.whole c.args.range c.args.node c.select_checked.new.self c.requires.allowed c.select_checked.ensures.set
 
 pub returns-clause-whole : goal.returns-clause-whole
-returns-clause-whole c = whole-selected c.args.world.now c.requires.whole c.args.range c.args.node c.select_checked.new.self c.requires.allowed c.select_checked.ensures
+returns-clause-whole c = whole-selected c.args.world.now c.requires.whole c.args.range c.args.node c.select_checked.new.self c.requires.allowed c.select_checked.ensures.set

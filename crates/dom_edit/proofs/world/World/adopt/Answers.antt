@@ -7,6 +7,7 @@ use Rattle.dom_model.proofs.TokenText.AlikeTrees.TreesAlikeAfter.{bared-adopted}
 use Rattle.dom_edit.specs.declared.world.World.{World}
 use Rattle.dom_edit.proofs.Marking.{stand-by_adopt}
 use Rattle.dom_edit.proofs.Adopting.{removed-held, removed-root, removed-document, whole-adopted, follows-staying}
+use Rattle.dom_edit.proofs.NodesKept.{nodes-then, nodes-adopted}
 use Rattle.dom_edit.proofs.world.World.adopt.Goals as goal
 
 pub document_of-requires : goal.document_of-requires
@@ -75,3 +76,9 @@ returns-else-ne-clause-refused c = search (tests, rules)
 
 pub returns-else-ne-clause-whole : goal.returns-else-ne-clause-whole
 returns-else-ne-clause-whole c = search (tests, rules)
+
+pub returns-then-ne-clause-kept : goal.returns-then-ne-clause-kept
+returns-then-ne-clause-kept c =
+    let out = c.remove_node.new.self in
+    let new : World = record { tree = c.set_document.new.self; ranges = out.ranges; statics = out.statics; iterators = out.iterators; walkers = out.walkers; observers = out.observers } in
+    nodes-then c.args.self.now out new c.remove_node.ensures.kept (nodes-adopted out new c.args.node c.args.document c.set_document.ensures)

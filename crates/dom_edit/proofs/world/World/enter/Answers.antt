@@ -1,8 +1,8 @@
-use Rattle.std.proofs.Common.{sym, ◌∙◌, tests, rules}
+use Rattle.std.proofs.Common.{refl, sym, ◌∙◌, tests, rules}
 use Rattle.std.proofs.lemmas.Result.{on_ok_weaker}
 use Rattle.dom_model.proofs.Forests.Entries.{HasNode-occurs}
 use Rattle.dom_edit.proofs.InsertedNodes.{open-freed, follows-insert}
-use Rattle.dom_edit.proofs.NodesKept.{nodes-then}
+use Rattle.dom_edit.proofs.NodesKept.{nodes-same, nodes-then}
 use Rattle.dom_edit.proofs.world.World.enter.Goals as goal
 
 pub free-requires-clause-held : goal.free-requires-clause-held
@@ -21,16 +21,14 @@ returns-clause-inserted c =
 pub returns-then-is_empty-clause-inserted : goal.returns-then-is_empty-clause-inserted
 returns-then-is_empty-clause-inserted c = search (tests, rules)
 
-pub returns-then-is_empty-clause-stays : goal.returns-then-is_empty-clause-stays
-returns-then-is_empty-clause-stays c = search (tests, rules)
+pub returns-then-is_empty-clause-kept : goal.returns-then-is_empty-clause-kept
+returns-then-is_empty-clause-kept c = nodes-same c.args.self.now c.args.self.now refl
 
 pub returns-then-is_empty-clause-whole : goal.returns-then-is_empty-clause-whole
 returns-then-is_empty-clause-whole c = search (tests, rules)
 
-pub returns-clause-stays : goal.returns-clause-stays
-returns-clause-stays c =
-    on_ok_weaker c.insert_all.result
-    (λ stays. nodes-then c.args.self.now c.free.new.self c.insert_all.new.self c.in_ok-free.ensures.stays stays) c.insert_all.ensures.stays
+pub returns-clause-kept : goal.returns-clause-kept
+returns-clause-kept c = nodes-then c.args.self.now c.free.new.self c.insert_all.new.self c.free.ensures.kept c.insert_all.ensures.kept
 
 pub returns-clause-whole : goal.returns-clause-whole
 returns-clause-whole c = search (tests, rules)

@@ -3,19 +3,14 @@ use Rattle.std.proofs.lemmas.Result.{on_ok_weaker}
 use Rattle.dom_model.specs.MutationAlgorithms.Editing.{remove_all, freed, emptied_fragment, tree_record}
 use Rattle.dom_edit.proofs.Following.{follows-then}
 use Rattle.dom_edit.proofs.InsertedNodes.{entering-there, follows-as, freed-fragment}
-use Rattle.dom_edit.proofs.Adopting.{removed-held}
-use Rattle.dom_edit.proofs.NodesKept.{none-there, stay-there, nodes-then, nodes-observed, nodes-removed_all}
+use Rattle.dom_edit.proofs.NodesKept.{none-there, stay-there, nodes-then, nodes-observed}
 use Rattle.dom_edit.proofs.world.World.free.Goals as goal
 
 pub remove_all-requires-clause-held : goal.remove_all-requires-clause-held
 remove_all-requires-clause-held c = entering-there c.args.self.now c.args.node c.requires.whole (sym c.is_of_kind.ensures ∙ c.if-is_of_kind.true) c.args.nodes.now c.requires.nodes
 
 pub queue_tree_record-requires-clause-held : goal.queue_tree_record-requires-clause-held
-queue_tree_record-requires-clause-held c =
-    let v = c.args.self.now in
-    let held = entering-there v c.args.node c.requires.whole (sym c.is_of_kind.ensures ∙ c.if-is_of_kind.true) c.args.nodes.now c.requires.nodes in
-    let stays = nodes-removed_all v c.remove_all.new.self c.args.nodes.now c.requires.whole held c.in_ok-remove_all.ensures.removed in
-    stays c.args.node c.requires.held
+queue_tree_record-requires-clause-held c = c.remove_all.ensures.kept.labelled.held c.args.node c.requires.held
 
 pub queue_tree_record-requires-clause-added : goal.queue_tree_record-requires-clause-added
 queue_tree_record-requires-clause-added c = none-there c.remove_all.new.self.tree.forest
@@ -24,8 +19,7 @@ pub queue_tree_record-requires-clause-removed : goal.queue_tree_record-requires-
 queue_tree_record-requires-clause-removed c =
     let v = c.args.self.now in
     let held = entering-there v c.args.node c.requires.whole (sym c.is_of_kind.ensures ∙ c.if-is_of_kind.true) c.args.nodes.now c.requires.nodes in
-    let stays = nodes-removed_all v c.remove_all.new.self c.args.nodes.now c.requires.whole held c.in_ok-remove_all.ensures.removed in
-    stay-there v c.remove_all.new.self stays c.args.nodes.now held
+    stay-there v c.remove_all.new.self c.remove_all.ensures.kept c.args.nodes.now held
 
 pub queue_tree_record-requires-clause-previous : goal.queue_tree_record-requires-clause-previous
 queue_tree_record-requires-clause-previous c n e = absurd (cc e)
@@ -54,16 +48,7 @@ returns-clause-freed c = search (tests, rules)
 pub returns-clause-whole : goal.returns-clause-whole
 returns-clause-whole c = search (tests, rules)
 
-pub returns-then-is_of_kind-clause-stays : goal.returns-then-is_of_kind-clause-stays
-returns-then-is_of_kind-clause-stays c =
-    let v = c.args.self.now in
-    let held = entering-there v c.args.node c.requires.whole (sym c.is_of_kind.ensures ∙ c.if-is_of_kind.true) c.args.nodes.now c.requires.nodes in
-    let stays = nodes-removed_all v c.remove_all.new.self c.args.nodes.now c.requires.whole held c.in_ok-remove_all.ensures.removed in
-    on_ok_weaker c.queue_tree_record.result
-    (λ r. nodes-then v c.remove_all.new.self c.queue_tree_record.new.self stays (nodes-observed c.remove_all.new.self c.queue_tree_record.new.self c.queue_tree_record.ensures.parts))
-    c.queue_tree_record.ensures.queued
-
-pub returns-clause-stays : goal.returns-clause-stays
-returns-clause-stays c =
-    on_ok_weaker c.remove_node.result
-    (removed-held c.args.self.now c.remove_node.new.self false c.args.node c.requires.whole c.requires.held) c.remove_node.ensures.removed
+pub returns-then-is_of_kind-clause-kept : goal.returns-then-is_of_kind-clause-kept
+returns-then-is_of_kind-clause-kept c =
+    nodes-then c.args.self.now c.remove_all.new.self c.queue_tree_record.new.self c.remove_all.ensures.kept
+    (nodes-observed c.remove_all.new.self c.queue_tree_record.new.self c.queue_tree_record.ensures.parts)

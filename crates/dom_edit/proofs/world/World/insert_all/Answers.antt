@@ -6,12 +6,12 @@ use Rattle.dom_edit.proofs.NodesKept.{none-there, placeable-there, child-held, a
 use Rattle.dom_edit.proofs.world.World.insert_all.Goals as goal
 
 pub queue_tree_record-requires-clause-held : goal.queue_tree_record-requires-clause-held
-queue_tree_record-requires-clause-held c = c.place.ensures.stays c.args.parent (HasNode-occurs c.args.self.now.tree.forest c.args.parent c.requires.ready.parent_there)
+queue_tree_record-requires-clause-held c = c.place.ensures.kept.labelled.held c.args.parent (HasNode-occurs c.args.self.now.tree.forest c.args.parent c.requires.ready.parent_there)
 
 pub queue_tree_record-requires-clause-added : goal.queue_tree_record-requires-clause-added
 queue_tree_record-requires-clause-added c =
     let v = c.args.self.now in
-    stay-there v c.place.new.self c.place.ensures.stays c.args.nodes.now (placeable-there v.tree.forest c.args.parent c.args.nodes.now c.requires.ready.placeable)
+    stay-there v c.place.new.self c.place.ensures.kept c.args.nodes.now (placeable-there v.tree.forest c.args.parent c.args.nodes.now c.requires.ready.placeable)
 
 pub queue_tree_record-requires-clause-removed : goal.queue_tree_record-requires-clause-removed
 queue_tree_record-requires-clause-removed c = none-there c.place.new.self.tree.forest
@@ -19,13 +19,13 @@ queue_tree_record-requires-clause-removed c = none-there c.place.new.self.tree.f
 pub queue_tree_record-requires-clause-previous : goal.queue_tree_record-requires-clause-previous
 queue_tree_record-requires-clause-previous c =
     let v = c.args.self.now in
-    stay-some v c.place.new.self c.place.ensures.stays c.previous_to-previous.result
+    stay-some v c.place.new.self c.place.ensures.kept c.previous_to-previous.result
     (ahead-held v c.requires.whole c.args.parent c.args.child c.requires.ready.before_child c.previous_to-previous.result c.previous_to-previous.ensures)
 
 pub queue_tree_record-requires-clause-next : goal.queue_tree_record-requires-clause-next
 queue_tree_record-requires-clause-next c =
     let v = c.args.self.now in
-    stay-some v c.place.new.self c.place.ensures.stays c.args.child (child-held v c.requires.whole c.args.parent c.args.child c.requires.ready.before_child)
+    stay-some v c.place.new.self c.place.ensures.kept c.args.child (child-held v c.requires.whole c.args.parent c.args.child c.requires.ready.before_child)
 
 pub returns-clause-inserted : goal.returns-clause-inserted
 returns-clause-inserted c =
@@ -34,11 +34,9 @@ returns-clause-inserted c =
     c.if-suppressed.false c.previous_to-previous.ensures c.place.ensures.placed)
     c.queue_tree_record.ensures.queued
 
-pub returns-clause-stays : goal.returns-clause-stays
-returns-clause-stays c =
-    on_ok_weaker c.queue_tree_record.result
-    (λ f. nodes-then c.args.self.now c.place.new.self c.queue_tree_record.new.self c.place.ensures.stays (nodes-observed c.place.new.self c.queue_tree_record.new.self c.queue_tree_record.ensures.parts))
-    c.queue_tree_record.ensures.queued
+pub returns-clause-kept : goal.returns-clause-kept
+returns-clause-kept c =
+    nodes-then c.args.self.now c.place.new.self c.queue_tree_record.new.self c.place.ensures.kept (nodes-observed c.place.new.self c.queue_tree_record.new.self c.queue_tree_record.ensures.parts)
 
-pub returns-then-suppressed-clause-stays : goal.returns-then-suppressed-clause-stays
-returns-then-suppressed-clause-stays c = search (tests, rules)
+pub returns-then-suppressed-clause-kept : goal.returns-then-suppressed-clause-kept
+returns-then-suppressed-clause-kept c = search (tests, rules)

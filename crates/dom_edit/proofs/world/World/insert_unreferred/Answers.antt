@@ -1,5 +1,7 @@
 use Rattle.std.proofs.Common.{tests, rules}
+use Rattle.std.proofs.lemmas.Result.{on_ok_weaker}
 use Rattle.dom_model.proofs.Forests.Entries.{HasNode-occurs}
+use Rattle.dom_edit.proofs.Marking.{stand-by_insert}
 use Rattle.dom_edit.proofs.world.World.insert_unreferred.Goals as goal
 
 pub entering-requires : goal.entering-requires
@@ -10,3 +12,8 @@ returns-clause-inserted c = search (tests, rules)
 
 pub returns-clause-whole : goal.returns-clause-whole
 returns-clause-whole c = search (tests, rules)
+
+pub returns-clause-markers : goal.returns-clause-markers
+returns-clause-markers c =
+    on_ok_weaker c.enter_unreferred.result
+    (stand-by_insert c.args.self.now c.enter_unreferred.new.self c.requires.whole c.enter_unreferred.ensures.whole c.args.node c.args.parent c.args.child c.requires.allowed) c.enter_unreferred.ensures.inserted

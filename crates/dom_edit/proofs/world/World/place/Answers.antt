@@ -15,8 +15,8 @@ returns-clause-whole c =
     let e = placed-is c.args.parent c.args.child c.args.nodes.now c.args.self.now c.make_room.new.self c.put_all.new.tree c.make_room.ensures c.put_all.ensures in
     subst IsWhole e (whole-placed c.args.parent c.args.child c.args.nodes.now c.args.self.now c.requires.whole c.requires.ready)
 
-pub returns-clause-stays : goal.returns-clause-stays
-returns-clause-stays c =
+pub returns-clause-kept : goal.returns-clause-kept
+returns-clause-kept c =
     let v = c.args.self.now in
     let new : World = record c.make_room.new.self { tree = c.put_all.new.tree } in
     nodes-placed v new c.args.parent c.args.child c.args.nodes.now c.requires.whole c.requires.ready (returns-clause-placed c)

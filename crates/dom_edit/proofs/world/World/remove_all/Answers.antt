@@ -5,6 +5,7 @@ use Rattle.dom_model.proofs.Forests.Entries.{HasNode-occurs}
 use Rattle.dom_edit.specs.Whole.{Follows}
 use Rattle.dom_edit.proofs.Following.{follows-then}
 use Rattle.dom_edit.proofs.InsertedNodes.{item-hit, remove_all-more, there-removed, follows-as}
+use Rattle.dom_edit.proofs.NodesKept.{nodes-then}
 use Rattle.dom_edit.proofs.world.World.remove_all.Goals as goal
 
 pub remove_node-requires-clause-held : goal.remove_node-requires-clause-held
@@ -30,4 +31,5 @@ loop-node-preserved c =
           (follows-then first v new (remove_all (take i xs)) (remove true n) c.loop-node.invariant.removed step);
       whole = c.in_ok-remove_node.ensures.whole;
       held = λ m h. there-removed v new n true c.loop-node.invariant.whole here step m (c.loop-node.invariant.held m h);
+      kept = nodes-then first v new c.loop-node.invariant.kept c.in_ok-remove_node.ensures.kept;
     }

@@ -2,6 +2,7 @@
 use Rattle.std.proofs.Common.{take}
 use Rattle.dom_model.specs.MutationAlgorithms.Editing.{remove_all}
 use Rattle.dom_edit.specs.Whole.{IsWhole, Follows}
+use Rattle.dom_edit.specs.Keeping.{KeepsNodes}
 use Rattle.dom_edit.specs.Inserting.{AreThere}
 use Rattle.dom_edit.proofs.world.World.remove_all.Given as goal
 
@@ -10,4 +11,5 @@ invariant-loop-node l = record {
   removed : Follows l.fn.self l.self (remove_all (take l.node-index l.nodes));
   whole : IsWhole l.self;
   held : AreThere l.self.tree.forest l.nodes;
+  kept : KeepsNodes l.fn.self l.self;
 }

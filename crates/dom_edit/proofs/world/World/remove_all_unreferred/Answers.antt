@@ -1,4 +1,4 @@
-use Rattle.std.proofs.Common.{◌≡◌, ℕ, ◌+◌, true, List, [], ◌∷◌, ◌++◌, take, drop, ap, sym, ◌∙◌, subst}
+use Rattle.std.proofs.Common.{◌≡◌, ℕ, ◌+◌, true, List, [], ◌∷◌, ◌++◌, take, drop, refl, ap, sym, ◌∙◌, subst}
 use Rattle.std.proofs.lemmas.List.{take_more, drop_more}
 use Rattle.dom_model.specs.MutationAlgorithms.Editing.{remove, remove_all}
 use Rattle.dom_model.proofs.Forests.Indices.{child-parent, child-once}
@@ -6,6 +6,7 @@ use Rattle.dom_edit.specs.Whole.{Follows}
 use Rattle.dom_edit.proofs.Following.{follows-none, follows-then}
 use Rattle.dom_edit.proofs.InsertedNodes.{remove_all-more, follows-as}
 use Rattle.dom_edit.proofs.Unreferred.{AreLeft, first-left, rest-left}
+use Rattle.dom_edit.proofs.NodesKept.{nodes-same, nodes-then}
 use Rattle.dom_edit.proofs.world.World.remove_all_unreferred.Goals as goal
 
 pub loop-node-init : goal.loop-node-init
@@ -20,6 +21,7 @@ loop-node-init c =
         under = λ m k. child-parent v.tree.forest c.requires.whole.forest.once m p k;
         once = λ m. child-once v.tree.forest c.requires.whole.forest.once m p;
       });
+      kept = nodes-same v v refl;
     }
 
 pub remove_unreferred-requires-clause-whole : goal.remove_unreferred-requires-clause-whole
@@ -52,6 +54,7 @@ loop-node-preserved c =
           (λ w k. ap (λ (ns : List ℕ). remove_all ns w) more ∙ remove_all-more (take i xs) n w)
           (follows-then first v new (remove_all (take i xs)) (remove true n) c.loop-node.invariant.removed step);
       left = rest-left v new c.args.parent n (drop (i + 1) xs) (subst (AreLeft v c.args.parent) split c.loop-node.invariant.left) step c.in_ok-remove_unreferred.ensures.ranges c.in_ok-remove_unreferred.ensures.whole;
+      kept = nodes-then first v new c.loop-node.invariant.kept c.in_ok-remove_unreferred.ensures.kept;
     }
 
 pub returns-clause-whole : goal.returns-clause-whole

@@ -4,7 +4,7 @@ use Rattle.std.proofs.lemmas.Result.{on_ok_weaker}
 use Rattle.dom_model.specs.Forests.Forest.{parent_of}
 use Rattle.dom_edit.proofs.Following.{follows-none}
 use Rattle.dom_edit.proofs.Leaving.{it_is, parent-held, held-taken, follows-removed}
-use Rattle.dom_edit.proofs.NodesKept.{none-there, one-there, stay-some, previous-held, next-held, nodes-then, nodes-observed, nodes-taken}
+use Rattle.dom_edit.proofs.NodesKept.{none-there, one-there, stay-some, previous-held, next-held, nodes-then, nodes-observed}
 use Rattle.dom_edit.proofs.world.World.remove_node.Goals as goal
 
 pub make_transients-requires-clause-held : goal.make_transients-requires-clause-held
@@ -21,7 +21,7 @@ make_transients-requires-clause-node_held c =
     let n = c.args.node in
     let p = c.in-Some.parent in
     let e : parent_of v.tree.forest n ≡ Some p = cc in
-    nodes-taken v c.take_out.new.self n p (it_is _ (parent_of v.tree.forest n) p e c.take_out.ensures.taken) n c.requires.held
+    c.take_out.ensures.kept.labelled.held n c.requires.held
 
 pub returns-then-suppressed-clause-removed : goal.returns-then-suppressed-clause-removed
 returns-then-suppressed-clause-removed c =
@@ -39,9 +39,9 @@ queue_tree_record-requires-clause-held c =
     let p = c.in-Some.parent in
     let e : parent_of v.tree.forest n ≡ Some p = cc in
     let mid = c.make_transients.new.self in
-    let stays = nodes-then v c.take_out.new.self mid (nodes-taken v c.take_out.new.self n p (it_is _ (parent_of v.tree.forest n) p e c.take_out.ensures.taken))
+    let stays = nodes-then v c.take_out.new.self mid c.take_out.ensures.kept
     (nodes-observed c.take_out.new.self mid c.make_transients.ensures.parts) in
-    stays p (parent-held v c.requires.whole n p e)
+    stays.labelled.held p (parent-held v c.requires.whole n p e)
 
 pub queue_tree_record-requires-clause-added : goal.queue_tree_record-requires-clause-added
 queue_tree_record-requires-clause-added c = none-there c.make_transients.new.self.tree.forest
@@ -53,9 +53,9 @@ queue_tree_record-requires-clause-removed c =
     let p = c.in-Some.parent in
     let e : parent_of v.tree.forest n ≡ Some p = cc in
     let mid = c.make_transients.new.self in
-    let stays = nodes-then v c.take_out.new.self mid (nodes-taken v c.take_out.new.self n p (it_is _ (parent_of v.tree.forest n) p e c.take_out.ensures.taken))
+    let stays = nodes-then v c.take_out.new.self mid c.take_out.ensures.kept
     (nodes-observed c.take_out.new.self mid c.make_transients.ensures.parts) in
-    one-there mid.tree.forest n (stays n c.requires.held)
+    one-there mid.tree.forest n (stays.labelled.held n c.requires.held)
 
 pub queue_tree_record-requires-clause-previous : goal.queue_tree_record-requires-clause-previous
 queue_tree_record-requires-clause-previous c =
@@ -64,7 +64,7 @@ queue_tree_record-requires-clause-previous c =
     let p = c.in-Some.parent in
     let e : parent_of v.tree.forest n ≡ Some p = cc in
     let mid = c.make_transients.new.self in
-    let stays = nodes-then v c.take_out.new.self mid (nodes-taken v c.take_out.new.self n p (it_is _ (parent_of v.tree.forest n) p e c.take_out.ensures.taken))
+    let stays = nodes-then v c.take_out.new.self mid c.take_out.ensures.kept
     (nodes-observed c.take_out.new.self mid c.make_transients.ensures.parts) in
     stay-some v mid stays c.prev-previous.result (previous-held v c.requires.whole n c.requires.held c.prev-previous.result c.prev-previous.ensures)
 
@@ -75,7 +75,7 @@ queue_tree_record-requires-clause-next c =
     let p = c.in-Some.parent in
     let e : parent_of v.tree.forest n ≡ Some p = cc in
     let mid = c.make_transients.new.self in
-    let stays = nodes-then v c.take_out.new.self mid (nodes-taken v c.take_out.new.self n p (it_is _ (parent_of v.tree.forest n) p e c.take_out.ensures.taken))
+    let stays = nodes-then v c.take_out.new.self mid c.take_out.ensures.kept
     (nodes-observed c.take_out.new.self mid c.make_transients.ensures.parts) in
     stay-some v mid stays c.next-next.result (next-held v c.requires.whole n c.requires.held c.next-next.result c.next-next.ensures)
 

@@ -8,6 +8,7 @@ use Rattle.dom_edit.specs.Whole.{Follows}
 use Rattle.dom_edit.proofs.Following.{follows-none}
 use Rattle.dom_edit.proofs.Leaving.{parent-held, held-taken, follows-cut_out, whole-taken, follows-removed}
 use Rattle.dom_edit.proofs.Unreferred.{ends-stay}
+use Rattle.dom_edit.proofs.NodesKept.{nodes-then, nodes-observed, nodes-cut}
 use Rattle.dom_edit.proofs.world.World.remove_unreferred.Goals as goal
 
 pub cut_out-requires-clause-held : goal.cut_out-requires-clause-held
@@ -56,3 +57,10 @@ returns-clause-removed c =
 
 pub returns-clause-ranges : goal.returns-clause-ranges
 returns-clause-ranges c = ap (λ (w : World). w.ranges) c.make_transients.ensures.parts ∙ ap (λ (w : World). w.ranges) c.cut_out.ensures
+
+pub returns-clause-kept : goal.returns-clause-kept
+returns-clause-kept c =
+    let mid = c.cut_out.new.self in
+    nodes-then c.args.self.now mid c.make_transients.new.self
+    (nodes-cut c.args.self.now mid c.args.node c.requires.whole (ap (λ (w : World). w.tree) c.cut_out.ensures))
+    (nodes-observed mid c.make_transients.new.self c.make_transients.ensures.parts)

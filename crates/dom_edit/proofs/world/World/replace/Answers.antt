@@ -2,7 +2,6 @@ use Rattle.std.proofs.Common.{true, ap, sym, ◌∙◌, tests, rules}
 use Rattle.dom_edit.proofs.Marking.{stand-by_replace}
 use Rattle.dom_edit.specs.Inserting.{reference_in}
 use Rattle.dom_edit.proofs.ReplacedNodes.{insertable-instead, entering-instead, follows-replace}
-use Rattle.dom_edit.proofs.Adopting.{removed-held}
 use Rattle.dom_edit.proofs.NodesKept.{one-there, stay-there, stay-some, previous-held, next-held, entering-held, reference-held, nodes-then}
 use Rattle.dom_edit.proofs.world.World.replace.Goals as goal
 
@@ -23,16 +22,14 @@ pub queue_tree_record-requires-clause-held : goal.queue_tree_record-requires-cla
 queue_tree_record-requires-clause-held c =
     let v = c.args.self.now in
     let child = c.args.child in
-    let stays = nodes-then v c.remove_node.new.self c.enter.new.self
-    (removed-held v c.remove_node.new.self true child c.requires.whole c.requires.child_held c.in_ok-remove_node.ensures.removed) c.in_ok-enter.ensures.stays in
-    stays c.args.parent c.requires.parent_held
+    let stays = nodes-then v c.remove_node.new.self c.enter.new.self c.remove_node.ensures.kept c.enter.ensures.kept in
+    stays.labelled.held c.args.parent c.requires.parent_held
 
 pub queue_tree_record-requires-clause-added : goal.queue_tree_record-requires-clause-added
 queue_tree_record-requires-clause-added c =
     let v = c.args.self.now in
     let child = c.args.child in
-    let stays = nodes-then v c.remove_node.new.self c.enter.new.self
-    (removed-held v c.remove_node.new.self true child c.requires.whole c.requires.child_held c.in_ok-remove_node.ensures.removed) c.in_ok-enter.ensures.stays in
+    let stays = nodes-then v c.remove_node.new.self c.enter.new.self c.remove_node.ensures.kept c.enter.ensures.kept in
     stay-there v c.enter.new.self stays c.as_slice-2.result.now
     (entering-held v c.requires.whole c.args.node c.requires.node_held c.as_slice-2.result.now (c.as_slice-2.ensures ∙ c.in_ok-nodes.ensures))
 
@@ -40,16 +37,14 @@ pub queue_tree_record-requires-clause-removed : goal.queue_tree_record-requires-
 queue_tree_record-requires-clause-removed c =
     let v = c.args.self.now in
     let child = c.args.child in
-    let stays = nodes-then v c.remove_node.new.self c.enter.new.self
-    (removed-held v c.remove_node.new.self true child c.requires.whole c.requires.child_held c.in_ok-remove_node.ensures.removed) c.in_ok-enter.ensures.stays in
-    one-there c.enter.new.self.tree.forest child (stays child c.requires.child_held)
+    let stays = nodes-then v c.remove_node.new.self c.enter.new.self c.remove_node.ensures.kept c.enter.ensures.kept in
+    one-there c.enter.new.self.tree.forest child (stays.labelled.held child c.requires.child_held)
 
 pub queue_tree_record-requires-clause-previous : goal.queue_tree_record-requires-clause-previous
 queue_tree_record-requires-clause-previous c =
     let v = c.args.self.now in
     let child = c.args.child in
-    let stays = nodes-then v c.remove_node.new.self c.enter.new.self
-    (removed-held v c.remove_node.new.self true child c.requires.whole c.requires.child_held c.in_ok-remove_node.ensures.removed) c.in_ok-enter.ensures.stays in
+    let stays = nodes-then v c.remove_node.new.self c.enter.new.self c.remove_node.ensures.kept c.enter.ensures.kept in
     stay-some v c.enter.new.self stays c.prev-previous.result
     (previous-held v c.requires.whole child c.requires.child_held c.prev-previous.result c.prev-previous.ensures)
 
@@ -57,8 +52,7 @@ pub queue_tree_record-requires-clause-next : goal.queue_tree_record-requires-cla
 queue_tree_record-requires-clause-next c =
     let v = c.args.self.now in
     let child = c.args.child in
-    let stays = nodes-then v c.remove_node.new.self c.enter.new.self
-    (removed-held v c.remove_node.new.self true child c.requires.whole c.requires.child_held c.in_ok-remove_node.ensures.removed) c.in_ok-enter.ensures.stays in
+    let stays = nodes-then v c.remove_node.new.self c.enter.new.self c.remove_node.ensures.kept c.enter.ensures.kept in
     stay-some v c.enter.new.self stays c.reference_child-reference.result
     (reference-held v c.requires.whole c.args.node c.next-following.result c.reference_child-reference.result c.requires.node_held
     (next-held v c.requires.whole child c.requires.child_held c.next-following.result c.next-following.ensures) c.reference_child-reference.ensures)

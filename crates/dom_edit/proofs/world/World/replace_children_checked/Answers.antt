@@ -4,7 +4,7 @@ use Rattle.dom_model.specs.MutationAlgorithms.Editing.{remove_all}
 use Rattle.dom_edit.specs.Whole.{Follows}
 use Rattle.dom_edit.proofs.Marking.{stand-by_replace_all}
 use Rattle.dom_edit.proofs.ReplacedNodes.{children-held, parent-emptied, insertable-only, entering-only, follows-replace_all}
-use Rattle.dom_edit.proofs.NodesKept.{stay-there, entering_if_any-held, nodes-then, nodes-removed_all}
+use Rattle.dom_edit.proofs.NodesKept.{stay-there, entering_if_any-held, nodes-then}
 use Rattle.dom_edit.proofs.world.World.replace_children_checked.Goals as goal
 
 pub remove_all-requires-clause-held : goal.remove_all-requires-clause-held
@@ -26,26 +26,20 @@ insert_if_any-requires-clause-nodes c =
 pub queue_replaced-requires-clause-parent_held : goal.queue_replaced-requires-clause-parent_held
 queue_replaced-requires-clause-parent_held c =
     let v = c.args.self.now in
-    let out = children-held v c.requires.whole c.args.parent c.as_slice.result.now (c.as_slice.ensures.value ∙ c.in_ok-removed.ensures) in
-    let stays = nodes-then v c.remove_all.new.self c.insert_if_any.new.self
-    (nodes-removed_all v c.remove_all.new.self c.as_slice.result.now c.requires.whole out c.in_ok-remove_all.ensures.removed) c.in_ok-insert_if_any.ensures.stays in
-    stays c.args.parent c.requires.parent_held
+    let stays = nodes-then v c.remove_all.new.self c.insert_if_any.new.self c.remove_all.ensures.kept c.insert_if_any.ensures.kept in
+    stays.labelled.held c.args.parent c.requires.parent_held
 
 pub queue_replaced-requires-clause-added : goal.queue_replaced-requires-clause-added
 queue_replaced-requires-clause-added c =
     let v = c.args.self.now in
-    let out = children-held v c.requires.whole c.args.parent c.as_slice.result.now (c.as_slice.ensures.value ∙ c.in_ok-removed.ensures) in
-    let stays = nodes-then v c.remove_all.new.self c.insert_if_any.new.self
-    (nodes-removed_all v c.remove_all.new.self c.as_slice.result.now c.requires.whole out c.in_ok-remove_all.ensures.removed) c.in_ok-insert_if_any.ensures.stays in
+    let stays = nodes-then v c.remove_all.new.self c.insert_if_any.new.self c.remove_all.ensures.kept c.insert_if_any.ensures.kept in
     stay-there v c.insert_if_any.new.self stays c.as_slice-3.result.now
     (entering_if_any-held v c.requires.whole c.args.node c.requires.node_held c.as_slice-3.result.now (c.as_slice-3.ensures ∙ c.in_ok-added.ensures))
 
 pub queue_replaced-requires-clause-removed : goal.queue_replaced-requires-clause-removed
 queue_replaced-requires-clause-removed c =
     let v = c.args.self.now in
-    let out = children-held v c.requires.whole c.args.parent c.as_slice.result.now (c.as_slice.ensures.value ∙ c.in_ok-removed.ensures) in
-    let stays = nodes-then v c.remove_all.new.self c.insert_if_any.new.self
-    (nodes-removed_all v c.remove_all.new.self c.as_slice.result.now c.requires.whole out c.in_ok-remove_all.ensures.removed) c.in_ok-insert_if_any.ensures.stays in
+    let stays = nodes-then v c.remove_all.new.self c.insert_if_any.new.self c.remove_all.ensures.kept c.insert_if_any.ensures.kept in
     stay-there v c.insert_if_any.new.self stays c.as_slice-4.result.now
     (children-held v c.requires.whole c.args.parent c.as_slice-4.result.now (c.as_slice-4.ensures.value ∙ c.in_ok-removed.ensures))
 

@@ -5,6 +5,7 @@ use Rattle.dom_model.proofs.Forests.Changes.{seen, nothing, just}
 use Rattle.dom_edit.specs.declared.world.World.{World}
 use Rattle.dom_edit.specs.Whole.{Follows}
 use Rattle.dom_edit.proofs.Leaving.{if_some, it_is, held-covered, parent-held, follows-cut_out, whole-taken}
+use Rattle.dom_edit.proofs.NodesKept.{nodes-cut}
 use Rattle.dom_edit.proofs.world.World.take_out.Goals as goal
 
 pub removing-requires-clause-parent : goal.removing-requires-clause-parent
@@ -35,3 +36,6 @@ returns-clause-whole c =
           whole-taken v new n p c.requires.whole e (follows-cut_out v new n p c.removing.new.self moved c.cut_out.ensures)
           (ap (λ (w : World). w.ranges.covered) c.cut_out.ensures ∙ ap (λ r. r.covered) moved) (ap (λ (w : World). w.observers) c.cut_out.ensures)
     ]
+
+pub returns-clause-kept : goal.returns-clause-kept
+returns-clause-kept c = nodes-cut c.args.self.now c.cut_out.new.self c.args.node c.requires.whole (ap (λ (w : World). w.tree) c.cut_out.ensures)

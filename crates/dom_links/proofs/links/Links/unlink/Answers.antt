@@ -1,5 +1,5 @@
 use Rattle.std.proofs.Common.{refl}
-use Rattle.dom_links.specs.Wiring.{led_on}
+use Rattle.dom_links.specs.Wiring.{with_next}
 use Rattle.dom_links.proofs.Reading.{previous_found, next_found}
 use Rattle.dom_links.proofs.Closing.{free_read}
 use Rattle.dom_links.proofs.Relinking.{child_from, has_parent, counted, link_found, kept, unlink_closes}
@@ -23,7 +23,7 @@ lead_on-requires g c =
 pub lead_back-requires : goal.lead_back-requires
 lead_back-requires g c =
     let k = child_from _ _ c.args.self.now c.args.child c.place_of-ptr.result c.get-node.result.now c.self.invariant.0 c.self.view_is c.child.view_is c.requires c.place_of-ptr.ensures c.get-node.ensures in
-    kept (led_on c.unwrap-top.result c.get-node.result.now.prev c.get-node.result.now.next) c.self.inside.pool.cells c.lead_on.new.pool.cells c.lead_on.ensures.nodes _
+    kept (with_next c.unwrap-top.result c.get-node.result.now.prev c.get-node.result.now.next) c.self.inside.pool.cells c.lead_on.new.pool.cells c.lead_on.ensures.nodes _
     (link_found c.self.inside.pool.cells c.get-node.result.now.next c.unwrap-top.result (next_found k.child.reads) (rw c.get.ensures))
 
 pub invariant_of-self : goal.invariant_of-self

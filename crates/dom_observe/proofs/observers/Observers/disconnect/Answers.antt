@@ -6,11 +6,11 @@ use Rattle.dom_model.specs.MutationObservers.Records.{disconnected}
 use Rattle.dom_observe.specs.declared.registration.Ended.TheVariants.{Of}
 use Rattle.dom_observe.specs.Watchers.{Watchers, Watches, on}
 use Rattle.dom_observe.specs.Registrations.{at, listed, spares}
-use Rattle.dom_observe.specs.Kept.{nodes_of, keys_by, IsKept, IsIndexed}
+use Rattle.dom_observe.specs.Kept.{registered_nodes, keys_by, IsKept, IsIndexed}
 use Rattle.dom_observe.proofs.Indexing.{indexed-lasting_ended, disconnected-left, disconnected-swept, disconnected-indexed}
 use Rattle.dom_observe.specs.Naming.{TellsNone}
 use Rattle.dom_observe.proofs.Holding.{names-only, none-ended, tells-emptied}
-use Rattle.dom_observe.proofs.Keeping.{on-nodes_of, kept-emptied, kept_table, found-ended, stand-ended}
+use Rattle.dom_observe.proofs.Keeping.{on-registered_nodes, kept-emptied, kept_table, found-ended, stand-ended}
 use Rattle.dom_observe.proofs.Agreeing.{agree-ended}
 use Rattle.dom_observe.proofs.Sources.{sources-ended}
 use Rattle.dom_observe.proofs.Watching.{watches-filtered, watches-taken}
@@ -81,15 +81,15 @@ returns-clause-ended c = λ x w.
     c.end_own.ensures.placed c.end_own.ensures.left c.end_own.ensures.keys c.end_own-2.ensures.placed c.end_own-2.ensures.left c.end_own-2.ensures.keys in
     let swept_all = disconnected-swept (at a.table) u1 (at c.end_own-2.new.table) (listed a.nodes.entries) lists1 (listed c.end_own-2.new.nodes.entries) ls ls1 ps ps1 a.fleeting.keys made c.args.observer ix within
     c.end_own.ensures.placed c.end_own.ensures.left c.end_own.ensures.keys c.end_own-2.ensures.placed c.end_own-2.ensures.left c.end_own-2.ensures.keys c.end_own.ensures.swept c.end_own-2.ensures.swept in
-    let nodes' = nodes_of c.end_own-2.new.table c.end_own-2.new.nodes.entries in
-    let o : Watchers = record { nodes = nodes_of a.table a.nodes.entries; queues = a.queues.items; pending = a.pending.keys } in
+    let nodes' = registered_nodes c.end_own-2.new.table c.end_own-2.new.nodes.entries in
+    let o : Watchers = record { nodes = registered_nodes a.table a.nodes.entries; queues = a.queues.items; pending = a.pending.keys } in
     let shown = subst (λ (o : Watchers). Watches o x) (sym c.self.view_is) w in
     let lt = subst (λ (o : Watchers). c.args.observer < length o.queues) (sym c.self.view_is) c.requires.held in
     let keep = spares (Of c.args.observer) in
-    let left : (n : ℕ) → on n nodes' ≡ filter keep (on n (nodes_of a.table a.nodes.entries)) = λ n.
-    on-nodes_of c.end_own-2.new.table n c.end_own-2.new.nodes.entries
+    let left : (n : ℕ) → on n nodes' ≡ filter keep (on n (registered_nodes a.table a.nodes.entries)) = λ n.
+    on-registered_nodes c.end_own-2.new.table n c.end_own-2.new.nodes.entries
     ∙ found-ended (at a.table) (at c.end_own-2.new.table) (Of c.args.observer) (listed a.nodes.entries) (listed c.end_own-2.new.nodes.entries) left_all swept_all n
-    ∙ ap (filter keep) (sym (on-nodes_of a.table n a.nodes.entries)) in
+    ∙ ap (filter keep) (sym (on-registered_nodes a.table n a.nodes.entries)) in
     let gone = watches-filtered o x shown keep nodes' left in
     subst (λ (qs : List (List Record)). Watches (record { nodes = nodes'; queues = qs; pending = a.pending.keys }) (disconnected c.args.observer x)) (sym c.take_from.ensures.emptied)
     (watches-taken _ _ gone c.args.observer lt)

@@ -3,7 +3,7 @@ use Rattle.std.proofs.Common.{◌≡◌, List, [], ◌∷◌, length, refl, ap, 
 use Rattle.dom_observe.specs.Once.{once}
 use Rattle.dom_observe.specs.Watchers.{Watchers, Watches, on}
 use Rattle.dom_model.specs.MutationObservers.Observing.{registered_on}
-use Rattle.dom_observe.specs.Kept.{nodes_of}
+use Rattle.dom_observe.specs.Kept.{registered_nodes}
 use Rattle.dom_observe.proofs.Keeping.{nobody, none_listed}
 use Rattle.dom_observe.proofs.observers.Observers.is_idle.Goals as goal
 
@@ -16,7 +16,7 @@ returns-clause-idle c = λ x w yes.
     let a = c.self.inside in
     let shown = subst (λ (o : Watchers). Watches o x) (sym c.self.view_is) w in
     let empty = none a.nodes.entries (c.is_empty.ensures.0 yes) in
-    nobody x.registrations (λ n. sym (shown.registrations n) ∙ ap (λ es. on n (nodes_of a.table es)) empty)
+    nobody x.registrations (λ n. sym (shown.registrations n) ∙ ap (λ es. on n (registered_nodes a.table es)) empty)
 
 pub returns-clause-observing : goal.returns-clause-observing
 returns-clause-observing c = λ x w gone.

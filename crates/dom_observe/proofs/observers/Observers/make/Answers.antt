@@ -5,7 +5,7 @@ use Rattle.dom_model.specs.MutationObservers.Record.{Record}
 use Rattle.dom_model.specs.MutationObservers.Records.{with_observer}
 use Rattle.dom_observe.specs.Watchers.{Watches}
 use Rattle.dom_observe.specs.Registrations.{at, listed}
-use Rattle.dom_observe.specs.Kept.{nodes_of, keys_by, IsKept}
+use Rattle.dom_observe.specs.Kept.{registered_nodes, keys_by, IsKept}
 use Rattle.dom_observe.proofs.Indexing.{indexed-seated}
 use Rattle.dom_observe.specs.Held.{NamesOnly}
 use Rattle.dom_observe.specs.Naming.{TellsNone}
@@ -35,8 +35,8 @@ pub returns-clause-ok : goal.returns-clause-ok
 returns-clause-ok c = λ x w.
     let a = c.self.inside in
     let grown = queues-pushed a.queues.items c.push.new.self.items c.new.result c.in_ok-push.ensures.items c.new.ensures in
-    let u : Watches (record { nodes = nodes_of a.table a.nodes.entries; queues = a.queues.items; pending = a.pending.keys }) x = subst (λ o. Watches o x) (sym c.self.view_is) w in
-    subst (λ qs. Watches (record { nodes = nodes_of a.table a.nodes.entries; queues = qs; pending = a.pending.keys }) (with_observer x)) (sym grown) (watches-made _ x u)
+    let u : Watches (record { nodes = registered_nodes a.table a.nodes.entries; queues = a.queues.items; pending = a.pending.keys }) x = subst (λ o. Watches o x) (sym c.self.view_is) w in
+    subst (λ qs. Watches (record { nodes = registered_nodes a.table a.nodes.entries; queues = qs; pending = a.pending.keys }) (with_observer x)) (sym grown) (watches-made _ x u)
 
 pub returns-clause-held : goal.returns-clause-held
 returns-clause-held c =
@@ -57,7 +57,7 @@ returns-clause-names c =
 pub returns-in_err-push-clause-names : goal.returns-in_err-push-clause-names
 returns-in_err-push-clause-names c =
     let a = c.self.inside in
-    subst (λ vs. NamesOnly [] c.args.self.now (record { nodes = nodes_of a.table a.nodes.entries; queues = vs; pending = a.pending.keys })) (sym {A = List (List Record)} c.in_err-push.ensures.items)
+    subst (λ vs. NamesOnly [] c.args.self.now (record { nodes = registered_nodes a.table a.nodes.entries; queues = vs; pending = a.pending.keys })) (sym {A = List (List Record)} c.in_err-push.ensures.items)
     (subst (NamesOnly [] c.args.self.now) (sym c.self.view_is)
     (names-same a.table a.nodes.entries a.queues.items a.pending.keys c.self.invariant.0 c.args.self.now c.self.view_is []))
 

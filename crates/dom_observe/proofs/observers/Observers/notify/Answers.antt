@@ -8,11 +8,11 @@ use Rattle.dom_model.specs.MutationObservers.Record.{Record}
 use Rattle.dom_model.specs.MutationObservers.Records.{has_records, told_in}
 use Rattle.dom_observe.specs.Watchers.{Watchers, Watches}
 use Rattle.dom_observe.specs.Registrations.{at, listed}
-use Rattle.dom_observe.specs.Kept.{nodes_of, keys_by, IsKept, IsIndexed}
+use Rattle.dom_observe.specs.Kept.{registered_nodes, keys_by, IsKept, IsIndexed}
 use Rattle.dom_observe.proofs.Holding.{names-only, none-ended}
 use Rattle.dom_observe.specs.declared.registration.Ended.TheVariants.{Transient}
 use Rattle.dom_observe.proofs.Indexing.{indexed-notified}
-use Rattle.dom_observe.proofs.Keeping.{on-nodes_of, keys_by-length, stand_grown, stand-ended, found-ended, kept_queues}
+use Rattle.dom_observe.proofs.Keeping.{on-registered_nodes, keys_by-length, stand_grown, stand-ended, found-ended, kept_queues}
 use Rattle.dom_observe.proofs.Tables.{all_imply}
 use Rattle.dom_observe.proofs.Gathered.{waiting-told}
 use Rattle.dom_observe.proofs.Agreeing.{agree-ended}
@@ -69,13 +69,13 @@ returns-clause-after c = λ x w.
     let a = c.self.inside in
     let qs = a.queues.items in
     let qs' = c.gather.new.queues.items in
-    let o : Watchers = record { nodes = nodes_of a.table a.nodes.entries; queues = qs; pending = a.pending.keys } in
+    let o : Watchers = record { nodes = registered_nodes a.table a.nodes.entries; queues = qs; pending = a.pending.keys } in
     let shown = subst (λ (o : Watchers). Watches o x) (sym c.self.view_is) w in
     let lengths : length qs' ≡ length qs = c.gather.ensures.len in
     let empty = all_empty a.pending.keys qs qs' c.self.invariant.0.waiting c.in_ok-told.ensures.emptied c.gather.ensures.empty in
     let found = λ (n : ℕ). found-ended (at a.table) (at c.end_transients.new.table) Transient (listed a.nodes.entries) (listed c.end_transients.new.nodes.entries) c.end_transients.ensures.left c.end_transients.ensures.swept n in
-    watches-notified o x shown (nodes_of c.end_transients.new.table c.end_transients.new.nodes.entries) qs' c.clear.new.self.keys
-    (λ n. on-nodes_of c.end_transients.new.table n c.end_transients.new.nodes.entries ∙ found n ∙ ap (filter (λ (r : Registration). is_none r.source)) (sym (on-nodes_of a.table n a.nodes.entries)))
+    watches-notified o x shown (registered_nodes c.end_transients.new.table c.end_transients.new.nodes.entries) qs' c.clear.new.self.keys
+    (λ n. on-registered_nodes c.end_transients.new.table n c.end_transients.new.nodes.entries ∙ found n ∙ ap (filter (λ (r : Registration). is_none r.source)) (sym (on-registered_nodes a.table n a.nodes.entries)))
     lengths empty c.clear.ensures.empty
 
 pub returns-in_err-told-clause-names : goal.returns-in_err-told-clause-names

@@ -9,12 +9,12 @@ use Rattle.dom_observe.specs.Names.{text_of}
 use Rattle.dom_observe.specs.Once.{once}
 use Rattle.dom_observe.specs.Watchers.{Watchers, Watches, on}
 use Rattle.dom_observe.specs.Registrations.{at, listed}
-use Rattle.dom_observe.specs.Kept.{nodes_of, keys_by, IsIndexed}
+use Rattle.dom_observe.specs.Kept.{registered_nodes, keys_by, IsIndexed}
 use Rattle.dom_observe.specs.Telling.{listeners, delivered}
 use Rattle.dom_observe.specs.Held.{nodes_of_mutation}
 use Rattle.dom_observe.proofs.Holding.{names-only, names-same}
 use Rattle.dom_observe.proofs.Outcomes.{on_ok}
-use Rattle.dom_observe.proofs.Keeping.{on-nodes_of, nobody}
+use Rattle.dom_observe.proofs.Keeping.{on-registered_nodes, nobody}
 use Rattle.dom_observe.proofs.Queued.{standing_on-none, standing_stands, unheard, kept-queued, told-queued, pended-queued}
 use Rattle.dom_observe.proofs.Watching.{watches-noted, watches-unheard}
 use Rattle.dom_observe.proofs.observers.Observers.queue.Goals as goal
@@ -30,7 +30,7 @@ returns-then-is_empty-clause-queued g c = λ x w.
     let m : Mutation = record (c.args.mutation.now) { standing = standing_on ns x.registrations } in
     let shown = subst (λ (o : Watchers). Watches o x) (sym c.self.view_is) w in
     let empty = none a.nodes.entries (c.is_empty.ensures.0 c.if-is_empty.true) in
-    let gone = nobody x.registrations (λ n. sym (shown.registrations n) ∙ ap (λ es. on n (nodes_of a.table es)) empty) in
+    let gone = nobody x.registrations (λ n. sym (shown.registrations n) ∙ ap (λ es. on n (registered_nodes a.table es)) empty) in
     watches-unheard c.args.self.now x w m (ap (λ rs. filter (interests m) (standing_on ns rs)) gone ∙ ap (filter (interests m)) (standing_on-none ns))
 
 pub invariant_of-self : goal.invariant_of-self
@@ -77,9 +77,9 @@ returns-clause-queued g c =
     let keys = c.as_slice.result.now in
     let qs = a.queues.items in
     let qs' = c.tell.new.queues.items in
-    let o : Watchers = record { nodes = nodes_of a.table a.nodes.entries; queues = qs; pending = a.pending.keys } in
+    let o : Watchers = record { nodes = registered_nodes a.table a.nodes.entries; queues = qs; pending = a.pending.keys } in
     let shown = subst (λ (o : Watchers). Watches o x) (sym c.self.view_is) w in
-    let has : (n : ℕ) → filter_map u (on n lists) ≡ once (registered_on n x.registrations) = λ n. sym (on-nodes_of a.table n a.nodes.entries) ∙ shown.registrations n in
+    let has : (n : ℕ) → filter_map u (on n lists) ≡ once (registered_on n x.registrations) = λ n. sym (on-registered_nodes a.table n a.nodes.entries) ∙ shown.registrations n in
     let ls = listeners u q.what q.target (text_of q.name) keys in
     let heard : ls ≡ listeners u m.type m.target m.name keys = (λ i. listeners u (c.question-question.ensures.what i) (c.question-question.ensures.target i) (c.question-question.ensures.name i) keys) in
     let target = ap (λ (k : Mutation). k.target) c.mutation.view_is in

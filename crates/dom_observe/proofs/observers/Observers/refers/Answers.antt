@@ -8,11 +8,11 @@ use Rattle.dom_model.specs.Worlds.World.{Registration}
 use Rattle.dom_model.specs.MutationObservers.Records.{queue_of}
 use Rattle.dom_model.specs.MutationAlgorithms.Discarding.{nodes_of_registration, nodes_of_record, queued_records}
 use Rattle.dom_observe.specs.Watchers.{Watchers, Watches}
-use Rattle.dom_observe.specs.Kept.{nodes_of}
+use Rattle.dom_observe.specs.Kept.{registered_nodes}
 use Rattle.dom_observe.specs.Held.{named}
 use Rattle.dom_observe.proofs.Holding.{named-parts}
 use Rattle.dom_observe.proofs.Keyed.{any-keyed}
-use Rattle.dom_observe.proofs.Named.{any-flat, any-registered, queues-waiting, keys-nodes_of, any-observed}
+use Rattle.dom_observe.proofs.Named.{any-flat, any-registered, queues-waiting, keys-registered_nodes, any-observed}
 use Rattle.dom_observe.proofs.Waiting.{any-told}
 use Rattle.dom_observe.proofs.observers.Observers.refers.Goals as goal
 
@@ -26,9 +26,9 @@ returns-then-is_named-clause-observed g c = λ x w.
     let p = λ (m : ℕ). among m (inclusive_descendants c.args.tree.now.forest c.args.top) in
     let one = λ (r : Registration). list_any p (nodes_of_registration r) in
     let shown = subst (λ (o : Watchers). Watches o x) (sym c.self.view_is) w in
-    let distinct = subst (IsDistinct nat_eq) (sym (keys-nodes_of a.table a.nodes.entries)) c.self.invariant.0.unique in
+    let distinct = subst (IsDistinct nat_eq) (sym (keys-registered_nodes a.table a.nodes.entries)) c.self.invariant.0.unique in
     let named : c.is_named.result ≡ list_any one x.registrations =
-    c.is_named.ensures ∙ any-keyed a.table a.nodes.entries a.queues.items a.pending.keys c.self.invariant.0 c.self.invariant.1.placed c.self.invariant.2 p ∙ any-registered one (nodes_of a.table a.nodes.entries) x.registrations distinct shown.registrations in
+    c.is_named.ensures ∙ any-keyed a.table a.nodes.entries a.queues.items a.pending.keys c.self.invariant.0 c.self.invariant.1.placed c.self.invariant.2 p ∙ any-registered one (registered_nodes a.table a.nodes.entries) x.registrations distinct shown.registrations in
     c.if-is_named.true
     ∙ sym (any-observed p x ∙ ap (λ b. b || list_any (λ (r : Record). list_any p (nodes_of_record r)) (queued_records x)) (sym named ∙ c.if-is_named.true))
 
@@ -39,9 +39,9 @@ returns-else-is_named-clause-observed g c = λ x w.
     let one = λ (r : Registration). list_any p (nodes_of_registration r) in
     let told = λ (r : Record). list_any p (nodes_of_record r) in
     let shown = subst (λ (o : Watchers). Watches o x) (sym c.self.view_is) w in
-    let distinct = subst (IsDistinct nat_eq) (sym (keys-nodes_of a.table a.nodes.entries)) c.self.invariant.0.unique in
+    let distinct = subst (IsDistinct nat_eq) (sym (keys-registered_nodes a.table a.nodes.entries)) c.self.invariant.0.unique in
     let named : c.is_named.result ≡ list_any one x.registrations =
-    c.is_named.ensures ∙ any-keyed a.table a.nodes.entries a.queues.items a.pending.keys c.self.invariant.0 c.self.invariant.1.placed c.self.invariant.2 p ∙ any-registered one (nodes_of a.table a.nodes.entries) x.registrations distinct shown.registrations in
+    c.is_named.ensures ∙ any-keyed a.table a.nodes.entries a.queues.items a.pending.keys c.self.invariant.0 c.self.invariant.1.placed c.self.invariant.2 p ∙ any-registered one (registered_nodes a.table a.nodes.entries) x.registrations distinct shown.registrations in
     let end : (i : ℕ) → i ≡ i + 0 = λ i. omega arith in
     let waiting = queues-waiting x x.places a.queues.items 0 shown.made (λ i lt. shown.queues i lt ∙ ap (λ k. queue_of k x) (end i)) in
     c.is_told.ensures
@@ -56,7 +56,7 @@ returns-then-is_named-clause-named g c =
     let p = λ (m : ℕ). among m (inclusive_descendants c.args.tree.now.forest c.args.top) in
     let there = sym (c.is_named.ensures ∙ any-keyed a.table a.nodes.entries a.queues.items a.pending.keys c.self.invariant.0 c.self.invariant.1.placed c.self.invariant.2 p) ∙ c.if-is_named.true in
     c.if-is_named.true
-    ∙ sym (ap (λ (o : Watchers). list_any p (named o)) (sym c.self.view_is) ∙ named-parts p (record { nodes = nodes_of a.table a.nodes.entries; queues = a.queues.items; pending = a.pending.keys })
+    ∙ sym (ap (λ (o : Watchers). list_any p (named o)) (sym c.self.view_is) ∙ named-parts p (record { nodes = registered_nodes a.table a.nodes.entries; queues = a.queues.items; pending = a.pending.keys })
     ∙ ap (λ b. b || list_any (λ (q : List Record). list_any (λ r. list_any p (nodes_of_record r)) q) a.queues.items) there)
 
 pub returns-else-is_named-clause-named : goal.returns-else-is_named-clause-named
@@ -67,5 +67,5 @@ returns-else-is_named-clause-named g c =
     let there = sym (c.is_named.ensures ∙ any-keyed a.table a.nodes.entries a.queues.items a.pending.keys c.self.invariant.0 c.self.invariant.1.placed c.self.invariant.2 p) ∙ c.if-is_named.false in
     c.is_told.ensures
     ∙ any-told p c.as_slice.result.now a.queues.items a.pending.keys c.as_slice.ensures.value c.self.invariant.0.waiting
-    ∙ sym (ap (λ (o : Watchers). list_any p (named o)) (sym c.self.view_is) ∙ named-parts p (record { nodes = nodes_of a.table a.nodes.entries; queues = a.queues.items; pending = a.pending.keys })
+    ∙ sym (ap (λ (o : Watchers). list_any p (named o)) (sym c.self.view_is) ∙ named-parts p (record { nodes = registered_nodes a.table a.nodes.entries; queues = a.queues.items; pending = a.pending.keys })
     ∙ ap (λ b. b || list_any (λ (q : List Record). list_any told q) a.queues.items) there)

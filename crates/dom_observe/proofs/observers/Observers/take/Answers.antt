@@ -5,7 +5,7 @@ use Rattle.dom_model.specs.MutationObservers.Record.{Record}
 use Rattle.dom_model.specs.MutationObservers.Records.{records_taken}
 use Rattle.dom_observe.specs.Watchers.{Watchers, Watches}
 use Rattle.dom_observe.specs.Registrations.{at, listed}
-use Rattle.dom_observe.specs.Kept.{nodes_of, keys_by, IsKept, IsIndexed}
+use Rattle.dom_observe.specs.Kept.{registered_nodes, keys_by, IsKept, IsIndexed}
 use Rattle.dom_observe.specs.Naming.{TellsNone}
 use Rattle.dom_observe.proofs.Holding.{names-only, tells-emptied}
 use Rattle.dom_observe.proofs.Keeping.{kept-emptied}
@@ -39,8 +39,8 @@ returns-clause-taken c = λ x w.
     let a = c.self.inside in
     let u = subst (λ (o : Watchers). Watches o x) (sym c.self.view_is) w in
     let lt = subst (λ (o : Watchers). c.args.observer < length o.queues) (sym c.self.view_is) c.requires.held in
-    subst (λ (qs : List (List Record)). Watches (record { nodes = nodes_of a.table a.nodes.entries; queues = qs; pending = a.pending.keys }) (records_taken c.args.observer x)) (sym c.take_from.ensures.emptied)
-    (watches-taken (record { nodes = nodes_of a.table a.nodes.entries; queues = a.queues.items; pending = a.pending.keys }) x u c.args.observer lt)
+    subst (λ (qs : List (List Record)). Watches (record { nodes = registered_nodes a.table a.nodes.entries; queues = qs; pending = a.pending.keys }) (records_taken c.args.observer x)) (sym c.take_from.ensures.emptied)
+    (watches-taken (record { nodes = registered_nodes a.table a.nodes.entries; queues = a.queues.items; pending = a.pending.keys }) x u c.args.observer lt)
 
 pub returns-clause-names : goal.returns-clause-names
 returns-clause-names c =

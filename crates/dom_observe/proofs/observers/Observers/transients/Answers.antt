@@ -8,12 +8,12 @@ use Rattle.dom_model.specs.MutationObservers.Observing.{registered_on}
 use Rattle.dom_observe.specs.Once.{once}
 use Rattle.dom_observe.specs.Watchers.{Watchers, Watches, on}
 use Rattle.dom_observe.specs.Registrations.{at, found, listed, is_live, AllLive, Stands}
-use Rattle.dom_observe.specs.Kept.{nodes_of, keys_by}
+use Rattle.dom_observe.specs.Kept.{registered_nodes, keys_by}
 use Rattle.dom_observe.specs.Naming.{names_one}
 use Rattle.dom_observe.proofs.Holding.{names-only, names-same}
 use Rattle.dom_observe.proofs.Outcomes.{on_ok}
 use Rattle.dom_observe.proofs.Tables.{all_imply, live_of_stands}
-use Rattle.dom_observe.proofs.Keeping.{on-nodes_of, kept_table, keys_by-length, all_deep, stands_of}
+use Rattle.dom_observe.proofs.Keeping.{on-registered_nodes, kept_table, keys_by-length, all_deep, stands_of}
 use Rattle.dom_observe.proofs.Transients.{transients-once, none-added-there}
 use Rattle.dom_observe.proofs.Watching.{watches-transients}
 use Rattle.dom_observe.proofs.observers.Observers.transients.Goals as goal
@@ -33,10 +33,10 @@ returns-then-is_empty-clause-left g c = λ x w.
     let k = c.in_ok-standing.standing.ok in
     let t : (c.in_ok-standing.standing.len == 0) ≡ true = sym c.is_empty.ensures ∙ c.if-is_empty.true in
     elim (same_or c.in_ok-standing.standing.len 0) [ same e _ ↦ omega arith | apart _ f ↦ absurd (true≢false (sym t ∙ f)) ]) in
-    let has : (n : ℕ) → found a.table (on n (listed a.nodes.entries)) ≡ once (registered_on n x.registrations) = λ n. sym (on-nodes_of a.table n a.nodes.entries) ∙ shown.registrations n in
+    let has : (n : ℕ) → found a.table (on n (listed a.nodes.entries)) ≡ once (registered_on n x.registrations) = λ n. sym (on-registered_nodes a.table n a.nodes.entries) ∙ shown.registrations n in
     let kept = transients-once (at a.table) (listed a.nodes.entries) (length a.queues.items) c.self.invariant.3 c.self.invariant.0.stand x.registrations has c.args.node ns [] (sym nothing ∙ c.in_ok-standing.ensures) in
     watches-transients o x w c.args.node ns o.nodes
-    (λ n. ap (λ (p : Watchers). on n p.nodes) (sym c.self.view_is) ∙ on-nodes_of a.table n a.nodes.entries ∙ sym (none-added-there c.args.node n (found a.table (on n (listed a.nodes.entries)))) ∙ kept n)
+    (λ n. ap (λ (p : Watchers). on n p.nodes) (sym c.self.view_is) ∙ on-registered_nodes a.table n a.nodes.entries ∙ sym (none-added-there c.args.node n (found a.table (on n (listed a.nodes.entries)))) ∙ kept n)
 
 pub add_transients-requires-clause-live : goal.add_transients-requires-clause-live
 add_transients-requires-clause-live g c = λ n.
@@ -64,11 +64,11 @@ returns-clause-left g c =
     on_ok c.add_transients.result c.add_transients.ensures.ok (λ added x w.
     let a = c.self.inside in
     let ns = ancestors c.args.parent c.args.tree.now.forest in
-    let o : Watchers = record { nodes = nodes_of a.table a.nodes.entries; queues = a.queues.items; pending = a.pending.keys } in
+    let o : Watchers = record { nodes = registered_nodes a.table a.nodes.entries; queues = a.queues.items; pending = a.pending.keys } in
     let shown = subst (λ (o : Watchers). Watches o x) (sym c.self.view_is) w in
-    let has : (n : ℕ) → found a.table (on n (listed a.nodes.entries)) ≡ once (registered_on n x.registrations) = λ n. sym (on-nodes_of a.table n a.nodes.entries) ∙ shown.registrations n in
-    watches-transients o x shown c.args.node ns (nodes_of c.add_transients.new.table c.add_transients.new.nodes.entries)
-    (λ n. on-nodes_of c.add_transients.new.table n c.add_transients.new.nodes.entries ∙ added n
+    let has : (n : ℕ) → found a.table (on n (listed a.nodes.entries)) ≡ once (registered_on n x.registrations) = λ n. sym (on-registered_nodes a.table n a.nodes.entries) ∙ shown.registrations n in
+    watches-transients o x shown c.args.node ns (registered_nodes c.add_transients.new.table c.add_transients.new.nodes.entries)
+    (λ n. on-registered_nodes c.add_transients.new.table n c.add_transients.new.nodes.entries ∙ added n
     ∙ transients-once (at a.table) (listed a.nodes.entries) (length a.queues.items) c.self.invariant.3 c.self.invariant.0.stand x.registrations has c.args.node ns c.as_slice.result.now (c.as_slice.ensures.value ∙ c.in_ok-standing.ensures) n))
 
 pub returns-clause-names : goal.returns-clause-names

@@ -8,5 +8,5 @@ use Rattle.dom_observe.proofs.queue.Queue.names_inside.Goals as goal
 pub returns : goal.returns
 returns g c =
     by_either c.any_inside.result _ c.unwrap_or_else.result _ c.unwrap_or_else.ensures
-    (c.any_inside.ensures (flat_map nodes_of_record c.args.self.now) (λ n passes called. search (rules, of_calls)))
+    (c.any_inside.ensures.found (flat_map nodes_of_record c.args.self.now) (λ n passes called. search (rules, of_calls)))
     (λ called. search (rules, of_calls))

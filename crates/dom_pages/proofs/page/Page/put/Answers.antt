@@ -9,7 +9,7 @@ overflow_add-self g c =
     let cells = c.self.inside.cells.items in
     let inside : c.args.cell < length cells = omega (arith, ap length c.self.view_is, c.requires) in
     let empty = empty_at cells c.args.cell inside c.index.result.now c.index.ensures (c.is_none.ensures ∙ ap not c.if-is_none.true) in
-    omega (arith, taken_in-lt cells c.args.cell inside c.args.item empty, c.self.invariant, c.self.inside.cells.ok, c.self.inside.cells.small)
+    omega (arith, taken_in-lt cells c.args.cell inside c.args.item empty, c.self.invariant.0, c.self.inside.cells.ok, c.self.inside.cells.small)
 
 pub invariant_of-self : goal.invariant_of-self
 invariant_of-self g c = grind (arith, common_steps)

@@ -3,7 +3,7 @@ use Rattle.std.proofs.Common.{◌/◌, [], Some, None, IsSome, length, slice_ind
 use Rattle.std.proofs.lemmas.List.{get_or_default}
 use Rattle.dom_pages.specs.Paged.{cells_of, IsPaged}
 use Rattle.dom_pages.proofs.Cells.{cells_of-written}
-use Rattle.dom_pages.proofs.Paging.{has_page, given_out, has_cell, IsPaged-written}
+use Rattle.dom_pages.proofs.Paging.{has_page, given_out, has_cell, IsPaged-put}
 use Rattle.dom_pages.proofs.Written.{cell_at-same, is_written}
 use Rattle.dom_pages.proofs.pages.Pages.set.Goals as goal
 
@@ -27,7 +27,8 @@ invariant_of-self g c =
     let below = given_out c.self.invariant c.args.number some in
     let lt = has_page c.self.invariant c.args.number below in
     let e = is_written pages c.args.number (Some c.args.item) c.index_mut-page.result.now c.put.new.self lt c.index_mut-page.ensures.value c.put.ensures in
-    subst (λ p. IsPaged p c.self.inside.len) (sym e) (IsPaged-written c.self.invariant c.args.number (Some c.args.item) below)
+    subst (λ p. IsPaged p c.self.inside.len) (sym e)
+    (IsPaged-put c.self.invariant c.args.number c.args.item c.self.inside.len lt (has_cell c.self.invariant c.args.number some) below c.self.invariant.within (omega arith) (λ j le less. omega (arith, le, less)))
 
 pub returns-clause-items : goal.returns-clause-items
 returns-clause-items g c =

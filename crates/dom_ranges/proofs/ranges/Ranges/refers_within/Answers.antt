@@ -10,7 +10,7 @@ pub returns-then-is_idle : goal.returns-then-is_idle
 returns-then-is_idle g c = search (tests, rules)
 
 pub returns-in-Some : goal.returns-in-Some
-returns-in-Some g c = c.in-Some.ensures (live_nodes c.args.self.now) (λ n passes called. search (rules, of_calls))
+returns-in-Some g c = c.in-Some.ensures.found (live_nodes c.args.self.now) (λ n passes called. search (rules, of_calls))
 
 pub returns-in-None : goal.returns-in-None
 returns-in-None g c = c.refer.ensures ∙ referred _ _ _ _ c.self.invariant _ c.self.view_is (λ m. among m (inclusive_descendants c.args.tree.now.forest c.args.top))

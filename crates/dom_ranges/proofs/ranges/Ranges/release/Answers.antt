@@ -1,5 +1,5 @@
 use Rattle.std.proofs.Common.{◌≡◌, ◌+◌, None, set, length, is_some, ap, ◌∙◌, arith}
-use Rattle.dom_ranges.specs.Tables.{number_at}
+use Rattle.dom_ranges.specs.Tables.{range_in_slot}
 use Rattle.dom_ranges.proofs.Slots.{slot-read}
 use Rattle.dom_ranges.proofs.Pairs.{start-live, end-live}
 use Rattle.dom_ranges.proofs.Making.{some-number, moved-is, last-moves, numbers-left, kept-released, view-released}
@@ -38,7 +38,7 @@ set-requires c =
     let slot = slot-read c.self.inside.slots.items c.args.r _ _ c.slot_of.ensures c.unwrap-slot.ensures in
     let w = some-number _ _ _ _ c.self.invariant _ _ slot in
     let last : c.new.result + 1 ≡ length c.self.inside.numbers.items = omega (arith, w, c.new.ensures, c.len-last.ensures) in
-    let mover : c.number.result ≡ number_at c.self.inside.numbers.items c.new.result = c.number.ensures ∙ moved-is c.self.inside.numbers.items _ _ _ _ c.index-moved.ensures (omega (arith, c.new.ensures)) (omega (arith, w, c.len-last.ensures)) in
+    let mover : c.number.result ≡ range_in_slot c.self.inside.numbers.items c.new.result = c.number.ensures ∙ moved-is c.self.inside.numbers.items _ _ _ _ c.index-moved.ensures (omega (arith, c.new.ensures)) (omega (arith, w, c.len-last.ensures)) in
     ap is_some (last-moves _ _ _ _ c.self.invariant _ c.self.view_is _ _ _ _ slot last mover)
 
 pub swap_remove-requires-2 : goal.swap_remove-requires-2
@@ -51,7 +51,7 @@ invariant_of-self c =
     let slot = slot-read c.self.inside.slots.items c.args.r _ _ c.slot_of.ensures c.unwrap-slot.ensures in
     let w = some-number _ _ _ _ c.self.invariant _ _ slot in
     let last : c.new.result + 1 ≡ length c.self.inside.numbers.items = omega (arith, w, c.new.ensures, c.len-last.ensures) in
-    let mover : c.number.result ≡ number_at c.self.inside.numbers.items c.new.result = c.number.ensures ∙ moved-is c.self.inside.numbers.items _ _ _ _ c.index-moved.ensures (omega (arith, c.new.ensures)) (omega (arith, w, c.len-last.ensures)) in
+    let mover : c.number.result ≡ range_in_slot c.self.inside.numbers.items c.new.result = c.number.ensures ∙ moved-is c.self.inside.numbers.items _ _ _ _ c.index-moved.ensures (omega (arith, c.new.ensures)) (omega (arith, w, c.len-last.ensures)) in
     kept-released _ _ _ _ c.self.invariant _ c.self.view_is _ _ _ _ slot last mover _ _ _ _ c.swap_remove.ensures.points
     (c.clear.ensures.items ∙ ap (λ n. set c.set.new.self.items n None) c.number-2.ensures ∙ ap (λ xs. set xs c.args.r None) c.set.ensures.items) c.swap_remove.ensures.chains
     (c.swap_remove-2.ensures.items ∙ numbers-left c.self.inside.numbers.items _ _ _ _ _ c.index.ensures last mover)
@@ -61,6 +61,6 @@ returns c =
     let slot = slot-read c.self.inside.slots.items c.args.r _ _ c.slot_of.ensures c.unwrap-slot.ensures in
     let w = some-number _ _ _ _ c.self.invariant _ _ slot in
     let last : c.new.result + 1 ≡ length c.self.inside.numbers.items = omega (arith, w, c.new.ensures, c.len-last.ensures) in
-    let mover : c.number.result ≡ number_at c.self.inside.numbers.items c.new.result = c.number.ensures ∙ moved-is c.self.inside.numbers.items _ _ _ _ c.index-moved.ensures (omega (arith, c.new.ensures)) (omega (arith, w, c.len-last.ensures)) in
+    let mover : c.number.result ≡ range_in_slot c.self.inside.numbers.items c.new.result = c.number.ensures ∙ moved-is c.self.inside.numbers.items _ _ _ _ c.index-moved.ensures (omega (arith, c.new.ensures)) (omega (arith, w, c.len-last.ensures)) in
     view-released _ _ _ _ c.self.invariant _ c.self.view_is _ _ _ _ slot last mover _ _ _ c.self.inside.numbers.items c.swap_remove.ensures.points
     (c.clear.ensures.items ∙ ap (λ n. set c.set.new.self.items n None) c.number-2.ensures ∙ ap (λ xs. set xs c.args.r None) c.set.ensures.items) c.swap_remove.ensures.covered

@@ -1,4 +1,5 @@
 use Rattle.std.proofs.Common.{tests, rules}
+use Rattle.dom_ranges.proofs.MarkingSetters.{contents-stand}
 use Rattle.dom_ranges.proofs.ranges.Ranges.select_contents.Goals as goal
 
 pub returns-then-is_of_kind-clause-refusal : goal.returns-then-is_of_kind-clause-refusal
@@ -18,3 +19,6 @@ returns-clause-set g c = search (tests, rules)
 
 pub returns-clause-unchanged : goal.returns-clause-unchanged
 returns-clause-unchanged g c = search (tests, rules)
+
+pub returns-clause-markers : goal.returns-clause-markers
+returns-clause-markers g c = contents-stand _ _ _ _ _ c.requires.held _ _ c.requires.node (returns-clause-refusal g c) (returns-clause-set g c)

@@ -1,5 +1,6 @@
 use Rattle.std.proofs.Common.{ap, tests, rules}
 use Rattle.dom_model.specs.Worlds.World.{Point}
+use Rattle.dom_ranges.proofs.MarkingSetters.{end-stands}
 use Rattle.dom_ranges.proofs.ranges.Ranges.set_end.Goals as goal
 
 pub same_root-requires-clause-b_held : goal.same_root-requires-clause-b_held
@@ -25,3 +26,9 @@ returns-else-same_root-clause-set g c = search (tests, rules)
 
 pub returns-else-same_root-clause-unchanged : goal.returns-else-same_root-clause-unchanged
 returns-else-same_root-clause-unchanged g c = search (tests, rules)
+
+pub returns-then-not-found_before-clause-markers : goal.returns-then-not-found_before-clause-markers
+returns-then-not-found_before-clause-markers g c = end-stands _ _ _ _ _ c.requires.held _ _ c.requires.node (returns-then-not-found_before-clause-refusal g c) (returns-then-not-found_before-clause-set g c)
+
+pub returns-else-same_root-clause-markers : goal.returns-else-same_root-clause-markers
+returns-else-same_root-clause-markers g c = end-stands _ _ _ _ _ c.requires.held _ _ c.requires.node (returns-else-same_root-clause-refusal g c) (returns-else-same_root-clause-set g c)

@@ -2,17 +2,10 @@
 use Rattle.std.proofs.Common.{length, ap, ◌∙◌, refl, arith}
 use Rattle.dom_model.specs.Worlds.World.{Iterator}
 use Rattle.dom_model.specs.MutationAlgorithms.PreRemoval.{pre_removed}
-use Rattle.dom_model.proofs.Forests.TreeOrder.InsideWalks.{at-top}
-use Rattle.dom_traverse.proofs.Descendants.{among-inside}
 use Rattle.dom_traverse.proofs.Following.{written-at}
 use Rattle.dom_traverse.proofs.Found.{found-written}
 use Rattle.dom_traverse.proofs.StepsOff.{root-stays}
 use Rattle.dom_traverse.proofs.iterators.NodeIterators.step_off.Goals as goal
-
-pub removing-last-requires-clause-inside : goal.removing-last-requires-clause-inside
-removing-last-requires-clause-inside g c =
-    let f = c.args.tree.now.forest in
-    among-inside f c.sound.ensures.once c.args.node c.args.node ∙ (at-top c.args.tree.now c.sound.ensures c.args.node c.requires.held).under
 
 pub invariant_of-self : goal.invariant_of-self
 invariant_of-self g c =

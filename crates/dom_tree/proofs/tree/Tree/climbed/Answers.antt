@@ -5,7 +5,7 @@ use Rattle.dom_model.specs.Forests.Forest.{ancestors}
 use Rattle.dom_model.proofs.Forests.Above.{above}
 use Rattle.dom_model.proofs.Forests.Entries.{occurs-HasNode}
 use Rattle.dom_model.proofs.Forests.WaysMeeting.{parent-above}
-use Rattle.dom_tree.specs.Slots.{nodes_of}
+use Rattle.dom_tree.specs.Slots.{nodes_alone}
 use Rattle.dom_tree.specs.Ways.{IsOnWay}
 use Rattle.dom_tree.proofs.Nodes.{held-nodes}
 use Rattle.dom_tree.proofs.Trees.{slot-held}
@@ -48,7 +48,7 @@ loop-passed-preserved g c =
     let a = above c.sound.ensures n q h u.1 in
     record {
       held = u.0;
-      child_held = λ x e. (let d : c.loop-passed.here ≡ x = cc e in subst (IsHeld (nodes_of c.self.inside.links)) d (held-nodes c.self.inside.links c.loop-passed.here i.held));
+      child_held = λ x e. (let d : c.loop-passed.here ≡ x = cc e in subst (IsHeld (nodes_alone c.self.inside.links)) d (held-nodes c.self.inside.links c.loop-passed.here i.held));
       way = way-up c.sound.ensures c.args.id n q _ c.requires.held i.way u.1;
       counted = omega (arith, ap length a.path, i.counted);
       start = λ z. absurd (omega (arith, z));

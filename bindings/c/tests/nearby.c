@@ -1,0 +1,149 @@
+/* What is read around a node with no command: what it says, that it takes no memory and leaves the last answer, and that a program that
+ * removes its first child, or its last, as long as there is one takes no longer a child where there are many. Linked with --wrap for malloc,
+ * realloc and free. */
+#include "huckleport.h"
+#include "refusing.h"
+#include <stdio.h>
+#include <string.h>
+#include <time.h>
+
+enum { CHILDREN = 100000, FEW = 1000 };
+
+static hp_session session = HP_SESSION_INIT;
+static uint32_t numbers[CHILDREN + 1];
+static int faults;
+
+#define WANT(holds) want(holds, #holds)
+
+static void want(bool holds, const char *what)
+{
+    if (holds)
+        return;
+    printf("not so: %s\n", what);
+    faults++;
+}
+
+/* An element with so many children, from the number after its own on. */
+static uint32_t parent_of(uint32_t count)
+{
+    uint32_t parent = HP_NONE, child;
+    WANT(hp_create_element(&session, 0, hp_name("parent"), &parent) == HP_OK);
+    for (uint32_t at = 0; at < count; at++) {
+        if (hp_create_element(&session, 0, hp_name("child"), &child) || hp_append_child(&session, parent, child))
+            faults++;
+    }
+    return parent;
+}
+
+static void ends(uint32_t parent, uint32_t count)
+{
+    uint32_t first = 7, last = 7, child = 7;
+    WANT(hp_first_child(&session, parent, &first) == HP_OK && first == parent + 1);
+    WANT(hp_last_child(&session, parent, &last) == HP_OK && last == parent + count);
+    WANT(hp_child_at(&session, parent, 0, &child) == HP_OK && child == first);
+    WANT(hp_child_at(&session, parent, count - 1, &child) == HP_OK && child == last);
+    WANT(hp_child_at(&session, parent, count - 2, &child) == HP_OK && child == last - 1);
+    WANT(hp_child_at(&session, parent, 1, &child) == HP_OK && child == first + 1);
+    WANT(hp_child_at(&session, parent, count, &child) == HP_OK && child == HP_NONE);
+    WANT(hp_child_at(&session, parent, (size_t)-1, &child) == HP_OK && child == HP_NONE);
+    WANT(hp_first_child(&session, first, &child) == HP_OK && child == HP_NONE);
+    child = 7;
+    WANT(hp_last_child(&session, first, &child) == HP_OK && child == HP_NONE);
+}
+
+static void links(uint32_t parent, uint32_t count)
+{
+    hp_node_links it;
+    WANT(hp_links(&session, parent, &it) == HP_OK);
+    WANT(it.kind == 1 && it.document == 0 && it.parent == HP_NONE && it.previous == HP_NONE && it.next == HP_NONE);
+    WANT(it.first_child == parent + 1 && it.last_child == parent + count && it.children == count && it.length == count);
+    WANT(hp_links(&session, parent + 2, &it) == HP_OK);
+    WANT(it.parent == parent && it.previous == parent + 1 && it.next == parent + 3);
+    WANT(it.first_child == HP_NONE && it.last_child == HP_NONE && it.children == 0 && it.length == 0);
+    WANT(hp_links(&session, 0, &it) == HP_OK && it.kind == 9 && it.document == 0);
+}
+
+static void unknown(void)
+{
+    hp_node_links it = { 7, 7, 7, 7, 7, 7, 7, 7, 7 }, before = it;
+    uint32_t child = 7;
+    size_t count = 7;
+    WANT(hp_links(&session, HP_NONE, &it) == HP_NO_SUCH_OBJECT && it.kind == before.kind && it.length == before.length);
+    WANT(hp_first_child(&session, HP_NONE, &child) == HP_NO_SUCH_OBJECT && child == 7);
+    WANT(hp_last_child(&session, 4000000000u, &child) == HP_NO_SUCH_OBJECT && child == 7);
+    WANT(hp_child_at(&session, HP_NONE, 0, &child) == HP_NO_SUCH_OBJECT && child == 7);
+    numbers[0] = 7;
+    WANT(hp_children_into(&session, HP_NONE, numbers, 1, &count) == HP_NO_SUCH_OBJECT && count == 7 && numbers[0] == 7);
+}
+
+static bool are_children(uint32_t parent, uint32_t count)
+{
+    for (uint32_t at = 0; at < count; at++) {
+        if (numbers[at] != parent + 1 + at)
+            return false;
+    }
+    return true;
+}
+
+static void copied(uint32_t parent, uint32_t count)
+{
+    size_t told = 7;
+    memset(numbers, 0xff, sizeof numbers);
+    WANT(hp_children_into(&session, parent, numbers, 3, &told) == HP_OK && told == count);
+    WANT(are_children(parent, 3) && numbers[3] == HP_NONE);
+    WANT(hp_children_into(&session, parent, numbers, CHILDREN + 1, &told) == HP_OK && told == count);
+    WANT(are_children(parent, count) && numbers[count] == HP_NONE);
+    told = 7;
+    WANT(hp_children_into(&session, parent, NULL, 0, &told) == HP_OK && told == count);
+    WANT(hp_children_into(&session, parent, NULL, 1, &told) == HP_BAD_LENGTHS);
+    WANT(hp_children_into(&session, parent + 1, numbers, 1, &told) == HP_OK && told == 0);
+}
+
+/* The milliseconds of the processor that it takes to remove all children, each as the first or as the last. */
+static double emptied(uint32_t parent, uint8_t (*end)(hp_session *, uint32_t, uint32_t *))
+{
+    uint32_t child = HP_NONE;
+    clock_t from = clock();
+    while (end(&session, parent, &child) == HP_OK && child != HP_NONE) {
+        if (hp_remove_child(&session, parent, child)) {
+            faults++;
+            break;
+        }
+    }
+    clock_t to = clock();
+    WANT(child == HP_NONE);
+    return (double)(to - from) * 1e3 / CLOCKS_PER_SEC;
+}
+
+static void reading(uint32_t parent, uint32_t count)
+{
+    uint32_t child = 7;
+    size_t told = 7;
+    WANT(hp_children(&session, parent) == HP_OK);
+    refuse(1);
+    ends(parent, count);
+    links(parent, count);
+    copied(parent, count);
+    unknown();
+    counts = false;
+    WANT(asked == 0);
+    WANT(hp_count(&session, &told) == HP_OK && told == count);
+    WANT(hp_number_at(&session, count - 1, &child) == HP_OK && child == parent + count);
+}
+
+int main(int argc, char **words)
+{
+    /* (under valgrind each takes much longer) */
+    bool is_timed = argc > 1 && strcmp(words[1], "timed") == 0;
+    WANT(hp_open(&session, 4294967295u, 100) == HP_OK);
+    reading(parent_of(FEW), FEW);
+    uint32_t parent = parent_of(CHILDREN);
+    reading(parent, CHILDREN);
+    double first = emptied(parent, (hp_first_child));
+    double last = emptied(parent_of(CHILDREN), (hp_last_child));
+    if (is_timed)
+        WANT(first < 50 && last < 50);
+    WANT(hp_close(&session) == HP_OK);
+    printf("%d children removed from the front in %.1f ms and from the back in %.1f ms, %d faults\n", CHILDREN, first, last, faults);
+    return faults != 0;
+}

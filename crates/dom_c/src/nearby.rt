@@ -1,0 +1,201 @@
+//! What stands around a node, read with no command: the last answer stays, and no memory is taken.
+
+ghost use Rattle.std.specs.Prelude.{◌≡◌};
+ghost use Rattle.dom_model.specs.Worlds.World.{World};
+ghost use Rattle.dom_wire.specs.Sessions.{StandsFor};
+ghost use Rattle.dom_c.specs.Nearby.{ReadsForest, node_links, links_told, first_child_told, last_child_told, child_told, count_told, children_over};
+
+use crate::handle::Handle;
+use crate::kept::Kept;
+use crate::placing::{kind_number, node_number};
+use crate::status::{HP_CLOSED, HP_OK, HP_OUT_OF_MEMORY, status_of_own};
+use dom_session::{Links, NodeId};
+use dom_wire::OwnError;
+
+/// A node: the standard's number of its kind (`nodeType`), its node document, the nodes above, beside and below it, or `HP_NONE`, how
+/// many children it has, and its length.
+#[repr(C)]
+#[derive(Clone, Copy, Debug)]
+pub struct NodeLinks {
+    pub kind: u8,
+    pub document: u32,
+    pub parent: u32,
+    pub previous: u32,
+    pub next: u32,
+    pub first_child: u32,
+    pub last_child: u32,
+    pub children: usize,
+    pub length: usize,
+}
+
+// What stands around a node, as C reads it.
+fn node_links(links: Links) -> NodeLinks
+    ensures { result ≡ node_links links }
+{
+    NodeLinks {
+        kind: kind_number(links.kind),
+        document: links.document.number(),
+        parent: node_number(links.parent),
+        previous: node_number(links.previous),
+        next: node_number(links.next),
+        first_child: node_number(links.first_child),
+        last_child: node_number(links.last_child),
+        children: links.children,
+        length: links.length,
+    }
+}
+
+impl Kept {
+    fn links(&self, node: u32) -> Result<NodeLinks, OwnError>
+        ensures { (w : World) → StandsFor self.now.session w → result ≡ links_told node w.forest }
+    {
+        match self.session.links(NodeId::new(node)) {
+            Ok(found) => Ok(node_links(found)),
+            Err(error) => Err(error),
+        }
+    }
+
+    fn first_child(&self, node: u32) -> Result<u32, OwnError>
+        ensures { (w : World) → StandsFor self.now.session w → result ≡ first_child_told node w.forest }
+    {
+        match self.session.first_child(NodeId::new(node)) {
+            Ok(found) => Ok(node_number(found)),
+            Err(error) => Err(error),
+        }
+    }
+
+    fn last_child(&self, node: u32) -> Result<u32, OwnError>
+        ensures { (w : World) → StandsFor self.now.session w → result ≡ last_child_told node w.forest }
+    {
+        match self.session.last_child(NodeId::new(node)) {
+            Ok(found) => Ok(node_number(found)),
+            Err(error) => Err(error),
+        }
+    }
+
+    fn child_at(&self, node: u32, index: usize) -> Result<u32, OwnError>
+        ensures { (w : World) → StandsFor self.now.session w → result ≡ child_told node index w.forest }
+    {
+        match self.session.child_at(NodeId::new(node), index) {
+            Ok(found) => Ok(node_number(found)),
+            Err(error) => Err(error),
+        }
+    }
+}
+
+/// What a node is, and what stands around it: all of it at once, in constant time.
+#[unsafe(no_mangle)]
+pub extern "C" fn hp_links(handle: &mut Handle, node: u32, links: &mut NodeLinks) -> u8
+    ensures kept { handle.new.slot.kept ≡ handle.old.slot.kept }
+    ensures read { ReadsForest handle.old (links_told node) links.old links.new result }
+{
+    if !handle.is_open {
+        return HP_CLOSED;
+    }
+    let kept = &handle.slot.lend().kept;
+    if kept.ended {
+        return HP_OUT_OF_MEMORY;
+    }
+    match kept.links(node) {
+        Ok(found) => {
+            *links = found;
+            HP_OK
+        }
+        Err(error) => status_of_own(error),
+    }
+}
+
+/// The first child of a node, or `HP_NONE`, in constant time.
+#[unsafe(no_mangle)]
+pub extern "C" fn hp_first_child(handle: &mut Handle, node: u32, child: &mut u32) -> u8
+    ensures kept { handle.new.slot.kept ≡ handle.old.slot.kept }
+    ensures read { ReadsForest handle.old (first_child_told node) child.old child.new result }
+{
+    if !handle.is_open {
+        return HP_CLOSED;
+    }
+    let kept = &handle.slot.lend().kept;
+    if kept.ended {
+        return HP_OUT_OF_MEMORY;
+    }
+    match kept.first_child(node) {
+        Ok(found) => {
+            *child = found;
+            HP_OK
+        }
+        Err(error) => status_of_own(error),
+    }
+}
+
+/// The last child of a node, or `HP_NONE`, in constant time.
+#[unsafe(no_mangle)]
+pub extern "C" fn hp_last_child(handle: &mut Handle, node: u32, child: &mut u32) -> u8
+    ensures kept { handle.new.slot.kept ≡ handle.old.slot.kept }
+    ensures read { ReadsForest handle.old (last_child_told node) child.old child.new result }
+{
+    if !handle.is_open {
+        return HP_CLOSED;
+    }
+    let kept = &handle.slot.lend().kept;
+    if kept.ended {
+        return HP_OUT_OF_MEMORY;
+    }
+    match kept.last_child(node) {
+        Ok(found) => {
+            *child = found;
+            HP_OK
+        }
+        Err(error) => status_of_own(error),
+    }
+}
+
+/// The child of a node at an index, or `HP_NONE` where there are no more than that. It goes there from the nearer end.
+#[unsafe(no_mangle)]
+pub extern "C" fn hp_child_at(handle: &mut Handle, node: u32, index: usize, child: &mut u32) -> u8
+    ensures kept { handle.new.slot.kept ≡ handle.old.slot.kept }
+    ensures read { ReadsForest handle.old (child_told node index) child.old child.new result }
+{
+    if !handle.is_open {
+        return HP_CLOSED;
+    }
+    let kept = &handle.slot.lend().kept;
+    if kept.ended {
+        return HP_OUT_OF_MEMORY;
+    }
+    match kept.child_at(node, index) {
+        Ok(found) => {
+            *child = found;
+            HP_OK
+        }
+        Err(error) => status_of_own(error),
+    }
+}
+
+/// Copies the numbers of the children of a node into an array, as many as there is room for, and writes how many children there are,
+/// which may be more. What stands in the array behind them stays.
+#[unsafe(no_mangle)]
+pub extern "C" fn hp_children_into(
+    handle: &mut Handle,
+    node: u32,
+    numbers: &mut [u32],
+    count: &mut usize,
+) -> u8
+    ensures kept { handle.new.slot.kept ≡ handle.old.slot.kept }
+    ensures count { ReadsForest handle.old (count_told node) count.old count.new result }
+    ensures copied { ReadsForest handle.old (children_over node numbers.old) numbers.old numbers.new result }
+{
+    if !handle.is_open {
+        return HP_CLOSED;
+    }
+    let kept = &handle.slot.lend().kept;
+    if kept.ended {
+        return HP_OUT_OF_MEMORY;
+    }
+    match kept.session.copy_children(NodeId::new(node), numbers) {
+        Ok(found) => {
+            *count = found;
+            HP_OK
+        }
+        Err(error) => status_of_own(error),
+    }
+}

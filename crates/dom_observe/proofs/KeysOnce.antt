@@ -1,0 +1,39 @@
+-- No list gets a key twice: what comes in has a key that was vacant, and what ends takes keys out.
+use Rattle.std.proofs.Common.{◌≡◌, ℕ, ◌<◌, ◌≤◌, Bool, false, List, [], ◌∷◌, ◌++◌, length, filter, Option, None, Some, refl, ap, sym, ◌∙◌, subst, arith}
+use Rattle.std.specs.Prelude.{slice_index_or, slice_set}
+use Rattle.std.proofs.lemmas.List.{get_or-set_same, get_or-set_other}
+use Rattle.dom_model.specs.PlainLists.Lists.{hits, among}
+use Rattle.dom_model.specs.Worlds.World.{Registration}
+use Rattle.dom_model.proofs.Forests.Climbing.{hits-append, not_among-hits}
+use Rattle.dom_model.proofs.PlainLists.Numbers.{same_or, same, apart}
+use Rattle.dom_model.proofs.RangesAndContents.DrawnPaths.{hits-filter}
+use Rattle.dom_observe.specs.Kept.{HaveOnce}
+use Rattle.dom_observe.specs.Registrations.{Owned, NewKey}
+
+-- a list is put in place of another
+once-set : (lists lists' : List (List ℕ)) (i : ℕ) (keys : List ℕ) → i < length lists → lists' ≡ slice_set lists i keys → ((k : ℕ) → hits k keys ≤ 1) → HaveOnce lists → HaveOnce lists'
+once-set lists lists' i keys lt set each once j k = elim (same_or j i) [
+  | same e t ↦ subst (λ ks. hits k ks ≤ 1) (sym (ap (λ ls. slice_index_or ls j []) set ∙ ap (λ m. slice_index_or (slice_set lists i keys) m []) e ∙ get_or-set_same lists i keys [] lt)) (each k)
+  | apart ne t ↦ subst (λ ks. hits k ks ≤ 1) (sym (ap (λ ls. slice_index_or ls j []) set ∙ get_or-set_other lists i j keys [] ne)) (once j k)
+]
+
+pub once-ended : (lists lists' : List (List ℕ)) (i : ℕ) (live : ℕ → Bool) → i < length lists → lists' ≡ slice_set lists i (filter live (slice_index_or lists i [])) → HaveOnce lists → HaveOnce lists'
+once-ended lists lists' i live lt set once =
+    once-set lists lists' i (filter live (slice_index_or lists i [])) lt set
+    (λ k. let few = hits-filter k live (slice_index_or lists i []) in let one = once i k in omega arith) once
+
+-- a key that is not there comes last
+pub hits-last : (key : ℕ) (keys : List ℕ) → among key keys ≡ false → ((k : ℕ) → hits k keys ≤ 1) → (k : ℕ) → hits k (keys ++ key ∷ []) ≤ 1
+hits-last key keys new once k = let all = hits-append k keys (key ∷ []) in elim (same_or key k) [
+  | same e t ↦ let none : hits k keys ≡ 0 = not_among-hits k keys (ap (λ m. among m keys) (sym e) ∙ new) in let one : hits k (key ∷ []) ≡ 1 = rw t refl in omega arith
+  | apart ne t ↦ let few = once k in let none : hits k (key ∷ []) ≡ 0 = rw t refl in omega arith
+]
+
+pub once-new : (u v : ℕ → Option Registration) (r : Registration) (keys keys' : List ℕ) → NewKey u r v keys keys' → (kind : ℕ → Option Registration → Bool) → ((j : ℕ) → kind j None ≡ false) → (lists lists' : List (List ℕ))
+    → r.observer < length lists → keys ≡ slice_index_or lists r.observer [] → lists' ≡ slice_set lists r.observer keys' → Owned kind u lists → HaveOnce lists → HaveOnce lists'
+once-new u v r keys keys' a kind nothing lists lists' lt had set owned once =
+    once-set lists lists' r.observer keys' lt set
+    (λ k. subst (λ ks. hits k ks ≤ 1) (sym a.last)
+    (hits-last a.key keys
+    (ap (among a.key) had ∙ owned r.observer a.key ∙ ap (kind r.observer) a.vacant ∙ nothing r.observer)
+    (λ m. subst (λ ks. hits m ks ≤ 1) (sym had) (once r.observer m)) k)) once

@@ -1,0 +1,97 @@
+-- What the code keeps, as it is seen.
+use Rattle.std.proofs.Common.{◌≡◌, ◌≢◌, ℕ, Bool, true, false, ◌&&◌, ◌||◌, List, [], ◌∷◌, length, filter_map, Option, option_map, None, Some, refl, ap, sym, ◌∙◌, subst, nat_eq, ◌==◌}
+use Rattle.std.specs.Prelude.{Vec, unwrap_or}
+use Rattle.std.specs.Option.{option_map_or}
+use Rattle.std.specs.List.{AllByRecursion, IsDistinct, list_any, cons_option}
+use Rattle.std.specs.Map.{keys_of, lookup}
+use Rattle.std.proofs.lemmas.Bool.{true≢false}
+use Rattle.std.proofs.lemmas.Map.Made.{keys_of-map_values, lookup-map_values}
+use Rattle.slab.specs.Slab.{Slab}
+use Rattle.dom_model.specs.PlainLists.Lists.{among}
+use Rattle.dom_model.specs.Worlds.World.{Registration}
+use Rattle.dom_model.specs.MutationObservers.Record.{Record}
+use Rattle.dom_model.specs.MutationObservers.Records.{is_registered}
+use Rattle.dom_model.proofs.PlainLists.Numbers.{Same, same_or, same, apart}
+use Rattle.dom_observe.specs.declared.registration.Registration as held
+use Rattle.dom_observe.specs.Once.{same_options}
+use Rattle.dom_observe.specs.Watchers.{Watchers, on}
+use Rattle.dom_observe.specs.Registrations.{at, found, listed, own_at, origin, is_on, StandsOn, Placed, HaveKeys, HaveSources, Agree}
+use Rattle.dom_observe.specs.Kept.{registered_nodes, IsKept}
+use Rattle.dom_observe.specs.Sound.{IsMade, HasSource, IsSound}
+use Rattle.dom_observe.proofs.Keeping.{on-registered_nodes}
+use Rattle.dom_observe.proofs.Keys.{keys_in, on-looked}
+use Rattle.dom_observe.proofs.Once.{options-itself}
+use Rattle.dom_observe.proofs.Sources.{own-shape}
+
+-- what holds of each registration under the keys
+all_found : (u : ℕ → Option Registration) (P : Registration → Type 0) (Q : ℕ → Type 0) → ((k : ℕ) (r : Registration) → Q k → u k ≡ Some r → P r) → (keys : List ℕ) → AllByRecursion Q keys → AllByRecursion P (filter_map u keys)
+all_found u P Q each [] h = tt
+all_found u P Q each (k ∷ keys) h = go (u k) refl (all_found u P Q each keys h.1)
+  where
+    go : (p : Option Registration) → u k ≡ p → AllByRecursion P (filter_map u keys) → AllByRecursion P (cons_option p (filter_map u keys))
+    go None e rest = rest
+    go (Some r) e rest = (each k r h.0 e, rest)
+
+-- one that is under a key passes
+any_found : (u : ℕ → Option Registration) (p : Registration → Bool) (key : ℕ) (s : Registration) → u key ≡ Some s → p s ≡ true → (keys : List ℕ) → among key keys ≡ true → list_any p (filter_map u keys) ≡ true
+any_found u p key s is on [] there = absurd (true≢false (sym there))
+any_found u p key s is on (k ∷ keys) there = go (same_or k key) (u k) refl (any_found u p key s is on keys)
+  where
+    or_true : (b : Bool) → (b || true) ≡ true
+    or_true true = refl
+    or_true false = refl
+
+    go : Same k key → (q : Option Registration) → u k ≡ q → (among key keys ≡ true → list_any p (filter_map u keys) ≡ true) → list_any p (cons_option q (filter_map u keys)) ≡ true
+    go (same e t) q f rest = ap (λ o. list_any p (cons_option o (filter_map u keys))) (sym f ∙ ap u e ∙ is) ∙ ap (λ b. b || list_any p (filter_map u keys)) on
+    go (apart ne t) None f rest = let w = rw t at there in rest w
+    go (apart ne t) (Some r) f rest = let w = rw t at there in ap (λ b. p r || b) (rest w) ∙ or_true (p r)
+
+itself : (m : ℕ) → (m == m) ≡ true
+itself m = elim (same_or m m) [ same e t ↦ t | apart ne t ↦ absurd (ne refl) ]
+
+module _ {A : Type 0} (table : Slab held.Registration) (entries : List (ℕ × Vec ℕ A)) (queues : List (List Record)) (pending : List ℕ)
+    (kept : IsKept table entries queues pending) (placed : Placed (at table) (listed entries)) (have : HaveSources (at table)) (agree : Agree (at table)) where
+  abbrev seen : Watchers
+  seen = record { nodes = registered_nodes table entries; queues = queues; pending = pending }
+
+  all_on : (n : ℕ) (P : Registration → Type 0) → ((k : ℕ) (r : Registration) → StandsOn (at table) (length queues) n k → at table k ≡ Some r → P r) → AllByRecursion P (on n (registered_nodes table entries))
+  all_on n P each = subst (AllByRecursion P) (sym (on-registered_nodes table n entries)) (all_found (at table) P (StandsOn (at table) (length queues) n) each (on n (listed entries)) (kept.stand n))
+
+  its_own : (n k : ℕ) (r : Registration) → (s : StandsOn (at table) (length queues) n k) → at table k ≡ Some r → s.registration ≡ r
+  its_own n k r s is = let d : Some s.registration ≡ Some r = sym s.is ∙ is in cc d
+
+  has_source : (k : ℕ) (r : Registration) → at table k ≡ Some r → HasSource seen r
+  has_source k r is m from =
+      let o = have k r m is from in
+      let s = own-shape r.observer m (at table o.key) o.own in
+      let there : among o.key (on m (listed entries)) ≡ true = placed m o.key ∙ ap (is_on m) s.1 ∙ ap (λ n. n == m) s.3 ∙ itself m in
+      let mine : origin r ≡ m = ap (λ q. unwrap_or q r.node) from in
+      let its : origin s.0 ≡ m = ap (λ q. unwrap_or q s.0.node) s.4 ∙ s.3 in
+      let alike : r.options ≡ s.0.options = agree.alike k r is ∙ ap (agree.options r.observer) (mine ∙ sym its) ∙ ap (λ i. agree.options i (origin s.0)) (sym s.2) ∙ sym (agree.alike o.key s.0 s.1) in
+      let own : is_registered r.observer m s.0 ≡ true = ap (λ p. option_map_or (is_registered r.observer m) p false) (sym s.1) ∙ o.own in
+      let passes : (is_registered r.observer m s.0 && same_options s.0.options r.options) ≡ true = ap (λ b. b && same_options s.0.options r.options) own ∙ ap (same_options s.0.options) alike ∙ options-itself s.0.options in
+      ap (list_any (λ t. is_registered r.observer m t && same_options t.options r.options)) (on-registered_nodes table m entries)
+      ∙ any_found (at table) (λ t. is_registered r.observer m t && same_options t.options r.options) o.key s.0 s.1 passes (on m (listed entries)) there
+
+  -- a node that is listed has a registration
+  is_filled : (n : ℕ) → lookup (nat_eq n) (registered_nodes table entries) ≢ Some []
+  is_filled n h = go (lookup (nat_eq n) (listed entries)) refl (sym (lookup-map_values (found table) (nat_eq n) (listed entries)) ∙ h)
+    where
+      go : (p : Option (List ℕ)) → lookup (nat_eq n) (listed entries) ≡ p → option_map (found table) p ≡ Some [] → ⊥
+      go None e f = cc f
+      go (Some keys) e f = by keys e (kept.full n keys e) (subst (AllByRecursion (StandsOn (at table) (length queues) n)) (on-looked n (listed entries) ∙ ap keys_in e) (kept.stand n)) (let d : found table keys ≡ [] = cc f in d)
+        where
+          by : (ks : List ℕ) → lookup (nat_eq n) (listed entries) ≡ Some ks → ks ≢ [] → AllByRecursion (StandsOn (at table) (length queues) n) ks → filter_map (at table) ks ≡ [] → ⊥
+          by [] e some all none = some refl
+          by (k ∷ ks) e some all none = let d : all.0.registration ∷ filter_map (at table) ks ≡ [] = ap (λ o. cons_option o (filter_map (at table) ks)) (sym all.0.is) ∙ none in cc d
+
+  pub seen-sound : IsSound seen
+  seen-sound = record {
+    listed = subst (IsDistinct nat_eq) (sym (keys_of-map_values (found table) (listed entries) ∙ keys_of-map_values (λ (l : Vec ℕ A). l.items) entries)) kept.unique;
+    filled = is_filled;
+    here = λ n. all_on n (λ r. r.node ≡ n) (λ k r s is. subst (λ (t : Registration). t.node ≡ n) (its_own n k r s is) s.node);
+    observers = λ n. all_on n (IsMade seen) (λ k r s is. subst (IsMade seen) (its_own n k r s is) s.observer);
+    sources = λ n. all_on n (HasSource seen) (λ k r s is. has_source k r is);
+    pending = kept.made;
+    waiting = kept.waiting;
+  }

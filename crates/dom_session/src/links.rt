@@ -1,0 +1,108 @@
+//! What is read of a node with no command: what it is, and what stands beside, above and below it (DOM Standard, "Trees").
+
+ghost use Rattle.std.specs.Prelude.{◌≡◌};
+ghost use Rattle.dom_model.specs.Forests.Forest.{children_of};
+ghost use Rattle.dom_session.specs.Links.{links_in, first_child_in, last_child_in, child_in, count_in, laid_over};
+
+use dom_edit::Content;
+use dom_kinds::Kind;
+use dom_model::OwnError;
+use dom_tree::{Children, NodeId, Tree};
+
+/// A node: its kind and its node document, the nodes above, beside and below it, how many children it has, and its length.
+#[derive(Clone, Copy, Debug, PartialEq, Eq)]
+pub struct Links {
+    pub kind: Kind,
+    pub document: NodeId,
+    pub parent: Option<NodeId>,
+    pub previous: Option<NodeId>,
+    pub next: Option<NodeId>,
+    pub first_child: Option<NodeId>,
+    pub last_child: Option<NodeId>,
+    pub children: usize,
+    pub length: usize,
+}
+
+/// What a node is, and what stands around it.
+pub(crate) fn links_at(tree: &Tree<Content>, node: NodeId) -> Result<Links, OwnError>
+    ensures { result ≡ links_in tree.now.forest node }
+{
+    if !tree.holds(node) {
+        return Err(OwnError::NoSuchObject);
+    }
+    Ok(Links {
+        kind: tree.label(node).kind,
+        document: tree.document_of(node),
+        parent: tree.parent(node),
+        previous: tree.prev(node),
+        next: tree.next(node),
+        first_child: tree.first(node),
+        last_child: tree.last(node),
+        children: tree.count(node),
+        length: tree.length(node),
+    })
+}
+
+/// The first child of a node, where it has one.
+pub(crate) fn first_child(tree: &Tree<Content>, node: NodeId) -> Result<Option<NodeId>, OwnError>
+    ensures { result ≡ first_child_in tree.now.forest node }
+{
+    if !tree.holds(node) {
+        return Err(OwnError::NoSuchObject);
+    }
+    Ok(tree.first(node))
+}
+
+/// The last child of a node, where it has one.
+pub(crate) fn last_child(tree: &Tree<Content>, node: NodeId) -> Result<Option<NodeId>, OwnError>
+    ensures { result ≡ last_child_in tree.now.forest node }
+{
+    if !tree.holds(node) {
+        return Err(OwnError::NoSuchObject);
+    }
+    Ok(tree.last(node))
+}
+
+/// The child of a node at an index, where there is one.
+pub(crate) fn child_at(
+    tree: &Tree<Content>,
+    node: NodeId,
+    index: usize,
+) -> Result<Option<NodeId>, OwnError>
+    ensures { result ≡ child_in index tree.now.forest node }
+{
+    if !tree.holds(node) {
+        return Err(OwnError::NoSuchObject);
+    }
+    Ok(tree.child_at(node, index))
+}
+
+// Lays the numbers of children over the front of a slice, as far as both go.
+fn lay_over(children: Children<'_, Content>, into: &mut [u32])
+    ensures { into.new ≡ laid_over children.entry into.old }
+{
+    let mut at = 0;
+    for child in children {
+        if at == into.len() {
+            return;
+        }
+        into[at] = child.number();
+        at += 1;
+    }
+}
+
+/// Copies the numbers of the children of a node over the front of a slice, as far as there is room, and tells how many children there are.
+pub(crate) fn copy_children(
+    tree: &Tree<Content>,
+    node: NodeId,
+    into: &mut [u32],
+) -> Result<usize, OwnError>
+    ensures count { result ≡ count_in tree.now.forest node }
+    ensures copied { into.new ≡ laid_over (children_of tree.now.forest node) into.old }
+{
+    if !tree.holds(node) {
+        return Err(OwnError::NoSuchObject);
+    }
+    lay_over(tree.children(node), into);
+    Ok(tree.count(node))
+}
