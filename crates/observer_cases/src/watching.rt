@@ -266,7 +266,9 @@ fn name_recorded(
     tree: &Tree<u8>,
 ) -> Result<(), AllocError> {
     let (top, node) = (NodeId::new(0), NodeId::new(1));
-    watch_children(rt, observers)?;
+    if watch_children(rt, observers).is_err() {
+        watch_children(rt, observers)?;
+    }
     if record_leaving(rt, observers, tree).is_err() {
         assert!(rt; waiting(rt, observers) < 2);
         record_leaving(rt, observers, tree)?;
