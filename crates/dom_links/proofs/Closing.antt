@@ -7,14 +7,11 @@ use denote.RawPtr.{Ptr}
 use Rattle.dom_model.specs.PlainLists.Lists.{is_number}
 use Rattle.dom_model.specs.Forests.Arena.{Entry, Arena, held, entry_at, altered, no_slots, IsLinked}
 use Rattle.dom_links.specs.Cells.{same_ptr, look}
-use Rattle.dom_links.specs.declared.links.Node.{Node}
+use Rattle.dom_links.specs.declared.node.Node.{Node}
 use Rattle.dom_links.specs.Standing.{pointer_in, link_in, node_behind, arena_of, wired, Stands}
 use Rattle.dom_links.specs.Wiring.{leads_to, link_unless}
 use Rattle.dom_links.proofs.Cells.{same_ptr_refl, differs}
 use Rattle.dom_links.proofs.Standing.{Known, arena_read, node_of, place_held, held_entry}
-
-pub place_from : (ps : List (Option Ptr)) (p : Ptr) {i k : ℕ} → i ≡ k → pointer_in ps i ≡ Some p → pointer_in ps k ≡ Some p
-place_from ps p e h = subst (λ j. pointer_in ps j ≡ Some p) e h
 
 module _ {T : Type 0} where
   pub free_read : (ps : List (Option Ptr)) (cs : List (Ptr × Node T)) (free : List ℕ) {a : Arena T} → arena_of ps cs free ≡ a → a.free ≡ reverse free

@@ -8,7 +8,7 @@ use denote.RawPtr.{Ptr}
 use Rattle.dom_model.specs.PlainLists.Lists.{hits, head_of, last_of, after, before}
 use Rattle.dom_model.specs.Forests.Arena.{Entry, Arena, names, held, alone, entry_at, parent_in, children_in, list_under, siblings_in, next_in, previous_in, next_from, next_slot, added, added_from, taken, IsLinked, IsSound}
 use Rattle.dom_links.specs.Cells.{same_ptr, look, without}
-use Rattle.dom_links.specs.declared.links.Node.{Node}
+use Rattle.dom_links.specs.declared.node.Node.{Node}
 use Rattle.dom_links.specs.Standing.{pointer_in, link_in, node_behind, node_in, wired, Stands}
 use Rattle.dom_links.specs.Wiring.{alone_node, GivesSlot}
 use Rattle.dom_links.proofs.Cells.{same_ptr_symm, differs, look_head, look_tail, look_past_without, without_length}
@@ -323,6 +323,8 @@ module _ {T : Type 0} where
       pub within : n < length ps'
       pub next : n ≡ next_slot v
       pub none : entry_at v n ≡ None
+      -- the other places stay
+      pub stays : (p : Ptr) (k : ℕ) (q : Ptr) → pointer_in ps k ≡ Some q → pointer_in (slice_set ps' n (Some p)) k ≡ Some q
       pub fills : (p : Ptr) (x : T) → look p cs ≡ None → Closes (slice_set ps' n (Some p)) ((p, alone_node n x) ∷ cs) free' (added v x)
 
     given_free : (free' : List ℕ) (n : ℕ) → Stands ps cs v → v.free ≡ n ∷ reverse free' → Given ps free' n
@@ -330,6 +332,11 @@ module _ {T : Type 0} where
       within = omega (arith, s.long, first_within ps cs v s n (reverse free') free_is);
       next = sym (ap (λ fs. next_from fs (length v.slots)) free_is);
       none = first_free ps cs v s n (reverse free') free_is;
+      stays = λ p k q h.
+          let apart : k ≡ n → ⊥ = λ e.
+          let there : is_some (entry_at v n) ≡ true = sym (s.held n) ∙ ap is_some (subst (λ j. pointer_in ps j ≡ Some q) e h) in
+          true≢false (sym there ∙ ap is_some (first_free ps cs v s n (reverse free') free_is)) in
+          get_or-set_other ps n k (Some p) None apart ∙ h;
       fills = λ p x fresh. subst (λ (b : Arena T). Closes (slice_set ps n (Some p)) ((p, alone_node n x) ∷ cs) free' b) (sym (ap (λ fs. added_from fs v.slots x) free_is))
           (closes free' (stands-full ps cs v s n (reverse free') free_is p x fresh) refl);
     }
@@ -344,6 +351,7 @@ module _ {T : Type 0} where
         within = g.within;
         next = sym (ap (λ fs. next_from fs (length v.slots)) free_is);
         none = get_or_past v.slots (length v.slots) None (omega arith);
+        stays = λ p k q h. g.stays p k q (index-push ps k ∙ h);
         fills = λ p x fresh. subst (λ (b : Arena T). Closes (slice_set (ps ++ None ∷ []) (length v.slots) (Some p)) ((p, alone_node (length v.slots) x) ∷ cs) [] b) (same x) (g.fills p x fresh);
       })
 
@@ -362,7 +370,7 @@ module _ {T : Type 0} where
       subst (λ (es : List (Ptr × Node T)). Closes (slice_set qs n (Some p)) es left (added v x)) (sym (cells ∙ ap (λ (m : Node T). (p, m) ∷ cs) is)) (g.fills p x fresh)
 
   pub take_ends : (ps : List (Option Ptr)) (cs : List (Ptr × Node T)) (v : Arena T) {i k : ℕ} (ptr : Ptr) (n : Node T) (free : List ℕ) (ds : List (Ptr × Node T)) (more : List ℕ) → i ≡ k → Lies ps cs v k ptr n → v.free ≡ reverse free → parent_in (entry_at v k) ≡ None → children_in (entry_at v k) ≡ []
-      → ds ≡ without ptr cs → more ≡ free ++ i ∷ [] → Closes (slice_set ps i None) ds more (taken v k)
+      → ds ≡ without ptr cs → more ≡ free ++ n.slot ∷ [] → Closes (slice_set ps i None) ds more (taken v k)
   take_ends ps cs v {i} {k} ptr n free ds more number lies free_is root leaf cells items =
-      subst (λ (es : List (Ptr × Node T)). Closes (slice_set ps i None) es more (taken v k)) (sym cells) (subst (λ fs. Closes (slice_set ps i None) (without ptr cs) fs (taken v k)) (sym items)
-      (subst (λ j. Closes (slice_set ps j None) (without ptr cs) (free ++ j ∷ []) (taken v k)) (sym number) (take_closes ps cs v k ptr n free lies free_is root leaf)))
+      subst (λ (es : List (Ptr × Node T)). Closes (slice_set ps i None) es more (taken v k)) (sym cells) (subst (λ fs. Closes (slice_set ps i None) (without ptr cs) fs (taken v k)) (sym (items ∙ ap (λ j. free ++ j ∷ []) (ap (λ (m : Node T). m.slot) lies.reads.node)))
+      (subst (λ j. Closes (slice_set ps j None) (without ptr cs) (free ++ k ∷ []) (taken v k)) (sym number) (take_closes ps cs v k ptr n free lies free_is root leaf)))

@@ -7,7 +7,7 @@ use Rattle.std.proofs.lemmas.List.Sums.{sum_by_push}
 use denote.RawPtr.{Ptr}
 use Rattle.dom_links.specs.Cells.{same_ptr, look, without}
 use Rattle.dom_links.specs.Standing.{pointer_in, Left}
-use Rattle.dom_links.specs.declared.links.Node.{Node}
+use Rattle.dom_links.specs.declared.node.Node.{Node}
 use Rattle.dom_links.proofs.Cells.{same_ptr_symm, differs, look_past_without, without_length}
 
 within : (ps : List (Option Ptr)) (n : ℕ) (p : Ptr) → pointer_in ps n ≡ Some p → n < length ps

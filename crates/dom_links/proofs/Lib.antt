@@ -10,6 +10,7 @@ mod Leaving
 mod Memory
 pub mod Neighbours
 mod Places
+pub mod Placing
 mod Reading
 mod Relinking
 mod Revaluing

@@ -5,9 +5,9 @@ use denote.RawPtr.{Ptr}
 use Rattle.dom_model.specs.PlainLists.Lists.{head_of, last_of}
 use Rattle.dom_model.specs.Forests.Arena.{Entry, Arena, entry_at, parent_in, children_in, next_in, previous_in}
 use Rattle.dom_links.specs.Cells.{look}
-use Rattle.dom_links.specs.declared.links.Node.{Node}
-use Rattle.dom_links.specs.Standing.{node_in, slot_behind, link_in, wired, Stands}
-use Rattle.dom_links.proofs.Standing.{held_entry, slot_read, found_in, node_of, known_parent, known_first, known_last, known_next, known_previous}
+use Rattle.dom_links.specs.declared.node.Node.{Node}
+use Rattle.dom_links.specs.Standing.{node_in, link_in, wired, Stands}
+use Rattle.dom_links.proofs.Standing.{held_entry, found_in, node_of, known_next, known_previous}
 
 module _ {T : Type 0} where
   -- n is the node of the slot k, in memory that stands for a
@@ -48,32 +48,7 @@ module _ {T : Type 0} where
     pub value_read : IfSome (entry_at a k) (λ (e : Entry T). n.value ≡ e.value)
     value_read = subst (λ (o : Option (Entry T)). IfSome o (λ (e : Entry T). n.value ≡ e.value)) (sym r.is) (ap (λ (m : Node T). m.value) r.node)
 
-    -- the slot behind each link
-    pub parent_read : slot_behind cs n.parent ≡ parent_in (entry_at a k)
-    parent_read = ap (slot_behind cs) parent_link ∙ slot_read ps cs a r.stands (parent_in (entry_at a k)) (known_parent (entry_at a) r.stands.sound.linked k)
-
-    pub first_read : slot_behind cs n.first ≡ head_of (children_in (entry_at a k))
-    first_read = ap (slot_behind cs) first_link ∙ slot_read ps cs a r.stands (head_of (children_in (entry_at a k))) (known_first (entry_at a) r.stands.sound.linked k)
-
-    pub last_read : slot_behind cs n.last ≡ last_of (children_in (entry_at a k))
-    last_read = ap (slot_behind cs) last_link ∙ slot_read ps cs a r.stands (last_of (children_in (entry_at a k))) (known_last (entry_at a) r.stands.sound.linked k)
-
-    pub next_read : slot_behind cs n.next ≡ next_in (entry_at a) k
-    next_read = ap (slot_behind cs) next_link ∙ slot_read ps cs a r.stands (next_in (entry_at a) k) (known_next (entry_at a) r.stands.sound.linked k)
-
-    pub previous_read : slot_behind cs n.prev ≡ previous_in (entry_at a) k
-    previous_read = ap (slot_behind cs) previous_link ∙ slot_read ps cs a r.stands (previous_in (entry_at a) k) (known_previous (entry_at a) r.stands.sound.linked k)
-
     -- a node lies where each link leads
-    pub parent_found : (p : Ptr) → n.parent ≡ Some p → IsSome (look p cs)
-    parent_found p e = found_in ps cs a r.stands (parent_in (entry_at a k)) (known_parent (entry_at a) r.stands.sound.linked k) p (sym parent_link ∙ e)
-
-    pub first_found : (p : Ptr) → n.first ≡ Some p → IsSome (look p cs)
-    first_found p e = found_in ps cs a r.stands (head_of (children_in (entry_at a k))) (known_first (entry_at a) r.stands.sound.linked k) p (sym first_link ∙ e)
-
-    pub last_found : (p : Ptr) → n.last ≡ Some p → IsSome (look p cs)
-    last_found p e = found_in ps cs a r.stands (last_of (children_in (entry_at a k))) (known_last (entry_at a) r.stands.sound.linked k) p (sym last_link ∙ e)
-
     pub next_found : (p : Ptr) → n.next ≡ Some p → IsSome (look p cs)
     next_found p e = found_in ps cs a r.stands (next_in (entry_at a) k) (known_next (entry_at a) r.stands.sound.linked k) p (sym next_link ∙ e)
 

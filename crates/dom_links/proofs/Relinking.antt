@@ -1,14 +1,14 @@
 -- The memory after `link`, `unlink` and a value written.
 use Rattle.std.proofs.Common.{◌≡◌, ℕ, ◌+◌, ◌-◌, ◌≤◌, Bool, true, false, cond, eqb, List, [], ◌∷◌, length, Option, Some, None, refl, sym, ap, ◌∙◌, subst, ⊎_elim, arith}
 use Rattle.std.specs.Prelude.{reverse, IsSome, IfSome, option_map}
-use Rattle.std.proofs.lemmas.Bool.{cases_Bool, cases_eq, false≢true}
+use Rattle.std.proofs.lemmas.Bool.{cases_Bool, cases_eq, eq-eqb, ne_eqb, false≢true}
 use Rattle.std.proofs.lemmas.List.{get_or_past}
 use Rattle.dom_links.proofs.Counting.{length-le_from_once}
 use denote.RawPtr.{Ptr}
 use Rattle.dom_model.specs.PlainLists.Lists.{hits, is_number, head_of, last_of, entered, left_out}
-use Rattle.dom_model.specs.Forests.Arena.{Entry, Arena, entry_at, parent_in, children_in, next_in, previous_in, with_parent, with_children, altered, linked, unlinked, unlinked_from, IsLinked}
+use Rattle.dom_model.specs.Forests.Arena.{Entry, Arena, names, entry_at, parent_in, children_in, next_in, previous_in, with_parent, with_children, altered, linked, unlinked, unlinked_from, IsLinked}
 use Rattle.dom_links.specs.Cells.{same_ptr, look}
-use Rattle.dom_links.specs.declared.links.Node.{Node}
+use Rattle.dom_links.specs.declared.node.Node.{Node}
 use Rattle.dom_links.specs.Standing.{pointer_in, link_in, node_behind, node_in, wired, Stands}
 use Rattle.dom_links.specs.Wiring.{link_or, leads_to, link_unless, link_ahead, with_next, with_previous, recounted, settled}
 use Rattle.dom_links.proofs.Cutting.{hits-le, next-cut, previous-cut, first-cut, last-cut, length-cut, once, next-join, previous-join, first-join, last-join, length-join}
@@ -177,22 +177,26 @@ module _ {T : Type 0} where
         let xs = children_in (entry_at v k.parent) in
         omega (arith, hits-le-length c xs, once (entry_at v) (entry_at (unlinked_from (Some k.parent) v c)) c k.parent (cut-unlinked v c k.parent l k.under), parent_count c ptr top n t k up found)
 
-    -- there are no more children than slots
-    pub children_few : (p : ℕ) (top : Ptr) (t : Node T) → Lies p top t → t.count ≤ length ps
-    children_few p top t lies =
+    past_none : (i : ℕ) → length v.slots ≤ i → IsSome (entry_at v i) → ⊥
+    past_none i h k =
+        let past : entry_at v i ≡ None = get_or_past v.slots i None h in
+        let j : IsSome {T = Entry T} None = rw past at k in
+        false≢true j
+
+    -- with one that has no parent there are no more children than slots
+    pub children_fewer : (p c : ℕ) (top : Ptr) (t : Node T) → Lies p top t → IsSome (entry_at v c) → parent_in (entry_at v c) ≡ None → t.count + 1 ≤ length ps
+    children_fewer p c top t lies held_c root =
         let s = lies.reads.stands in
         let l = s.sound.linked in
         let xs = children_in (entry_at v p) in
-        omega (
-          arith,
-          count_read lies.reads,
-          s.long,
-          length-le_from_once (length v.slots) xs (hits-le (entry_at v) l p) (λ i h.
-              ⊎_elim (λ (z : hits i xs ≡ 0). z) (λ (d : hits i xs ≡ 0 → ⊥).
-              let k : IsSome (entry_at v i) = known_child (entry_at v) l p i (omega arith) in
-              let past : entry_at v i ≡ None = get_or_past v.slots i None h in
-              let j : IsSome {T = Entry T} None = rw past at k in absurd (false≢true j)) (cases_eq (hits i xs) 0)),
-        )
+        let out : hits c xs ≡ 0 = l p c ∙ ap (λ o. names o p) root in
+        let few : length (c ∷ xs) ≤ length v.slots = length-le_from_once (length v.slots) (c ∷ xs)
+        (λ i. ⊎_elim (λ (e : c ≡ i). rw (eq-eqb c i e) (let z : hits i xs ≡ 0 = rw (← e) out in omega arith))
+        (λ (d : c ≡ i → ⊥). rw (ne_eqb c i d) (omega (arith, hits-le (entry_at v) l p i))) (cases_eq c i))
+        (λ i h. ⊎_elim (λ (e : c ≡ i). absurd (past_none i h (subst (λ j. IsSome (entry_at v j)) e held_c)))
+        (λ (d : c ≡ i → ⊥). rw (ne_eqb c i d) (⊎_elim (λ (z : hits i xs ≡ 0). omega arith)
+        (λ (n : hits i xs ≡ 0 → ⊥). absurd (past_none i h (known_child (entry_at v) l p i (omega arith)))) (cases_eq (hits i xs) 0))) (cases_eq c i)) in
+        omega (arith, count_read lies.reads, s.long, few)
 
     pub known_new : (p : ℕ) (b : Option ℕ) → IsLinked (entry_at v) → Known (entry_at v) (new_previous (entry_at v) p b)
     known_new p None l = known_last (entry_at v) l p
@@ -253,10 +257,10 @@ module _ {T : Type 0} where
           (length-altered (λ (e : Entry T). with_children (left_out c e.children) e) (altered (with_parent None) v c) p ∙ length-altered (with_parent None) v c) (IsLinked-cut at (entry_at a') c p cut) in
           subst (λ (b : Arena T). Closes ps cs4 free b) (sym (unlinked_is v c p l k.under)) (closes free stands free_is)
 
-      pub link_closes : (p c : ℕ) (b : Option ℕ) (top ptr : Ptr) (t : Node T) (prev next : Option Ptr) (count : ℕ) → Lies p top t → IsSome (entry_at v c) → pointer_in ps c ≡ Some ptr → parent_in (entry_at v c) ≡ None
-          → ((m : ℕ) → b ≡ Some m → parent_in (entry_at v m) ≡ Some p) → prev ≡ link_in ps (new_previous (entry_at v) p b) → next ≡ link_in ps b → count ≡ t.count + 1
-          → Writes (with_next top prev (Some ptr)) cs cs1 → Writes (with_previous top next (Some ptr)) cs1 cs2 → Writes (recounted top count) cs2 cs3 → Writes (settled ptr (Some top) prev next) cs3 cs4 → Closes ps cs4 free (linked v p c b)
-      link_closes p c b top ptr t prev next count lies held_c at_c root under prev_is next_is more w1 w2 w3 w4 =
+      pub link_closes : (p c : ℕ) (b : Option ℕ) (top ptr : Ptr) (t : Node T) (above below prev next : Option Ptr) (count : ℕ) → Lies p top t → IsSome (entry_at v c) → pointer_in ps c ≡ Some ptr → parent_in (entry_at v c) ≡ None
+          → ((m : ℕ) → b ≡ Some m → parent_in (entry_at v m) ≡ Some p) → above ≡ pointer_in ps p → below ≡ pointer_in ps c → prev ≡ link_in ps (new_previous (entry_at v) p b) → next ≡ link_in ps b → count ≡ t.count + 1
+          → Writes (with_next top prev below) cs cs1 → Writes (with_previous top next below) cs1 cs2 → Writes (recounted top count) cs2 cs3 → Writes (settled ptr above prev next) cs3 cs4 → Closes ps cs4 free (linked v p c b)
+      link_closes p c b top ptr t above below prev next count lies held_c at_c root under above_is below_is prev_is next_is more w1 w2 w3 w4 =
           let at = entry_at v in
           let s = lies.reads.stands in
           let l = s.sound.linked in
@@ -269,7 +273,7 @@ module _ {T : Type 0} where
           let prev' : previous_in at' c ≡ P = previous-linked v p c b l root held_c lies.held under in
           let count_is : length (children_in (at p)) + 1 ≡ count = sym (more ∙ ap (λ m. m + 1) (count_read lies.reads)) in
           let entries = entries-linked v p c b l root held_c lies.held under in
-          let w = composed (with_next top prev (Some ptr)) (with_previous top next (Some ptr)) (recounted top count) (settled ptr (Some top) prev next) w1 w2 w3 w4 in
+          let w = composed (with_next top prev below) (with_previous top next below) (recounted top count) (settled ptr above prev next) w1 w2 w3 w4 in
           let same = rewritten ps cs v s c p ptr top held_c lies.held at_c lies.at P b (known_new p b l) known_b prev next prev_is next_is
           at' (Some p) P b (Some c) (Some c) count (entered b c) entries
           (λ i. next-join at' at c p cut i ∙ (ap (λ o. cond (eqb c i) o (cond (is_number (previous_in at' c) i) (Some c) (next_in at i))) next' ∙ ap (λ o. cond (eqb c i) b (cond (is_number o i) (Some c) (next_in at i))) prev'))
@@ -277,9 +281,9 @@ module _ {T : Type 0} where
           (λ i. first-join at' at c p cut i ∙ ap (λ o. cond (is_number (link_unless o p) i) (Some c) (head_of (children_in (at i)))) prev')
           (λ i. last-join at' at c p cut i ∙ ap (λ o. cond (is_number (link_unless o p) i) (Some c) (last_of (children_in (at i)))) next')
           (λ i. length-join at' at c p cut i ∙ ap (λ m. cond (eqb p i) m (length (children_in (at i)))) count_is) in
-          closes free (restands ps cs cs4 v s (rewrite_node ptr top count prev next (Some ptr) (Some ptr) (Some top) prev next) w.looks a' (rewired (entered b c) (Some p) c p) entries
-          (λ i q e g h. ap (λ (o : Option Ptr). rewrite_node ptr top count prev next o o (Some top) prev next q (wired ps at i e)) (sym at_c)
-          ∙ (ap (λ (o : Option Ptr). rewrite_node ptr top count prev next (pointer_in ps c) (pointer_in ps c) o prev next q (wired ps at i e)) (sym lies.at)
+          closes free (restands ps cs cs4 v s (rewrite_node ptr top count prev next below below above prev next) w.looks a' (rewired (entered b c) (Some p) c p) entries
+          (λ i q e g h. ap (λ (o : Option Ptr). rewrite_node ptr top count prev next o o above prev next q (wired ps at i e)) below_is
+          ∙ (ap (λ (o : Option Ptr). rewrite_node ptr top count prev next (pointer_in ps c) (pointer_in ps c) o prev next q (wired ps at i e)) above_is
           ∙ (ap (λ (o : Option Ptr). rewrite_node ptr top count prev next (pointer_in ps c) (pointer_in ps c) (pointer_in ps p) o next q (wired ps at i e)) prev_is
           ∙ (ap (λ (o : Option Ptr). rewrite_node ptr top count prev next (pointer_in ps c) (pointer_in ps c) (pointer_in ps p) (link_in ps P) o q (wired ps at i e)) next_is ∙ same i q e g h)))) w.many refl
           (length-altered (λ (e : Entry T). with_children (entered b c e.children) e) (altered (with_parent (Some p)) v c) p ∙ length-altered (with_parent (Some p)) v c)

@@ -5,7 +5,7 @@ use denote.RawPtr.{Ptr}
 use Rattle.dom_model.specs.PlainLists.Lists.{hits, head_of, last_of, after, before}
 use Rattle.dom_model.specs.Forests.Arena.{Entry, Arena, names, entry_at, parent_in, children_in, list_under, siblings_in, with_value, altered, IsLinked}
 use Rattle.dom_links.specs.Cells.{same_ptr, put}
-use Rattle.dom_links.specs.declared.links.Node.{Node}
+use Rattle.dom_links.specs.declared.node.Node.{Node}
 use Rattle.dom_links.specs.Standing.{pointer_in, link_in, wired}
 use Rattle.dom_links.specs.Wiring.{leads_to}
 use Rattle.dom_links.proofs.Cells.{same_ptr_refl, put_length}

@@ -8,7 +8,7 @@ use Rattle.dom_model.specs.PlainLists.Lists.{hits, is_number, head_of, last_of, 
 use Rattle.dom_model.specs.Forests.Arena.{Entry, Arena, names, entry_at, parent_in, children_in, list_under, siblings_in, next_in, previous_in, IsLinked}
 use Rattle.dom_model.proofs.Forests.Climbing.{hits-append}
 use Rattle.dom_links.specs.Cells.{look}
-use Rattle.dom_links.specs.declared.links.Node.{Node}
+use Rattle.dom_links.specs.declared.node.Node.{Node}
 use Rattle.dom_links.specs.Standing.{pointer_in, link_in, node_behind, node_in, slot_behind, slots_from, slots_along, entry_from, arena_of, wired, Stands}
 use Rattle.dom_links.proofs.Neighbours.{after-none, before_from-none, head_of-none, last_from-none, last_of-last_from}
 use Rattle.dom_links.proofs.Cutting.{names-same, names-other, hits-le}

@@ -6,6 +6,9 @@ use Rattle.dom_model.specs.Forests.Arena.{altered, with_value}
 use Rattle.dom_links.specs.Cells.{put}
 use Rattle.dom_links.specs.declared.pool.Pool.{Pool}
 use Rattle.dom_links.specs.contracts.pool.Pool.{the_row}
+use Rattle.dom_links.specs.Placed.{Placed, slot_of}
+use Rattle.dom_links.specs.declared.store.Store.{Store}
+use Rattle.dom_links.specs.contracts.store.Store.{the_row as store_row}
 use Rattle.dom_links.specs.declared.links.Links.{Links}
 use Rattle.dom_links.specs.contracts.links.Links.{the_row as links_row}
 
@@ -19,3 +22,10 @@ lends_item R s p r = Lends (the_row R) R s r (with_item s.now p)
 -- the same arena with another value at the slot n
 abbrev pub lends_value : (R : RattleType) → MutBor (Links R.Denot) → ℕ → MutBor R.Denot → Fml
 lends_value R s n r = Lends (links_row R) R s r (λ (w : R.Denot). altered (with_value w) s.now n)
+
+-- the same store with another value in the node at p
+abbrev pub revalued_at : {T : Type 0} → Placed T → Ptr → T → Placed T
+revalued_at s p w = record { arena = altered (with_value w) s.arena (slot_of s p); places = s.places }
+
+abbrev pub lends_placed : (R : RattleType) → MutBor (Store R.Denot) → Ptr → MutBor R.Denot → Fml
+lends_placed R s p r = Lends (store_row R) R s r (revalued_at s.now p)

@@ -1,10 +1,10 @@
 -- What stands in memory for an arena: a table from slots to places, and a node at each place.
-use Rattle.std.specs.Prelude.{◌≡◌, ℕ, zero, suc, ◌≤◌, List, [], ◌∷◌, length, map, reverse, count_by, slice_index_or, Option, Some, None, IsSome, is_some, option_map}
+use Rattle.std.specs.Prelude.{◌≡◌, ℕ, zero, suc, ◌^◌, ◌<◌, ◌≤◌, List, [], ◌∷◌, length, map, reverse, count_by, slice_index_or, Option, Some, None, IsSome, is_some, option_map}
 use denote.RawPtr.{Ptr}
 use Rattle.dom_model.specs.PlainLists.Lists.{head_of, last_of}
 use Rattle.dom_model.specs.Forests.Arena.{Entry, Arena, entry_at, next_in, previous_in, IsSound}
 use Rattle.dom_links.specs.Cells.{look}
-use Rattle.dom_links.specs.declared.links.Node.{Node}
+use Rattle.dom_links.specs.declared.node.Node.{Node}
 
 -- where the node of a slot lies
 abbrev pub pointer_in : List (Option Ptr) → ℕ → Option Ptr
@@ -65,6 +65,12 @@ module _ {T : Type 0} where
     pub nodes : (n : ℕ) → node_in ps cs n ≡ option_map (wired ps (entry_at a) n) (entry_at a n)
     pub sound : IsSound a
     pub many : length cs ≤ count_by is_some ps
+
+  -- what a store keeps: its memory stands for the arena that it spells, each slot may be free at once, and a `u32` counts the slots
+  pub record Keeps (ps : List (Option Ptr)) (cs : List (Ptr × Node T)) (free : List ℕ) (spare : ℕ) : Type 0 where
+    pub stands : Stands ps cs (arena_of ps cs free)
+    pub room : length ps ≤ spare
+    pub few : length ps < 2 ^ 32
 
   -- each place of the table has a node of its own, and there are no other nodes
   pub record Left (ps : List (Option Ptr)) (cs : List (Ptr × Node T)) : Type 0 where

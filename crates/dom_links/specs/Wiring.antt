@@ -2,7 +2,7 @@
 use Rattle.std.specs.Prelude.{◌≡◌, ℕ, Bool, false, if◌then◌else◌, List, [], ◌∷◌, ◌++◌, length, ◌⊎◌, Option, Some, None}
 use denote.RawPtr.{Ptr}
 use Rattle.dom_links.specs.Cells.{same_ptr}
-use Rattle.dom_links.specs.declared.links.Node.{Node}
+use Rattle.dom_links.specs.declared.node.Node.{Node}
 
 -- whether the link leads to p
 abbrev pub leads_to : Option Ptr → Ptr → Bool

@@ -3,11 +3,16 @@
 #![tactic(auto)]
 
 mod links;
+mod node;
+mod place;
 mod pool;
 mod steps;
+mod store;
 
-#[doc(hidden)]
-pub use links::Node;
 pub use links::{Links, Refused, Slot};
 #[doc(hidden)]
+pub use node::Node;
+pub use place::{Link, Place};
+#[doc(hidden)]
 pub use pool::{NodePtr, Pool};
+pub use store::Store;

@@ -6,6 +6,7 @@ ghost use Rattle.std.specs.Borrow.{sem};
 ghost use Rattle.core.specs.Mem.{type_size};
 ghost use denote.RawPtr.{Ptr};
 ghost use Rattle.dom_links.specs.Cells.{look, without};
+ghost use Rattle.dom_links.specs.Pointers.{IsPlace};
 ghost use Rattle.dom_links.specs.Ownership.{cells_own, cells_lent};
 
 use std::alloc::{AllocError, Global};
@@ -56,6 +57,7 @@ impl<N> Pool<N> {
         requires { 0 < type_size N.row }
         ensures cells { self.new.cells ≡ (result.ptr, node) ∷ self.old.cells }
         ensures fresh { look result.ptr self.old.cells ≡ None }
+        ensures place { IsPlace result.ptr }
     {
         let Vacant { ptr, alloc: _ } = room;
         unsafe {

@@ -1,4 +1,4 @@
-use Rattle.std.proofs.Common.{Some, None}
+use Rattle.std.proofs.Common.{Some, None, sym, ◌∙◌}
 use Rattle.dom_links.specs.Wiring.{with_previous}
 use Rattle.dom_links.proofs.Cells.{same_ptr_refl, put_length}
 use Rattle.dom_links.proofs.Places.{look-step}
@@ -6,14 +6,14 @@ use Rattle.dom_links.proofs.steps.lead_back.Goals as goal
 
 pub returns-in-Some-clause-nodes : goal.returns-in-Some-clause-nodes
 returns-in-Some-clause-nodes g c =
-    rw c.in-Some.is (look-step (with_previous c.args.top (Some c.in-Some.ptr) c.args.prev) c.in-Some.ptr c.get_mut.result.now _ c.args.pool.now.cells c.get_mut.ensures.value (rw (same_ptr_refl c.in-Some.ptr)) (λ q m e. rw e))
+    rw (sym c.ptr.ensures ∙ c.in-Some.is) (look-step (with_previous c.args.top (Some c.in-Some.ptr) c.args.prev) c.in-Some.ptr c.get_mut.result.now _ c.args.pool.now.cells c.get_mut.ensures.value (rw (same_ptr_refl c.in-Some.ptr)) (λ q m e. rw e))
 
 pub returns-in-Some-clause-many : goal.returns-in-Some-clause-many
 returns-in-Some-clause-many g c = put_length _ _ _
 
 pub returns-in-None-clause-nodes : goal.returns-in-None-clause-nodes
 returns-in-None-clause-nodes g c =
-    rw c.in-None.is (look-step (with_previous c.args.top None c.args.prev) c.args.top c.get_mut-in-None.result.now _ c.args.pool.now.cells c.get_mut-in-None.ensures.value (rw (same_ptr_refl c.args.top)) (λ q m e. rw e))
+    rw (sym c.ptr.ensures ∙ c.in-None.is) (look-step (with_previous c.args.top None c.args.prev) c.args.top c.get_mut-in-None.result.now _ c.args.pool.now.cells c.get_mut-in-None.ensures.value (rw (same_ptr_refl c.args.top)) (λ q m e. rw e))
 
 pub returns-in-None-clause-many : goal.returns-in-None-clause-many
 returns-in-None-clause-many g c = put_length _ _ _

@@ -7,10 +7,10 @@ use base.Fraction.{full_share}
 use mir.Syntax.{Fn, named}
 use mir.MapTy.{inst_fn}
 use mir.Val.{Val, vptr}
-use base.Logic.{SProp, ent, sep}
+use base.Logic.{SProp, ent, sep, via, fst∗}
 use base.Fml.{Lft, GName, Share, ftrue, froom, flft, fobs, fbor}
 use prog.Wp.{Env, Calls, Loops, WpFn, Tables}
-use types.Logic.{Logic}
+use types.Logic.{Logic, sem}
 use contract.Monad.{fact}
 use contract.Running.{tables, tables_of}
 use sound.WpLaws.{WpFn-mono}
@@ -37,7 +37,7 @@ use types.Kit.{Item, ⋆, ‵, ◌⊛◌, at_ret, ◌$◌, ◌∵◌, !, qed, by
 use types.Part.{whole, sub, agg}
 use types.Run.{init, stop, fld, of_opd, and_then, no_more, assigns_last, first, blocks, exec, returns, enter}
 use types.ByLocal.{alloc_all, pass_all, free_all, look_at, get, get_in, through, sets, env}
-use denote.RawPtr.{Ptr, block_ptr, lies_at}
+use denote.RawPtr.{Ptr, block_ptr, lies_at, room_for, Testable}
 use denote.Steps.{nothing, opens, closes}
 use denote.Triple.Walked.{needs, Stays, stay_dropped, stay_ref, walk_of, ends_at, Goes-dropped, Goes-ref, walk_Meets}
 use Rattle.core.proofs.alloc.Calls.{Fits, token}
@@ -45,8 +45,10 @@ use Rattle.std.specs.Prelude.{None}
 use Rattle.std_alloc.proofs.OfVacant.{room_ty}
 use Rattle.std_alloc.specs.contracts.room.vacant.Vacant as room-type
 use Rattle.std_alloc.proofs.RawLayout.{as_written}
+use Rattle.std.proofs.GlobalToken.{dealloc_token-Testable}
 use Rattle.dom_links.specs.Cells.{look}
-use Rattle.dom_links.proofs.Memory.{El, heap, args, R, Pr, Np, word_made, says_both, knows, value_in, tells, fresh}
+use Rattle.dom_links.specs.Pointers.{IsPlace}
+use Rattle.dom_links.proofs.Memory.{El, heap, args, R, Pr, Np, word_made, says_three, knows, value_in, tells, fresh}
 use Rattle.dom_links.specs.contracts.pool.Pool.put.Key.{name as #self}
 use Rattle.dom_links.proofs.pool.Pool.put.Statement as stated
 use Rattle.dom_links.proofs.pool.Pool.put.Code as code
@@ -73,8 +75,11 @@ module _ (E : El) where
   abbrev Gives1 : (Pr E).Denot → (Np E).Denot → Type 0
   Gives1 d r = look r.ptr d.cells ≡ None
 
+  abbrev Gives2 : (Np E).Denot → Type 0
+  Gives2 r = IsPlace r.ptr
+
   abbrev spec : {M : Type 1} {𝓤 : Ura M} (𝓛 : Logic 𝓤) → Clauses 𝓤 ended
-  spec {𝓤 = 𝓤} 𝓛 κs a = record { ghost = Unit {0}; requires = λ _. fact 𝓤 Asks; ensures = λ _ r w. sep 𝓤 (fact 𝓤 (Gives0 a.0.now a.1.1.0 r w.0.now)) (fact 𝓤 (Gives1 a.0.now r)) }
+  spec {𝓤 = 𝓤} 𝓛 κs a = record { ghost = Unit {0}; requires = λ _. fact 𝓤 Asks; ensures = λ _ r w. sep 𝓤 (fact 𝓤 (Gives0 a.0.now a.1.1.0 r w.0.now)) (sep 𝓤 (fact 𝓤 (Gives1 a.0.now r)) (fact 𝓤 (Gives2 r))) }
 
 module _ (E : El) {M : Type 1} {𝓤 : Ura M} (𝓛 : Logic 𝓤) (𝓜 : Model 𝓤 𝓛.H) (C : Calls 𝓤 𝓛.H) (Λ : Loops 𝓤 𝓛.H) (κ : Lft) (q : Share) (rb ro : ℕ) (γ : GName) (d : (Pr E).Denot) (room : (Room E).Denot) (node : E.row.Denot) (us0 us1 us2 : List Val) where
   open 𝓛 use {H}
@@ -91,16 +96,20 @@ module _ (E : El) {M : Type 1} {𝓤 : Ura M} (𝓛 : Logic 𝓤) (𝓜 : Model 
   abbrev Left : (Pr E).Denot → (Np E).Denot → Val → List (Item 𝓤)
   Left new r v = ‵ (fobs γ ((Pr E).coded.code new)) ∷ ‵ (fbor κ (Borrowed (mem (Pr E)) rb ro γ)) ∷ ‵ (flft κ q) ∷ ‵ ((Np E).own_val r (v ∷ [])) ∷ []
 
-  exits : us0 ≡ vptr rb ro ∷ [] → (r : (Np E).Denot) (v : Val) (new : (Pr E).Denot) → Gives0 E d node r new → Gives1 E d r → ent 𝓤 (⋆ 𝓛 (Left new r v)) (Post v)
-  exits passed r v new g0 g1 =
+  exits : us0 ≡ vptr rb ro ∷ [] → (r : (Np E).Denot) (v : Val) (new : (Pr E).Denot) → Gives0 E d node r new → Gives1 E d r → Gives2 E r → ent 𝓤 (⋆ 𝓛 (Left new r v)) (Post v)
+  exits passed r v new g0 g1 g2 =
       qed 𝓛 (Left new r v) ∵
-      suffices ! _ (ends_at 𝓛 (ended E) (stayed E) (spec E 𝓛) bound v r (new, (tt, (tt, tt))) (tt, (tt, (tt, tt)))) $ says_both ! g0 g1 $
+      suffices ! _ (ends_at 𝓛 (ended E) (stayed E) (spec E 𝓛) bound v r (new, (tt, (tt, tt))) (tt, (tt, (tt, tt)))) $ says_three ! g0 g1 g2 $
       nothing ! $ move ! (3 ∷ 0 ∷ []) $ join ! $ frame ! $ feq_i ! (List Val) us0 (vptr rb ro ∷ []) passed $ fjoin3 ! $
       nothing ! $ nothing ! $ fjoin ! $ nothing ! $ fjoin ! $ move ! (1 ∷ 0 ∷ []) $ fjoin ! $ done !
 
   abbrev Had : ℕ → ℕ → Val → List (Item 𝓤)
   Had b o v = ‵ (fobs γ ((Pr E).coded.code d)) ∷ ‵ (fbor κ (Borrowed (mem (Pr E)) rb ro γ)) ∷ ‵ (flft κ q) ∷ ‵ (froom (room_ty heap (R E)) b o)
       ∷ ‵ (token heap room.alloc (room_ty heap (R E)) (block_ptr b o)) ∷ ‵ (E.row.own_val node (v ∷ [])) ∷ []
+
+  -- the right to free a block tells that its place may be compared with null
+  tested : (p : Ptr) → ent 𝓤 (sep 𝓤 (sem 𝓛 (token heap room.alloc (room_ty heap (R E)) p)) (sem 𝓛 (room_for (room_ty heap (R E)) p))) (fact 𝓤 (Testable p))
+  tested p = via 𝓤 _ (fst∗ 𝓤 _ (sem 𝓛 (room_for (room_ty heap (R E)) p))) (dealloc_token-Testable 𝓛 room.alloc (room_ty heap (R E)) p)
 
   walk : us0 ≡ vptr rb ro ∷ [] → Asks E → (b o : ℕ) (hv v : Val) → Fits heap hv → Good (layout E.row) v
       → ent 𝓤 (⋆ 𝓛 (Had b o v)) (WpFn 𝓤 H C Λ (function E) (vptr rb ro ∷ vacant_val hv b o ∷ v ∷ []) Post)
@@ -110,6 +119,7 @@ module _ (E : El) {M : Type 1} {𝓤 : Ura M} (𝓛 : Logic 𝓤) (𝓜 : Model 
       let out : (Np E).Denot = record { ptr = p } in
       qed 𝓛 (Had b o v) ∵ enter ! C Λ (function E) (vptr rb ro ∷ vacant_val hv b o ∷ v ∷ []) _ $ alloc_all ! (λ l. pass_all ! refl ((tt, tt), (vacant_typed heap (R E) hv b o fa, (gv, tt))) $
       let En : Env 𝓤 H = env (function E).locals l in
+      move ! (4 ∷ 3 ∷ []) $ knows ! (Testable p) (tested p) (λ test. move ! (2 ∷ 3 ∷ 4 ∷ 1 ∷ 0 ∷ []) $
       opens ! tt (Pr E) {h = d} rb ro (λ vs. move ! (1 ∷ []) $ fsplit ! $ move ! (6 ∷ 1 ∷ []) $
       knows ! (look p d.cells ≡ None) (fresh E 𝓛 𝓜 asked p d.cells) (λ apart. as_written ! (layout E.row) b o $
       -- [the room; the cells; the mark; its cell; the open borrow; obs; auth; the token; what the node owns]
@@ -120,7 +130,7 @@ module _ (E : El) {M : Type 1} {𝓤 : Ura M} (𝓛 : Logic 𝓤) (𝓜 : Model 
       move ! (0 ∷ 8 ∷ []) $ use2 𝓛 (‵ (lies_at (R E) full_share p node)) (value_in E.row E.laws 𝓛 node b o v) $
       move ! (0 ∷ 7 ∷ []) $ fjoin ! $ fjoin ! $ move ! (1 ∷ 0 ∷ []) $ fjoin ! $ move ! (1 ∷ 0 ∷ 2 ∷ 3 ∷ 4 ∷ []) $ closes ! tt (Pr E) new vs rb ro $
       word_made ! p $ returns ! (look_at ! 0 refl) $ free_all ! refl $ keep ! (1 ∷ 2 ∷ 3 ∷ 0 ∷ []) $
-      by ! (exits passed out (word p) new refl apart))))
+      by ! (exits passed out (word p) new refl apart (tt, test))))))
 
   entry : Asks E → ent 𝓤 (on_entry 𝓛 (ended E).signature (κ, tt) (q, tt) (self, (room, (node, tt))) (us0, (us1, (us2, tt)))) (WpFn 𝓤 H C Λ (function E) (us0 ++ (us1 ++ (us2 ++ []))) Post)
   entry asked =

@@ -1,0 +1,9 @@
+use Rattle.std.proofs.Common.{◌∙◌}
+use Rattle.dom_links.proofs.Placing.{placed_node, told}
+use Rattle.dom_links.proofs.store.Store.slot.Goals as goal
+
+pub get-requires : goal.get-requires
+get-requires g c = placed_node c.self.invariant.stands c.self.view_is c.requires c.node.ensures
+
+pub returns : goal.returns
+returns g c = c.at.ensures ∙ (told c.self.invariant.stands c.self.view_is c.requires c.node.ensures c.get.ensures).slot

@@ -1,0 +1,44 @@
+-- What a store shows that is asked by places: an arena, and where each slot's node lies. A place stands for the slot whose place it is.
+use Rattle.std.specs.Prelude.{◌≡◌, ℕ, suc, if◌then◌else◌, List, [], ◌∷◌, slice_index_or, Option, Some, None, option_map}
+use denote.RawPtr.{Ptr}
+use Rattle.dom_model.specs.Forests.Arena.{Arena, IsHeld}
+use Rattle.dom_links.specs.Wiring.{leads_to}
+
+pub record Placed (T : Type 0) : Type 0 where
+  pub arena : Arena T
+  -- by slot; none where the slot is free
+  pub places : List (Option Ptr)
+
+-- how many stand ahead of the first that leads to p
+abbrev pub index_of : List (Option Ptr) → Ptr → ℕ
+index_of [] p = 0
+index_of (o ∷ os) p = if leads_to o p then 0 else suc (index_of os p)
+
+module _ {T : Type 0} where
+  -- where the node of a slot lies
+  abbrev pub place_at : Placed T → ℕ → Option Ptr
+  place_at s n = slice_index_or s.places n None
+
+  -- the slot that a place stands for
+  abbrev pub slot_of : Placed T → Ptr → ℕ
+  slot_of s p = index_of s.places p
+
+  abbrev pub slots_of : Placed T → Option Ptr → Option ℕ
+  slots_of s o = option_map (slot_of s) o
+
+  -- the place is that of a held node: its slot is held, and has this place
+  pub record IsPlaced (s : Placed T) (p : Ptr) : Type 0 where
+    pub held : IsHeld s.arena (slot_of s p)
+    pub lies : place_at s (slot_of s p) ≡ Some p
+
+  -- a place stands in s' for the slot for which it stands in s
+  pub record StaysPlaced (s s' : Placed T) (p : Ptr) : Type 0 where
+    pub placed : IsPlaced s' p
+    pub slot : slot_of s' p ≡ slot_of s p
+
+  abbrev pub KeepsPlaces : Placed T → Placed T → Type 0
+  KeepsPlaces s s' = (p : Ptr) → IsPlaced s p → StaysPlaced s s' p
+
+  -- but for the place of the slot n
+  abbrev pub KeepsPlacesBut : ℕ → Placed T → Placed T → Type 0
+  KeepsPlacesBut n s s' = (p : Ptr) → IsPlaced s p → ¬ (slot_of s p ≡ n) → StaysPlaced s s' p
